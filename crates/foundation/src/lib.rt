@@ -1,0 +1,7 @@
+//! Types that every crate above shares: a list and a text that contracts see as plain lists, and
+//! a counter of steps.
+#![tactic(auto)]
+
+pub mod items;
+pub mod steps;
+pub mod text;
