@@ -1,0 +1,47 @@
+use Rattle.std.specs.Prelude.{◌≡◌, ℕ, ◌+◌, ◌<◌, ◌≤◌, List, [], ◌∷◌, ◌++◌, length, All, sum_by, take, slice_range, slice_index_or, nat_lt, if◌then◌else◌}
+use Rattle.phase_plan.specs.declared.Phase.{Phase}
+use Rattle.phase_plan.specs.declared.Field.{Field}
+use Rattle.phase_plan.specs.declared.Field.TheVariants.{Least, Greatest, Yellow, Clear, Loss, Wait}
+
+-- the bounds of each time of a phase, in seconds
+abbrev pub IsInBounds : Phase → Field → Type 0
+IsInBounds p Least = (1 ≤ p.least) × (p.least ≤ 120)
+IsInBounds p Greatest = (p.least ≤ p.greatest) × (p.greatest ≤ 240)
+IsInBounds p Yellow = (1 ≤ p.yellow) × (p.yellow ≤ 10)
+IsInBounds p Clear = p.clear ≤ 10
+IsInBounds p Loss = (p.loss ≤ 10) × (p.loss < p.greatest)
+IsInBounds p Wait = (1 ≤ p.wait) × (p.wait ≤ 3600)
+
+-- a phase whose times are all in bounds
+pub record IsPhase (p : Phase) : Type 0 where
+  pub least : IsInBounds p Least
+  pub greatest : IsInBounds p Greatest
+  pub yellow : IsInBounds p Yellow
+  pub clear : IsInBounds p Clear
+  pub loss : IsInBounds p Loss
+  pub wait : IsInBounds p Wait
+
+-- two to four phases, each in bounds
+pub record IsPlan (plan : List Phase) : Type 0 where
+  pub count : (2 ≤ length plan) × (length plan ≤ 4)
+  pub phases : All IsPhase plan
+
+-- what stands where a plan has no phase
+abbrev pub no_phase : Phase
+no_phase = record { least = 0; greatest = 0; yellow = 0; clear = 0; loss = 0; wait = 0 }
+
+-- the phase with this number
+abbrev pub phase_at : List Phase → ℕ → Phase
+phase_at plan k = slice_index_or plan k no_phase
+
+-- the phases strictly between s and j, going up the ring from s; all others where j is s
+abbrev pub passed : List Phase → ℕ → ℕ → List Phase
+passed plan s j = if nat_lt s j then slice_range plan (s + 1) j else slice_range plan (s + 1) (length plan) ++ take j plan
+
+-- how long the ring stays at a phase that it only passes
+abbrev pub passing : Phase → ℕ
+passing p = p.least + p.yellow + p.clear
+
+-- from the end of a green of phase s to the begin of a green of phase j, at the least
+abbrev pub switch_time : List Phase → ℕ → ℕ → ℕ
+switch_time plan s j = (phase_at plan s).yellow + (phase_at plan s).clear + sum_by passing (passed plan s j)
