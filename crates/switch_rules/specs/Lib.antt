@@ -1,1 +1,2 @@
--- The definitions of the crate.
+pub mod Serving
+pub use Rattle.phase_plan.specs.Phases
