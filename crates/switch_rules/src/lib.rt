@@ -1,7 +1,8 @@
 //! How one cluster of vehicles is served from a signal head, and in how many orders clusters can be.
 #![tactic(auto)]
 
-ghost use Rattle.std.specs.Prelude.{◌≡◌, ◌+◌, ◌<◌, ◌≤◌, length, IfOk};
+ghost use Rattle.std.specs.Prelude.{◌≡◌, ◌+◌, ◌^◌, ◌<◌, ◌≤◌, length, IfOk, min, sum};
+ghost use Rattle.switch_rules.specs.Orders.{orders, choose, mixtures};
 ghost use Rattle.phase_plan.specs.Phases.{IsPhase};
 ghost use Rattle.switch_rules.specs.Serving.{IsHead, IsCluster, IsServing, serving, served_from, start_in_green};
 
@@ -152,4 +153,46 @@ fn served_from(
         fresh: false,
     };
     Ok((served, head))
+}
+
+/// The greatest number of orders that an instance may have.
+pub const MOST_ORDERS: u32 = 50_000;
+
+/// In how many orders clusters can be served, given how many each phase has; where there are more
+/// than 50,000, the answer is 50,001.
+pub fn ways(counts: &[u32]) -> u32
+    requires few { length counts.now ≤ 4 }
+    requires sum { sum counts.now ≤ 41 }
+    ensures { result ≡ min 50001 (length (orders counts.now)) }
+{
+    let (ways, _) = mixtures(counts);
+    ways as u32
+}
+
+/// The number of ways to mix groups of so many things, at most 50,001, and how many things there
+/// are in all.
+fn mixtures(counts: &[u32]) -> (u64, u32)
+    requires { sum counts.now ≤ 41 }
+    ensures ways { result.0 ≡ min 50001 (mixtures counts.now) }
+    ensures total { result.1 ≡ sum counts.now }
+{
+    let Some((first, others)) = counts.split_first() else {
+        return (1, 0);
+    };
+    let (ways, total) = mixtures(others);
+    let ways = ways * choices(*first, total);
+    (ways.min(u64::from(MOST_ORDERS) + 1), first + total)
+}
+
+/// The number of ways to choose `few` things and leave `others`.
+fn choices(few: u32, others: u32) -> u64
+    requires { few + others ≤ 41 }
+    ensures value { result ≡ choose (few + others) few }
+    ensures bounds { result ≤ 2 ^ 41 }
+{
+    let mut value = 1;
+    for i in 0..few {
+        value = value * u64::from(others + i + 1) / u64::from(i + 1);
+    }
+    value
 }
