@@ -2,5 +2,7 @@
 #![tactic(auto)]
 
 mod instances;
+mod replays;
 
 pub use instances::{Instance, InstanceFault};
+pub use replays::{SeqFault, Timed, replay};
