@@ -70,11 +70,11 @@ get_or-one_less left j k h = elim (cases_eq k j) [
 ]
 
 -- an option, and a result, with what it is
-option-cases : {X P : Type 0} (o : Option X) → (o ≡ None → P) → ((x : X) → o ≡ Some x → P) → P
+pub option-cases : {X P : Type 0} (o : Option X) → (o ≡ None → P) → ((x : X) → o ≡ Some x → P) → P
 option-cases None f g = f refl
 option-cases (Some x) f g = g x refl
 
-result-cases : {X E P : Type 0} (r : Result X E) → ((x : X) → r ≡ Ok x → P) → ((e : E) → r ≡ Err e → P) → P
+pub result-cases : {X E P : Type 0} (r : Result X E) → ((x : X) → r ≡ Ok x → P) → ((e : E) → r ≡ Err e → P) → P
 result-cases (Ok x) f g = f x refl
 result-cases (Err e) f g = g e refl
 

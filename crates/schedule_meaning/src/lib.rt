@@ -2,7 +2,9 @@
 #![tactic(auto)]
 
 mod instances;
+mod planners;
 mod replays;
 
 pub use instances::{Instance, InstanceFault};
+pub use planners::{Answer, PlainPlanner, Planner};
 pub use replays::{SeqFault, Timed, replay};
