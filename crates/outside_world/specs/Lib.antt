@@ -2,4 +2,4 @@ pub mod Shelf
 pub mod Sink
 pub mod MemoryShelf
 pub mod MemorySink
-pub mod Stream
+pub mod StreamSink

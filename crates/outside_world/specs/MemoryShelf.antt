@@ -1,5 +1,5 @@
 -- A shelf in memory, as contracts see it.
-use Rattle.std.specs.Prelude.{◌≡◌, ℕ, List, Contains, IsNone, ◌⊎◌}
+use Rattle.std.specs.Prelude.{ℕ, List, Contains, IsNone, ◌⊎◌}
 use Rattle.outside_world.specs.Shelf.{file_of}
 
 -- the files by name, the numbers of the calls that fail, how many calls there were, the names whose fetch failed

@@ -1,5 +1,6 @@
 // The shelf of the files that a runtime reaches.
-ghost use Rattle.std.specs.Prelude.{◌≡◌, ◌≤◌, ℕ, List, [], None, length, take, IfOk, IfSome};
+ghost use Rattle.std.specs.Prelude.{◌≡◌, ◌≤◌, ℕ, List, [], ◌∷◌, ◌++◌, None, length, take, IfOk, OnOk, IfSome, IsErrOf};
+ghost use Rattle.outside_world.specs.Shelf.{Continues};
 
 use crate::shelf::{Shelf, ShelfFault};
 use foundation::text::Text;
@@ -43,7 +44,15 @@ impl<F: Files> Shelf for FileShelf<F> {
 
     ghost failed = { λ names. names };
 
-    fn fetch(&mut self, alloc: Global, name: &str, most: usize) -> Result<Vec<u8>, ShelfFault> {
+    /// As the trait says, the name being a path. `Failed` comes where the file can't be opened or a
+    /// read fails, and the list then has the name more.
+    fn fetch(&mut self, alloc: Global, name: &str, most: usize) -> Result<Vec<u8>, ShelfFault>
+        ensures bound { IfOk result (λ bytes. length bytes.items ≤ most) }
+        ensures continues { Continues self.old self.new }
+        ensures ok { OnOk result (self.new ≡ self.old) }
+        ensures no_memory { IsErrOf result ShelfFault.NoMemory → self.new ≡ self.old }
+        ensures cause { IsErrOf result ShelfFault.Failed → self.new ≡ self.old ++ name.now ∷ [] }
+    {
         // Room for the name first, so that a failure can always be written down.
         let failed_name = Text::from_string(String::from_str(alloc, name)?);
         self.failed.reserve(1)?;

@@ -1,7 +1,7 @@
 // A shelf in memory, which fails at the calls that it is told.
-ghost use Rattle.std.specs.Prelude.{◌≡◌, ◌≤◌, ◌↔◌, [], ◌∷◌, ◌++◌, Some, length, take, Contains, IsTrue, IfOk, OnOk, IfSome, IsErrOf, OnErr};
+ghost use Rattle.std.specs.Prelude.{◌≡◌, ◌≤◌, ◌↔◌, [], ◌∷◌, ◌++◌, Some, length, take, Contains, IsTrue, IfOk, OnOk, OnErr, IsErrOf};
 ghost use Rattle.std.specs.Option.{option_map};
-ghost use Rattle.outside_world.specs.Shelf.{file_of, front_of, Continues, GainsLast};
+ghost use Rattle.outside_world.specs.Shelf.{file_of, front_of, Continues};
 ghost use Rattle.outside_world.specs.MemoryShelf.{ShelfInMemory, FailsAt};
 ghost use Rattle.outside_world.specs.Sink.{one_more};
 
@@ -25,10 +25,10 @@ impl Model for MemoryShelf {
     ghost Value = { ShelfInMemory };
 
     ghost view = { λ shelf. record {
-        files = shelf.files.items;
-        fails = shelf.fails.items;
-        calls = shelf.calls;
-        failed = shelf.failed.items;
+      files = shelf.files.items;
+      fails = shelf.fails.items;
+      calls = shelf.calls;
+      failed = shelf.failed.items;
     } };
 }
 
@@ -43,6 +43,19 @@ impl MemoryShelf {
             fails,
             calls: 0,
             failed: Vec::new(alloc),
+        }
+    }
+
+    // The fault of a fetch that fails: the name joins the list of failed names, where there is memory.
+    fn failing(&mut self, alloc: Global, name: &str) -> ShelfFault
+        ensures same { self.new ≡ record self.old { failed = self.new.failed } }
+        ensures continues { Continues self.old.failed self.new.failed }
+        ensures failed { result ≡ ShelfFault.Failed → self.new.failed ≡ self.old.failed ++ name.now ∷ [] }
+        ensures no_memory { result ≡ ShelfFault.NoMemory → self.new.failed ≡ self.old.failed }
+    {
+        match add_name(alloc, &mut self.failed, name) {
+            Ok(()) => ShelfFault::Failed,
+            Err(AllocError) => ShelfFault::NoMemory,
         }
     }
 }
@@ -77,21 +90,6 @@ impl Shelf for MemoryShelf {
         match content(&self.files, name) {
             Some(content) => Ok(front(content, most).to_vec(alloc)?),
             None => Err(self.failing(alloc, name)),
-        }
-    }
-}
-
-impl MemoryShelf {
-    // The fault of a fetch that fails: the name joins the list of failed names, where there is memory.
-    fn failing(&mut self, alloc: Global, name: &str) -> ShelfFault
-        ensures same { self.new ≡ record self.old { failed = self.new.failed } }
-        ensures continues { Continues self.old.failed self.new.failed }
-        ensures failed { result ≡ ShelfFault.Failed → self.new.failed ≡ self.old.failed ++ name.now ∷ [] }
-        ensures no_memory { result ≡ ShelfFault.NoMemory → self.new.failed ≡ self.old.failed }
-    {
-        match add_name(alloc, &mut self.failed, name) {
-            Ok(()) => ShelfFault::Failed,
-            Err(AllocError) => ShelfFault::NoMemory,
         }
     }
 }

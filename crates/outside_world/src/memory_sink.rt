@@ -7,10 +7,12 @@ use crate::sink::{Failed, Sink};
 use std::alloc::{AllocError, Global};
 use std::marker::Model;
 
-/// A call of `put` that fails, the first call being 1, and how many bytes of its piece it keeps.
+/// A call of `put` that is to fail.
 #[derive(Clone, Copy)]
 pub struct SinkFail {
+    /// The number of the call, the first being 1.
     pub call: u32,
+    /// How many bytes of its piece are appended, where the piece and the room have so many.
     pub kept: usize,
 }
 
@@ -29,11 +31,11 @@ impl Model for MemorySink {
     ghost Value = { SinkInMemory };
 
     ghost view = { λ sink. record {
-        bytes = sink.bytes.items;
-        room = sink.room;
-        fails = sink.fails.items;
-        calls = sink.calls;
-        faults = sink.faults;
+      bytes = sink.bytes.items;
+      room = sink.room;
+      fails = sink.fails.items;
+      calls = sink.calls;
+      faults = sink.faults;
     } };
 
     ghost invariant = { λ sink. (length sink.bytes.items ≤ sink.room) × (sink.room ≤ vec_capacity sink.bytes) };
@@ -41,7 +43,8 @@ impl Model for MemorySink {
 
 impl MemorySink {
     /// An empty sink with room for this many bytes, which are set aside at once. The calls of `put`
-    /// that `fails` names will fail; of two entries for one call the first counts.
+    /// that `fails` names will fail; of two entries for one call the first counts. An `Err` comes
+    /// where memory runs out.
     pub fn new(alloc: Global, room: usize, fails: Vec<SinkFail>) -> Result<Self, AllocError>
         ensures { IfOk result (λ sink. sink ≡ record { bytes = []; room = room; fails = fails.items; calls = 0; faults = 0 }) }
     {

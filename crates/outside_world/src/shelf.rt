@@ -3,8 +3,7 @@ ghost use Rattle.std.specs.Prelude.{◌≡◌, ◌≤◌, ℕ, List, Option, Som
 ghost use Rattle.outside_world.specs.declared.shelf.ShelfFault.TheVariants.{NoMemory};
 ghost use Rattle.outside_world.specs.Shelf.{front_of, Continues, GainsLast};
 
-use std::alloc::AllocError;
-use std::alloc::Global;
+use std::alloc::{AllocError, Global};
 
 /// Why a fetch gave no bytes.
 #[derive(Clone, Copy)]

@@ -1,5 +1,5 @@
 -- Each turn reads a byte, no more are read than were asked for, and those read are no longer left.
-use Rattle.std.proofs.Common.{ℕ, ◌≤◌, length}
+use Rattle.std.proofs.Common.{◌≤◌, length}
 use Rattle.std.specs.Io.KnownBytes.{Consumes}
 use Rattle.outside_world.proofs.file_shelf.read_front.Given as goal
 

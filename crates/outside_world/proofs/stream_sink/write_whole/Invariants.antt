@@ -1,5 +1,5 @@
 -- Each turn writes a byte, and what is done is written.
-use Rattle.std.proofs.Common.{ℕ, ◌≤◌, length, take}
+use Rattle.std.proofs.Common.{◌≤◌, length, take}
 use Rattle.std.specs.Io.KnownBytes.{Appends}
 use Rattle.outside_world.proofs.stream_sink.write_whole.Given as goal
 

@@ -1,5 +1,4 @@
-use Rattle.std.proofs.Common.{rules, inl, ◌≡◌, Contains, IsErrOf}
-use Rattle.outside_world.specs.MemoryShelf.{FailsAt}
+use Rattle.std.proofs.Common.{rules, inl, ◌≡◌, Contains}
 use Rattle.outside_world.proofs.memory_shelf.MemoryShelfShelf.fetch.Goals as goal
 
 -- the call was found among those named
