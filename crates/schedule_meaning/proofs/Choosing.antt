@@ -1,4 +1,4 @@
-use Rattle.std.proofs.Common.{◌≡◌, ◌≢◌, ℕ, zero, suc, ◌+◌, ◌-◌, ◌*◌, ◌<◌, ◌≤◌, ◌==◌, nat_lt, Bool, true, false, cond, List, [], ◌∷◌, ◌++◌, length, map, sum, get_or, set, All, Option, Some, None, Ok, Err, fold, IfSome, refl, sym, ap, subst, ◌∙◌, inl, inr, ◌⊎◌, append_assoc, add-one, arith}
+use Rattle.std.proofs.Common.{◌≡◌, ◌≢◌, ℕ, zero, suc, ◌+◌, ◌-◌, ◌*◌, ◌<◌, ◌≤◌, ◌==◌, nat_lt, Bool, true, false, cond, List, [], ◌∷◌, ◌++◌, length, map, sum, get_or, set, All, Option, Some, None, Ok, Err, fold, IfSome, refl, sym, ap, subst, ◌∙◌, inl, inr, ◌⊎◌, append_assoc, add-one, take, length-append, arith}
 use Rattle.std.specs.List.{flat_map, range_with_len}
 use Rattle.std.specs.Option.{option_map}
 use Rattle.std.proofs.lemmas.Bool.{cases_lt, cond_below, cond_above, eqb-true}
@@ -211,3 +211,34 @@ best-least p (Plan sequence delay) h =
     (h.feasible, λ s. option-cases (timed p s)
       (λ none. subst (λ (o : Option ℕ). IfSome o (λ d. delay ≤ d)) (sym (delay-none p s none)) tt)
       (λ t e. timed-among Q p (counts_of p.lists) p.head s t e all))
+
+-- the best of the orders that begin with a phase below k, and then with phase k: where nothing of k is left, where
+-- its next cluster is unfit, and where the orders behind it were tried
+pub step-none : (p : Problem) (prefix left : List ℕ) (first answer : Answer) (k : ℕ) → answer ≡ best_behind p prefix first (flat_map (beginning_with left) (range_with_len 0 k)) → get_or left k 0 ≡ 0
+    → answer ≡ best_behind p prefix first (flat_map (beginning_with left) (range_with_len 0 (k + 1)))
+step-none p prefix left first answer k so_far none =
+    so_far ∙ sym (best-phase p prefix first (beginning_with left) k ∙ ap (best_behind p prefix (best_behind p prefix first (flat_map (beginning_with left) (range_with_len 0 k)))) (beginning-none left k none))
+
+pub step-unfit : (p : Problem) (prefix left : List ℕ) (first answer : Answer) (k : ℕ) → answer ≡ best_behind p prefix first (flat_map (beginning_with left) (range_with_len 0 k)) → 0 < get_or left k 0
+    → ((order : List ℕ) → delay_of p (prefix ++ k ∷ order) ≡ None) → answer ≡ best_behind p prefix first (flat_map (beginning_with left) (range_with_len 0 (k + 1)))
+step-unfit p prefix left first answer k so_far some unfit =
+    let before = best_behind p prefix first (flat_map (beginning_with left) (range_with_len 0 k)) in
+    so_far ∙ sym (best-phase p prefix first (beginning_with left) k ∙ ap (best_behind p prefix before) (beginning-some left k some) ∙ best-unfit p prefix k unfit before (orders (one_less left k)))
+
+pub step-fit : (p : Problem) (prefix left : List ℕ) (first answer now : Answer) (k : ℕ) → answer ≡ best_behind p prefix first (flat_map (beginning_with left) (range_with_len 0 k)) → 0 < get_or left k 0
+    → now ≡ best_behind p (prefix ++ k ∷ []) answer (orders (one_less left k)) → now ≡ best_behind p prefix first (flat_map (beginning_with left) (range_with_len 0 (k + 1)))
+step-fit p prefix left first answer now k so_far some behind =
+    let before = best_behind p prefix first (flat_map (beginning_with left) (range_with_len 0 k)) in
+    behind ∙ ap (λ a. best_behind p (prefix ++ k ∷ []) a (orders (one_less left k))) so_far
+    ∙ sym (best-phase p prefix first (beginning_with left) k ∙ ap (best_behind p prefix before) (beginning-some left k some) ∙ best-fit p prefix k before (orders (one_less left k)))
+
+-- a count that is lowered and raised again
+pub raised-again : (left : List ℕ) (k : ℕ) → 0 < get_or left k 0 → set (one_less left k) k (get_or (one_less left k) k 0 + 1) ≡ left
+raised-again [] k h = absurd (omega arith)
+raised-again (n ∷ left) zero h = ap (λ m. m ∷ left) (omega arith)
+raised-again (n ∷ left) (suc k) h = ap (λ rest. n ∷ rest) (raised-again left k h)
+
+-- a list from which the last element was taken
+pub popped : (xs ys : List ℕ) (k n : ℕ) → ys ≡ xs ++ k ∷ [] → n ≡ length ys → take (n - 1) ys ≡ xs
+popped xs ys k n e m =
+    ap (λ l. take (n - 1) l) e ∙ ap (λ i. take i (xs ++ k ∷ [])) (omega (arith, ap length e, length-append xs (k ∷ []))) ∙ take-append xs (k ∷ [])
