@@ -1,8 +1,9 @@
-use Rattle.std.proofs.Common.{◌≡◌, ◌≢◌, ℕ, zero, suc, ◌+◌, ◌-◌, ◌*◌, ◌<◌, ◌≤◌, ◌==◌, nat_lt, Bool, true, false, cond, List, [], ◌∷◌, ◌++◌, length, map, sum, get_or, set, All, Option, Some, None, Ok, Err, fold, IfSome, refl, sym, ap, subst, ◌∙◌, inl, inr, ◌⊎◌, append_assoc, add-one, take, length-append, arith}
+use Rattle.std.proofs.Common.{◌≡◌, ℕ, zero, suc, ◌+◌, ◌-◌, ◌<◌, ◌≤◌, ◌==◌, nat_lt, cond, List, [], ◌∷◌, ◌++◌, length, map, sum, get_or, set, All, Option, Some, None, Ok, Err, IfSome, refl, sym, ap, subst, ◌∙◌, inl, inr, append_assoc, add-one, take, length-append, arith}
 use Rattle.std.specs.List.{flat_map, range_with_len}
 use Rattle.std.specs.Option.{option_map}
 use Rattle.std.proofs.lemmas.Bool.{cases_lt, cond_below, cond_above, eqb-true}
 use Rattle.std.proofs.lemmas.Option.{cond_some}
+use Rattle.std.proofs.Math.Seq.{take-append_seam}
 use Rattle.std.proofs.lemmas.List.{append-nil}
 use Rattle.std.proofs.lemmas.List.Concat.{flat_map-append, flat_map-cons}
 use Rattle.std.proofs.lemmas.List.Elements.{All-nil, All-cons, All-head, All-tail, All-append, All-push, All-weaker}
@@ -16,8 +17,8 @@ use Rattle.switch_rules.specs.declared.Unfit.{Unfit}
 use Rattle.switch_rules.proofs.Counting.{count-le-sum, sum-one_less}
 use Rattle.schedule_meaning.specs.Instances.{Problem, counts_of}
 use Rattle.schedule_meaning.specs.Timing.{next_cluster, timed_from, timed, timing, delay_of, total_cost, onward}
-use Rattle.schedule_meaning.specs.Best.{AllAbove, AllFrom, IsBestPlan, IsBestAmong, IsBest, IsLeast}
-use Rattle.schedule_meaning.specs.Choice.{undercuts, better, better_behind, best_behind}
+use Rattle.schedule_meaning.specs.Best.{AllAbove, IsBestPlan, IsBestAmong, IsBest, IsLeast}
+use Rattle.schedule_meaning.specs.Choice.{better, better_behind, best_behind}
 use Rattle.schedule_meaning.specs.declared.planners.Answer.{Answer}
 use Rattle.schedule_meaning.specs.declared.planners.Answer.TheVariants.{Plan, NoPlan}
 use Rattle.schedule_meaning.proofs.Sequences.{option-cases, timed-unfit, timed-begins, timing-fit, timing-end, next-left, left-phase}
@@ -41,7 +42,7 @@ pub orders-begin : (left : List ℕ) → 0 < sum left → orders left ≡ flat_m
 orders-begin left h =
     let t = sum left - 1 in
     let each : (k : ℕ) → cond (nat_lt 0 (get_or left k 0)) (map (λ order. k ∷ order) (orders_of t (one_less left k))) [] ≡ beginning_with left k = λ k. elim (cases_lt 0 (get_or left k 0)) [
-        inl some ↦ ap (λ m. cond (nat_lt 0 (get_or left k 0)) (map (λ order. k ∷ order) (orders_of m (one_less left k))) []) (omega (arith, sum-one_less left k some))
+      | inl some ↦ ap (λ m. cond (nat_lt 0 (get_or left k 0)) (map (λ order. k ∷ order) (orders_of m (one_less left k))) []) (omega (arith, sum-one_less left k some))
       | inr none ↦ sym (cond_above 0 (get_or left k 0) (map (λ order. k ∷ order) (orders_of t (one_less left k))) [] [] none refl) ∙ sym (beginning-none left k (omega arith))
     ] in
     ap (λ m. orders_of m left) (let e : sum left ≡ suc (sum left - 1) = omega arith in e)
@@ -98,30 +99,30 @@ reaches-unfit p prefix left head delay k c why reached e f order =
 pub reaches-end : (p : Problem) (prefix left : List ℕ) (head : Head) (delay : ℕ) (answer : Answer) → Reaches p prefix left head delay → sum left ≡ 0 → better answer prefix (Some delay) ≡ best_behind p prefix answer (orders left)
 reaches-end p prefix left head delay answer reached over =
     let e : delay_of p prefix ≡ Some delay =
-        ap (delay_of p) (sym (append-nil prefix)) ∙ delay-timing p (prefix ++ []) ∙ ap (option_map (λ (x : ℕ × Head). x.0)) (reached [] ∙ timing-end p left head delay over) in
+    ap (delay_of p) (sym (append-nil prefix)) ∙ delay-timing p (prefix ++ []) ∙ ap (option_map (λ (x : ℕ × Head). x.0)) (reached [] ∙ timing-end p left head delay over) in
     ap (better answer prefix) (sym e) ∙ ap (λ s. better answer s (delay_of p s)) (sym (append-nil prefix)) ∙ ap (best_behind p prefix answer) (sym (orders-none left over))
 
 -- the best of more sequences
 best-none : (p : Problem) (all : List (List ℕ)) (order : List ℕ) (answer : Answer) → delay_of p order ≡ None → IsBestAmong p all answer → IsBestAmong p (all ++ order ∷ []) answer
 best-none p all order NoPlan e h = All-push (λ s. delay_of p s ≡ None) all order h e
 best-none p all order (Plan sequence least) e h = record {
-    feasible = h.feasible;
-    before = h.before;
-    after = h.after ++ order ∷ [];
-    among = ap (λ xs. xs ++ order ∷ []) h.among ∙ append_assoc h.before (sequence ∷ h.after) (order ∷ []);
-    first = h.first;
-    least = All-push (λ s. IfSome (delay_of p s) (λ d. least ≤ d)) h.after order h.least (subst (λ (o : Option ℕ). IfSome o (λ d. least ≤ d)) (sym e) tt);
-  }
+  feasible = h.feasible;
+  before = h.before;
+  after = h.after ++ order ∷ [];
+  among = ap (λ xs. xs ++ order ∷ []) h.among ∙ append_assoc h.before (sequence ∷ h.after) (order ∷ []);
+  first = h.first;
+  least = All-push (λ s. IfSome (delay_of p s) (λ d. least ≤ d)) h.after order h.least (subst (λ (o : Option ℕ). IfSome o (λ d. least ≤ d)) (sym e) tt);
+}
 
 best-worse : (p : Problem) (all : List (List ℕ)) (order sequence : List ℕ) (d least : ℕ) → delay_of p order ≡ Some d → least ≤ d → IsBestPlan p all sequence least → IsBestPlan p (all ++ order ∷ []) sequence least
 best-worse p all order sequence d least e worse h = record {
-    feasible = h.feasible;
-    before = h.before;
-    after = h.after ++ order ∷ [];
-    among = ap (λ xs. xs ++ order ∷ []) h.among ∙ append_assoc h.before (sequence ∷ h.after) (order ∷ []);
-    first = h.first;
-    least = All-push (λ s. IfSome (delay_of p s) (λ d. least ≤ d)) h.after order h.least (subst (λ (o : Option ℕ). IfSome o (λ d. least ≤ d)) (sym e) worse);
-  }
+  feasible = h.feasible;
+  before = h.before;
+  after = h.after ++ order ∷ [];
+  among = ap (λ xs. xs ++ order ∷ []) h.among ∙ append_assoc h.before (sequence ∷ h.after) (order ∷ []);
+  first = h.first;
+  least = All-push (λ s. IfSome (delay_of p s) (λ d. least ≤ d)) h.after order h.least (subst (λ (o : Option ℕ). IfSome o (λ d. least ≤ d)) (sym e) worse);
+}
 
 -- a fact of an option's value, weakened
 if-some-weaker : (o : Option ℕ) (P Q : ℕ → Type 0) → ((n : ℕ) → P n → Q n) → IfSome o P → IfSome o Q
@@ -138,20 +139,20 @@ all-above p all sequence least d less h =
 
 best-better : (p : Problem) (all : List (List ℕ)) (order : List ℕ) (d : ℕ) → delay_of p order ≡ Some d → AllAbove p d all → IsBestPlan p (all ++ order ∷ []) order d
 best-better p all order d e above = record {
-    feasible = e;
-    before = all;
-    after = [];
-    among = refl;
-    first = above;
-    least = All-nil (λ s. IfSome (delay_of p s) (λ e. d ≤ e));
-  }
+  feasible = e;
+  before = all;
+  after = [];
+  among = refl;
+  first = above;
+  least = All-nil (λ s. IfSome (delay_of p s) (λ e. d ≤ e));
+}
 
 best-more : (p : Problem) (all : List (List ℕ)) (order : List ℕ) (answer : Answer) (o : Option ℕ) → delay_of p order ≡ o → IsBestAmong p all answer → IsBestAmong p (all ++ order ∷ []) (better answer order o)
 best-more p all order answer None e h = best-none p all order answer e h
 best-more p all order NoPlan (Some d) e h =
     best-better p all order d e (All-weaker (λ s. delay_of p s ≡ None) (λ s. IfSome (delay_of p s) (λ e. d < e)) (λ s n. subst (λ (o : Option ℕ). IfSome o (λ e. d < e)) (sym n) tt) all h)
 best-more p all order (Plan sequence least) (Some d) e h = elim (cases_lt d least) [
-    inl less ↦ subst (IsBestAmong p (all ++ order ∷ [])) (cond_below d least (Plan order d) (Plan sequence least) less) (best-better p all order d e (all-above p all sequence least d less h))
+  | inl less ↦ subst (IsBestAmong p (all ++ order ∷ [])) (cond_below d least (Plan order d) (Plan sequence least) less) (best-better p all order d e (all-above p all sequence least d less h))
   | inr worse ↦ subst (IsBestAmong p (all ++ order ∷ [])) (cond_above d least (Plan order d) (Plan sequence least) (Plan sequence least) worse refl) (best-worse p all order sequence d least e worse h)
 ]
 
@@ -207,10 +208,12 @@ best-least p (Plan sequence delay) h =
     let Q : List ℕ → Type 0 = λ s. IfSome (delay_of p s) (λ d. delay ≤ d) in
     let before : All Q h.before = All-weaker (λ s. IfSome (delay_of p s) (λ d. delay < d)) Q (λ s i. if-some-weaker (delay_of p s) (λ d. delay < d) (λ d. delay ≤ d) (λ d j. omega arith) i) h.before h.first in
     let here : Q sequence = subst (λ (o : Option ℕ). IfSome o (λ d. delay ≤ d)) (sym h.feasible) (omega arith) in
-    let all : All Q (orders (counts_of p.lists)) = subst (All Q) (sym h.among) (All-append Q h.before (sequence ∷ h.after) before (All-cons Q sequence h.after here h.least)) in
-    (h.feasible, λ s. option-cases (timed p s)
-      (λ none. subst (λ (o : Option ℕ). IfSome o (λ d. delay ≤ d)) (sym (delay-none p s none)) tt)
-      (λ t e. timed-among Q p (counts_of p.lists) p.head s t e all))
+    let all : All Q (orders (counts_of p.lists)) = subst (All Q) (sym h.among) (All-append Q h.before (sequence ∷ h.after) before (All-cons Q sequence h.after here h.least)) in (
+      h.feasible,
+      λ s. option-cases (timed p s)
+          (λ none. subst (λ (o : Option ℕ). IfSome o (λ d. delay ≤ d)) (sym (delay-none p s none)) tt)
+          (λ t e. timed-among Q p (counts_of p.lists) p.head s t e all),
+    )
 
 -- the best of the orders that begin with a phase below k, and then with phase k: where nothing of k is left, where
 -- its next cluster is unfit, and where the orders behind it were tried
@@ -241,4 +244,4 @@ raised-again (n ∷ left) (suc k) h = ap (λ rest. n ∷ rest) (raised-again lef
 -- a list from which the last element was taken
 pub popped : (xs ys : List ℕ) (k n : ℕ) → ys ≡ xs ++ k ∷ [] → n ≡ length ys → take (n - 1) ys ≡ xs
 popped xs ys k n e m =
-    ap (λ l. take (n - 1) l) e ∙ ap (λ i. take i (xs ++ k ∷ [])) (omega (arith, ap length e, length-append xs (k ∷ []))) ∙ take-append xs (k ∷ [])
+    ap (λ l. take (n - 1) l) e ∙ ap (λ i. take i (xs ++ k ∷ [])) (omega (arith, ap length e, length-append xs (k ∷ []))) ∙ take-append_seam xs (k ∷ [])

@@ -1,14 +1,12 @@
-use Rattle.std.proofs.Common.{◌≡◌, ◌≢◌, ℕ, zero, suc, ◌+◌, ◌-◌, ◌*◌, ◌^◌, ◌<◌, ◌≤◌, ◌==◌, Bool, true, false, cond, eqb, List, [], ◌∷◌, ◌++◌, length, map, sum, get_or, set, take, drop, All, Option, Some, None, Result, Ok, Err, count_by, eq-eqb, add-one, drop-cons, refl, sym, ap, subst, ◌∙◌, inl, inr, ◌⊎◌, arith}
-use Rattle.std.specs.Prelude.{slice_get}
+use Rattle.std.proofs.Common.{◌≡◌, ◌≢◌, ℕ, zero, suc, ◌+◌, ◌-◌, ◌^◌, ◌<◌, ◌≤◌, ◌==◌, true, false, cond, eqb, List, [], ◌∷◌, length, sum, get_or, drop, All, Option, Some, None, Result, Ok, Err, eq-eqb, add-one, drop-cons, refl, sym, ap, ◌∙◌, inl, inr, arith}
 use Rattle.std.specs.Option.{option_map, option_and_then}
-use Rattle.std.specs.Result.{result_ok}
 use Rattle.std.proofs.Math.ListN.{get_or-map}
 use Rattle.std.proofs.lemmas.List.{length-map}
 use Rattle.std.proofs.lemmas.List.{get_or-set_same, get_or-set_other, get_or_past}
 use Rattle.std.proofs.lemmas.Bool.{cases_Bool, cases_eq, cases_lt, eqb-true}
 use Rattle.std.proofs.lemmas.Bool.Decides.{nat_tests}
 use Rattle.std.proofs.lemmas.List.Sums.{sum_by-cons, sum-map, get_or-le-sum_by}
-use Rattle.std.proofs.lemmas.Option.{slice_get_within, option_and_then_some, cond_some}
+use Rattle.std.proofs.lemmas.Option.{slice_get_within, cond_some}
 use Rattle.phase_plan.specs.Phases.{IsPhase, IsPlan, phase_at, no_phase}
 use Rattle.phase_plan.specs.declared.Phase.{Phase}
 use Rattle.switch_rules.specs.Serving.{serving, IsServing}
@@ -60,7 +58,7 @@ past-none (n ∷ left) (suc j) h = omega (arith, past-none left j h)
 -- what is left of a phase after one of phase j is taken
 get_or-one_less : (left : List ℕ) (j k : ℕ) → 0 < get_or left j 0 → cond (eqb j k) 1 0 + get_or (one_less left j) k 0 ≡ get_or left k 0
 get_or-one_less left j k h = elim (cases_eq k j) [
-    inl same ↦
+  | inl same ↦
       let taken : get_or (one_less left j) k 0 ≡ get_or left j 0 - 1 = ap (λ x. get_or (one_less left j) x 0) same ∙ get_or-set_same left j (get_or left j 0 - 1) 0 (past-none left j h) in
       let at : get_or left k 0 ≡ get_or left j 0 = ap (λ x. get_or left x 0) same in
       grind (arith, nat_tests)
@@ -84,10 +82,10 @@ pub timed-begins : {P : Type 0} (p : Problem) (left : List ℕ) (head : Head) (k
 timed-begins p left head k ks t e use_it =
     option-cases (next_cluster p.lists left k) (λ none. let gone = timed-missing p left head k ks none in absurd (cc)) (λ c ec.
     result-cases (serving p.plan head k c)
-      (λ s es. option-cases (timed_from p (one_less left k) s.1 ks)
-        (λ none. let fit = timed-fit p left head k ks c s ec es ∙ ap (option_map (λ (rest : List Served × Head). (s.0 ∷ rest.0, rest.1))) none in absurd (cc))
-        (λ rest er. use_it c s rest ec es er))
-      (λ why ew. let gone = timed-unfit p left head k ks c why ec ew in absurd (cc)))
+    (λ s es. option-cases (timed_from p (one_less left k) s.1 ks)
+    (λ none. let fit = timed-fit p left head k ks c s ec es ∙ ap (option_map (λ (rest : List Served × Head). (s.0 ∷ rest.0, rest.1))) none in absurd (cc))
+    (λ rest er. use_it c s rest ec es er))
+    (λ why ew. let gone = timed-unfit p left head k ks c why ec ew in absurd (cc)))
 
 -- a cluster that is next is one that is left
 pub next-left : (lists : List (List Cluster)) (left : List ℕ) (k : ℕ) (c : Cluster) → next_cluster lists left k ≡ Some c → 0 < get_or left k 0
@@ -112,22 +110,22 @@ IsPlan-at plan k h inside = h.phases k no_phase inside
 -- a sequence from an instance's head is on its way
 pub under-way-start : (p : Problem) → IsInstance p → IsUnderWay p (counts_of p.lists) p.head 0
 under-way-start p i = record {
-    head = i.head;
-    reach = omega (arith, i.head.within, i.since, (IsPlan-at p.plan p.head.phase i.plan i.head.phase).greatest.1);
-    lists = length-map p.lists length;
-    left = λ k. omega (arith, get_or-counts p.lists k);
-    delay = omega (arith, i.few);
-  }
+  head = i.head;
+  reach = omega (arith, i.head.within, i.since, (IsPlan-at p.plan p.head.phase i.plan i.head.phase).greatest.1);
+  lists = length-map p.lists length;
+  left = λ k. omega (arith, get_or-counts p.lists k);
+  delay = omega (arith, i.few);
+}
 
 -- and stays so with each fit serving
 pub under-way-fit : (p : Problem) (left : List ℕ) (head : Head) (delay : ℕ) (j : ℕ) (s : Served × Head) → IsUnderWay p left head delay → 0 < get_or left j 0 → IsServing p.plan s → IsUnderWay p (one_less left j) s.1 (delay + s.0.cost)
 under-way-fit p left head delay j s way some fit = record {
-    head = fit.head;
-    reach = omega (arith, fit.finish);
-    lists = length-one_less left j ∙ way.lists;
-    left = λ k. omega (arith, get_or-one_less left j k some, way.left k);
-    delay = omega (arith, fit.cost, way.delay, sum-one_less left j some);
-  }
+  head = fit.head;
+  reach = omega (arith, fit.finish);
+  lists = length-one_less left j ∙ way.lists;
+  left = λ k. omega (arith, get_or-one_less left j k some, way.left k);
+  delay = omega (arith, fit.cost, way.delay, sum-one_less left j some);
+}
 
 -- what a sequence names is left, and one less of it behind its first place
 pub named-left : (left : List ℕ) (j : ℕ) (js : List ℕ) → ((k : ℕ) → times_of k (j ∷ js) ≡ get_or left k 0) → 0 < get_or left j 0
@@ -204,7 +202,7 @@ unknown-not-timed p sequence i lawful inside above =
 -- the counts that each phase of the plan is named by are those of all numbers
 pub times-all : (p : Problem) (sequence : List ℕ) → IsInstance p → All (λ x. x < length p.plan) sequence → ((k : ℕ) → k < length p.lists → times_of k sequence ≡ length (list_at p.lists k)) → (k : ℕ) → times_of k sequence ≡ get_or (counts_of p.lists) k 0
 times-all p sequence lawful all named k = elim (cases_lt k (length p.lists)) [
-    inl inside ↦ named k inside ∙ sym (get_or-counts p.lists k)
+  | inl inside ↦ named k inside ∙ sym (get_or-counts p.lists k)
   | inr past ↦ times-above (length p.plan) k sequence all (omega (arith, lawful.lists)) ∙ sym (get_or_past (counts_of p.lists) k 0 (omega (arith, length-map p.lists length)))
 ]
 

@@ -22,10 +22,10 @@ next_cluster lists left k = slice_get (list_at lists k) (length (list_at lists k
 abbrev pub timed_from : Problem → List ℕ → Head → List ℕ → Option (List Served × Head)
 timed_from p left head [] = if sum left == 0 then Some ([], head) else None
 timed_from p left head (k ∷ ks) = do
-    cluster ← next_cluster p.lists left k
-    served ← result_ok (serving p.plan head k cluster)
-    rest ← timed_from p (one_less left k) served.1 ks
-    Some (served.0 ∷ rest.0, rest.1)
+  cluster ← next_cluster p.lists left k
+  served ← result_ok (serving p.plan head k cluster)
+  rest ← timed_from p (one_less left k) served.1 ks
+  Some (served.0 ∷ rest.0, rest.1)
 
 -- a sequence of phases, timed from the problem's head: what is served and the last head; none where it is not feasible
 abbrev pub timed : Problem → List ℕ → Option (List Served × Head)

@@ -30,11 +30,7 @@ pub enum SeqFault {
 /// Times a sequence of phases from the instance's head, in at most one step per place.
 ///
 /// It is refused where it is not feasible; the fault is the first in the order of `SeqFault`.
-pub fn replay<L: Ledger>(
-    i: &Instance,
-    seq: &[u8],
-    steps: &mut Steps<L>,
-) -> Result<Timed, SeqFault>
+pub fn replay<L: Ledger>(i: &Instance, seq: &[u8], steps: &mut Steps<L>) -> Result<Timed, SeqFault>
     requires { length seq.now < 2 ^ 32 }
     ensures ok { IfOk result (λ t. timing i.now seq.now ≡ Some (t.delay, t.head)) }
     ensures err { OnErr result (timed i.now seq.now ≡ None) }

@@ -1,4 +1,4 @@
-use Rattle.std.proofs.Common.{ℕ, ◌≡◌, ◌<◌, ◌≤◌, All, length, get_or, sym, subst, ap, ◌∙◌, arith}
+use Rattle.std.proofs.Common.{◌<◌, All, length, get_or, sym, subst, ap, ◌∙◌, arith}
 use Rattle.schedule_meaning.proofs.Sequences.{not-timed, unknown-not-timed, times-all}
 use Rattle.schedule_meaning.proofs.replays.replay.Goals as goal
 

@@ -1,18 +1,18 @@
-use Rattle.std.proofs.Common.{ℕ, ◌≡◌, ◌+◌, ◌<◌, ◌≤◌, List, ◌∷◌, Some, None, Ok, Err, length, get_or, drop, refl, sym, ap, subst, ◌∙◌, arith}
+use Rattle.std.proofs.Common.{ℕ, ◌≡◌, ◌+◌, ◌∷◌, Ok, get_or, drop, sym, ap, subst, ◌∙◌, arith}
 use Rattle.std.specs.Option.{option_map}
 use Rattle.std.proofs.lemmas.List.{drop_all}
 use Rattle.switch_rules.specs.Serving.{serving, IsServing}
-use Rattle.schedule_meaning.specs.Timing.{times_of, timing, timed_from, onward}
-use Rattle.schedule_meaning.proofs.Sequences.{under-way-start, under-way-fit, named-left, named-after, left-phase, none-left, timing-start, timing-fit, timing-end, timed-unfit, none-mapped, drop-next}
+use Rattle.schedule_meaning.specs.Timing.{times_of, timed_from, onward}
+use Rattle.schedule_meaning.proofs.Sequences.{under-way-start, under-way-fit, named-left, named-after, left-phase, none-left, timing-start, timing-fit, timing-end, drop-next}
 use Rattle.schedule_meaning.proofs.replays.walk.Goals as goal
 
 pub loop-index-init : goal.loop-index-init
 loop-index-init g c = rw (c.requires.counts, c.head-head.ensures.value) (record {
-    way = under-way-start c.args.i.now c.head-head.ensures.instance;
-    times = rw c.requires.counts at c.requires.times;
-    timing = timing-start c.args.i.now c.args.seq.now;
-    cost = omega arith;
-  })
+  way = under-way-start c.args.i.now c.head-head.ensures.instance;
+  times = rw c.requires.counts at c.requires.times;
+  timing = timing-start c.args.i.now c.args.seq.now;
+  cost = omega arith;
+})
 
 pub next_cluster-cluster-requires-clause-phase : goal.next_cluster-cluster-requires-clause-phase
 next_cluster-cluster-requires-clause-phase g c =
@@ -45,7 +45,7 @@ loop-index-preserved g c =
       way = under-way-fit p l.left l.head l.delay k (c.in-Ok.served, c.in-Ok.next) l.invariant.way some (subst (λ plan. IsServing plan (c.in-Ok.served, c.in-Ok.next)) plan c.in-Ok.ensures.bounds);
       times = named-after l.left k rest named;
       timing = l.invariant.timing ∙ ap (λ ks. option_map (onward l.delay) (timed_from p l.left l.head ks)) next
-        ∙ timing-fit p l.left l.head k rest cluster (c.in-Ok.served, c.in-Ok.next) l.delay c.next_cluster-cluster.ensures.value fit;
+          ∙ timing-fit p l.left l.head k rest cluster (c.in-Ok.served, c.in-Ok.next) l.delay c.next_cluster-cluster.ensures.value fit;
       cost = omega (arith, l.invariant.cost, c.in-Ok.ensures.step);
     }
 
