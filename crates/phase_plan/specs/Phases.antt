@@ -1,6 +1,8 @@
-use Rattle.std.specs.Prelude.{◌≡◌, ℕ, ◌+◌, ◌<◌, ◌≤◌, List, [], ◌∷◌, ◌++◌, length, All, sum_by, take, slice_range, slice_index_or, nat_lt, if◌then◌else◌}
+use Rattle.std.specs.Prelude.{◌≡◌, ℕ, ◌+◌, ◌<◌, ◌≤◌, ◌⊎◌, List, ◌++◌, length, All, sum_by, take, slice_range, slice_index_or, nat_lt, if◌then◌else◌}
 use Rattle.phase_plan.specs.declared.Phase.{Phase}
 use Rattle.phase_plan.specs.declared.Field.{Field}
+use Rattle.phase_plan.specs.declared.PlanFault.{PlanFault}
+use Rattle.phase_plan.specs.declared.PlanFault.TheVariants.{Count, Bound}
 use Rattle.phase_plan.specs.declared.Field.TheVariants.{Least, Greatest, Yellow, Clear, Loss, Wait}
 
 -- the bounds of each time of a phase, in seconds
@@ -45,3 +47,22 @@ passing p = p.least + p.yellow + p.clear
 -- from the end of a green of phase s to the begin of a green of phase j, at the least
 abbrev pub switch_time : List Phase → ℕ → ℕ → ℕ
 switch_time plan s j = (phase_at plan s).yellow + (phase_at plan s).clear + sum_by passing (passed plan s j)
+
+-- the order in which the fields are judged
+abbrev pub rank : Field → ℕ
+rank Least = 0
+rank Greatest = 1
+rank Yellow = 2
+rank Clear = 3
+rank Loss = 4
+rank Wait = 5
+
+-- the first field of the phase that is out of bounds
+pub record IsFirstFault (p : Phase) (field : Field) : Type 0 where
+  pub earlier : (f : Field) → rank f < rank field → IsInBounds p f
+  pub here : ¬ IsInBounds p field
+
+-- why these phases are no plan: their number, or else the first phase and then the first field out of bounds
+abbrev pub IsPlanFault : List Phase → PlanFault → Type 0
+IsPlanFault plan (Count n) = (n ≡ length plan) × ((length plan < 2) ⊎ (4 < length plan))
+IsPlanFault plan (Bound k field) = (2 ≤ length plan) × (length plan ≤ 4) × (k < length plan) × All IsPhase (take k plan) × IsFirstFault (phase_at plan k) field

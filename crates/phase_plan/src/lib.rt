@@ -1,8 +1,8 @@
 //! The signal phases of an intersection: their bounds, and the time that a change of phase takes.
 #![tactic(auto)]
 
-ghost use Rattle.std.specs.Prelude.{◌≡◌, ◌+◌, ◌*◌, ◌<◌, ◌≤◌, length, All, sum_by};
-ghost use Rattle.phase_plan.specs.Phases.{IsPhase, passing};
+ghost use Rattle.std.specs.Prelude.{◌≡◌, ◌+◌, ◌*◌, ◌<◌, ◌≤◌, length, All, sum_by, IfNone, IfSome};
+ghost use Rattle.phase_plan.specs.Phases.{IsPhase, IsFirstFault, passing};
 
 use std::marker::Model;
 
@@ -64,8 +64,31 @@ impl Model for PhasePlan {
 }
 
 impl PhasePlan {
-    ghost use Rattle.std.specs.Prelude.{◌≡◌, ◌+◌, ◌<◌, ◌≤◌, ◌↔◌, IfOk, IfErr, IsOk, length};
-    ghost use Rattle.phase_plan.specs.Phases.{IsPlan, IsPhase, phase_at, switch_time};
+    ghost use Rattle.std.specs.Prelude.{◌≡◌, ◌<◌, ◌≤◌, ◌^◌, IfOk, IfErr, length, vec_len};
+    ghost use Rattle.phase_plan.specs.Phases.{IsPlan, IsPlanFault, IsPhase, phase_at, switch_time};
+
+    /// The plan of these phases, where there are 2 to 4 of them and each is within its bounds.
+    ///
+    /// The fault is the number of phases, or else the first phase that is out of bounds, with the
+    /// first of its fields that is.
+    pub fn new(phases: Vec<Phase>) -> Result<PhasePlan, PlanFault>
+        requires { vec_len phases < 2 ^ 32 }
+        ensures ok { IfOk result (λ plan. (plan ≡ phases.items) × IsPlan phases.items) }
+        ensures err { IfErr result (IsPlanFault phases.items) }
+    {
+        if phases.len() < 2 || phases.len() > 4 {
+            return Err(PlanFault::Count(phases.len() as u32));
+        }
+        for (k, phase) in phases.iter().enumerate() {
+            if let Some(field) = out_of_bounds(phase) {
+                return Err(PlanFault::Bound {
+                    phase: k as u8,
+                    field,
+                });
+            }
+        }
+        Ok(PhasePlan { phases })
+    }
 
     /// How many phases there are, 2 to 4.
     pub fn count(&self) -> u8
@@ -100,6 +123,28 @@ impl PhasePlan {
             passing_time(&self.phases[s as usize + 1..]) + passing_time(&self.phases[..j as usize])
         };
         leaving.yellow + leaving.clear + passed
+    }
+}
+
+/// The first field of the phase that is out of bounds.
+fn out_of_bounds(phase: &Phase) -> Option<Field>
+    ensures none { IfNone result (IsPhase phase.now) }
+    ensures first { IfSome result (IsFirstFault phase.now) }
+{
+    if !(1..=120).contains(&phase.least) {
+        Some(Field::Least)
+    } else if !(phase.least..=240).contains(&phase.greatest) {
+        Some(Field::Greatest)
+    } else if !(1..=10).contains(&phase.yellow) {
+        Some(Field::Yellow)
+    } else if phase.clear > 10 {
+        Some(Field::Clear)
+    } else if phase.loss > 10 || phase.loss >= phase.greatest {
+        Some(Field::Loss)
+    } else if !(1..=3600).contains(&phase.wait) {
+        Some(Field::Wait)
+    } else {
+        None
     }
 }
 

@@ -1,1 +1,3 @@
--- The definitions of the crate.
+pub mod Orders
+pub mod Serving
+pub use Rattle.phase_plan.specs.Phases

@@ -1,6 +1,15 @@
 //! How one cluster of vehicles is served from a signal head, and in how many orders clusters can be.
 #![tactic(auto)]
 
+ghost use Rattle.std.specs.Prelude.{◌≡◌, ◌+◌, ◌^◌, ◌<◌, ◌≤◌, length, IfOk, min, sum};
+ghost use Rattle.switch_rules.specs.Orders.{orders, choose, mixtures};
+ghost use Rattle.phase_plan.specs.Phases.{IsPhase};
+ghost use Rattle.switch_rules.specs.Serving.{IsHead, IsCluster, IsServing, serving, served_from, start_in_green};
+
+use foundation::steps::Steps;
+use phase_plan::{Phase, PhasePlan};
+use std::sync::ledger::Ledger;
+
 /// Vehicles of one phase that arrive together.
 #[derive(Clone, Copy)]
 pub struct Cluster {
@@ -23,4 +32,167 @@ pub struct Head {
     pub at: u32,
     /// Whether the start-up loss of this green is not yet spent.
     pub fresh: bool,
+}
+
+/// A cluster that has been served.
+#[derive(Clone, Copy)]
+pub struct Served {
+    /// The second at which the green that serves it began.
+    pub green: u32,
+    /// The second at which its first vehicle leaves.
+    pub start: u32,
+    /// The second after its last vehicle has left.
+    pub finish: u32,
+    /// Its delay, in thousandths of a vehicle times seconds.
+    pub cost: u64,
+    /// Whether the green of the head before it went on.
+    pub kept: bool,
+}
+
+/// Why a cluster cannot be served from a head.
+#[derive(Clone, Copy)]
+pub enum Unfit {
+    /// It does not end within the greatest green.
+    TooLong,
+    /// It would wait longer than its phase allows.
+    TooLate,
+}
+
+/// Serves a cluster of a phase from a head, in one step: the served cluster with the head after it,
+/// or why that cannot be.
+pub fn serve<L: Ledger>(
+    plan: &PhasePlan,
+    head: &Head,
+    phase: u8,
+    cluster: &Cluster,
+    steps: &mut Steps<L>,
+) -> Result<(Served, Head), Unfit>
+    requires head { IsHead plan.now head.now }
+    requires reach { head.now.at ≤ 104000 }
+    requires phase { phase < length plan.now }
+    requires cluster { IsCluster cluster.now }
+    ensures value { result ≡ serving plan.now head.now phase cluster.now }
+    ensures step { steps.new ≡ steps.old + 1 }
+    ensures bounds { IfOk result (λ s. IsServing plan.now s) }
+{
+    steps.tick();
+    let times = plan.phase(phase);
+    if phase == head.phase {
+        let start = start_in_green(times, head, cluster);
+        if start + cluster.len <= head.since + times.greatest {
+            return served_from(times, phase, cluster, head.since, start, true);
+        }
+    }
+    let least = plan.phase(head.phase).least;
+    let earliest = head.at.max(head.since + least) + plan.switch_time(head.phase, phase);
+    if cluster.arr <= earliest {
+        served_from(
+            times,
+            phase,
+            cluster,
+            earliest,
+            earliest + times.loss,
+            false,
+        )
+    } else {
+        served_from(times, phase, cluster, cluster.arr, cluster.arr, false)
+    }
+}
+
+/// When the cluster starts if the green of the head goes on.
+fn start_in_green(times: &Phase, head: &Head, cluster: &Cluster) -> u32
+    requires times { IsPhase times.now }
+    requires head { head.now.at ≤ 104000 }
+    requires begun { head.now.since ≤ head.now.at }
+    requires cluster { IsCluster cluster.now }
+    ensures value { result ≡ start_in_green times.now head.now cluster.now }
+    ensures bounds { result ≤ 104010 }
+{
+    if head.fresh && cluster.arr <= head.at {
+        head.at.max(head.since + times.loss)
+    } else {
+        cluster.arr.max(head.at)
+    }
+}
+
+/// The cluster served from this start in this green, or why that cannot be.
+fn served_from(
+    times: &Phase,
+    phase: u8,
+    cluster: &Cluster,
+    green: u32,
+    start: u32,
+    kept: bool,
+) -> Result<(Served, Head), Unfit>
+    requires times { IsPhase times.now }
+    requires cluster { IsCluster cluster.now }
+    requires green { green ≤ start }
+    requires start { start ≤ 110000 }
+    requires arrived { cluster.now.arr ≤ start }
+    ensures { result ≡ served_from times.now phase cluster.now green start kept }
+{
+    let finish = start + cluster.len;
+    let waited = start - cluster.arr;
+    if finish > green + times.greatest {
+        return Err(Unfit::TooLong);
+    }
+    if waited > times.wait {
+        return Err(Unfit::TooLate);
+    }
+    let served = Served {
+        green,
+        start,
+        finish,
+        cost: u64::from(cluster.size) * u64::from(waited),
+        kept,
+    };
+    let head = Head {
+        phase,
+        since: green,
+        at: finish,
+        fresh: false,
+    };
+    Ok((served, head))
+}
+
+/// The greatest number of orders that an instance may have.
+pub const MOST_ORDERS: u32 = 50_000;
+
+/// In how many orders clusters can be served, given how many each phase has; where there are more
+/// than 50,000, the answer is 50,001.
+pub fn ways(counts: &[u32]) -> u32
+    requires few { length counts.now ≤ 4 }
+    requires sum { sum counts.now ≤ 41 }
+    ensures { result ≡ min 50001 (length (orders counts.now)) }
+{
+    let (ways, _) = mixtures(counts);
+    ways as u32
+}
+
+/// The number of ways to mix groups of so many things, at most 50,001, and how many things there
+/// are in all.
+fn mixtures(counts: &[u32]) -> (u64, u32)
+    requires { sum counts.now ≤ 41 }
+    ensures ways { result.0 ≡ min 50001 (mixtures counts.now) }
+    ensures total { result.1 ≡ sum counts.now }
+{
+    let Some((first, others)) = counts.split_first() else {
+        return (1, 0);
+    };
+    let (ways, total) = mixtures(others);
+    let ways = ways * choices(*first, total);
+    (ways.min(u64::from(MOST_ORDERS) + 1), first + total)
+}
+
+/// The number of ways to choose `few` things and leave `others`.
+fn choices(few: u32, others: u32) -> u64
+    requires { few + others ≤ 41 }
+    ensures value { result ≡ choose (few + others) few }
+    ensures bounds { result ≤ 2 ^ 41 }
+{
+    let mut value = 1;
+    for i in 0..few {
+        value = value * u64::from(others + i + 1) / u64::from(i + 1);
+    }
+    value
 }

@@ -6,5 +6,5 @@ use Rattle.phase_plan.proofs.passing_time.Given as goal
 abbrev pub invariant-loop-phase : goal.invariant-loop-phase
 invariant-loop-phase l = record {
   value : l.total ≡ sum_by passing (take l.phase-index l.phases);
-  bounds : l.total ≤ 140 * l.phase-index
+  bounds : l.total ≤ 140 * l.phase-index;
 }

@@ -1,0 +1,44 @@
+use Rattle.std.specs.Prelude.{◌≡◌, ℕ, ◌+◌, ◌-◌, ◌==◌, if◌then◌else◌, List, [], ◌∷◌, length, sum, sum_by, slice_index, slice_get, Option, Some, None, option_and_then}
+use Rattle.std.specs.Option.{option_map}
+use Rattle.std.specs.Result.{result_ok}
+use Rattle.switch_rules.specs.Serving.{serving}
+use Rattle.switch_rules.specs.Orders.{one_less}
+use Rattle.switch_rules.specs.declared.Head.{Head}
+use Rattle.switch_rules.specs.declared.Served.{Served}
+use Rattle.switch_rules.specs.declared.Cluster.{Cluster}
+use Rattle.schedule_meaning.specs.Instances.{Problem, list_at, counts_of}
+
+infixl 10 ◌>>=◌
+abbrev pub ◌>>=◌ : {A B : Type 0} → Option A → (A → Option B) → Option B
+o >>= f = option_and_then f o
+
+-- the next cluster of phase k, where so many of each phase are left
+abbrev pub next_cluster : List (List Cluster) → List ℕ → ℕ → Option Cluster
+next_cluster lists left k = slice_get (list_at lists k) (length (list_at lists k) - slice_index left k)
+
+-- the rest of a sequence from a head, where so many clusters of each phase are left: each number serves the next
+-- cluster of its phase. There is none where a number has no cluster left, a serving is unfit, or a cluster is left
+-- at the end
+abbrev pub timed_from : Problem → List ℕ → Head → List ℕ → Option (List Served × Head)
+timed_from p left head [] = if sum left == 0 then Some ([], head) else None
+timed_from p left head (k ∷ ks) = do
+    cluster ← next_cluster p.lists left k
+    served ← result_ok (serving p.plan head k cluster)
+    rest ← timed_from p (one_less left k) served.1 ks
+    Some (served.0 ∷ rest.0, rest.1)
+
+-- a sequence of phases, timed from the problem's head: what is served and the last head; none where it is not feasible
+abbrev pub timed : Problem → List ℕ → Option (List Served × Head)
+timed p sequence = timed_from p (counts_of p.lists) p.head sequence
+
+-- the delay of what is served
+abbrev pub total_cost : List Served → ℕ
+total_cost served = sum_by (λ s. s.cost) served
+
+-- the delay of a sequence and the head behind it; none where it is not feasible
+abbrev pub timing : Problem → List ℕ → Option (ℕ × Head)
+timing p sequence = option_map (λ t. (total_cost t.0, t.1)) (timed p sequence)
+
+-- the delay of a sequence; none where it is not feasible
+abbrev pub delay_of : Problem → List ℕ → Option ℕ
+delay_of p sequence = option_map (λ t. total_cost t.0) (timed p sequence)

@@ -1,0 +1,225 @@
+ghost use Rattle.std.specs.Prelude.{◌≡◌, ◌+◌, ◌^◌, ◌<◌, ◌≤◌, All, length, map, sum, IfOk, IfNone, IfSome, IsTrue, OnErr, OnOk, ◌↔◌};
+ghost use Rattle.phase_plan.specs.Phases.{IsPlan};
+ghost use Rattle.switch_rules.specs.Serving.{IsHead, IsCluster};
+ghost use Rattle.switch_rules.specs.Orders.{orders};
+ghost use Rattle.schedule_meaning.specs.Instances.{Problem, IsInstance, IsSpaced, counts_of, list_at};
+
+use foundation::items::Items;
+use phase_plan::PhasePlan;
+use std::marker::Model;
+use switch_rules::{Cluster, Head, MOST_ORDERS, ways};
+
+/// What one intersection plans: its phases, its signal head, and the clusters of each phase in the
+/// order of their arrival, all within bounds. Contracts see it as a `Problem`.
+#[derive(Drop)]
+pub struct Instance {
+    plan: PhasePlan,
+    head: Head,
+    lists: Items<Items<Cluster>>,
+}
+
+impl Model for Instance {
+    ghost use Rattle.schedule_meaning.specs.Instances.{Problem, IsInstance};
+
+    ghost Value = { Problem };
+
+    ghost view = { λ i. record { plan = i.plan; head = i.head; lists = i.lists } };
+
+    ghost invariant = { λ i. IsInstance (record { plan = i.plan; head = i.head; lists = i.lists }) };
+}
+
+/// Why parts make no instance. Phases are numbered from 0, places in a list from 1.
+#[derive(Clone, Copy)]
+pub enum InstanceFault {
+    /// The head's phase is none of the plan.
+    HeadPhase,
+    /// The head began after second 100,000, or its time is not within its greatest green.
+    HeadTime,
+    /// There is not one list of clusters for each phase.
+    ListCount,
+    /// A cluster is out of its bounds.
+    ClusterBound { phase: u8, place: u32 },
+    /// A cluster arrives before the one before it in its list has arrived whole.
+    Order { phase: u8, place: u32 },
+    /// There are more than 40 clusters, or more than 50,000 orders to serve them in.
+    Many,
+}
+
+/// The greatest number of clusters in an instance.
+const MOST_CLUSTERS: u64 = 40;
+
+impl Instance {
+    ghost use Rattle.std.specs.Prelude.{◌≡◌, ◌^◌, ◌<◌, All, length, IfOk, OnErr, vec_len};
+    ghost use Rattle.schedule_meaning.specs.Instances.{IsInstance, list_at};
+
+    /// The instance of these parts, where all bounds hold. The fault is the first in the order of
+    /// `InstanceFault`, and there the one of the first phase and the first place.
+    pub fn new(
+        plan: PhasePlan,
+        head: Head,
+        lists: Vec<Items<Cluster>>,
+    ) -> Result<Instance, InstanceFault>
+        requires { All (λ list. length list < 2 ^ 32) lists.items }
+        ensures ok { IfOk result (λ i. (i ≡ record { plan = plan; head = head; lists = lists.items }) × IsInstance i) }
+        ensures err { OnErr result (IsInstance (record { plan = plan; head = head; lists = lists.items }) → ⊥) }
+    {
+        check_head(&plan, &head)?;
+        if lists.len() != plan.count() as usize {
+            return Err(InstanceFault::ListCount);
+        }
+        check_bounds(&lists)?;
+        check_order(&lists)?;
+        check_number(&lists)?;
+        Ok(Instance {
+            plan,
+            head,
+            lists: Items::from_vec(lists),
+        })
+    }
+
+    /// The phases.
+    pub fn plan(&self) -> &PhasePlan
+        ensures value { result.now ≡ self.now.plan }
+        ensures instance { IsInstance self.now }
+    {
+        &self.plan
+    }
+
+    /// The signal head from which all sequences start.
+    pub fn head(&self) -> Head
+        ensures value { result ≡ self.now.head }
+    {
+        self.head
+    }
+
+    /// The clusters of a phase, in their order.
+    pub fn list(&self, phase: u8) -> &[Cluster]
+        requires { phase < length self.now.plan }
+        ensures value { result.now ≡ list_at self.now.lists phase }
+    {
+        self.lists.as_slice()[phase as usize].as_slice()
+    }
+}
+
+/// Refuses a head whose phase is none of the plan, or whose times are out of bounds.
+fn check_head(plan: &PhasePlan, head: &Head) -> Result<(), InstanceFault>
+    ensures ok { OnOk result (IsPlan plan.now × IsHead plan.now head.now × (head.now.since ≤ 100000)) }
+    ensures err { OnErr result (IsHead plan.now head.now → head.now.since ≤ 100000 → ⊥) }
+{
+    if head.phase >= plan.count() {
+        return Err(InstanceFault::HeadPhase);
+    }
+    let greatest = plan.phase(head.phase).greatest;
+    if head.since > 100_000 || head.at < head.since || head.at - head.since > greatest {
+        return Err(InstanceFault::HeadTime);
+    }
+    Ok(())
+}
+
+/// Refuses the first cluster that is out of bounds.
+fn check_bounds(lists: &[Items<Cluster>]) -> Result<(), InstanceFault>
+    requires few { length lists.now ≤ 4 }
+    requires short { All (λ list. length list < 2 ^ 32) lists.now }
+    ensures ok { OnOk result (All (All IsCluster) lists.now) }
+    ensures err { OnErr result (All (All IsCluster) lists.now → ⊥) }
+{
+    for (phase, list) in lists.iter().enumerate() {
+        if let Some(index) = first_out_of_bounds(list.as_slice()) {
+            return Err(InstanceFault::ClusterBound {
+                phase: phase as u8,
+                place: index as u32 + 1,
+            });
+        }
+    }
+    Ok(())
+}
+
+/// The index of the first cluster that is out of bounds.
+fn first_out_of_bounds(list: &[Cluster]) -> Option<usize>
+    ensures none { IfNone result (All IsCluster list.now) }
+    ensures some { IfSome result (λ k. (k < length list.now) × (All IsCluster list.now → ⊥)) }
+{
+    list.iter().position(|cluster| !is_in_bounds(cluster))
+}
+
+/// Whether a cluster is within its bounds.
+fn is_in_bounds(cluster: &Cluster) -> bool
+    ensures { IsTrue result ↔ IsCluster cluster.now }
+{
+    (1..=20_000_000).contains(&cluster.size)
+        && cluster.arr <= 100_000
+        && (1..=240).contains(&cluster.len)
+}
+
+/// Refuses the first cluster that arrives before the one before it has arrived whole.
+fn check_order(lists: &[Items<Cluster>]) -> Result<(), InstanceFault>
+    requires few { length lists.now ≤ 4 }
+    requires short { All (λ list. length list < 2 ^ 32) lists.now }
+    requires bounds { All (All IsCluster) lists.now }
+    ensures ok { OnOk result (All IsSpaced lists.now) }
+    ensures err { OnErr result (All IsSpaced lists.now → ⊥) }
+{
+    for (phase, list) in lists.iter().enumerate() {
+        if let Some(index) = first_too_early(list.as_slice()) {
+            return Err(InstanceFault::Order {
+                phase: phase as u8,
+                place: index as u32 + 1,
+            });
+        }
+    }
+    Ok(())
+}
+
+/// The index of the first cluster that arrives before the one before it has arrived whole.
+fn first_too_early(list: &[Cluster]) -> Option<usize>
+    requires { All IsCluster list.now }
+    ensures none { IfNone result (IsSpaced list.now) }
+    ensures some { IfSome result (λ k. (k < length list.now) × (IsSpaced list.now → ⊥)) }
+{
+    for index in 1..list.len() {
+        let before = &list[index - 1];
+        if list[index].arr < before.arr + before.len {
+            return Some(index);
+        }
+    }
+    None
+}
+
+/// Refuses more than 40 clusters, or more than 50,000 orders of them.
+fn check_number(lists: &[Items<Cluster>]) -> Result<(), InstanceFault>
+    requires few { length lists.now ≤ 4 }
+    requires short { All (λ list. length list < 2 ^ 32) lists.now }
+    ensures ok { OnOk result ((sum (counts_of lists.now) ≤ 40) × (length (orders (counts_of lists.now)) ≤ 50000)) }
+    ensures err { OnErr result (sum (counts_of lists.now) ≤ 40 → length (orders (counts_of lists.now)) ≤ 50000 → ⊥) }
+{
+    let mut counts = [0; 4];
+    let counts = &mut counts[..lists.len()];
+    count_clusters(lists, counts);
+    if total_of(counts) > MOST_CLUSTERS || ways(counts) > MOST_ORDERS {
+        return Err(InstanceFault::Many);
+    }
+    Ok(())
+}
+
+/// Writes down how many clusters each phase has.
+pub fn count_clusters(lists: &[Items<Cluster>], counts: &mut [u32])
+    requires same { length counts.old ≡ length lists.now }
+    requires short { All (λ list. length list < 2 ^ 32) lists.now }
+    ensures { counts.new ≡ counts_of lists.now }
+{
+    for (phase, list) in lists.iter().enumerate() {
+        counts[phase] = list.len() as u32;
+    }
+}
+
+/// How many clusters these are in all.
+fn total_of(counts: &[u32]) -> u64
+    requires { length counts.now ≤ 4 }
+    ensures { result ≡ sum counts.now }
+{
+    let mut total = 0;
+    for count in counts {
+        total += u64::from(*count);
+    }
+    total
+}

@@ -1,0 +1,57 @@
+use Rattle.std.specs.Prelude.{ℕ, ◌+◌, ◌-◌, ◌*◌, ◌<◌, ◌≤◌, Bool, true, false, ◌&&◌, ◌==◌, nat_lt, nat_le, max, if◌then◌else◌, List, length, Result, Ok, Err}
+use Rattle.phase_plan.specs.Phases.{phase_at, switch_time}
+use Rattle.phase_plan.specs.declared.Phase.{Phase}
+use Rattle.switch_rules.specs.declared.Head.{Head}
+use Rattle.switch_rules.specs.declared.Cluster.{Cluster}
+use Rattle.switch_rules.specs.declared.Served.{Served}
+use Rattle.switch_rules.specs.declared.Unfit.{Unfit}
+use Rattle.switch_rules.specs.declared.Unfit.TheVariants.{TooLong, TooLate}
+
+-- a head of the plan: its phase exists, and its time lies within the greatest green
+pub record IsHead (plan : List Phase) (head : Head) : Type 0 where
+  pub phase : head.phase < length plan
+  pub begun : head.since ≤ head.at
+  pub within : head.at ≤ head.since + (phase_at plan head.phase).greatest
+
+-- a cluster within its bounds
+pub record IsCluster (c : Cluster) : Type 0 where
+  pub size : (1 ≤ c.size) × (c.size ≤ 20000000)
+  pub arr : c.arr ≤ 100000
+  pub len : (1 ≤ c.len) × (c.len ≤ 240)
+
+-- when the cluster starts if the green of the head goes on: as it arrives and the green is free, or behind the
+-- start-up loss where that is not spent and the cluster waits already
+abbrev pub start_in_green : Phase → Head → Cluster → ℕ
+start_in_green p head c = if head.fresh && nat_le c.arr head.at then max head.at (head.since + p.loss) else max c.arr head.at
+
+-- the green goes on for a cluster of its own phase that ends within the greatest green
+abbrev pub goes_on : Phase → Head → ℕ → Cluster → Bool
+goes_on p head j c = (j == head.phase) && nat_le (start_in_green p head c + c.len) (head.since + p.greatest)
+
+-- when a new green of phase j can begin: the green lasts its least time, and then the ring turns
+abbrev pub earliest_green : List Phase → Head → ℕ → ℕ
+earliest_green plan head j = max head.at (head.since + (phase_at plan head.phase).least) + switch_time plan head.phase j
+
+-- the cluster served from this start in this green, where it ends within the greatest green and does not wait too long
+abbrev pub served_from : Phase → ℕ → Cluster → ℕ → ℕ → Bool → Result (Served × Head) Unfit
+served_from p j c green start kept =
+    if nat_lt (green + p.greatest) (start + c.len) then Err TooLong
+    else (if nat_lt p.wait (start - c.arr) then Err TooLate
+    else Ok (record { green = green; start = start; finish = start + c.len; cost = c.size * (start - c.arr); kept = kept }, record { phase = j; since = green; at = start + c.len; fresh = false }))
+
+-- a cluster of phase j in a new green: behind the start-up loss where it waits already, and else as it arrives
+abbrev pub served_anew : Phase → ℕ → Cluster → ℕ → Result (Served × Head) Unfit
+served_anew p j c earliest = if nat_le c.arr earliest then served_from p j c earliest (earliest + p.loss) false else served_from p j c c.arr c.arr false
+
+-- a cluster of phase j served from a head: in the green that stands where that goes on, and else in a new one
+abbrev pub serving : List Phase → Head → ℕ → Cluster → Result (Served × Head) Unfit
+serving plan head j c =
+    let p = phase_at plan j in
+    if goes_on p head j c then served_from p j c head.since (start_in_green p head c) true
+    else served_anew p j c (earliest_green plan head j)
+
+-- what every serving keeps: a head of the plan, and the bounds of finish and cost
+pub record IsServing (plan : List Phase) (s : Served × Head) : Type 0 where
+  pub head : IsHead plan s.1
+  pub finish : s.1.at ≤ 103840
+  pub cost : s.0.cost ≤ 72000000000
