@@ -4,7 +4,7 @@
 //! after it, and there is none only where nothing of the kind stands there.
 #![tactic(auto)]
 
-ghost use Rattle.std.specs.Prelude.{◌≡◌, ℕ, ◌+◌, ◌*◌, ◌-◌, ◌^◌, ◌<◌, ◌≤◌, List, ◌∷◌, ◌++◌, IfSome, IsSomeAnd};
+ghost use Rattle.std.specs.Prelude.{◌≡◌, ℕ, ◌+◌, ◌*◌, ◌-◌, ◌^◌, ◌<◌, ◌≤◌, List, ◌∷◌, ◌++◌, length, IfSome, IsSomeAnd};
 ghost use Rattle.std.specs.Char.{IsAsciiDigit};
 ghost use Rattle.std.specs.Option.{SomeIff, option_map, option_copied};
 ghost use Rattle.std.specs.Fmt.{decimal};
@@ -14,6 +14,7 @@ ghost use Rattle.line_text.specs.Fields.{literal_at, field_at, field_seen};
 pub fn literal<'a>(text: &str, bytes: &'a [u8]) -> Option<&'a [u8]>
     ensures found { IfSome result (λ rest. bytes.now ≡ text.now ++ rest.now) }
     ensures only { (rest : List ℕ) → bytes.now ≡ text.now ++ rest → IsSomeAnd result (λ x. x.now ≡ rest) }
+    ensures shorter { IfSome result (λ rest. length rest.now + length text.now ≡ length bytes.now) }
     // The same as a function of the bytes.
     ensures exact { option_copied result ≡ literal_at text.now bytes.now }
 {
@@ -28,6 +29,7 @@ pub fn field_u8(separator: u8, bytes: &[u8]) -> Option<(u8, &[u8])>
     ensures found { IfSome result (λ x. bytes.now ≡ decimal x.0 ++ separator ∷ x.1.now) }
     ensures only { (n : ℕ) (rest : List ℕ) → n < 2 ^ 8 → bytes.now ≡ decimal n ++ separator ∷ rest
         → IsSomeAnd result (λ x. (x.0 ≡ n) × (x.1.now ≡ rest)) }
+    ensures shorter { IfSome result (λ x. length x.1.now < length bytes.now) }
     // The same as a function of the bytes.
     ensures exact { option_map field_seen result ≡ field_at (2 ^ 8) separator bytes.now }
 {
@@ -43,6 +45,7 @@ pub fn field_u32(separator: u8, bytes: &[u8]) -> Option<(u32, &[u8])>
     ensures found { IfSome result (λ x. bytes.now ≡ decimal x.0 ++ separator ∷ x.1.now) }
     ensures only { (n : ℕ) (rest : List ℕ) → n < 2 ^ 32 → bytes.now ≡ decimal n ++ separator ∷ rest
         → IsSomeAnd result (λ x. (x.0 ≡ n) × (x.1.now ≡ rest)) }
+    ensures shorter { IfSome result (λ x. length x.1.now < length bytes.now) }
     // The same as a function of the bytes.
     ensures exact { option_map field_seen result ≡ field_at (2 ^ 32) separator bytes.now }
 {
@@ -58,6 +61,7 @@ pub fn field_u64(separator: u8, bytes: &[u8]) -> Option<(u64, &[u8])>
     ensures found { IfSome result (λ x. bytes.now ≡ decimal x.0 ++ separator ∷ x.1.now) }
     ensures only { (n : ℕ) (rest : List ℕ) → n < 2 ^ 64 → bytes.now ≡ decimal n ++ separator ∷ rest
         → IsSomeAnd result (λ x. (x.0 ≡ n) × (x.1.now ≡ rest)) }
+    ensures shorter { IfSome result (λ x. length x.1.now < length bytes.now) }
     // The same as a function of the bytes.
     ensures exact { option_map field_seen result ≡ field_at (2 ^ 64) separator bytes.now }
 {
@@ -70,6 +74,7 @@ fn field_up_to(most: u64, separator: u8, bytes: &[u8]) -> Option<(u64, &[u8])>
     ensures found { IfSome result (λ x. (x.0 ≤ most) × (bytes.now ≡ decimal x.0 ++ separator ∷ x.1.now)) }
     ensures only { (n : ℕ) (rest : List ℕ) → n ≤ most → bytes.now ≡ decimal n ++ separator ∷ rest
         → IsSomeAnd result (λ x. (x.0 ≡ n) × (x.1.now ≡ rest)) }
+    ensures shorter { IfSome result (λ x. length x.1.now < length bytes.now) }
 {
     let mut number = 0;
     for (index, byte) in bytes.iter().enumerate() {
