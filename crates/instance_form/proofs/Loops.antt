@@ -1,0 +1,92 @@
+-- Reading line after line, as the loops do: what was read before, and what is still read.
+use Rattle.std.proofs.Common.{◌≡◌, ℕ, zero, suc, ◌+◌, ◌-◌, ◌<◌, ◌≤◌, List, [], ◌∷◌, ◌++◌, length, Option, Some, None, Result, Ok, Err, refl, sym, ap, ◌∙◌, append_assoc, arith}
+use Rattle.std.specs.Option.{ok_or}
+use Rattle.std.proofs.lemmas.List.{append-nil}
+use Rattle.phase_plan.specs.declared.Phase.{Phase}
+use Rattle.switch_rules.specs.declared.Cluster.{Cluster}
+use Rattle.instance_form.specs.declared.form.FormFault.{FormFault}
+use Rattle.instance_form.specs.Lines.{phase_line_at, cluster_line_at}
+use Rattle.instance_form.specs.Reading.{◌>>=◌, phases_at, clusters_at, lists_at}
+
+-- the fault in place of a value that is not there
+pub fault_is : {A : Type 0} (o : Option A) (e f : FormFault) → o ≡ None → ◌≡◌ {A = Result A FormFault} (Err e) (ok_or o f) → e ≡ f
+fault_is None e f h is = cc
+fault_is (Some x) e f h is = absurd cc
+
+-- ---- phases
+
+abbrev pub with_phases : List Phase → Result (List Phase × List ℕ) ℕ → Result (List Phase × List ℕ) ℕ
+with_phases front read = read >>= λ x. Ok (front ++ x.0, x.1)
+
+regroup_phases : (front : List Phase) (p : Phase) (read : Result (List Phase × List ℕ) ℕ) → with_phases front (read >>= λ x. Ok (p ∷ x.0, x.1)) ≡ with_phases (front ++ p ∷ []) read
+regroup_phases front p (Ok x) = ap (λ (ps : List Phase). Ok (ps, x.1)) (simp append_assoc)
+regroup_phases front p (Err n) = refl
+
+pub phases_go_on : (front : List Phase) (count i line : ℕ) (bytes : List ℕ) (p : Phase) (after : List ℕ) (total : Result (List Phase × List ℕ) ℕ) → i < count → phase_line_at bytes ≡ Some (p, after)
+    → with_phases front (phases_at (count - i) (line + i) bytes) ≡ total → with_phases (front ++ p ∷ []) (phases_at (count - (i + 1)) (line + (i + 1)) after) ≡ total
+unfolding phases_at
+phases_go_on front count i line bytes p after total lt h so_far =
+    let k : count - i ≡ suc (count - (i + 1)) = omega arith in
+    let next : line + i + 1 ≡ line + (i + 1) = omega arith in
+    let one : with_phases front (phases_at (count - i) (line + i) bytes) ≡ with_phases (front ++ p ∷ []) (phases_at (count - (i + 1)) (line + (i + 1)) after) =
+    rw (k, h, next) (regroup_phases front p (phases_at (count - (i + 1)) (line + (i + 1)) after)) in
+    sym one ∙ so_far
+
+pub phases_fail : (front : List Phase) (count i line : ℕ) (bytes : List ℕ) (total : Result (List Phase × List ℕ) ℕ) → i < count → phase_line_at bytes ≡ None
+    → with_phases front (phases_at (count - i) (line + i) bytes) ≡ total → total ≡ Err (line + i)
+unfolding phases_at
+phases_fail front count i line bytes total lt h so_far =
+    let k : count - i ≡ suc (count - (i + 1)) = omega arith in
+    let one : with_phases front (phases_at (count - i) (line + i) bytes) ≡ Err (line + i) = rw (k, h) refl in
+    sym so_far ∙ one
+
+pub phases_end : (front : List Phase) (count i line : ℕ) (bytes : List ℕ) (total : Result (List Phase × List ℕ) ℕ) → count ≤ i → with_phases front (phases_at (count - i) (line + i) bytes) ≡ total → total ≡ Ok (front, bytes)
+unfolding phases_at
+phases_end front count i line bytes total le so_far =
+    let k : count - i ≡ 0 = omega arith in
+    let one : with_phases front (phases_at (count - i) (line + i) bytes) ≡ Ok (front, bytes) = rw k (ap (λ (ps : List Phase). Ok (ps, bytes)) (append-nil front)) in
+    sym so_far ∙ one
+
+-- ---- clusters, and their lists
+
+abbrev pub after : {A : Type 0} → List A → List A × List ℕ → List A × List ℕ
+after front read = (front ++ read.0, read.1)
+
+regroup : {A : Type 0} (front : List A) (x : A) (read : List A × List ℕ) → after front (x ∷ read.0, read.1) ≡ after (front ++ x ∷ []) read
+regroup {A} front x read = ap (λ (xs : List A). (xs, read.1)) (sym (append_assoc front (x ∷ []) read.0))
+
+pub clusters_go_on : (front : List Cluster) (most phase : ℕ) (bytes : List ℕ) (c : Cluster) (rest : List ℕ) (total : List Cluster × List ℕ) → length front < most → cluster_line_at phase bytes ≡ Some (c, rest)
+    → after front (clusters_at (most - length front) phase bytes) ≡ total → after (front ++ c ∷ []) (clusters_at (most - (length front + 1)) phase rest) ≡ total
+unfolding clusters_at
+clusters_go_on front most phase bytes c rest total lt h so_far =
+    let k : most - length front ≡ suc (most - (length front + 1)) = omega arith in
+    let one : after front (clusters_at (most - length front) phase bytes) ≡ after (front ++ c ∷ []) (clusters_at (most - (length front + 1)) phase rest) =
+    rw (k, h) (regroup front c (clusters_at (most - (length front + 1)) phase rest)) in
+    sym one ∙ so_far
+
+-- where no line of a cluster follows
+pub clusters_stop : (most phase : ℕ) (bytes : List ℕ) → cluster_line_at phase bytes ≡ None → clusters_at most phase bytes ≡ ([], bytes)
+unfolding clusters_at
+clusters_stop zero phase bytes h = refl
+clusters_stop (suc most) phase bytes h = rw h refl
+
+pub clusters_end : (front : List Cluster) (most phase : ℕ) (bytes : List ℕ) (total : List Cluster × List ℕ) → cluster_line_at phase bytes ≡ None → after front (clusters_at most phase bytes) ≡ total → total ≡ (front, bytes)
+clusters_end front most phase bytes total h so_far =
+    sym so_far ∙ ap (after front) (clusters_stop most phase bytes h) ∙ ap (λ (cs : List Cluster). (cs, bytes)) (append-nil front)
+
+pub lists_go_on : (front : List (List Cluster)) (count phase : ℕ) (bytes : List ℕ) (list : List Cluster) (rest : List ℕ) (total : List (List Cluster) × List ℕ) → phase < count → clusters_at (length bytes) phase bytes ≡ (list, rest)
+    → after front (lists_at (count - phase) phase bytes) ≡ total → after (front ++ list ∷ []) (lists_at (count - (phase + 1)) (phase + 1) rest) ≡ total
+unfolding lists_at
+lists_go_on front count phase bytes list rest total lt h so_far =
+    let k : count - phase ≡ suc (count - (phase + 1)) = omega arith in
+    let more = lists_at (count - (phase + 1)) (phase + 1) in
+    let one : after front (lists_at (count - phase) phase bytes) ≡ after (front ++ list ∷ []) (more rest) =
+    ap (λ n. after front (lists_at n phase bytes)) k ∙ ap (λ (l : List Cluster × List ℕ). after front (l.0 ∷ (more l.1).0, (more l.1).1)) h ∙ regroup front list (more rest) in
+    sym one ∙ so_far
+
+pub lists_end : (front : List (List Cluster)) (count phase : ℕ) (bytes : List ℕ) (total : List (List Cluster) × List ℕ) → count ≤ phase → after front (lists_at (count - phase) phase bytes) ≡ total → total ≡ (front, bytes)
+unfolding lists_at
+lists_end front count phase bytes total le so_far =
+    let k : count - phase ≡ 0 = omega arith in
+    let one : after front (lists_at (count - phase) phase bytes) ≡ (front, bytes) = rw k (ap (λ (ls : List (List Cluster)). (ls, bytes)) (append-nil front)) in
+    sym so_far ∙ one

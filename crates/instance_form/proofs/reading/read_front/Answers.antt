@@ -1,0 +1,18 @@
+use Rattle.std.proofs.lemmas.Result.{IfOk-weaker}
+use Rattle.instance_form.proofs.FormLaws.{front_takes, front_only, front_from}
+use Rattle.instance_form.proofs.reading.read_front.Goals as goal
+
+pub returns-clause-fits : goal.returns-clause-fits
+returns-clause-fits c = IfOk-weaker c.form_front.result _ _ (λ x t. t.fits) (front_takes c.args.line c.args.bytes.now c.form_front.result c.form_front.ensures)
+
+pub returns-clause-found : goal.returns-clause-found
+returns-clause-found c = IfOk-weaker c.form_front.result _ _ (λ x t. t.spelled) (front_takes c.args.line c.args.bytes.now c.form_front.result c.form_front.ensures)
+
+pub returns-clause-next : goal.returns-clause-next
+returns-clause-next c = IfOk-weaker c.form_front.result _ _ (λ x t. t.next) (front_takes c.args.line c.args.bytes.now c.form_front.result c.form_front.ensures)
+
+pub returns-clause-only : goal.returns-clause-only
+returns-clause-only c = front_only c.args.line c.args.bytes.now c.form_front.result c.form_front.ensures
+
+pub returns-clause-from : goal.returns-clause-from
+returns-clause-from c = front_from c.args.line c.args.bytes.now c.form_front.result c.form_front.ensures

@@ -1,0 +1,24 @@
+-- What reading an instance's text answers.
+use Rattle.std.specs.Prelude.{◌≡◌, ℕ, ◌≤◌, List}
+use Rattle.phase_plan.specs.declared.Phase.{Phase}
+use Rattle.switch_rules.specs.declared.Head.{Head}
+use Rattle.switch_rules.specs.declared.Cluster.{Cluster}
+use Rattle.instance_form.specs.declared.form.Form.{Form}
+use Rattle.instance_form.specs.declared.form.FormFault.{FormFault}
+use Rattle.instance_form.specs.declared.form.FormFault.TheVariants.{Line, NoMemory}
+
+-- the form has these phases, this head and these lists
+pub record Says (form : Form) (plan : List Phase) (h : Head) (lists : List (List Cluster)) : Type 0 where
+  pub phases : form.phases.items ≡ plan
+  pub head : form.head ≡ h
+  pub each : form.lists.items ≡ lists
+
+-- only memory is wanting
+abbrev pub IsWant : FormFault → Type 0
+IsWant (Line n) = ⊥
+IsWant NoMemory = Unit {0}
+
+-- the fault names no line before this one
+abbrev pub IsFrom : ℕ → FormFault → Type 0
+IsFrom first (Line n) = first ≤ n
+IsFrom first NoMemory = Unit {0}

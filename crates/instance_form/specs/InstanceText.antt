@@ -1,0 +1,73 @@
+-- The one spelling of an intersection's instance.
+use Rattle.std.specs.Prelude.{◌≡◌, ℕ, ◌+◌, ◌^◌, ◌<◌, ◌≤◌, Bool, true, false, List, [], ◌∷◌, ◌++◌, length, map, sum_by, All, codes}
+use Rattle.std.specs.List.{flat_map, concat, join_with_byte}
+use Rattle.std.specs.Fmt.{decimal}
+use Rattle.phase_plan.specs.declared.Phase.{Phase}
+use Rattle.switch_rules.specs.declared.Head.{Head}
+use Rattle.switch_rules.specs.declared.Cluster.{Cluster}
+
+-- the words with one space between each two, and a line feed
+abbrev pub line : List (List ℕ) → List ℕ
+line words = join_with_byte 32 words ++ 10 ∷ []
+
+abbrev pub count_line : ℕ → List ℕ
+count_line count = line (codes "phases" ∷ decimal count ∷ [])
+
+abbrev pub phase_line : Phase → List ℕ
+phase_line p = line (codes "phase" ∷ map decimal (p.least ∷ p.greatest ∷ p.yellow ∷ p.clear ∷ p.loss ∷ p.wait ∷ []))
+
+abbrev pub freshness : Bool → List ℕ
+freshness true = codes "fresh"
+freshness false = codes "kept"
+
+abbrev pub head_line : Head → List ℕ
+head_line h = line (codes "head" ∷ decimal h.phase ∷ decimal h.since ∷ decimal h.at ∷ freshness h.fresh ∷ [])
+
+abbrev pub cluster_line : ℕ → Cluster → List ℕ
+cluster_line phase c = line (codes "cluster" ∷ map decimal (phase ∷ c.size ∷ c.arr ∷ c.len ∷ []))
+
+-- the clusters of each phase, from this phase on
+abbrev pub cluster_lines : ℕ → List (List Cluster) → List ℕ
+cluster_lines phase [] = []
+cluster_lines phase (list ∷ lists) = flat_map (cluster_line phase) list ++ cluster_lines (phase + 1) lists
+
+-- the phases of a plan, the head and the clusters of each phase, line by line
+unfoldable pub instance_text : List Phase → Head → List (List Cluster) → List ℕ
+instance_text plan head lists = concat (
+    line (codes "instance 1" ∷ []) ∷
+    count_line (length plan) ∷
+    flat_map phase_line plan ∷
+    head_line head ∷
+    cluster_lines 0 lists ∷
+    line (codes "end" ∷ []) ∷ [])
+
+-- the numbers of a phase, of a head and of a cluster are below their types' limits
+pub record IsWritable (p : Phase) : Type 0 where
+  pub least : p.least < 2 ^ 32
+  pub greatest : p.greatest < 2 ^ 32
+  pub yellow : p.yellow < 2 ^ 32
+  pub clear : p.clear < 2 ^ 32
+  pub loss : p.loss < 2 ^ 32
+  pub wait : p.wait < 2 ^ 32
+
+pub record IsWritableHead (h : Head) : Type 0 where
+  pub phase : h.phase < 2 ^ 8
+  pub since : h.since < 2 ^ 32
+  pub at : h.at < 2 ^ 32
+
+pub record IsWritableCluster (c : Cluster) : Type 0 where
+  pub size : c.size < 2 ^ 32
+  pub arr : c.arr < 2 ^ 32
+  pub len : c.len < 2 ^ 32
+
+-- what has a spelling: two to four phases, with a list of clusters for each
+pub record HasText (plan : List Phase) (h : Head) (lists : List (List Cluster)) : Type 0 where
+  pub count : (2 ≤ length plan) × (length plan ≤ 4)
+  pub each : length lists ≡ length plan
+  pub phases : All IsWritable plan
+  pub head : IsWritableHead h
+  pub clusters : All (All IsWritableCluster) lists
+
+-- how many lines the text has
+abbrev pub line_count : List Phase → List (List Cluster) → ℕ
+line_count plan lists = length plan + sum_by (λ list. length list) lists + 4

@@ -1,0 +1,5 @@
+-- The definitions of the crate.
+pub mod Answers
+pub mod InstanceText
+pub mod Lines
+pub mod Reading

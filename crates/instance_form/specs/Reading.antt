@@ -1,0 +1,72 @@
+-- Reading an instance's text from the front of the bytes, with the number of the first line that is none.
+use Rattle.std.specs.Prelude.{◌≡◌, ℕ, zero, suc, ◌+◌, List, [], ◌∷◌, length, sum_by, Result, Ok, Err, codes}
+use Rattle.std.specs.Option.{ok_or, option_map_or}
+use Rattle.line_text.specs.Fields.{literal_at}
+use Rattle.phase_plan.specs.declared.Phase.{Phase}
+use Rattle.switch_rules.specs.declared.Head.{Head}
+use Rattle.switch_rules.specs.declared.Cluster.{Cluster}
+use Rattle.instance_form.specs.declared.form.Form.{Form}
+use Rattle.instance_form.specs.declared.form.FormFault.{FormFault}
+use Rattle.instance_form.specs.declared.form.FormFault.TheVariants.{Line, NoMemory}
+use Rattle.instance_form.specs.Lines.{count_line_at, phase_line_at, head_line_at, cluster_line_at}
+
+-- a form without where it lies in memory
+pub record Parts : Type 0 where
+  pub plan : List Phase
+  pub head : Head
+  pub lists : List (List Cluster)
+
+abbrev pub parts_of : Form → Parts
+parts_of form = record { plan = form.phases.items; head = form.head; lists = form.lists.items }
+
+infixl 10 ◌>>=◌
+abbrev pub ◌>>=◌ : {A B : Type 0} → Result A ℕ → (A → Result B ℕ) → Result B ℕ
+(Ok x) >>= f = f x
+(Err n) >>= f = Err n
+
+-- what a function returned, seen by view, is what reading gives, unless memory ran out
+abbrev pub Fails : {Y : Type 0} → FormFault → Result Y ℕ → Type 0
+Fails (Line n) read = read ≡ Err n
+Fails NoMemory read = Unit {0}
+
+abbrev pub Gives : {X Y : Type 0} → (X → Y) → Result X FormFault → Result Y ℕ → Type 0
+Gives view (Ok x) read = read ≡ Ok (view x)
+Gives view (Err e) read = Fails e read
+
+-- so many lines of phases, the first with this number
+unfoldable pub phases_at : ℕ → ℕ → List ℕ → Result (List Phase × List ℕ) ℕ
+phases_at zero line bytes = Ok ([], bytes)
+phases_at (suc count) line bytes = do
+  first ← ok_or (phase_line_at bytes) line
+  others ← phases_at count (line + 1) first.1
+  Ok (first.0 ∷ others.0, others.1)
+
+-- the lines of clusters of a phase, up to so many
+unfoldable pub clusters_at : ℕ → ℕ → List ℕ → List Cluster × List ℕ
+clusters_at zero phase bytes = ([], bytes)
+clusters_at (suc most) phase bytes =
+    option_map_or (λ first. let others = clusters_at most phase first.1 in (first.0 ∷ others.0, others.1)) (cluster_line_at phase bytes) ([], bytes)
+
+-- the lines of clusters of so many phases, from this one on
+unfoldable pub lists_at : ℕ → ℕ → List ℕ → List (List Cluster) × List ℕ
+lists_at zero phase bytes = ([], bytes)
+lists_at (suc count) phase bytes =
+    let list = clusters_at (length bytes) phase bytes in
+    let others = lists_at count (phase + 1) list.1 in
+    (list.0 ∷ others.0, others.1)
+
+-- the first two lines, the first with this number: how many phases there are
+unfoldable pub opening_at : ℕ → List ℕ → Result (ℕ × List ℕ) ℕ
+opening_at line bytes = do
+  rest ← ok_or (literal_at (codes "instance 1\n") bytes) line
+  ok_or (count_line_at rest) (line + 1)
+
+-- a whole text, whose first line has this number; the number of the line after it, and the bytes from there
+unfoldable pub form_at : ℕ → List ℕ → Result (Parts × ℕ × List ℕ) ℕ
+form_at line bytes = do
+  count ← opening_at line bytes
+  plan ← phases_at count.0 (line + 2) count.1
+  head ← ok_or (head_line_at plan.1) (line + 2 + count.0)
+  lists ← Ok (lists_at count.0 0 head.1)
+  rest ← ok_or (literal_at (codes "end\n") lists.1) (line + 2 + count.0 + 1 + sum_by (λ list. length list) lists.0)
+  Ok (record { plan = plan.0; head = head.0; lists = lists.0 }, line + 2 + count.0 + 1 + sum_by (λ list. length list) lists.0 + 1, rest)

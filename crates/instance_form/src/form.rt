@@ -1,0 +1,47 @@
+//! What the lines of an instance's text say, and why a text has not their form.
+
+ghost use Rattle.std.specs.Prelude.{◌≡◌};
+ghost use Rattle.instance_form.specs.declared.form.FormFault.TheVariants.{NoMemory};
+
+use foundation::items::Items;
+use phase_plan::Phase;
+use std::alloc::{AllocError, AllocFailed};
+use switch_rules::{Cluster, Head};
+
+/// What the lines of an instance's text say: 2 to 4 phases, a head, and the clusters of each phase.
+///
+/// The numbers are as they stand in the text: they may be no plan, no head and no clusters.
+#[derive(Drop)]
+pub struct Form {
+    /// The phases, in order.
+    pub phases: Vec<Phase>,
+    /// The head.
+    pub head: Head,
+    /// The clusters of each phase, in order.
+    pub lists: Vec<Items<Cluster>>,
+}
+
+/// Why bytes are no instance's text.
+#[derive(Clone, Copy)]
+pub enum FormFault {
+    /// The first line, from 1, that has not the form of its place.
+    Line(u32),
+    /// There is not enough memory.
+    NoMemory,
+}
+
+impl From<AllocError> for FormFault {
+    ghost from_gives = { λ _ e. e ≡ NoMemory };
+
+    fn from(_e: AllocError) -> FormFault {
+        FormFault::NoMemory
+    }
+}
+
+impl<T: Drop> From<AllocFailed<T>> for FormFault {
+    ghost from_gives = { λ _ e. e ≡ NoMemory };
+
+    fn from(_e: AllocFailed<T>) -> FormFault {
+        FormFault::NoMemory
+    }
+}

@@ -1,0 +1,10 @@
+//! The text of an intersection's instance: its lines and numbers, and not yet whether they are an instance.
+#![tactic(auto)]
+
+mod form;
+mod lines;
+mod lists;
+mod reading;
+
+pub use form::{Form, FormFault};
+pub use reading::{one_text, read_form, read_front};

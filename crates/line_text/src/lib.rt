@@ -1,0 +1,109 @@
+//! The units of which lines of text are made: literals, and numbers with a separator after them.
+//!
+//! Each is read from the front of the bytes, exactly: the answer says what stands there and what comes
+//! after it, and there is none only where nothing of the kind stands there.
+#![tactic(auto)]
+
+ghost use Rattle.std.specs.Prelude.{◌≡◌, ℕ, ◌+◌, ◌*◌, ◌-◌, ◌^◌, ◌<◌, ◌≤◌, List, ◌∷◌, ◌++◌, length, IfSome, IsSomeAnd};
+ghost use Rattle.std.specs.Char.{IsAsciiDigit};
+ghost use Rattle.std.specs.Option.{SomeIff, option_map, option_copied};
+ghost use Rattle.std.specs.Fmt.{decimal};
+ghost use Rattle.line_text.specs.Fields.{literal_at, field_at, field_seen};
+
+/// The bytes after `text`, or none where the bytes do not begin with it.
+pub fn literal<'a>(text: &str, bytes: &'a [u8]) -> Option<&'a [u8]>
+    ensures found { IfSome result (λ rest. bytes.now ≡ text.now ++ rest.now) }
+    ensures only { (rest : List ℕ) → bytes.now ≡ text.now ++ rest → IsSomeAnd result (λ x. x.now ≡ rest) }
+    ensures shorter { IfSome result (λ rest. length rest.now + length text.now ≡ length bytes.now) }
+    // The same as a function of the bytes.
+    ensures exact { option_copied result ≡ literal_at text.now bytes.now }
+{
+    bytes.strip_prefix(text.as_bytes())
+}
+
+/// The number at the front, which is a `u8`, up to the separator, and the bytes after that.
+///
+/// A number has digits alone, and its first is 0 only where it is 0.
+pub fn field_u8(separator: u8, bytes: &[u8]) -> Option<(u8, &[u8])>
+    requires { ¬ IsAsciiDigit separator }
+    ensures found { IfSome result (λ x. bytes.now ≡ decimal x.0 ++ separator ∷ x.1.now) }
+    ensures only { (n : ℕ) (rest : List ℕ) → n < 2 ^ 8 → bytes.now ≡ decimal n ++ separator ∷ rest
+        → IsSomeAnd result (λ x. (x.0 ≡ n) × (x.1.now ≡ rest)) }
+    ensures shorter { IfSome result (λ x. length x.1.now < length bytes.now) }
+    // The same as a function of the bytes.
+    ensures exact { option_map field_seen result ≡ field_at (2 ^ 8) separator bytes.now }
+{
+    let (number, rest) = field_up_to(u64::from(u8::MAX), separator, bytes)?;
+    Some((number as u8, rest))
+}
+
+/// The number at the front, which is a `u32`, up to the separator, and the bytes after that.
+///
+/// A number has digits alone, and its first is 0 only where it is 0.
+pub fn field_u32(separator: u8, bytes: &[u8]) -> Option<(u32, &[u8])>
+    requires { ¬ IsAsciiDigit separator }
+    ensures found { IfSome result (λ x. bytes.now ≡ decimal x.0 ++ separator ∷ x.1.now) }
+    ensures only { (n : ℕ) (rest : List ℕ) → n < 2 ^ 32 → bytes.now ≡ decimal n ++ separator ∷ rest
+        → IsSomeAnd result (λ x. (x.0 ≡ n) × (x.1.now ≡ rest)) }
+    ensures shorter { IfSome result (λ x. length x.1.now < length bytes.now) }
+    // The same as a function of the bytes.
+    ensures exact { option_map field_seen result ≡ field_at (2 ^ 32) separator bytes.now }
+{
+    let (number, rest) = field_up_to(u64::from(u32::MAX), separator, bytes)?;
+    Some((number as u32, rest))
+}
+
+/// The number at the front, which is a `u64`, up to the separator, and the bytes after that.
+///
+/// A number has digits alone, and its first is 0 only where it is 0.
+pub fn field_u64(separator: u8, bytes: &[u8]) -> Option<(u64, &[u8])>
+    requires { ¬ IsAsciiDigit separator }
+    ensures found { IfSome result (λ x. bytes.now ≡ decimal x.0 ++ separator ∷ x.1.now) }
+    ensures only { (n : ℕ) (rest : List ℕ) → n < 2 ^ 64 → bytes.now ≡ decimal n ++ separator ∷ rest
+        → IsSomeAnd result (λ x. (x.0 ≡ n) × (x.1.now ≡ rest)) }
+    ensures shorter { IfSome result (λ x. length x.1.now < length bytes.now) }
+    // The same as a function of the bytes.
+    ensures exact { option_map field_seen result ≡ field_at (2 ^ 64) separator bytes.now }
+{
+    field_up_to(u64::MAX, separator, bytes)
+}
+
+/// The number at the front, if it is at most `most`, up to the separator, and the bytes after that.
+fn field_up_to(most: u64, separator: u8, bytes: &[u8]) -> Option<(u64, &[u8])>
+    requires { ¬ IsAsciiDigit separator }
+    ensures found { IfSome result (λ x. (x.0 ≤ most) × (bytes.now ≡ decimal x.0 ++ separator ∷ x.1.now)) }
+    ensures only { (n : ℕ) (rest : List ℕ) → n ≤ most → bytes.now ≡ decimal n ++ separator ∷ rest
+        → IsSomeAnd result (λ x. (x.0 ≡ n) × (x.1.now ≡ rest)) }
+    ensures shorter { IfSome result (λ x. length x.1.now < length bytes.now) }
+{
+    let mut number = 0;
+    for (index, byte) in bytes.iter().enumerate() {
+        if index > 0 {
+            if *byte == separator {
+                return Some((number, &bytes[index + 1..]));
+            }
+            if number == 0 {
+                return None;
+            }
+        }
+        number = with_digit(most, number, *byte)?;
+    }
+    None
+}
+
+/// The number with one more digit at its end, if that is a digit and the number is at most `most`.
+fn with_digit(most: u64, number: u64, byte: u8) -> Option<u64>
+    ensures { SomeIff result (IsAsciiDigit byte × (number * 10 + (byte - 48) ≤ most)) (number * 10 + (byte - 48)) }
+{
+    if !byte.is_ascii_digit() {
+        return None;
+    }
+    let longer = number.checked_mul(10)?.checked_add(u64::from(byte - b'0'))?;
+    if longer <= most { Some(longer) } else { None }
+}
+
+/// Bytes begin with at most one number before a separator.
+pub fn one_field()
+    ensures { (m n separator : ℕ) (x y : List ℕ) → m < 2 ^ 64 → n < 2 ^ 64 → ¬ IsAsciiDigit separator
+        → decimal m ++ separator ∷ x ≡ decimal n ++ separator ∷ y → (m ≡ n) × (x ≡ y) }
+{}
