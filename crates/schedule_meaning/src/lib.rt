@@ -4,7 +4,9 @@
 mod instances;
 mod planners;
 mod replays;
+mod texts;
 
 pub use instances::{Instance, InstanceFault};
 pub use planners::{Answer, PlainPlanner, Planner};
 pub use replays::{SeqFault, Timed, replay};
+pub use texts::{TextFault, read_instance};
