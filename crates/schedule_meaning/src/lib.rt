@@ -7,6 +7,6 @@ mod replays;
 mod texts;
 
 pub use instances::{Instance, InstanceFault};
-pub use planners::{Answer, PlainPlanner, Planner};
+pub use planners::{Answer, PlainPlanner, Planner, best_answer};
 pub use replays::{SeqFault, Timed, replay};
 pub use texts::{TextFault, read_instance};

@@ -1,4 +1,4 @@
-ghost use Rattle.std.specs.Prelude.{◌≡◌, ℕ, ◌++◌, List, IfOk, OnOk, Some, length, sum};
+ghost use Rattle.std.specs.Prelude.{◌≡◌, ◌<◌, ℕ, ◌++◌, List, IfOk, OnOk, Some, length, sum};
 ghost use Rattle.std.specs.Option.{option_map};
 ghost use Rattle.switch_rules.specs.Orders.{orders};
 ghost use Rattle.schedule_meaning.specs.Timing.{IsUnderWay, onward, timed_from, timing};
@@ -10,7 +10,8 @@ use super::replays::next_cluster;
 use foundation::items::Items;
 use foundation::steps::Steps;
 use std::alloc::{AllocError, Global};
-use std::sync::ledger::Ledger;
+use std::marker::Brand;
+use std::sync::ledger::{Blank, Ledger};
 use switch_rules::{Head, serve};
 
 /// What a planner answers.
@@ -136,4 +137,33 @@ fn keep_better(
         delay,
     };
     Ok(())
+}
+
+/// The best answer of an instance by this planner, for callers that count no steps.
+pub fn best_answer<P: Planner>(
+    alloc: Global,
+    planner: &mut P,
+    i: &Instance,
+) -> Result<Answer, AllocError>
+    ensures best { IfOk result (IsBest i.now) }
+    ensures least { IfOk result (IsLeast i.now) }
+{
+    counted::<P, Brand>(alloc, planner, i, Blank::new(1))
+}
+
+/// The best answer of an instance, its steps counted in the ledger of this blank.
+fn counted<P: Planner, L: Ledger>(
+    alloc: Global,
+    planner: &mut P,
+    i: &Instance,
+    blank: Blank,
+) -> Result<Answer, AllocError>
+    requires name { blank.name ≡ L.name }
+    requires parts { blank.parts ≡ L.parts }
+    requires some { 0 < L.parts }
+    ensures best { IfOk result (IsBest i.now) }
+    ensures least { IfOk result (IsLeast i.now) }
+{
+    let mut steps = Steps::<L>::new(blank);
+    planner.best(alloc, i, &mut steps)
 }

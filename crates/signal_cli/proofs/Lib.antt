@@ -1,1 +1,1 @@
--- What the crate's proofs share.
+pub mod Fetching

@@ -1,4 +1,4 @@
-use Rattle.std.specs.Prelude.{◌≡◌, ℕ, List, Option, ◌⊎◌, codes, ◌++◌, []}
+use Rattle.std.specs.Prelude.{◌≡◌, ℕ, List, Option, ◌⊎◌, codes, []}
 use Rattle.outside_world.specs.Sink.{Gains, GainsFront, Rose}
 use Rattle.signal_cli.specs.declared.status.Status.{Status}
 use Rattle.signal_cli.specs.declared.status.Status.TheVariants.{Done, Rejected, Usage, BadInput, ReadFault, WriteFault, NoMemory}

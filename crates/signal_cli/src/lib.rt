@@ -2,6 +2,11 @@
 #![tactic(auto)]
 
 mod answers;
+mod plan;
 mod status;
+mod texts;
+mod top;
 
+pub use plan::plan_job;
 pub use status::Status;
+pub use top::signal;
