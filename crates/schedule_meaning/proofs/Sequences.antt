@@ -1,8 +1,9 @@
-use Rattle.std.proofs.Common.{◌≡◌, ◌≢◌, ℕ, zero, suc, ◌+◌, ◌-◌, ◌^◌, ◌<◌, ◌≤◌, ◌==◌, true, false, cond, eqb, List, [], ◌∷◌, length, sum, get_or, drop, All, Option, Some, None, Result, Ok, Err, eq-eqb, add-one, drop-cons, refl, sym, ap, ◌∙◌, inl, inr, arith}
+use Rattle.std.specs.Prelude.{unwrap_or}
+use Rattle.std.proofs.Common.{◌++◌, take, ◌≡◌, ◌≢◌, ℕ, zero, suc, ◌+◌, ◌-◌, ◌^◌, ◌<◌, ◌≤◌, ◌==◌, true, false, cond, eqb, List, [], ◌∷◌, length, sum, get_or, drop, All, Option, Some, None, Result, Ok, Err, eq-eqb, add-one, drop-cons, refl, sym, ap, ◌∙◌, inl, inr, arith}
 use Rattle.std.specs.Option.{option_map, option_and_then}
 use Rattle.std.proofs.Math.ListN.{get_or-map}
 use Rattle.std.proofs.lemmas.List.{length-map}
-use Rattle.std.proofs.lemmas.List.{get_or-set_same, get_or-set_other, get_or_past}
+use Rattle.std.proofs.lemmas.List.{get_or-set_same, get_or-set_other, get_or_past, take_more}
 use Rattle.std.proofs.lemmas.Bool.{cases_Bool, cases_eq, cases_lt, eqb-true}
 use Rattle.std.proofs.lemmas.Bool.Decides.{nat_tests}
 use Rattle.std.proofs.lemmas.List.Sums.{sum_by-cons, sum-map, get_or-le-sum_by}
@@ -17,6 +18,7 @@ use Rattle.switch_rules.specs.declared.Cluster.{Cluster}
 use Rattle.switch_rules.specs.declared.Unfit.{Unfit}
 use Rattle.switch_rules.proofs.Counting.{count-le-sum, sum-one_less, length-one_less}
 use Rattle.schedule_meaning.specs.Instances.{Problem, IsInstance, list_at, counts_of}
+use Rattle.schedule_meaning.specs.Faults.{reached_from}
 use Rattle.schedule_meaning.specs.Timing.{next_cluster, timed_from, timed, timing, times_of, total_cost, onward, IsUnderWay}
 
 -- the counts are the lengths of the lists
@@ -208,3 +210,31 @@ times-all p sequence lawful all named k = elim (cases_lt k (length p.lists)) [
 
 pub drop-next : (sequence : List ℕ) (i : ℕ) → i < length sequence → drop i sequence ≡ get_or sequence i 0 ∷ drop (i + 1) sequence
 drop-next sequence i h = rw add-one (drop-cons sequence i 0 h)
+
+-- what is reached goes on with a fit serving, and ends with a cluster that is missing or unfit
+reached-fit : (p : Problem) (left : List ℕ) (head : Head) (k : ℕ) (ks : List ℕ) (c : Cluster) (s : Served × Head) → next_cluster p.lists left k ≡ Some c → serving p.plan head k c ≡ Ok s → reached_from p left head (k ∷ ks) ≡ reached_from p (one_less left k) s.1 ks
+reached-fit p left head k ks c s e f = rw e (rw f refl)
+
+reached-missing : (p : Problem) (left : List ℕ) (head : Head) (k : ℕ) (ks : List ℕ) → next_cluster p.lists left k ≡ None → reached_from p left head (k ∷ ks) ≡ None
+reached-missing p left head k ks e = rw e refl
+
+reached-unfit : (p : Problem) (left : List ℕ) (head : Head) (k : ℕ) (ks : List ℕ) (c : Cluster) (why : Unfit) → next_cluster p.lists left k ≡ Some c → serving p.plan head k c ≡ Err why → reached_from p left head (k ∷ ks) ≡ None
+reached-unfit p left head k ks c why e f = rw e (rw f refl)
+
+pub reached-push : (p : Problem) (left : List ℕ) (head : Head) (ks : List ℕ) (now : List ℕ) (h : Head) (k : ℕ) (c : Cluster) (s : Served × Head) → reached_from p left head ks ≡ Some (now, h) → next_cluster p.lists now k ≡ Some c → serving p.plan h k c ≡ Ok s
+    → reached_from p left head (ks ++ k ∷ []) ≡ Some (one_less now k, s.1)
+reached-push p left head [] now h k c s e f g =
+    let first : left ≡ now = ap (λ (o : Option (List ℕ × Head)). (unwrap_or o (left, head)).0) e in
+    let second : head ≡ h = ap (λ (o : Option (List ℕ × Head)). (unwrap_or o (left, head)).1) e in
+    reached-fit p left head k [] c s (ap (λ l. next_cluster p.lists l k) first ∙ f) (ap (λ x. serving p.plan x k c) second ∙ g)
+    ∙ ap (λ (l : List ℕ). let o : Option (List ℕ × Head) = Some (one_less l k, s.1) in o) first
+reached-push p left head (j ∷ js) now h k c s e f g =
+    option-cases (next_cluster p.lists left j) (λ none. let gone = reached-missing p left head j js none in absurd (cc)) (λ d ed.
+    result-cases (serving p.plan head j d)
+    (λ r er.
+    reached-fit p left head j (js ++ k ∷ []) d r ed er
+    ∙ reached-push p (one_less left j) r.1 js now h k c s (sym (reached-fit p left head j js d r ed er) ∙ e) f g)
+    (λ why ew. let gone = reached-unfit p left head j js d why ed ew in absurd (cc)))
+
+pub take-next : (sequence : List ℕ) (i : ℕ) → i < length sequence → take (i + 1) sequence ≡ take i sequence ++ get_or sequence i 0 ∷ []
+take-next sequence i h = take_more sequence i 0 h

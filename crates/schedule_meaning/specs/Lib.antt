@@ -1,5 +1,6 @@
 pub mod Best
 pub mod Choice
+pub mod Faults
 pub mod Instances
 pub mod Texts
 pub mod Timing

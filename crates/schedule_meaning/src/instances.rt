@@ -1,9 +1,11 @@
-ghost use Rattle.std.specs.Prelude.{◌≡◌, ◌+◌, ◌^◌, ◌<◌, ◌≤◌, All, length, map, sum, IfOk, IfNone, IfSome, IsTrue, OnErr, OnOk, ◌↔◌};
+ghost use Rattle.std.specs.Prelude.{◌≡◌, ◌+◌, ◌^◌, ◌<◌, ◌≤◌, All, length, map, sum, IfErr, IfNone, IfSome, IsTrue, OnOk, ◌↔◌};
 ghost use Rattle.phase_plan.specs.Phases.{IsPlan};
 ghost use Rattle.switch_rules.specs.Serving.{IsHead, IsCluster};
 ghost use Rattle.switch_rules.specs.Orders.{orders};
-ghost use Rattle.schedule_meaning.specs.Instances.{Problem, IsInstance, IsSpaced, counts_of, list_at};
+ghost use Rattle.schedule_meaning.specs.Instances.{IsSpaced, counts_of};
+ghost use Rattle.schedule_meaning.specs.Faults.{AreMany, IsBoundFault, IsFirstEarly, IsFirstOut, IsHeadFault, IsOrderFault};
 
+use super::faults::InstanceFault;
 use foundation::items::Items;
 use phase_plan::PhasePlan;
 use std::marker::Model;
@@ -28,30 +30,14 @@ impl Model for Instance {
     ghost invariant = { λ i. IsInstance (record { plan = i.plan; head = i.head; lists = i.lists }) };
 }
 
-/// Why parts make no instance. Phases are numbered from 0, places in a list from 1.
-#[derive(Clone, Copy)]
-pub enum InstanceFault {
-    /// The head's phase is none of the plan.
-    HeadPhase,
-    /// The head began after second 100,000, or its time is not within its greatest green.
-    HeadTime,
-    /// There is not one list of clusters for each phase.
-    ListCount,
-    /// A cluster is out of its bounds.
-    ClusterBound { phase: u8, place: u32 },
-    /// A cluster arrives before the one before it in its list has arrived whole.
-    Order { phase: u8, place: u32 },
-    /// There are more than 40 clusters, or more than 50,000 orders to serve them in.
-    Many,
-}
-
 /// The greatest number of clusters in an instance.
 const MOST_CLUSTERS: u64 = 40;
 
 impl Instance {
-    ghost use Rattle.std.specs.Prelude.{◌≡◌, ◌^◌, ◌<◌, All, length, IfOk, OnErr, vec_len};
+    ghost use Rattle.std.specs.Prelude.{◌≡◌, ◌^◌, ◌<◌, All, length, IfOk, IfErr, OnErr, vec_len};
     ghost use Rattle.switch_rules.specs.Serving.{IsCluster};
     ghost use Rattle.schedule_meaning.specs.Instances.{IsInstance, counts_of, list_at};
+    ghost use Rattle.schedule_meaning.specs.Faults.{IsInstanceFault};
 
     /// The instance of these parts, where all bounds hold. The fault is the first in the order of
     /// `InstanceFault`, and there the one of the first phase and the first place.
@@ -62,7 +48,8 @@ impl Instance {
     ) -> Result<Instance, InstanceFault>
         requires { All (λ list. length list < 2 ^ 32) lists.items }
         ensures ok { IfOk result (λ i. (i ≡ record { plan = plan; head = head; lists = lists.items }) × IsInstance i) }
-        ensures err { OnErr result (IsInstance (record { plan = plan; head = head; lists = lists.items }) → ⊥) }
+        ensures err { OnErr result (¬ IsInstance (record { plan = plan; head = head; lists = lists.items })) }
+        ensures first { IfErr result (IsInstanceFault (record { plan = plan; head = head; lists = lists.items })) }
     {
         check_head(&plan, &head)?;
         if lists.len() != plan.count() as usize {
@@ -115,7 +102,7 @@ impl Instance {
 /// Refuses a head whose phase is none of the plan, or whose times are out of bounds.
 fn check_head(plan: &PhasePlan, head: &Head) -> Result<(), InstanceFault>
     ensures ok { OnOk result (IsPlan plan.now × IsHead plan.now head.now × (head.now.since ≤ 100000)) }
-    ensures err { OnErr result (IsHead plan.now head.now → head.now.since ≤ 100000 → ⊥) }
+    ensures err { IfErr result (IsHeadFault plan.now head.now) }
 {
     if head.phase >= plan.count() {
         return Err(InstanceFault::HeadPhase);
@@ -132,7 +119,7 @@ fn check_bounds(lists: &[Items<Cluster>]) -> Result<(), InstanceFault>
     requires few { length lists.now ≤ 4 }
     requires short { All (λ list. length list < 2 ^ 32) lists.now }
     ensures ok { OnOk result (All (All IsCluster) lists.now) }
-    ensures err { OnErr result (All (All IsCluster) lists.now → ⊥) }
+    ensures err { IfErr result (IsBoundFault lists.now) }
 {
     for (phase, list) in lists.iter().enumerate() {
         if let Some(index) = first_out_of_bounds(list.as_slice()) {
@@ -148,7 +135,7 @@ fn check_bounds(lists: &[Items<Cluster>]) -> Result<(), InstanceFault>
 /// The index of the first cluster that is out of bounds.
 fn first_out_of_bounds(list: &[Cluster]) -> Option<usize>
     ensures none { IfNone result (All IsCluster list.now) }
-    ensures some { IfSome result (λ k. (k < length list.now) × (All IsCluster list.now → ⊥)) }
+    ensures some { IfSome result (IsFirstOut list.now) }
 {
     list.iter().position(|cluster| !is_in_bounds(cluster))
 }
@@ -168,7 +155,7 @@ fn check_order(lists: &[Items<Cluster>]) -> Result<(), InstanceFault>
     requires short { All (λ list. length list < 2 ^ 32) lists.now }
     requires bounds { All (All IsCluster) lists.now }
     ensures ok { OnOk result (All IsSpaced lists.now) }
-    ensures err { OnErr result (All IsSpaced lists.now → ⊥) }
+    ensures err { IfErr result (IsOrderFault lists.now) }
 {
     for (phase, list) in lists.iter().enumerate() {
         if let Some(index) = first_too_early(list.as_slice()) {
@@ -185,7 +172,7 @@ fn check_order(lists: &[Items<Cluster>]) -> Result<(), InstanceFault>
 fn first_too_early(list: &[Cluster]) -> Option<usize>
     requires { All IsCluster list.now }
     ensures none { IfNone result (IsSpaced list.now) }
-    ensures some { IfSome result (λ k. (k < length list.now) × (IsSpaced list.now → ⊥)) }
+    ensures some { IfSome result (IsFirstEarly list.now) }
 {
     for index in 1..list.len() {
         let before = &list[index - 1];
@@ -201,7 +188,7 @@ fn check_number(lists: &[Items<Cluster>]) -> Result<(), InstanceFault>
     requires few { length lists.now ≤ 4 }
     requires short { All (λ list. length list < 2 ^ 32) lists.now }
     ensures ok { OnOk result ((sum (counts_of lists.now) ≤ 40) × (length (orders (counts_of lists.now)) ≤ 50000)) }
-    ensures err { OnErr result (sum (counts_of lists.now) ≤ 40 → length (orders (counts_of lists.now)) ≤ 50000 → ⊥) }
+    ensures err { IfErr result (λ fault. (fault ≡ InstanceFault.Many) × AreMany lists.now) }
 {
     let mut counts = [0; 4];
     let counts = &mut counts[..lists.len()];

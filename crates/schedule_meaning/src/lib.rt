@@ -1,12 +1,14 @@
 //! One intersection's instance, what a sequence of servings means, and which answer is the best.
 #![tactic(auto)]
 
+mod faults;
 mod instances;
 mod planners;
 mod replays;
 mod texts;
 
-pub use instances::{Instance, InstanceFault};
+pub use faults::{InstanceFault, SeqFault};
+pub use instances::Instance;
 pub use planners::{Answer, PlainPlanner, Planner, best_answer};
-pub use replays::{SeqFault, Timed, replay};
+pub use replays::{Timed, replay};
 pub use texts::{TextFault, read_instance};

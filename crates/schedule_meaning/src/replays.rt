@@ -1,12 +1,14 @@
-ghost use Rattle.std.specs.Prelude.{◌≡◌, ◌≢◌, ℕ, ◌+◌, ◌^◌, ◌<◌, ◌≤◌, All, IfNone, IfOk, IfSome, OnErr, Some, None, length, slice_index};
+ghost use Rattle.std.specs.Prelude.{◌≡◌, ◌≢◌, ℕ, ◌+◌, ◌^◌, ◌<◌, ◌≤◌, All, IfNone, IfOk, IfErr, IfSome, OnErr, take, Some, None, length, slice_index};
 ghost use Rattle.switch_rules.specs.Serving.{IsCluster};
 ghost use Rattle.schedule_meaning.specs.Instances.{IsInstance, counts_of, list_at};
+ghost use Rattle.schedule_meaning.specs.Faults.{IsSeqFault};
 ghost use Rattle.schedule_meaning.specs.Timing.{next_cluster, timed, times_of, timing};
 
+use super::faults::SeqFault;
 use super::instances::Instance;
 use foundation::steps::Steps;
 use std::sync::ledger::Ledger;
-use switch_rules::{Cluster, Head, Unfit, serve};
+use switch_rules::{Cluster, Head, serve};
 
 /// A feasible sequence, timed: its delay, and the head behind its last serving.
 #[derive(Clone, Copy)]
@@ -16,17 +18,6 @@ pub struct Timed {
     pub head: Head,
 }
 
-/// Why a sequence is not feasible. Places are numbered from 1.
-#[derive(Clone, Copy)]
-pub enum SeqFault {
-    /// The first number that is no phase.
-    Phase { place: u32 },
-    /// The least phase that the sequence has not as often as it has clusters.
-    WrongCount(u8),
-    /// The first serving that is unfit.
-    Unfit { place: u32, why: Unfit },
-}
-
 /// Times a sequence of phases from the instance's head, in at most one step per place.
 ///
 /// It is refused where it is not feasible; the fault is the first in the order of `SeqFault`.
@@ -34,6 +25,7 @@ pub fn replay<L: Ledger>(i: &Instance, seq: &[u8], steps: &mut Steps<L>) -> Resu
     requires { length seq.now < 2 ^ 32 }
     ensures ok { IfOk result (λ t. timing i.now seq.now ≡ Some (t.delay, t.head)) }
     ensures err { OnErr result (timed i.now seq.now ≡ None) }
+    ensures first { IfErr result (IsSeqFault i.now seq.now) }
     ensures cost { steps.new ≤ steps.old + length seq.now }
 {
     let phases = i.plan().count();
@@ -54,7 +46,7 @@ pub fn replay<L: Ledger>(i: &Instance, seq: &[u8], steps: &mut Steps<L>) -> Resu
 /// The index of the first number that is no phase.
 fn first_unknown(seq: &[u8], phases: u8) -> Option<usize>
     ensures none { IfNone result (All (λ k. k < phases) seq.now) }
-    ensures some { IfSome result (λ i. (i < length seq.now) × (phases ≤ slice_index seq.now i)) }
+    ensures some { IfSome result (λ i. (i < length seq.now) × All (λ k. k < phases) (take i seq.now) × (phases ≤ slice_index seq.now i)) }
 {
     seq.iter().position(|phase| *phase >= phases)
 }
@@ -62,7 +54,8 @@ fn first_unknown(seq: &[u8], phases: u8) -> Option<usize>
 /// The least phase that the sequence has not as often as it has clusters.
 fn wrong_count(i: &Instance, seq: &[u8]) -> Option<u8>
     ensures none { IfNone result ((k : ℕ) → k < length i.now.lists → times_of k seq.now ≡ length (list_at i.now.lists k)) }
-    ensures some { IfSome result (λ k. (k < length i.now.lists) × (times_of k seq.now ≢ length (list_at i.now.lists k))) }
+    ensures some { IfSome result (λ k. (k < length i.now.lists) × (times_of k seq.now ≢ length (list_at i.now.lists k))
+        × ((j : ℕ) → j < k → times_of j seq.now ≡ length (list_at i.now.lists j))) }
 {
     for phase in 0..i.plan().count() {
         let times = seq.iter().filter(|named| **named == phase).count();
@@ -82,9 +75,11 @@ fn walk<L: Ledger>(
 ) -> Result<Timed, SeqFault>
     requires short { length seq.now < 2 ^ 32 }
     requires counts { left.old ≡ counts_of i.now.lists }
+    requires all { All (λ k. k < length i.now.plan) seq.now }
     requires times { (k : ℕ) → times_of k seq.now ≡ slice_index left.old k }
     ensures ok { IfOk result (λ t. timing i.now seq.now ≡ Some (t.delay, t.head)) }
     ensures err { OnErr result (timed i.now seq.now ≡ None) }
+    ensures first { IfErr result (IsSeqFault i.now seq.now) }
     ensures cost { steps.new ≤ steps.old + length seq.now }
 {
     let mut head = i.head();

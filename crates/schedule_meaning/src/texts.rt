@@ -3,7 +3,8 @@ ghost use Rattle.instance_form.specs.InstanceText.{instance_text};
 ghost use Rattle.schedule_meaning.specs.Instances.{Problem, IsInstance};
 ghost use Rattle.schedule_meaning.specs.Texts.{IsWant};
 
-use super::instances::{Instance, InstanceFault};
+use super::faults::InstanceFault;
+use super::instances::Instance;
 use instance_form::{FormFault, read_form};
 use phase_plan::{PhasePlan, PlanFault};
 use std::alloc::Global;

@@ -1,9 +1,11 @@
-use Rattle.std.proofs.Common.{ℕ, ◌≡◌, ◌+◌, ◌∷◌, Ok, get_or, drop, sym, ap, subst, ◌∙◌, arith}
+use Rattle.std.proofs.Common.{take, refl, Err, ◌-◌, ℕ, ◌≡◌, ◌+◌, ◌∷◌, Ok, get_or, drop, sym, ap, subst, ◌∙◌, arith}
 use Rattle.std.specs.Option.{option_map}
 use Rattle.std.proofs.lemmas.List.{drop_all}
 use Rattle.switch_rules.specs.Serving.{serving, IsServing}
+use Rattle.schedule_meaning.specs.Instances.{counts_of}
+use Rattle.schedule_meaning.specs.Faults.{reached_from, IsUnfitAt}
 use Rattle.schedule_meaning.specs.Timing.{times_of, timed_from, onward}
-use Rattle.schedule_meaning.proofs.Sequences.{under-way-start, under-way-fit, named-left, named-after, left-phase, none-left, timing-start, timing-fit, timing-end, drop-next}
+use Rattle.schedule_meaning.proofs.Sequences.{get_or-counts, under-way-start, under-way-fit, named-left, named-after, left-phase, none-left, timing-start, timing-fit, timing-end, drop-next, take-next, reached-push}
 use Rattle.schedule_meaning.proofs.replays.walk.Goals as goal
 
 pub loop-index-init : goal.loop-index-init
@@ -11,6 +13,7 @@ loop-index-init g c = rw (c.requires.counts, c.head-head.ensures.value) (record 
   way = under-way-start c.args.i.now c.head-head.ensures.instance;
   times = rw c.requires.counts at c.requires.times;
   timing = timing-start c.args.i.now c.args.seq.now;
+  reached = refl;
   cost = omega arith;
 })
 
@@ -46,6 +49,8 @@ loop-index-preserved g c =
       times = named-after l.left k rest named;
       timing = l.invariant.timing ∙ ap (λ ks. option_map (onward l.delay) (timed_from p l.left l.head ks)) next
           ∙ timing-fit p l.left l.head k rest cluster (c.in-Ok.served, c.in-Ok.next) l.delay c.next_cluster-cluster.ensures.value fit;
+      reached = ap (reached_from p (counts_of p.lists) p.head) (take-next seq l.index c.loop-index-test.true)
+          ∙ reached-push p (counts_of p.lists) p.head (take l.index seq) l.left l.head k cluster (c.in-Ok.served, c.in-Ok.next) l.invariant.reached c.next_cluster-cluster.ensures.value fit;
       cost = omega (arith, l.invariant.cost, c.in-Ok.ensures.step);
     }
 
@@ -57,3 +62,27 @@ returns-clause-ok g c =
     let over = drop_all l.index seq c.loop-index-test.false in
     l.invariant.timing ∙ ap (λ ks. option_map (onward l.delay) (timed_from p l.left l.head ks)) over
     ∙ timing-end p l.left l.head l.delay (none-left l.left (λ k. sym (l.invariant.times k) ∙ ap (times_of k) over))
+
+pub returns-in-Err-clause-first : goal.returns-in-Err-clause-first
+returns-in-Err-clause-first g c =
+    let l = c.loop-index in
+    let p = c.args.i.now in
+    let seq = c.args.seq.now in
+    let k = get_or seq l.index 0 in
+    let cluster = c.next_cluster-cluster.result.now in
+    let unfit : serving p.plan l.head k cluster ≡ Err c.in-Err.why = sym (c.in-Err.ensures.value ∙ ap (λ plan. serving plan l.head k cluster) c.plan.ensures.value) in
+    let at : l.index ≡ l.index + 1 - 1 = omega arith in
+    let here : IsUnfitAt p (take l.index seq) (get_or seq l.index 0) c.in-Err.why = record {
+      left = l.left;
+      h = l.head;
+      cluster = cluster;
+      reached = l.invariant.reached;
+      next = c.next_cluster-cluster.ensures.value;
+      unfit = unfit;
+    } in (
+      c.requires.all,
+      λ j. c.requires.times j ∙ ap (λ counts. get_or counts j 0) c.requires.counts ∙ get_or-counts p.lists j,
+      omega arith,
+      omega arith,
+      subst (λ n. IsUnfitAt p (take n seq) (get_or seq n 0) c.in-Err.why) at here,
+    )
