@@ -233,6 +233,15 @@ anew-filled = refl
 anew-too_long : serving (usual ∷ usual ∷ []) (head 0 0 0) 1 (cluster 1000 0 29) ≡ Err TooLong
 anew-too_long = refl
 
+-- in a switch the least green, the yellow and the clear time are the old phase's, loss and greatest green the new one's
+
+abbrev slow : Phase
+slow = record { least = 7; greatest = 20; yellow = 4; clear = 2; loss = 1; wait = 9 }
+
+unlike-switch : serving (slow ∷ usual ∷ []) (head 0 0 0) 1 (cluster 1000 0 28)
+    ≡ Ok (record { green = 13; start = 15; finish = 43; cost = 15000; kept = false }, head 1 13 43)
+unlike-switch = refl
+
 -- a cluster that is too long and too late is called too long
 
 too_long-first : serving (waiting_at_most 1 ∷ waiting_at_most 1 ∷ []) (head 0 0 0) 1 (cluster 1000 0 29) ≡ Err TooLong
