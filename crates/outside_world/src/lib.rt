@@ -1,5 +1,5 @@
 //! The world outside the program: a shelf that texts are fetched from, and a sink that bytes are put into.
-//! Each is a trait with a count of its failures that code over it can't raise by itself, an
+//! Each is a trait with a record of its failures that code over it can't add to by itself, an
 //! implementation in memory that fails as it is told to, and an adapter over std's files and streams.
 #![tactic(auto)]
 

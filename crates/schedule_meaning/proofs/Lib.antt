@@ -1,3 +1,4 @@
 pub mod Choosing
 pub mod Sequences
 pub mod TextLaws
+mod WorkedRows

@@ -5,10 +5,11 @@ use Rattle.schedule_meaning.specs.Timing.{delay_of}
 use Rattle.schedule_meaning.specs.declared.planners.Answer.{Answer}
 use Rattle.schedule_meaning.specs.declared.planners.Answer.TheVariants.{Plan, NoPlan}
 
--- each of these sequences that is feasible has more delay, or at least this delay
+-- each of these sequences that is feasible has more delay
 abbrev pub AllAbove : Problem → ℕ → List (List ℕ) → Type 0
 AllAbove p delay sequences = All (λ s. IfSome (delay_of p s) (λ d. delay < d)) sequences
 
+-- each of these sequences that is feasible has at least this delay
 abbrev pub AllFrom : Problem → ℕ → List (List ℕ) → Type 0
 AllFrom p delay sequences = All (λ s. IfSome (delay_of p s) (λ d. delay ≤ d)) sequences
 

@@ -20,9 +20,11 @@ list_at lists k = slice_index_or lists k []
 abbrev pub counts_of : List (List Cluster) → List ℕ
 counts_of lists = map length lists
 
+-- what stands where a list has no cluster
 abbrev pub no_cluster : Cluster
 no_cluster = record { size = 0; arr = 0; len = 0 }
 
+-- the cluster at index k of a list, from 0
 abbrev pub cluster_at : List Cluster → ℕ → Cluster
 cluster_at list k = slice_index_or list k no_cluster
 

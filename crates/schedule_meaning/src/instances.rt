@@ -40,7 +40,8 @@ impl Instance {
     ghost use Rattle.schedule_meaning.specs.Faults.{IsInstanceFault};
 
     /// The instance of these parts, where all bounds hold. The fault is the first in the order of
-    /// `InstanceFault`, and there the one of the first phase and the first place.
+    /// `InstanceFault`, and there the one of the first phase and the first place. Each list has fewer
+    /// than 2^32 clusters.
     pub fn new(
         plan: PhasePlan,
         head: Head,
@@ -81,7 +82,7 @@ impl Instance {
         self.head
     }
 
-    /// The clusters of a phase, in their order.
+    /// The clusters of a phase of the plan, in their order.
     pub fn list(&self, phase: u8) -> &[Cluster]
         requires { phase < length self.now.plan }
         ensures value { result.now ≡ list_at self.now.lists phase }
@@ -90,7 +91,7 @@ impl Instance {
         self.lists.as_slice()[phase as usize].as_slice()
     }
 
-    /// Writes down how many clusters each phase has.
+    /// Writes down how many clusters each phase has, into as many places as there are phases.
     pub fn count(&self, counts: &mut [u32])
         requires { length counts.old ≡ length self.now.plan }
         ensures { counts.new ≡ counts_of self.now.lists }

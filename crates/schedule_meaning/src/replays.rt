@@ -15,12 +15,14 @@ use switch_rules::{Cluster, Head, serve};
 pub struct Timed {
     /// Thousandths of a vehicle times seconds.
     pub delay: u64,
+    /// The head behind the last serving; the instance's where the sequence is empty.
     pub head: Head,
 }
 
 /// Times a sequence of phases from the instance's head, in at most one step per place.
 ///
-/// It is refused where it is not feasible; the fault is the first in the order of `SeqFault`.
+/// It is refused exactly where it is not feasible; the fault is the first in the order of `SeqFault`.
+/// The sequence has fewer than 2^32 numbers.
 pub fn replay<L: Ledger>(i: &Instance, seq: &[u8], steps: &mut Steps<L>) -> Result<Timed, SeqFault>
     requires { length seq.now < 2 ^ 32 }
     ensures ok { IfOk result (λ t. timing i.now seq.now ≡ Some (t.delay, t.head)) }

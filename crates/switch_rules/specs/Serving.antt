@@ -28,7 +28,8 @@ start_in_green p head c = if head.fresh && nat_le c.arr head.at then max head.at
 abbrev pub goes_on : Phase → Head → ℕ → Cluster → Bool
 goes_on p head j c = (j == head.phase) && nat_le (start_in_green p head c + c.len) (head.since + p.greatest)
 
--- when a new green of phase j can begin: the green lasts its least time, and then the ring turns
+-- when a new green of phase j can begin: the green lasts its least time and until its time is spent, and then the
+-- ring turns
 abbrev pub earliest_green : List Phase → Head → ℕ → ℕ
 earliest_green plan head j = max head.at (head.since + (phase_at plan head.phase).least) + switch_time plan head.phase j
 

@@ -24,11 +24,12 @@ pub struct Cluster {
 /// The state of a signal: which phase is green, since when, and up to when its time is spent.
 #[derive(Clone, Copy)]
 pub struct Head {
-    /// The phase that is green.
+    /// The phase that is green, from 0.
     pub phase: u8,
     /// The second at which its green began.
     pub since: u32,
-    /// The second from which on the green is free; at most the phase's greatest green after `since`.
+    /// The second from which on the green is free: not before `since`, and at most the phase's greatest
+    /// green after it.
     pub at: u32,
     /// Whether the start-up loss of this green is not yet spent.
     pub fresh: bool,
@@ -59,7 +60,10 @@ pub enum Unfit {
 }
 
 /// Serves a cluster of a phase from a head, in one step: the served cluster with the head after it,
-/// or why that cannot be.
+/// or why that cannot be. A cluster that is both too long and too late is too long.
+///
+/// The head is one of the plan with `at` up to 104,000, the phase is one of the plan, and the cluster
+/// is within its bounds.
 pub fn serve<L: Ledger>(
     plan: &PhasePlan,
     head: &Head,
@@ -158,8 +162,8 @@ fn served_from(
 /// The greatest number of orders that an instance may have.
 pub const MOST_ORDERS: u32 = 50_000;
 
-/// In how many orders clusters can be served, given how many each phase has; where there are more
-/// than 50,000, the answer is 50,001.
+/// In how many orders clusters can be served, given how many each of at most 4 phases has, at most
+/// 41 in all; where there are more than 50,000, the answer is 50,001.
 pub fn ways(counts: &[u32]) -> u32
     requires few { length counts.now ≤ 4 }
     requires sum { sum counts.now ≤ 41 }
