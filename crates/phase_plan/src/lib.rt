@@ -64,7 +64,7 @@ impl Model for PhasePlan {
 }
 
 impl PhasePlan {
-    ghost use Rattle.std.specs.Prelude.{◌≡◌, ◌<◌, ◌≤◌, ◌^◌, IfOk, IfErr, length, vec_len};
+    ghost use Rattle.std.specs.Prelude.{◌≡◌, ◌<◌, ◌≤◌, ◌^◌, IfOk, IfErr, OnErr, length, vec_len};
     ghost use Rattle.phase_plan.specs.Phases.{IsPlan, IsPlanFault, IsPhase, phase_at, switch_time};
 
     /// The plan of these phases, where there are 2 to 4 of them and each is within its bounds.
@@ -75,6 +75,7 @@ impl PhasePlan {
         requires { vec_len phases < 2 ^ 32 }
         ensures ok { IfOk result (λ plan. (plan ≡ phases.items) × IsPlan phases.items) }
         ensures err { IfErr result (IsPlanFault phases.items) }
+        ensures refused { OnErr result (IsPlan phases.items → ⊥) }
     {
         if phases.len() < 2 || phases.len() > 4 {
             return Err(PlanFault::Count(phases.len() as u32));

@@ -1,5 +1,9 @@
+pub mod Best
+pub mod Choice
 pub mod Instances
+pub mod Texts
 pub mod Timing
-pub use Rattle.switch_rules.specs.Serving
-pub use Rattle.switch_rules.specs.Orders
 pub use Rattle.phase_plan.specs.Phases
+pub use Rattle.switch_rules.specs.Orders
+pub use Rattle.switch_rules.specs.Serving
+pub use Rattle.instance_form.specs.InstanceText

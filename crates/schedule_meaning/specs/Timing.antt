@@ -1,7 +1,7 @@
-use Rattle.std.specs.Prelude.{◌≡◌, ℕ, ◌+◌, ◌-◌, ◌==◌, if◌then◌else◌, List, [], ◌∷◌, length, sum, sum_by, slice_index, slice_get, Option, Some, None, option_and_then}
+use Rattle.std.specs.Prelude.{◌≡◌, ℕ, ◌+◌, ◌-◌, ◌*◌, ◌≤◌, ◌==◌, count_by, if◌then◌else◌, List, [], ◌∷◌, length, sum, sum_by, slice_index, slice_get, Option, Some, None, option_and_then}
 use Rattle.std.specs.Option.{option_map}
 use Rattle.std.specs.Result.{result_ok}
-use Rattle.switch_rules.specs.Serving.{serving}
+use Rattle.switch_rules.specs.Serving.{serving, IsHead}
 use Rattle.switch_rules.specs.Orders.{one_less}
 use Rattle.switch_rules.specs.declared.Head.{Head}
 use Rattle.switch_rules.specs.declared.Served.{Served}
@@ -22,10 +22,10 @@ next_cluster lists left k = slice_get (list_at lists k) (length (list_at lists k
 abbrev pub timed_from : Problem → List ℕ → Head → List ℕ → Option (List Served × Head)
 timed_from p left head [] = if sum left == 0 then Some ([], head) else None
 timed_from p left head (k ∷ ks) = do
-    cluster ← next_cluster p.lists left k
-    served ← result_ok (serving p.plan head k cluster)
-    rest ← timed_from p (one_less left k) served.1 ks
-    Some (served.0 ∷ rest.0, rest.1)
+  cluster ← next_cluster p.lists left k
+  served ← result_ok (serving p.plan head k cluster)
+  rest ← timed_from p (one_less left k) served.1 ks
+  Some (served.0 ∷ rest.0, rest.1)
 
 -- a sequence of phases, timed from the problem's head: what is served and the last head; none where it is not feasible
 abbrev pub timed : Problem → List ℕ → Option (List Served × Head)
@@ -42,3 +42,19 @@ timing p sequence = option_map (λ t. (total_cost t.0, t.1)) (timed p sequence)
 -- the delay of a sequence; none where it is not feasible
 abbrev pub delay_of : Problem → List ℕ → Option ℕ
 delay_of p sequence = option_map (λ t. total_cost t.0) (timed p sequence)
+
+-- how often a sequence names phase k
+abbrev pub times_of : ℕ → List ℕ → ℕ
+times_of k sequence = count_by (λ x. x == k) sequence
+
+-- a sequence on its way: so many clusters are left, a head is reached, and the delay has room for what is left
+pub record IsUnderWay (p : Problem) (counts : List ℕ) (h : Head) (spent : ℕ) : Type 0 where
+  pub head : IsHead p.plan h
+  pub reach : h.at ≤ 104000
+  pub lists : length counts ≡ length p.lists
+  pub left : (k : ℕ) → slice_index counts k ≤ length (list_at p.lists k)
+  pub delay : spent + 72000000000 * sum counts ≤ 2880000000000
+
+-- the delay so far with that of what follows, and the last head
+abbrev pub onward : ℕ → List Served × Head → ℕ × Head
+onward delay t = (delay + total_cost t.0, t.1)

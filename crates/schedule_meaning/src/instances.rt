@@ -50,7 +50,8 @@ const MOST_CLUSTERS: u64 = 40;
 
 impl Instance {
     ghost use Rattle.std.specs.Prelude.{◌≡◌, ◌^◌, ◌<◌, All, length, IfOk, OnErr, vec_len};
-    ghost use Rattle.schedule_meaning.specs.Instances.{IsInstance, list_at};
+    ghost use Rattle.switch_rules.specs.Serving.{IsCluster};
+    ghost use Rattle.schedule_meaning.specs.Instances.{IsInstance, counts_of, list_at};
 
     /// The instance of these parts, where all bounds hold. The fault is the first in the order of
     /// `InstanceFault`, and there the one of the first phase and the first place.
@@ -88,6 +89,7 @@ impl Instance {
     /// The signal head from which all sequences start.
     pub fn head(&self) -> Head
         ensures value { result ≡ self.now.head }
+        ensures instance { IsInstance self.now }
     {
         self.head
     }
@@ -96,8 +98,17 @@ impl Instance {
     pub fn list(&self, phase: u8) -> &[Cluster]
         requires { phase < length self.now.plan }
         ensures value { result.now ≡ list_at self.now.lists phase }
+        ensures bounds { All IsCluster result.now }
     {
         self.lists.as_slice()[phase as usize].as_slice()
+    }
+
+    /// Writes down how many clusters each phase has.
+    pub fn count(&self, counts: &mut [u32])
+        requires { length counts.old ≡ length self.now.plan }
+        ensures { counts.new ≡ counts_of self.now.lists }
+    {
+        count_clusters(self.lists.as_slice(), counts);
     }
 }
 
@@ -202,7 +213,7 @@ fn check_number(lists: &[Items<Cluster>]) -> Result<(), InstanceFault>
 }
 
 /// Writes down how many clusters each phase has.
-pub fn count_clusters(lists: &[Items<Cluster>], counts: &mut [u32])
+fn count_clusters(lists: &[Items<Cluster>], counts: &mut [u32])
     requires same { length counts.old ≡ length lists.now }
     requires short { All (λ list. length list < 2 ^ 32) lists.now }
     ensures { counts.new ≡ counts_of lists.now }

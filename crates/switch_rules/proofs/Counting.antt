@@ -48,18 +48,18 @@ sum-cons : (n : ℕ) (counts : List ℕ) → sum (n ∷ counts) ≡ n + sum coun
 sum-cons n counts = sum_by-cons (λ x. x) n counts
 
 -- a phase has no more than all have
-count-le-sum : (counts : List ℕ) (p : ℕ) → get_or counts p 0 ≤ sum counts
+pub count-le-sum : (counts : List ℕ) (p : ℕ) → get_or counts p 0 ≤ sum counts
 count-le-sum [] p = omega arith
 count-le-sum (n ∷ counts) zero = omega (arith, sum-cons n counts)
 count-le-sum (n ∷ counts) (suc p) = omega (arith, sum-cons n counts, count-le-sum counts p)
 
 -- one less of a phase that has one is one less in all
-sum-one_less : (counts : List ℕ) (p : ℕ) → 0 < get_or counts p 0 → sum (one_less counts p) + 1 ≡ sum counts
+pub sum-one_less : (counts : List ℕ) (p : ℕ) → 0 < get_or counts p 0 → sum (one_less counts p) + 1 ≡ sum counts
 sum-one_less [] p h = absurd (omega arith)
 sum-one_less (n ∷ counts) zero h = omega (arith, sum-cons n counts, sum-cons (n - 1) counts)
 sum-one_less (n ∷ counts) (suc p) h = omega (arith, sum-cons n counts, sum-cons n (one_less counts p), sum-one_less counts p h)
 
-length-one_less : (counts : List ℕ) (p : ℕ) → length (one_less counts p) ≡ length counts
+pub length-one_less : (counts : List ℕ) (p : ℕ) → length (one_less counts p) ≡ length counts
 length-one_less counts p = length-set counts p (get_or counts p 0 - 1)
 
 -- sums over the same terms, over terms with a common factor, and over the places from a + 1 on

@@ -1,0 +1,28 @@
+-- A sink in memory, as contracts see it.
+use Rattle.std.specs.Prelude.{ℕ, ◌-◌, ◌<◌, ◌==◌, min, List, length, take, Option, find, IsSome, unwrap_or, ◌⊎◌}
+use Rattle.std.specs.Option.{option_map}
+use Rattle.outside_world.specs.declared.memory_sink.SinkFail.{SinkFail}
+
+-- the bytes written, how many there may be, the calls that fail, how many calls there were, how many failed
+pub record SinkInMemory : Type 0 where
+  pub bytes : List ℕ
+  pub room : ℕ
+  pub fails : List SinkFail
+  pub calls : ℕ
+  pub faults : ℕ
+
+-- how many bytes of its piece the call of this number keeps, if it is named; the first naming counts
+abbrev pub kept_at : List SinkFail → ℕ → Option ℕ
+kept_at fails call = option_map (λ fail. fail.kept) (find (λ fail. fail.call == call) fails)
+
+-- how many more bytes there may be
+abbrev pub room_left : SinkInMemory → ℕ
+room_left sink = sink.room - length sink.bytes
+
+-- what the call of this number appends: no more than it keeps, if it is named, and no more than the room left
+abbrev pub taken_at : SinkInMemory → ℕ → List ℕ → List ℕ
+taken_at sink call piece = take (min (unwrap_or (kept_at sink.fails call) (length piece)) (room_left sink)) piece
+
+-- the call of this number fails for this piece: it is named, or the piece passes the room
+abbrev pub RefusesAt : SinkInMemory → ℕ → List ℕ → Type 0
+RefusesAt sink call piece = IsSome (kept_at sink.fails call) ⊎ (room_left sink < length piece)

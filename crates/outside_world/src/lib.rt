@@ -1,0 +1,18 @@
+//! The world outside the program: a shelf that texts are fetched from, and a sink that bytes are put into.
+//! Each is a trait with a count of its failures that code over it can't raise by itself, an
+//! implementation in memory that fails as it is told to, and an adapter over std's files and streams.
+#![tactic(auto)]
+
+mod file_shelf;
+mod memory_shelf;
+mod memory_sink;
+mod shelf;
+mod sink;
+mod stream_sink;
+
+pub use file_shelf::FileShelf;
+pub use memory_shelf::MemoryShelf;
+pub use memory_sink::{MemorySink, SinkFail};
+pub use shelf::{Shelf, ShelfFault};
+pub use sink::{Failed, Sink};
+pub use stream_sink::StreamSink;

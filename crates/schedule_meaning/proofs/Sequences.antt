@@ -1,0 +1,210 @@
+use Rattle.std.proofs.Common.{◌≡◌, ◌≢◌, ℕ, zero, suc, ◌+◌, ◌-◌, ◌^◌, ◌<◌, ◌≤◌, ◌==◌, true, false, cond, eqb, List, [], ◌∷◌, length, sum, get_or, drop, All, Option, Some, None, Result, Ok, Err, eq-eqb, add-one, drop-cons, refl, sym, ap, ◌∙◌, inl, inr, arith}
+use Rattle.std.specs.Option.{option_map, option_and_then}
+use Rattle.std.proofs.Math.ListN.{get_or-map}
+use Rattle.std.proofs.lemmas.List.{length-map}
+use Rattle.std.proofs.lemmas.List.{get_or-set_same, get_or-set_other, get_or_past}
+use Rattle.std.proofs.lemmas.Bool.{cases_Bool, cases_eq, cases_lt, eqb-true}
+use Rattle.std.proofs.lemmas.Bool.Decides.{nat_tests}
+use Rattle.std.proofs.lemmas.List.Sums.{sum_by-cons, sum-map, get_or-le-sum_by}
+use Rattle.std.proofs.lemmas.Option.{slice_get_within, cond_some}
+use Rattle.phase_plan.specs.Phases.{IsPhase, IsPlan, phase_at, no_phase}
+use Rattle.phase_plan.specs.declared.Phase.{Phase}
+use Rattle.switch_rules.specs.Serving.{serving, IsServing}
+use Rattle.switch_rules.specs.Orders.{one_less}
+use Rattle.switch_rules.specs.declared.Head.{Head}
+use Rattle.switch_rules.specs.declared.Served.{Served}
+use Rattle.switch_rules.specs.declared.Cluster.{Cluster}
+use Rattle.switch_rules.specs.declared.Unfit.{Unfit}
+use Rattle.switch_rules.proofs.Counting.{count-le-sum, sum-one_less, length-one_less}
+use Rattle.schedule_meaning.specs.Instances.{Problem, IsInstance, list_at, counts_of}
+use Rattle.schedule_meaning.specs.Timing.{next_cluster, timed_from, timed, timing, times_of, total_cost, onward, IsUnderWay}
+
+-- the counts are the lengths of the lists
+pub get_or-counts : (lists : List (List Cluster)) (k : ℕ) → get_or (counts_of lists) k 0 ≡ length (list_at lists k)
+get_or-counts lists k = get_or-map length lists k []
+
+-- few clusters make short lists
+pub short-lists : (lists : List (List Cluster)) → sum (counts_of lists) ≤ 40 → All (λ list. length list < 2 ^ 32) lists
+short-lists lists few = λ k d h. omega (arith, get_or-le-sum_by length lists k d h, sum-map length lists)
+
+bind-some : {A B : Type 0} (g : A → B) (o : Option A) → option_and_then (λ x. Some (g x)) o ≡ option_map g o
+bind-some g None = refl
+bind-some g (Some x) = refl
+
+-- where a phase has no cluster left, nothing is timed
+pub timed-missing : (p : Problem) (left : List ℕ) (head : Head) (k : ℕ) (ks : List ℕ) → next_cluster p.lists left k ≡ None → timed_from p left head (k ∷ ks) ≡ None
+timed-missing p left head k ks e = rw e refl
+
+-- nor where a serving is unfit
+pub timed-unfit : (p : Problem) (left : List ℕ) (head : Head) (k : ℕ) (ks : List ℕ) (c : Cluster) (why : Unfit) → next_cluster p.lists left k ≡ Some c → serving p.plan head k c ≡ Err why → timed_from p left head (k ∷ ks) ≡ None
+timed-unfit p left head k ks c why e f = rw e (rw f refl)
+
+-- a fit serving stands before what follows it
+pub timed-fit : (p : Problem) (left : List ℕ) (head : Head) (k : ℕ) (ks : List ℕ) (c : Cluster) (s : Served × Head) → next_cluster p.lists left k ≡ Some c → serving p.plan head k c ≡ Ok s → timed_from p left head (k ∷ ks) ≡ option_map (λ rest. (s.0 ∷ rest.0, rest.1)) (timed_from p (one_less left k) s.1 ks)
+timed-fit p left head k ks c s e f = rw e (rw f (bind-some (λ (rest : List Served × Head). (s.0 ∷ rest.0, rest.1)) (timed_from p (one_less left k) s.1 ks)))
+
+-- the delay goes on from serving to serving
+pub onward-fit : (delay : ℕ) (s : Served) (t : Option (List Served × Head)) → option_map (onward delay) (option_map (λ rest. (s ∷ rest.0, rest.1)) t) ≡ option_map (onward (delay + s.cost)) t
+onward-fit delay s None = refl
+onward-fit delay s (Some r) =
+    let e : delay + total_cost (s ∷ r.0) ≡ delay + s.cost + total_cost r.0 = omega (arith, sum_by-cons (λ (x : Served). x.cost) s r.0) in
+    ap (λ (n : ℕ). let x : Option (ℕ × Head) = Some (n, r.1) in x) e
+
+past-none : (left : List ℕ) (j : ℕ) → 0 < get_or left j 0 → j < length left
+past-none [] j h = absurd (omega arith)
+past-none (n ∷ left) zero h = omega arith
+past-none (n ∷ left) (suc j) h = omega (arith, past-none left j h)
+
+-- what is left of a phase after one of phase j is taken
+get_or-one_less : (left : List ℕ) (j k : ℕ) → 0 < get_or left j 0 → cond (eqb j k) 1 0 + get_or (one_less left j) k 0 ≡ get_or left k 0
+get_or-one_less left j k h = elim (cases_eq k j) [
+  | inl same ↦
+      let taken : get_or (one_less left j) k 0 ≡ get_or left j 0 - 1 = ap (λ x. get_or (one_less left j) x 0) same ∙ get_or-set_same left j (get_or left j 0 - 1) 0 (past-none left j h) in
+      let at : get_or left k 0 ≡ get_or left j 0 = ap (λ x. get_or left x 0) same in
+      grind (arith, nat_tests)
+  | inr other ↦
+      let kept : get_or (one_less left j) k 0 ≡ get_or left k 0 = get_or-set_other left j k (get_or left j 0 - 1) 0 other in
+      grind (arith, nat_tests)
+]
+
+-- an option, and a result, with what it is
+pub option-cases : {X P : Type 0} (o : Option X) → (o ≡ None → P) → ((x : X) → o ≡ Some x → P) → P
+option-cases None f g = f refl
+option-cases (Some x) f g = g x refl
+
+pub result-cases : {X E P : Type 0} (r : Result X E) → ((x : X) → r ≡ Ok x → P) → ((e : E) → r ≡ Err e → P) → P
+result-cases (Ok x) f g = f x refl
+result-cases (Err e) f g = g e refl
+
+-- a sequence that is timed begins with a fit serving of the next cluster, and its rest is timed
+pub timed-begins : {P : Type 0} (p : Problem) (left : List ℕ) (head : Head) (k : ℕ) (ks : List ℕ) (t : List Served × Head) → timed_from p left head (k ∷ ks) ≡ Some t
+    → ((c : Cluster) (s : Served × Head) (rest : List Served × Head) → next_cluster p.lists left k ≡ Some c → serving p.plan head k c ≡ Ok s → timed_from p (one_less left k) s.1 ks ≡ Some rest → P) → P
+timed-begins p left head k ks t e use_it =
+    option-cases (next_cluster p.lists left k) (λ none. let gone = timed-missing p left head k ks none in absurd (cc)) (λ c ec.
+    result-cases (serving p.plan head k c)
+    (λ s es. option-cases (timed_from p (one_less left k) s.1 ks)
+    (λ none. let fit = timed-fit p left head k ks c s ec es ∙ ap (option_map (λ (rest : List Served × Head). (s.0 ∷ rest.0, rest.1))) none in absurd (cc))
+    (λ rest er. use_it c s rest ec es er))
+    (λ why ew. let gone = timed-unfit p left head k ks c why ec ew in absurd (cc)))
+
+-- a cluster that is next is one that is left
+pub next-left : (lists : List (List Cluster)) (left : List ℕ) (k : ℕ) (c : Cluster) → next_cluster lists left k ≡ Some c → 0 < get_or left k 0
+next-left lists left k c e = omega (arith, slice_get_within (list_at lists k) (length (list_at lists k) - get_or left k 0) c e)
+
+-- a sequence that is timed names each phase as often as it has clusters left
+pub times-timed : (p : Problem) (left : List ℕ) (head : Head) (ks : List ℕ) (t : List Served × Head) → timed_from p left head ks ≡ Some t → (k : ℕ) → times_of k ks ≡ get_or left k 0
+times-timed p left head [] t e k = omega (arith, count-le-sum left k, eqb-true (sum left) 0 (cond_some (sum left == 0) ([], head) t e).0)
+times-timed p left head (j ∷ js) t e k = timed-begins p left head j js t e (λ c s rest ec es er.
+    sum_by-cons (λ x. cond (x == k) 1 0) j js
+    ∙ ap (λ n. cond (j == k) 1 0 + n) (times-timed p (one_less left j) s.1 js rest er k)
+    ∙ get_or-one_less left j k (next-left p.lists left j c ec))
+
+-- where a sequence does not name a phase as often as that, nothing is timed
+pub none-unless : {X : Type 0} (o : Option X) → ((x : X) → o ≡ Some x → ⊥) → o ≡ None
+none-unless None h = refl
+none-unless (Some x) h = absurd (h x refl)
+
+IsPlan-at : (plan : List Phase) (k : ℕ) → IsPlan plan → k < length plan → IsPhase (phase_at plan k)
+IsPlan-at plan k h inside = h.phases k no_phase inside
+
+-- a sequence from an instance's head is on its way
+pub under-way-start : (p : Problem) → IsInstance p → IsUnderWay p (counts_of p.lists) p.head 0
+under-way-start p i = record {
+  head = i.head;
+  reach = omega (arith, i.head.within, i.since, (IsPlan-at p.plan p.head.phase i.plan i.head.phase).greatest.1);
+  lists = length-map p.lists length;
+  left = λ k. omega (arith, get_or-counts p.lists k);
+  delay = omega (arith, i.few);
+}
+
+-- and stays so with each fit serving
+pub under-way-fit : (p : Problem) (left : List ℕ) (head : Head) (delay : ℕ) (j : ℕ) (s : Served × Head) → IsUnderWay p left head delay → 0 < get_or left j 0 → IsServing p.plan s → IsUnderWay p (one_less left j) s.1 (delay + s.0.cost)
+under-way-fit p left head delay j s way some fit = record {
+  head = fit.head;
+  reach = omega (arith, fit.finish);
+  lists = length-one_less left j ∙ way.lists;
+  left = λ k. omega (arith, get_or-one_less left j k some, way.left k);
+  delay = omega (arith, fit.cost, way.delay, sum-one_less left j some);
+}
+
+-- what a sequence names is left, and one less of it behind its first place
+pub named-left : (left : List ℕ) (j : ℕ) (js : List ℕ) → ((k : ℕ) → times_of k (j ∷ js) ≡ get_or left k 0) → 0 < get_or left j 0
+named-left left j js h =
+    let e = sum_by-cons (λ x. cond (x == j) 1 0) j js in
+    let same : (j == j) ≡ true = eq-eqb j j refl in
+    let one = ap (λ b. let n : ℕ = cond b 1 0 in n) same in
+    omega (arith, h j, e, one)
+
+pub named-after : (left : List ℕ) (j : ℕ) (js : List ℕ) → ((k : ℕ) → times_of k (j ∷ js) ≡ get_or left k 0) → (k : ℕ) → times_of k js ≡ get_or (one_less left j) k 0
+named-after left j js h k = omega (arith, h k, sum_by-cons (λ x. cond (x == k) 1 0) j js, get_or-one_less left j k (named-left left j js h))
+
+-- a phase of which something is left is one of the plan
+pub left-phase : (left : List ℕ) (j : ℕ) → 0 < get_or left j 0 → j < length left
+left-phase left j h = past-none left j h
+
+-- where nothing is left of any phase, nothing is left
+pub none-left : (left : List ℕ) → ((k : ℕ) → get_or left k 0 ≡ 0) → sum left ≡ 0
+none-left [] h = refl
+none-left (n ∷ left) h = sum_by-cons (λ x. x) n left ∙ omega (arith, h 0, none-left left (λ k. h (suc k)))
+
+-- the delay of a sequence is that so far with that of what follows: at the start, behind each fit serving, and at the end
+pub timing-start : (p : Problem) (sequence : List ℕ) → timing p sequence ≡ option_map (onward 0) (timed p sequence)
+timing-start p sequence = start (timed p sequence)
+  where
+    start : (t : Option (List Served × Head)) → option_map (λ (t : List Served × Head). (total_cost t.0, t.1)) t ≡ option_map (onward 0) t
+    start None = refl
+    start (Some t) = ap (λ (n : ℕ). let x : Option (ℕ × Head) = Some (n, t.1) in x) (omega arith)
+
+pub timing-fit : (p : Problem) (left : List ℕ) (head : Head) (k : ℕ) (ks : List ℕ) (c : Cluster) (s : Served × Head) (delay : ℕ) → next_cluster p.lists left k ≡ Some c → serving p.plan head k c ≡ Ok s
+    → option_map (onward delay) (timed_from p left head (k ∷ ks)) ≡ option_map (onward (delay + s.0.cost)) (timed_from p (one_less left k) s.1 ks)
+timing-fit p left head k ks c s delay e f = ap (option_map (onward delay)) (timed-fit p left head k ks c s e f) ∙ onward-fit delay s.0 (timed_from p (one_less left k) s.1 ks)
+
+pub timing-end : (p : Problem) (left : List ℕ) (head : Head) (delay : ℕ) → sum left ≡ 0 → option_map (onward delay) (timed_from p left head []) ≡ Some (delay, head)
+timing-end p left head delay h =
+    let over : (sum left == 0) ≡ true = eq-eqb (sum left) 0 h in
+    ap (λ b. option_map (onward delay) (cond b (Some ([], head)) None)) over
+    ∙ ap (λ (n : ℕ). let x : Option (ℕ × Head) = Some (n, head) in x) (omega arith)
+
+pub none-mapped : {X Y : Type 0} (f : X → Y) (o : Option X) → option_map f o ≡ None → o ≡ None
+none-mapped f None e = refl
+none-mapped f (Some x) e = absurd (cc)
+
+-- a number that stands in a sequence is named in it
+pub times-at : (sequence : List ℕ) (i : ℕ) → i < length sequence → 1 ≤ times_of (get_or sequence i 0) sequence
+times-at sequence i h =
+    let v = get_or sequence i 0 in
+    let named : (v == v) ≡ true = eq-eqb v v refl in
+    let one = ap (λ b. let n : ℕ = cond b 1 0 in n) named in
+    omega (arith, one, get_or-le-sum_by (λ x. cond (x == v) 1 0) sequence i 0 h)
+
+eqb-false_from : (x k : ℕ) → (x ≡ k → ⊥) → eqb x k ≡ false
+eqb-false_from x k other = elim (cases_Bool (eqb x k)) [ inl same ↦ absurd (other (eqb-true x k same)) | inr differ ↦ differ ]
+
+-- a number above all of a sequence is not named
+pub times-above : (n k : ℕ) (sequence : List ℕ) → All (λ x. x < n) sequence → n ≤ k → times_of k sequence ≡ 0
+times-above n k [] all h = refl
+times-above n k (x ∷ sequence) all h =
+    let below : x < n = all 0 0 (omega arith) in
+    let other : (x == k) ≡ false = eqb-false_from x k (λ e. omega arith) in
+    sum_by-cons (λ y. cond (y == k) 1 0) x sequence
+    ∙ omega (arith, ap (λ b. let n : ℕ = cond b 1 0 in n) other, times-above n k sequence (λ i d inside. all (suc i) d (omega arith)) h)
+
+-- a sequence that names a phase otherwise than as often as it has clusters is not timed
+pub not-timed : (p : Problem) (sequence : List ℕ) (k : ℕ) → times_of k sequence ≢ length (list_at p.lists k) → timed p sequence ≡ None
+not-timed p sequence k other = none-unless (timed p sequence) (λ t e. other (times-timed p (counts_of p.lists) p.head sequence t e k ∙ get_or-counts p.lists k))
+
+-- nor one that names a number that is no phase
+pub unknown-not-timed : (p : Problem) (sequence : List ℕ) (i : ℕ) → IsInstance p → i < length sequence → length p.plan ≤ get_or sequence i 0 → timed p sequence ≡ None
+unknown-not-timed p sequence i lawful inside above =
+    let past : list_at p.lists (get_or sequence i 0) ≡ [] = get_or_past p.lists (get_or sequence i 0) [] (omega (arith, lawful.lists)) in
+    not-timed p sequence (get_or sequence i 0) (λ e. omega (arith, times-at sequence i inside, ap length past))
+
+-- the counts that each phase of the plan is named by are those of all numbers
+pub times-all : (p : Problem) (sequence : List ℕ) → IsInstance p → All (λ x. x < length p.plan) sequence → ((k : ℕ) → k < length p.lists → times_of k sequence ≡ length (list_at p.lists k)) → (k : ℕ) → times_of k sequence ≡ get_or (counts_of p.lists) k 0
+times-all p sequence lawful all named k = elim (cases_lt k (length p.lists)) [
+  | inl inside ↦ named k inside ∙ sym (get_or-counts p.lists k)
+  | inr past ↦ times-above (length p.plan) k sequence all (omega (arith, lawful.lists)) ∙ sym (get_or_past (counts_of p.lists) k 0 (omega (arith, length-map p.lists length)))
+]
+
+pub drop-next : (sequence : List ℕ) (i : ℕ) → i < length sequence → drop i sequence ≡ get_or sequence i 0 ∷ drop (i + 1) sequence
+drop-next sequence i h = rw add-one (drop-cons sequence i 0 h)

@@ -1,0 +1,39 @@
+use Rattle.std.proofs.Common.{◌≡◌, ℕ, ◌+◌, ◌^◌, ◌<◌, ◌≤◌, List, [], ◌∷◌, ◌++◌, length, map, get_or, All, ap, length-append, zero, suc, arith}
+use Rattle.std.specs.List.{flat_map, concat, join_with_byte}
+use Rattle.std.specs.Fmt.{decimal}
+use Rattle.std.specs.Prelude.{codes}
+use Rattle.std.proofs.lemmas.List.Concat.{flat_map-cons}
+use Rattle.phase_plan.specs.declared.Phase.{Phase}
+use Rattle.switch_rules.specs.declared.Head.{Head}
+use Rattle.switch_rules.specs.declared.Cluster.{Cluster}
+use Rattle.instance_form.specs.InstanceText.{line, count_line, phase_line, head_line, cluster_line, cluster_lines, instance_text}
+
+-- a list is no longer than what has at least one element for each of its own
+longer-flat_map : {X A : Type 0} (f : X → List A) → ((x : X) → 1 ≤ length (f x)) → (xs : List X) → length xs ≤ length (flat_map f xs)
+longer-flat_map f h [] = omega arith
+longer-flat_map f h (x ∷ xs) = omega (arith, ap length (flat_map-cons f x xs), length-append (f x) (flat_map f xs), h x, longer-flat_map f h xs)
+
+line-some : (words : List (List ℕ)) → 1 ≤ length (line words)
+line-some words = omega (arith, length-append (join_with_byte 32 words) (10 ∷ []))
+
+-- each cluster has a line, so a list is no longer than the text
+lists-le-lines : (k : ℕ) (lists : List (List Cluster)) (i : ℕ) (d : List Cluster) → i < length lists → length (get_or lists i d) ≤ length (cluster_lines k lists)
+lists-le-lines k [] i d h = absurd (omega arith)
+lists-le-lines k (list ∷ lists) zero d h =
+    omega (arith, length-append (flat_map (cluster_line k) list) (cluster_lines (k + 1) lists), longer-flat_map (cluster_line k) (λ c. line-some (codes "cluster" ∷ map decimal (k ∷ c.size ∷ c.arr ∷ c.len ∷ []))) list)
+lists-le-lines k (list ∷ lists) (suc i) d h =
+    omega (arith, length-append (flat_map (cluster_line k) list) (cluster_lines (k + 1) lists), lists-le-lines (k + 1) lists i d (omega arith))
+
+longer-concat : (before : List (List ℕ)) (xs : List ℕ) (after : List (List ℕ)) → length xs ≤ length (concat (before ++ xs ∷ after))
+longer-concat [] xs after = omega (arith, length-append xs (concat after))
+longer-concat (b ∷ before) xs after = omega (arith, length-append b (concat (before ++ xs ∷ after)), longer-concat before xs after)
+
+below : (a b c d n : ℕ) → a ≤ b → b ≤ c → d ≡ c → d < n → a < n
+below a b c d n f g e h = omega arith
+
+pub lists-below-text : (plan : List Phase) (h : Head) (lists : List (List Cluster)) (bytes : List ℕ) → bytes ≡ instance_text plan h lists → length bytes < 2 ^ 32 → All (λ list. length list < 2 ^ 32) lists
+unfolding instance_text
+lists-below-text plan h lists bytes e short = λ i d inside.
+    below (length (get_or lists i d)) (length (cluster_lines 0 lists)) (length (instance_text plan h lists)) (length bytes) (2 ^ 32) (lists-le-lines 0 lists i d inside)
+    (longer-concat (line (codes "instance 1" ∷ []) ∷ count_line (length plan) ∷ flat_map phase_line plan ∷ head_line h ∷ []) (cluster_lines 0 lists) (line (codes "end" ∷ []) ∷ []))
+    (ap length e) short

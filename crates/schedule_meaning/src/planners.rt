@@ -1,0 +1,169 @@
+ghost use Rattle.std.specs.Prelude.{◌≡◌, ◌<◌, ℕ, ◌++◌, List, IfOk, OnOk, Some, length, sum};
+ghost use Rattle.std.specs.Option.{option_map};
+ghost use Rattle.switch_rules.specs.Orders.{orders};
+ghost use Rattle.schedule_meaning.specs.Timing.{IsUnderWay, onward, timed_from, timing};
+ghost use Rattle.schedule_meaning.specs.Best.{IsBest, IsLeast};
+ghost use Rattle.schedule_meaning.specs.Choice.{best_behind, better};
+
+use super::instances::Instance;
+use super::replays::next_cluster;
+use foundation::items::Items;
+use foundation::steps::Steps;
+use std::alloc::{AllocError, Global};
+use std::marker::Brand;
+use std::sync::ledger::{Blank, Ledger};
+use switch_rules::{Head, serve};
+
+/// What a planner answers.
+#[derive(Drop)]
+pub enum Answer {
+    /// The best sequence of phases, and its delay in thousandths of a vehicle times seconds.
+    Plan { sequence: Items<u8>, delay: u64 },
+    /// No sequence is feasible.
+    NoPlan,
+}
+
+/// Finds the best answer of an instance. All planners have this one contract.
+pub trait Planner {
+    /// The sequence of least delay, and of several that reach it the lexicographically first; or
+    /// no plan, exactly where no sequence is feasible.
+    fn best<L: Ledger>(
+        &mut self,
+        alloc: Global,
+        i: &Instance,
+        steps: &mut Steps<L>,
+    ) -> Result<Answer, AllocError>
+        ensures best { IfOk result (IsBest i.now) }
+        ensures least { IfOk result (IsLeast i.now) };
+}
+
+/// The plain planner: it walks along all orders of the clusters, and keeps the best.
+#[derive(Clone, Copy)]
+pub struct PlainPlanner;
+
+impl Planner for PlainPlanner {
+    fn best<L: Ledger>(
+        &mut self,
+        alloc: Global,
+        i: &Instance,
+        steps: &mut Steps<L>,
+    ) -> Result<Answer, AllocError> {
+        let mut counts = [0; 4];
+        let left = &mut counts[..i.plan().count() as usize];
+        i.count(left);
+        let remaining = left.iter().sum();
+        let mut sequence = Vec::new(alloc);
+        let mut best = Answer::NoPlan;
+        walk_on(
+            alloc,
+            i,
+            remaining,
+            left,
+            i.head(),
+            0,
+            &mut sequence,
+            &mut best,
+            steps,
+        )?;
+        Ok(best)
+    }
+}
+
+/// Walks along all orders of the clusters that are left, behind a sequence that reached this head
+/// with this delay, and keeps the best of them and the best so far.
+fn walk_on<L: Ledger>(
+    alloc: Global,
+    i: &Instance,
+    remaining: u32,
+    left: &mut [u32],
+    head: Head,
+    delay: u64,
+    sequence: &mut Vec<u8>,
+    best: &mut Answer,
+    steps: &mut Steps<L>,
+) -> Result<(), AllocError>
+    requires remaining { remaining ≡ sum left.old }
+    requires way { IsUnderWay i.now left.old head delay }
+    requires reached { (rest : List ℕ) → timing i.now (sequence.old.items ++ rest) ≡ option_map (onward delay) (timed_from i.now left.old head rest) }
+    ensures left { OnOk result (left.new ≡ left.old) }
+    ensures sequence { OnOk result (sequence.new.items ≡ sequence.old.items) }
+    ensures best { OnOk result (best.new ≡ best_behind i.now sequence.old.items best.old (orders left.old)) }
+{
+    if remaining == 0 {
+        return keep_better(alloc, best, sequence, delay);
+    }
+    for phase in 0..i.plan().count() {
+        if left[phase as usize] == 0 {
+            continue;
+        }
+        let cluster = next_cluster(i, phase, left);
+        if let Ok((served, next)) = serve(i.plan(), &head, phase, cluster, steps) {
+            left[phase as usize] -= 1;
+            sequence.push(phase)?;
+            walk_on(
+                alloc,
+                i,
+                remaining - 1,
+                left,
+                next,
+                delay + served.cost,
+                sequence,
+                best,
+                steps,
+            )?;
+            sequence.pop();
+            left[phase as usize] += 1;
+        }
+    }
+    Ok(())
+}
+
+/// Keeps a feasible sequence where its delay is less than that of the best so far.
+fn keep_better(
+    alloc: Global,
+    best: &mut Answer,
+    sequence: &[u8],
+    delay: u64,
+) -> Result<(), AllocError>
+    ensures { OnOk result (best.new ≡ better best.old sequence.now (Some delay)) }
+{
+    if let Answer::Plan { delay: least, .. } = best
+        && *least <= delay
+    {
+        return Ok(());
+    }
+    *best = Answer::Plan {
+        sequence: Items::from_vec(Vec::from_slice(alloc, sequence)?),
+        delay,
+    };
+    Ok(())
+}
+
+/// The best answer of an instance by this planner, for callers that count no steps.
+pub fn best_answer<P: Planner>(
+    alloc: Global,
+    planner: &mut P,
+    i: &Instance,
+) -> Result<Answer, AllocError>
+    ensures best { IfOk result (IsBest i.now) }
+    ensures least { IfOk result (IsLeast i.now) }
+{
+    counted::<P, Brand>(alloc, planner, i, Blank::new(1))
+}
+
+/// The best answer of an instance, its steps counted in the ledger of this blank.
+fn counted<P: Planner, L: Ledger>(
+    alloc: Global,
+    planner: &mut P,
+    i: &Instance,
+    blank: Blank,
+) -> Result<Answer, AllocError>
+    requires name { blank.name ≡ L.name }
+    requires parts { blank.parts ≡ L.parts }
+    requires some { 0 < L.parts }
+    ensures best { IfOk result (IsBest i.now) }
+    ensures least { IfOk result (IsLeast i.now) }
+{
+    let mut steps = Steps::<L>::new(blank);
+    planner.best(alloc, i, &mut steps)
+}

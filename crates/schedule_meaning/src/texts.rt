@@ -1,0 +1,52 @@
+ghost use Rattle.std.specs.Prelude.{◌≡◌, ◌^◌, ◌<◌, IfOk, MatchResult, length};
+ghost use Rattle.instance_form.specs.InstanceText.{instance_text};
+ghost use Rattle.schedule_meaning.specs.Instances.{Problem, IsInstance};
+ghost use Rattle.schedule_meaning.specs.Texts.{IsWant};
+
+use super::instances::{Instance, InstanceFault};
+use instance_form::{FormFault, read_form};
+use phase_plan::{PhasePlan, PlanFault};
+use std::alloc::Global;
+
+/// Why a text is no instance's.
+#[derive(Clone, Copy)]
+pub enum TextFault {
+    /// The first line, from 1, that has not the form of its place.
+    Line(u32),
+    /// The lines have their form, and their phases are no plan.
+    Plan(PlanFault),
+    /// The phases are a plan, and with the head and the clusters they make no instance.
+    Instance(InstanceFault),
+    /// Memory ran out.
+    NoMemory,
+}
+
+impl From<FormFault> for TextFault {
+    ghost use Rattle.std.specs.Prelude.{◌≡◌};
+    ghost use Rattle.schedule_meaning.specs.Texts.{of_form};
+
+    ghost from_gives = { λ fault e. e ≡ of_form fault };
+
+    fn from(fault: FormFault) -> TextFault {
+        match fault {
+            FormFault::Line(line) => TextFault::Line(line),
+            FormFault::NoMemory => TextFault::NoMemory,
+        }
+    }
+}
+
+/// The instance whose one spelling the bytes are.
+///
+/// A fault other than want of memory comes only where the bytes are the spelling of no instance: the
+/// first line that has not its form, or else the fault of the plan, or else that of the instance.
+pub fn read_instance(alloc: Global, bytes: &[u8]) -> Result<Instance, TextFault>
+    requires { length bytes.now < 2 ^ 32 }
+    ensures found { IfOk result (λ i. bytes.now ≡ instance_text i.plan i.head i.lists) }
+    ensures lawful { IfOk result IsInstance }
+    ensures only { (p : Problem) → IsInstance p → bytes.now ≡ instance_text p.plan p.head p.lists
+        → MatchResult result (λ i. i ≡ p) IsWant }
+{
+    let form = read_form(alloc, bytes)?;
+    let plan = PhasePlan::new(form.phases).map_err(TextFault::Plan)?;
+    Instance::new(plan, form.head, form.lists).map_err(TextFault::Instance)
+}

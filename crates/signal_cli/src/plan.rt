@@ -1,0 +1,80 @@
+ghost use Rattle.std.specs.Prelude.{◌≡◌, ◌≢◌, ◌≤◌, ℕ, List, IfOk, IfErr, OnOk, Some, string_bytes};
+ghost use Rattle.outside_world.specs.Shelf.{GainsLast};
+ghost use Rattle.outside_world.specs.Sink.{Gains, GainsFront, Rose};
+ghost use Rattle.schedule_meaning.specs.Instances.{Problem};
+ghost use Rattle.signal_cli.specs.Jobs.{Delivers, IsBad, IsBestText, IsDone, IsRefused, PlanFails, Reads, WritesBest, text_of};
+ghost use Rattle.signal_cli.specs.Refusals.{Reports};
+
+use super::answers::answer_text;
+use super::status::Status;
+use super::texts::fetch_text;
+use outside_world::{Shelf, Sink};
+use schedule_meaning::{PlainPlanner, TextFault, best_answer, read_instance};
+use std::alloc::{AllocError, Global};
+
+/// The text of the best answer of the instance that a file's text spells.
+fn plan_text<S: Shelf>(alloc: Global, shelf: &mut S, file: &str) -> Result<String, Status>
+    ensures best { IfOk result (λ text. IsBestText (S.files shelf.old) file.now (string_bytes text)) }
+    ensures ok { OnOk result (S.failed shelf.new ≡ S.failed shelf.old) }
+    ensures err { IfErr result (PlanFails (S.files shelf.old) (S.failed shelf.old) (S.failed shelf.new) file.now) }
+{
+    let text = fetch_text(alloc, shelf, file)?;
+    let instance = match read_instance(alloc, &text) {
+        Ok(instance) => instance,
+        Err(TextFault::NoMemory) => return Err(Status::NoMemory),
+        Err(_) => return Err(Status::BadInput),
+    };
+    match best_answer(alloc, &mut PlainPlanner, &instance) {
+        Ok(answer) => answer_text(alloc, &answer).map_err(|_| Status::NoMemory),
+        Err(AllocError) => Err(Status::NoMemory),
+    }
+}
+
+/// Puts a text into a sink, and answers whether it was written.
+fn deliver<O: Sink>(out: &mut O, text: &[u8]) -> Status
+    ensures delivers { Delivers text.now (O.written out.old) (O.written out.new) (O.faults out.old) (O.faults out.new) result }
+    ensures later { O.faults out.old ≤ O.faults out.new }
+{
+    match out.put(text) {
+        Ok(()) => Status::Done,
+        Err(_) => Status::WriteFault,
+    }
+}
+
+/// The command `plan FILE`: writes the best answer of the instance that the file's text spells.
+///
+/// `Done`, `BadInput`, `ReadFault`, `WriteFault` and `NoMemory` come each with its cause, and nothing
+/// is written to `out` before all work is done. A refusal writes its line to `err`.
+pub fn plan_job<S: Shelf, O: Sink, E: Sink>(
+    alloc: Global,
+    file: &str,
+    shelf: &mut S,
+    out: &mut O,
+    err: &mut E,
+) -> Status
+    ensures done { result ≡ Status.Done
+        → WritesBest Gains (S.files shelf.old) file.now (O.written out.old) (O.written out.new) }
+    ensures write_fault { result ≡ Status.WriteFault → Rose (O.faults out.old) (O.faults out.new)
+        × WritesBest GainsFront (S.files shelf.old) file.now (O.written out.old) (O.written out.new) }
+    ensures read_fault { result ≡ Status.ReadFault → GainsLast (S.failed shelf.old) (S.failed shelf.new) file.now }
+    ensures bad_input { result ≡ Status.BadInput → (S.failed shelf.new ≡ S.failed shelf.old)
+        × ((text : List ℕ) → text_of (S.files shelf.old) file.now ≡ Some text → IsBad text) }
+    ensures never { (result ≢ Status.Usage) × (result ≢ Status.Rejected) }
+
+    // Nothing else is written to out, and the line of the refusal to err.
+    ensures out { result ≢ Status.Done → result ≢ Status.WriteFault → O.written out.new ≡ O.written out.old }
+    ensures err { Reports result (E.written err.old) (E.written err.new) (E.faults err.old) (E.faults err.new) }
+
+    // A text that is no instance's is refused, and one that is an instance's is planned.
+    ensures refused { (text : List ℕ) → text_of (S.files shelf.old) file.now ≡ Some text → IsBad text
+        → S.failed shelf.new ≡ S.failed shelf.old → IsRefused result }
+    ensures complete { (text : List ℕ) (p : Problem) → text_of (S.files shelf.old) file.now ≡ Some text → Reads text p
+        → S.failed shelf.new ≡ S.failed shelf.old → ¬ Rose (O.faults out.old) (O.faults out.new) → IsDone result }
+{
+    let status = match plan_text(alloc, shelf, file) {
+        Ok(text) => deliver(out, text.as_bytes()),
+        Err(status) => status,
+    };
+    status.report(err);
+    status
+}

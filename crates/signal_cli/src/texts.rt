@@ -1,0 +1,26 @@
+ghost use Rattle.std.specs.Prelude.{◌≡◌, ℕ, ◌<◌, ◌≤◌, List, IfOk, IfErr, OnOk, Some, IsSome, length};
+ghost use Rattle.outside_world.specs.Shelf.{Continues, GainsLast};
+ghost use Rattle.signal_cli.specs.Jobs.{FetchFails, text_of};
+
+use super::status::Status;
+use outside_world::{Shelf, ShelfFault};
+use std::alloc::Global;
+
+/// The greatest length of a text, in bytes.
+pub const MOST_BYTES: usize = 100_663_296;
+
+/// The text of a file, where it is within the limit.
+pub fn fetch_text<S: Shelf>(alloc: Global, shelf: &mut S, file: &str) -> Result<Vec<u8>, Status>
+    ensures files { S.files shelf.new ≡ S.files shelf.old }
+    ensures limit { IfOk result (λ text. length text.items ≤ 100663296) }
+    ensures told { IfOk result (λ text. IsSome (S.files shelf.old) → text_of (S.files shelf.old) file.now ≡ Some text.items) }
+    ensures ok { OnOk result (S.failed shelf.new ≡ S.failed shelf.old) }
+    ensures err { IfErr result (FetchFails (S.files shelf.old) (S.failed shelf.old) (S.failed shelf.new) file.now) }
+{
+    match shelf.fetch(alloc, file, MOST_BYTES + 1) {
+        Ok(text) if text.len() > MOST_BYTES => Err(Status::BadInput),
+        Ok(text) => Ok(text),
+        Err(ShelfFault::Failed) => Err(Status::ReadFault),
+        Err(ShelfFault::NoMemory) => Err(Status::NoMemory),
+    }
+}
