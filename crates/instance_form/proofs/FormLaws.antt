@@ -1,6 +1,6 @@
 -- Reading a whole text: where it fails at the last line, what it takes, and that what was written is read.
 use Rattle.std.proofs.Common.{◌≡◌, ℕ, zero, suc, ◌+◌, ◌^◌, ◌<◌, ◌≤◌, List, [], ◌∷◌, ◌++◌, length, Option, Some, None, Result, Ok, Err, refl, sym, ap, subst, ◌∙◌, append_assoc, arith}
-use Rattle.std.specs.Prelude.{codes, sum_by, IfOk, IfErr, MatchResult}
+use Rattle.std.specs.Prelude.{codes, sum_by, IfOk, MatchResult}
 use Rattle.std.specs.Borrow.{Bor}
 use Rattle.std.specs.List.{flat_map, concat, All, AllByRecursion}
 use Rattle.std.proofs.lemmas.List.Elements.{All-from_recursion, recursion_from_All}
@@ -15,7 +15,7 @@ use Rattle.instance_form.specs.declared.form.Form.{Form}
 use Rattle.instance_form.specs.declared.form.FormFault.{FormFault}
 use Rattle.instance_form.specs.declared.form.FormFault.TheVariants.{Line, NoMemory}
 use Rattle.instance_form.specs.Lines.{count_line_at, phase_line_at, head_line_at, cluster_line_at}
-use Rattle.instance_form.specs.Answers.{Says, IsWant, IsFrom}
+use Rattle.instance_form.specs.Answers.{Says, IsWant}
 use Rattle.instance_form.specs.InstanceText.{count_line, phase_line, head_line, cluster_line, cluster_lines, instance_text, line_count, IsWritable, IsWritableCluster, HasText}
 use Rattle.instance_form.proofs.LineLaws.{count_takes, count_again, phase_takes, phase_again, head_takes, head_again, cluster_takes, cluster_again, cluster_other, cluster_end}
 use Rattle.instance_form.proofs.Loops.{clusters_stop}
@@ -37,22 +37,22 @@ then_ok : {A B P : Type 0} (r : Result A ℕ) {f : A → Result B ℕ} {y : B} �
 then_ok (Ok x) e go = go x refl e
 then_ok (Err n) e go = absurd cc
 
-same_Ok : {A : Type 0} (x y : A) → ◌≡◌ {A = Result A ℕ} (Ok x) (Ok y) → x ≡ y
+pub same_Ok : {A : Type 0} (x y : A) → ◌≡◌ {A = Result A ℕ} (Ok x) (Ok y) → x ≡ y
 same_Ok x y e = cc
 
-same_Err : {A : Type 0} (m n : ℕ) → ◌≡◌ {A = Result A ℕ} (Err m) (Err n) → m ≡ n
+pub same_Err : {A : Type 0} (m n : ℕ) → ◌≡◌ {A = Result A ℕ} (Err m) (Err n) → m ≡ n
 same_Err m n e = cc
 
-no_Err : {A : Type 0} {r : Result A ℕ} {x : A} {n : ℕ} → r ≡ Ok x → r ≡ Err n → ⊥
+pub no_Err : {A : Type 0} {r : Result A ℕ} {x : A} {n : ℕ} → r ≡ Ok x → r ≡ Err n → ⊥
 no_Err {A} {x = x} {n = n} e f = let both : ◌≡◌ {A = Result A ℕ} (Ok x) (Err n) = sym e ∙ f in absurd cc
 
-some_from_ok : {A : Type 0} (o : Option A) (n : ℕ) (x : A) → ok_or o n ≡ Ok x → o ≡ Some x
+pub some_from_ok : {A : Type 0} (o : Option A) (n : ℕ) (x : A) → ok_or o n ≡ Ok x → o ≡ Some x
 some_from_ok (Some y) n x e = ap (λ z. Some z) (same_Ok y x e)
 some_from_ok None n x e = absurd cc
 
 -- ---- the opening
 
-opening_takes : (line : ℕ) (bytes : List ℕ) (x : ℕ × List ℕ) → opening_at line bytes ≡ Ok x → (2 ≤ x.0) × (x.0 ≤ 4) × (bytes ≡ codes "instance 1\n" ++ (count_line x.0 ++ x.1))
+pub opening_takes : (line : ℕ) (bytes : List ℕ) (x : ℕ × List ℕ) → opening_at line bytes ≡ Ok x → (2 ≤ x.0) × (x.0 ≤ 4) × (bytes ≡ codes "instance 1\n" ++ (count_line x.0 ++ x.1))
 unfolding opening_at
 opening_takes line bytes x e =
     then_ok (ok_or (literal_at (codes "instance 1\n") bytes) line) e (λ rest a b.
@@ -60,13 +60,13 @@ opening_takes line bytes x e =
     let count = count_takes rest x (some_from_ok (count_line_at rest) (line + 1) x b) in
     (count.small.0, count.small.1, first ∙ ap (λ (y : List ℕ). codes "instance 1\n" ++ y) count.spelled))
 
-opening_again : (line n : ℕ) (rest : List ℕ) → 2 ≤ n → n ≤ 4 → opening_at line (codes "instance 1\n" ++ (count_line n ++ rest)) ≡ Ok (n, rest)
+pub opening_again : (line n : ℕ) (rest : List ℕ) → 2 ≤ n → n ≤ 4 → opening_at line (codes "instance 1\n" ++ (count_line n ++ rest)) ≡ Ok (n, rest)
 unfolding opening_at
 opening_again line n rest low high = rw (literal_again (codes "instance 1\n") (count_line n ++ rest), count_again n rest low high) refl
 
 -- ---- the phases
 
-phases_take : (n line : ℕ) (bytes : List ℕ) (x : List Phase × List ℕ) → phases_at n line bytes ≡ Ok x → (bytes ≡ flat_map phase_line x.0 ++ x.1) × (length x.0 ≡ n) × AllByRecursion IsWritable x.0
+pub phases_take : (n line : ℕ) (bytes : List ℕ) (x : List Phase × List ℕ) → phases_at n line bytes ≡ Ok x → (bytes ≡ flat_map phase_line x.0 ++ x.1) × (length x.0 ≡ n) × AllByRecursion IsWritable x.0
 unfolding phases_at
 phases_take zero line bytes x e =
     subst (λ (y : List Phase × List ℕ). (bytes ≡ flat_map phase_line y.0 ++ y.1) × (length y.0 ≡ 0) × AllByRecursion IsWritable y.0) (same_Ok ([], bytes) x e) (refl, refl, tt)
@@ -78,7 +78,7 @@ phases_take (suc n) line bytes x e =
     subst (λ (y : List Phase × List ℕ). (bytes ≡ flat_map phase_line y.0 ++ y.1) × (length y.0 ≡ suc n) × AllByRecursion IsWritable y.0) (same_Ok (first.0 ∷ others.0, others.1) x e2)
     (one.spelled ∙ ap (λ (y : List ℕ). phase_line first.0 ++ y) more.0 ∙ sym (append_assoc (phase_line first.0) (flat_map phase_line others.0) others.1), ap suc more.1, (one.small, more.2))))
 
-phases_again : (ps : List Phase) (line : ℕ) (rest : List ℕ) → AllByRecursion IsWritable ps → phases_at (length ps) line (flat_map phase_line ps ++ rest) ≡ Ok (ps, rest)
+pub phases_again : (ps : List Phase) (line : ℕ) (rest : List ℕ) → AllByRecursion IsWritable ps → phases_at (length ps) line (flat_map phase_line ps ++ rest) ≡ Ok (ps, rest)
 unfolding phases_at
 phases_again [] line rest fits = refl
 phases_again (p ∷ ps) line rest fits =
@@ -87,11 +87,11 @@ phases_again (p ∷ ps) line rest fits =
 
 -- ---- the clusters of one phase
 
-record Takes_clusters (k : ℕ) (bytes : List ℕ) (x : List Cluster × List ℕ) : Type 0 where
+pub record Takes_clusters (k : ℕ) (bytes : List ℕ) (x : List Cluster × List ℕ) : Type 0 where
   pub spelled : bytes ≡ flat_map (cluster_line k) x.0 ++ x.1
   pub small : AllByRecursion IsWritableCluster x.0
 
-clusters_take : (most k : ℕ) (bytes : List ℕ) → Takes_clusters k bytes (clusters_at most k bytes)
+pub clusters_take : (most k : ℕ) (bytes : List ℕ) → Takes_clusters k bytes (clusters_at most k bytes)
 unfolding clusters_at
 clusters_take zero k bytes = record { spelled = refl; small = tt }
 clusters_take (suc most) k bytes = by_line (cluster_line_at k bytes) refl (clusters_take most k)
@@ -128,12 +128,12 @@ few_lines k (c ∷ cs) rest =
 
 -- ---- the clusters of each phase
 
-record Takes_lists (n k : ℕ) (bytes : List ℕ) (x : List (List Cluster) × List ℕ) : Type 0 where
+pub record Takes_lists (n k : ℕ) (bytes : List ℕ) (x : List (List Cluster) × List ℕ) : Type 0 where
   pub spelled : bytes ≡ cluster_lines k x.0 ++ x.1
   pub each : length x.0 ≡ n
   pub small : AllByRecursion (AllByRecursion IsWritableCluster) x.0
 
-lists_take : (n k : ℕ) (bytes : List ℕ) → Takes_lists n k bytes (lists_at n k bytes)
+pub lists_take : (n k : ℕ) (bytes : List ℕ) → Takes_lists n k bytes (lists_at n k bytes)
 unfolding lists_at
 lists_take zero k bytes = record { spelled = refl; each = refl; small = tt }
 lists_take (suc n) k bytes =
@@ -148,7 +148,7 @@ lists_take (suc n) k bytes =
     }
 
 -- the lines of later phases' clusters begin with none of this phase's
-later_lines : (k j : ℕ) (ls : List (List Cluster)) (rest : List ℕ) → k < j → j + length ls ≤ 2 ^ 8 → cluster_line_at k rest ≡ None → cluster_line_at k (cluster_lines j ls ++ rest) ≡ None
+pub later_lines : (k j : ℕ) (ls : List (List Cluster)) (rest : List ℕ) → k < j → j + length ls ≤ 2 ^ 8 → cluster_line_at k rest ≡ None → cluster_line_at k (cluster_lines j ls ++ rest) ≡ None
 later_lines k j [] rest lt few none = none
 later_lines k j ([] ∷ ls) rest lt few none = later_lines k (j + 1) ls rest (omega arith) (omega arith) none
 later_lines k j ((c ∷ cs) ∷ ls) rest lt few none =
@@ -173,11 +173,11 @@ lists_again (cs ∷ ls) k rest few fits none =
 -- ---- the whole text
 
 -- lists whose elements are all so, within lists
-all_within : {A : Type 0} (P : A → Type 0) (xss : List (List A)) → AllByRecursion (AllByRecursion P) xss → AllByRecursion (All P) xss
+pub all_within : {A : Type 0} (P : A → Type 0) (xss : List (List A)) → AllByRecursion (AllByRecursion P) xss → AllByRecursion (All P) xss
 all_within P [] h = tt
 all_within P (xs ∷ xss) h = (All-from_recursion P xs h.0, all_within P xss h.1)
 
-recursion_within : {A : Type 0} (P : A → Type 0) (xss : List (List A)) → AllByRecursion (All P) xss → AllByRecursion (AllByRecursion P) xss
+pub recursion_within : {A : Type 0} (P : A → Type 0) (xss : List (List A)) → AllByRecursion (All P) xss → AllByRecursion (AllByRecursion P) xss
 recursion_within P [] h = tt
 recursion_within P (xs ∷ xss) h = (recursion_from_All P xs h.0, recursion_within P xss h.1)
 
@@ -191,7 +191,7 @@ six_parts : (a b c d e f rest : List ℕ) → concat (a ∷ b ∷ c ∷ d ∷ e 
 six_parts a b c d e f rest = simp (append_assoc, append-nil)
 
 -- the parts of a text, one after another
-regrouped_form : (plan : List Phase) (h : Head) (lists : List (List Cluster)) (rest : List ℕ)
+pub regrouped_form : (plan : List Phase) (h : Head) (lists : List (List Cluster)) (rest : List ℕ)
     → instance_text plan h lists ++ rest ≡ codes "instance 1\n" ++ (count_line (length plan) ++ (flat_map phase_line plan ++ (head_line h ++ (cluster_lines 0 lists ++ (codes "end\n" ++ rest)))))
 unfolding instance_text
 regrouped_form plan h lists rest = six_parts (codes "instance 1\n") (count_line (length plan)) (flat_map phase_line plan) (head_line h) (cluster_lines 0 lists) (codes "end\n") rest
@@ -280,42 +280,3 @@ text_once plan others h g lists queues x y fits fits' e =
     let same = same_Ok (record { plan = plan; head = h; lists = lists }, 0 + line_count plan lists, x) (record { plan = others; head = g; lists = queues }, 0 + line_count others queues, y)
     (sym (form_again 0 plan h lists x fits) ∙ ap (form_at 0) e ∙ form_again 0 others g queues y fits') in
     (ap (λ (z : Parts × ℕ × List ℕ). z.0.plan) same, ap (λ (z : Parts × ℕ × List ℕ). z.0.head) same, ap (λ (z : Parts × ℕ × List ℕ). z.0.lists) same, ap (λ (z : Parts × ℕ × List ℕ). z.2) same)
-
--- a step that fails, or one after it
-on_err : {A B P : Type 0} (r : Result A ℕ) {f : A → Result B ℕ} {n : ℕ} → (r >>= f) ≡ Err n → (r ≡ Err n → P) → ((x : A) → f x ≡ Err n → P) → P
-on_err (Ok x) e here later = later x e
-on_err (Err m) e here later = here (ap (λ k. Err k) (same_Err m _ e))
-
-line_of : {A : Type 0} (o : Option A) (line n : ℕ) → ok_or o line ≡ Err n → line ≡ n
-line_of (Some x) line n e = absurd cc
-line_of None line n e = same_Err line n e
-
-opening_from : (line : ℕ) (bytes : List ℕ) (n : ℕ) → opening_at line bytes ≡ Err n → line ≤ n
-unfolding opening_at
-opening_from line bytes n e =
-    on_err (ok_or (literal_at (codes "instance 1\n") bytes) line) e (λ h. let is = line_of (literal_at (codes "instance 1\n") bytes) line n h in omega arith) (λ rest h.
-    let is = line_of (count_line_at rest) (line + 1) n h in
-    omega arith)
-
-phases_from : (count line : ℕ) (bytes : List ℕ) (n : ℕ) → phases_at count line bytes ≡ Err n → line ≤ n
-unfolding phases_at
-phases_from zero line bytes n e = absurd (no_Err {A = List Phase × List ℕ} refl e)
-phases_from (suc count) line bytes n e =
-    on_err (ok_or (phase_line_at bytes) line) e (λ h. let is = line_of (phase_line_at bytes) line n h in omega arith) (λ first h.
-    on_err (phases_at count (line + 1) first.1) h (λ k. let more = phases_from count (line + 1) first.1 n k in omega arith) (λ others k. absurd (no_Err {A = List Phase × List ℕ} refl k)))
-
-form_from : (line : ℕ) (bytes : List ℕ) (n : ℕ) → form_at line bytes ≡ Err n → line ≤ n
-unfolding form_at
-form_from line bytes n e =
-    on_err (opening_at line bytes) e (opening_from line bytes n) (λ count h0.
-    on_err (phases_at count.0 (line + 2) count.1) h0 (λ h. let more = phases_from count.0 (line + 2) count.1 n h in omega arith) (λ plan h1.
-    on_err (ok_or (head_line_at plan.1) (line + 2 + count.0)) h1 (λ h. let is = line_of (head_line_at plan.1) (line + 2 + count.0) n h in omega arith) (λ head h2.
-    let read = lists_at count.0 0 head.1 in
-    let number = line + 2 + count.0 + 1 + sum_by (λ list. length list) read.0 in
-    on_err (ok_or (literal_at (codes "end\n") read.1) number) h2 (λ h. let is = line_of (literal_at (codes "end\n") read.1) number n h in omega arith) (λ rest h3.
-    absurd (no_Err {A = Parts × ℕ × List ℕ} refl h3)))))
-
-pub front_from : (line : ℕ) (bytes : List ℕ) (r : Result (Form × ℕ × Bor (List ℕ)) FormFault) → Gives (λ x. (parts_of x.0, x.1, x.2.now)) r (form_at line bytes) → IfErr r (IsFrom line)
-front_from line bytes (Ok x) given = tt
-front_from line bytes (Err (Line n)) given = form_from line bytes n given
-front_from line bytes (Err NoMemory) given = tt

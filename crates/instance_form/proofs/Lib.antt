@@ -1,3 +1,5 @@
 pub mod LineLaws
 pub mod Loops
 pub mod FormLaws
+pub mod FaultLaws
+pub mod FirstFault

@@ -1,5 +1,5 @@
 -- What reading an instance's text answers.
-use Rattle.std.specs.Prelude.{◌≡◌, ℕ, ◌≤◌, List}
+use Rattle.std.specs.Prelude.{◌≡◌, List}
 use Rattle.phase_plan.specs.declared.Phase.{Phase}
 use Rattle.switch_rules.specs.declared.Head.{Head}
 use Rattle.switch_rules.specs.declared.Cluster.{Cluster}
@@ -17,8 +17,3 @@ pub record Says (form : Form) (plan : List Phase) (h : Head) (lists : List (List
 abbrev pub IsWant : FormFault → Type 0
 IsWant (Line n) = ⊥
 IsWant NoMemory = Unit {0}
-
--- the fault names no line before this one
-abbrev pub IsFrom : ℕ → FormFault → Type 0
-IsFrom first (Line n) = first ≤ n
-IsFrom first NoMemory = Unit {0}

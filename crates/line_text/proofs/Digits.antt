@@ -11,7 +11,7 @@ use Rattle.std.proofs.lemmas.Str.{digit_value_digit}
 use Rattle.std.proofs.lemmas.Str.Parse.{digit_from_value, digits_value-take-le}
 
 -- the digits of a number of 64 bits
-digits : (n : ℕ) → n < 2 ^ 64 → AllDigits 10 (decimal n)
+pub digits : (n : ℕ) → n < 2 ^ 64 → AllDigits 10 (decimal n)
 digits n lt = (decimal_is_IsNumeral n lt).0.1
 
 -- Of two lists of digits, the one that ends at the separator goes on where the other ends.

@@ -1,5 +1,6 @@
 use Rattle.std.proofs.lemmas.Result.{IfOk-weaker}
-use Rattle.instance_form.proofs.FormLaws.{front_takes, front_only, front_from}
+use Rattle.instance_form.proofs.FormLaws.{front_takes, front_only}
+use Rattle.instance_form.proofs.FirstFault.{front_fault}
 use Rattle.instance_form.proofs.reading.read_front.Goals as goal
 
 pub returns-clause-fits : goal.returns-clause-fits
@@ -14,5 +15,5 @@ returns-clause-next c = IfOk-weaker c.form_front.result _ _ (λ x t. t.next) (fr
 pub returns-clause-only : goal.returns-clause-only
 returns-clause-only c = front_only c.args.line c.args.bytes.now c.form_front.result c.form_front.ensures
 
-pub returns-clause-from : goal.returns-clause-from
-returns-clause-from c = front_from c.args.line c.args.bytes.now c.form_front.result c.form_front.ensures
+pub returns-clause-line : goal.returns-clause-line
+returns-clause-line c = front_fault c.args.line c.args.bytes.now c.form_front.result c.form_front.ensures
