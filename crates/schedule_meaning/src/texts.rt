@@ -1,7 +1,7 @@
-ghost use Rattle.std.specs.Prelude.{◌≡◌, ◌^◌, ◌<◌, IfOk, MatchResult, length};
+ghost use Rattle.std.specs.Prelude.{◌≡◌, ◌^◌, ◌<◌, IfOk, IfErr, MatchResult, length};
 ghost use Rattle.instance_form.specs.InstanceText.{instance_text};
 ghost use Rattle.schedule_meaning.specs.Instances.{Problem, IsInstance};
-ghost use Rattle.schedule_meaning.specs.Texts.{IsWant};
+ghost use Rattle.schedule_meaning.specs.Texts.{IsTextFault, IsWant};
 
 use super::faults::InstanceFault;
 use super::instances::Instance;
@@ -46,8 +46,15 @@ pub fn read_instance(alloc: Global, bytes: &[u8]) -> Result<Instance, TextFault>
     ensures lawful { IfOk result IsInstance }
     ensures only { (p : Problem) → IsInstance p → bytes.now ≡ instance_text p.plan p.head p.lists
         → MatchResult result (λ i. i ≡ p) IsWant }
+    ensures first { IfErr result (IsTextFault bytes.now) }
 {
     let form = read_form(alloc, bytes)?;
-    let plan = PhasePlan::new(form.phases).map_err(TextFault::Plan)?;
-    Instance::new(plan, form.head, form.lists).map_err(TextFault::Instance)
+    let plan = match PhasePlan::new(form.phases) {
+        Ok(plan) => plan,
+        Err(fault) => return Err(TextFault::Plan(fault)),
+    };
+    match Instance::new(plan, form.head, form.lists) {
+        Ok(instance) => Ok(instance),
+        Err(fault) => Err(TextFault::Instance(fault)),
+    }
 }
