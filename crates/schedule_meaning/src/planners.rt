@@ -1,4 +1,4 @@
-ghost use Rattle.std.specs.Prelude.{◌≡◌, ◌<◌, ℕ, ◌++◌, List, IfOk, OnOk, Some, length, sum};
+ghost use Rattle.std.specs.Prelude.{◌≡◌, ◌<◌, ◌^◌, ℕ, ◌++◌, List, IfOk, OnOk, Some, sum};
 ghost use Rattle.std.specs.Option.{option_map};
 ghost use Rattle.switch_rules.specs.Orders.{orders};
 ghost use Rattle.schedule_meaning.specs.Timing.{IsUnderWay, onward, timed_from, timing};
@@ -51,20 +51,9 @@ impl Planner for PlainPlanner {
         let mut counts = [0; 4];
         let left = &mut counts[..i.plan().count() as usize];
         i.count(left);
-        let remaining = left.iter().sum();
         let mut sequence = Vec::new(alloc);
         let mut best = Answer::NoPlan;
-        walk_on(
-            alloc,
-            i,
-            remaining,
-            left,
-            i.head(),
-            0,
-            &mut sequence,
-            &mut best,
-            steps,
-        )?;
+        walk_on(i, left, i.head(), 0, &mut sequence, &mut best, steps)?;
         Ok(best)
     }
 }
@@ -72,9 +61,7 @@ impl Planner for PlainPlanner {
 /// Walks along all orders of the clusters that are left, behind a sequence that reached this head
 /// with this delay, and keeps the best of them and the best so far.
 fn walk_on<L: Ledger>(
-    alloc: Global,
     i: &Instance,
-    remaining: u32,
     left: &mut [u32],
     head: Head,
     delay: u64,
@@ -82,15 +69,14 @@ fn walk_on<L: Ledger>(
     best: &mut Answer,
     steps: &mut Steps<L>,
 ) -> Result<(), AllocError>
-    requires remaining { remaining ≡ sum left.old }
     requires way { IsUnderWay i.now left.old head delay }
     requires reached { (rest : List ℕ) → timing i.now (sequence.old.items ++ rest) ≡ option_map (onward delay) (timed_from i.now left.old head rest) }
     ensures left { OnOk result (left.new ≡ left.old) }
     ensures sequence { OnOk result (sequence.new.items ≡ sequence.old.items) }
     ensures best { OnOk result (best.new ≡ best_behind i.now sequence.old.items best.old (orders left.old)) }
 {
-    if remaining == 0 {
-        return keep_better(alloc, best, sequence, delay);
+    if remaining(left) == 0 {
+        return keep_better(best, sequence, delay);
     }
     for phase in 0..i.plan().count() {
         if left[phase as usize] == 0 {
@@ -100,17 +86,7 @@ fn walk_on<L: Ledger>(
         if let Ok((served, next)) = serve(i.plan(), &head, phase, cluster, steps) {
             left[phase as usize] -= 1;
             sequence.push(phase)?;
-            walk_on(
-                alloc,
-                i,
-                remaining - 1,
-                left,
-                next,
-                delay + served.cost,
-                sequence,
-                best,
-                steps,
-            )?;
+            walk_on(i, left, next, delay + served.cost, sequence, best, steps)?;
             sequence.pop();
             left[phase as usize] += 1;
         }
@@ -118,14 +94,17 @@ fn walk_on<L: Ledger>(
     Ok(())
 }
 
+/// How many clusters are left in all.
+fn remaining(left: &[u32]) -> u32
+    requires { sum left.now < 2 ^ 32 }
+    ensures { result ≡ sum left.now }
+{
+    left.iter().sum()
+}
+
 /// Keeps a feasible sequence where its delay is less than that of the best so far.
-fn keep_better(
-    alloc: Global,
-    best: &mut Answer,
-    sequence: &[u8],
-    delay: u64,
-) -> Result<(), AllocError>
-    ensures { OnOk result (best.new ≡ better best.old sequence.now (Some delay)) }
+fn keep_better(best: &mut Answer, sequence: &Vec<u8>, delay: u64) -> Result<(), AllocError>
+    ensures { OnOk result (best.new ≡ better best.old sequence.now.items (Some delay)) }
 {
     if let Answer::Plan { delay: least, .. } = best
         && *least <= delay
@@ -133,7 +112,7 @@ fn keep_better(
         return Ok(());
     }
     *best = Answer::Plan {
-        sequence: Items::from_vec(Vec::from_slice(alloc, sequence)?),
+        sequence: Items::from_vec(sequence.clone()?),
         delay,
     };
     Ok(())

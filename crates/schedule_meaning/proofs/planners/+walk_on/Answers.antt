@@ -31,15 +31,12 @@ walk_on-requires g t c κs outlives =
     sym (c.in-Ok.ensures.value ∙ ap (λ plan. serving plan c.args.head k c.next_cluster-cluster.result.now) plan) in
     let lower : set c.loop-phase.left k (get_or c.loop-phase.left k 0 - 1) ≡ one_less left k = ap (λ l. one_less l k) same in
     let pushed : c.push.new.self.items ≡ c.args.sequence.now.items ++ k ∷ [] = c.in_ok-push.ensures.items ∙ ap (λ xs. xs ++ k ∷ []) c.loop-phase.invariant.sequence in
-    let now = set c.loop-phase.left k (get_or c.loop-phase.left k 0 - 1) in
-    let fewer : c.args.remaining - 1 ≡ sum (set c.loop-phase.left k (get_or c.loop-phase.left k 0 - 1)) =
-    subst (λ l. c.args.remaining - 1 ≡ sum l) (sym lower) (omega (arith, sum-one_less left k some, c.requires.remaining)) in
     let way = subst (λ l. IsUnderWay p l c.in-Ok.next (c.args.delay + c.in-Ok.served.cost)) (sym lower)
     (under-way-fit p left c.args.head c.args.delay k (c.in-Ok.served, c.in-Ok.next) c.requires.way some (subst (λ plan. IsServing plan (c.in-Ok.served, c.in-Ok.next)) plan c.in-Ok.ensures.bounds)) in
     let reached = subst (λ l. Reaches p c.push.new.self.items l c.in-Ok.next (c.args.delay + c.in-Ok.served.cost)) (sym lower)
     (subst (λ prefix. Reaches p prefix (one_less left k) c.in-Ok.next (c.args.delay + c.in-Ok.served.cost)) (sym pushed)
     (reaches-fit p c.args.sequence.now.items left c.args.head c.args.delay k c.next_cluster-cluster.result.now (c.in-Ok.served, c.in-Ok.next) c.requires.reached next fit)) in
-    (omega arith, (outlives, (fewer, (way, reached))))
+    (omega (arith, ap sum lower, sum-one_less left k some), (outlives, (way, reached)))
 
 pub loop-phase-preserved : goal.loop-phase-preserved
 loop-phase-preserved g t c =
@@ -79,4 +76,4 @@ returns-clause-best g t c =
     c.loop-phase.invariant.best
     ∙ ap (λ n. best_behind c.args.i.now c.args.sequence.now.items c.args.best.now (flat_map (beginning_with left) (range_with_len 0 n)))
     (let e : c.loop-phase.phase ≡ length left = omega (arith, c.requires.way.lists, c.count-phase-end.ensures.count, c.plan.ensures.instance.lists, ap length c.plan.ensures.value) in e)
-    ∙ ap (best_behind c.args.i.now c.args.sequence.now.items c.args.best.now) (sym (orders-begin left (omega (arith, c.requires.remaining))))
+    ∙ ap (best_behind c.args.i.now c.args.sequence.now.items c.args.best.now) (sym (orders-begin left (omega arith)))
