@@ -1,0 +1,97 @@
+// The program over files and sinks in memory.
+
+use foundation::items::Items;
+use foundation::text::Text;
+use outside_world::{MemoryShelf, MemorySink, SinkFail};
+use signal_cli::{Status, signal};
+use std::alloc::{AllocError, Global};
+
+/// The lines of two phases alike, up to the head's.
+pub const TWO_PHASES: &str = "instance 1\nphases 2\nphase 5 30 3 2 2 120\nphase 5 30 3 2 2 120\n";
+
+/// The whole text of two clusters that meet: the plan is 0 1, with delay 24000.
+pub const TWO_CLUSTERS: &str =
+    "instance 1\nphases 2\nphase 5 30 3 2 2 120\nphase 5 30 3 2 2 120\nhead 0 0 0 kept\ncluster 0 4000 0 8\ncluster 1 2000 3 4\nend\n";
+
+/// What `plan` writes for the two clusters.
+pub const TWO_CLUSTERS_PLAN: &str = "delay 24000\norder 0 1\n";
+
+/// Which calls of the shelf and of the two sinks fail.
+#[derive(Clone, Copy)]
+pub struct Faults<'a> {
+    pub fetches: &'a [u32],
+    pub out: &'a [SinkFail],
+    pub err: &'a [SinkFail],
+}
+
+/// Nothing fails.
+pub const NO_FAULTS: Faults<'static> = Faults {
+    fetches: &[],
+    out: &[],
+    err: &[],
+};
+
+/// How a call of the program ended.
+#[derive(Drop)]
+pub struct Ending {
+    status: Status,
+    out: MemorySink,
+    err: MemorySink,
+}
+
+impl Ending {
+    /// Whether it ended with this status, and these texts in `out` and `err`.
+    pub fn is(&self, status: Status, out: &str, err: &str) -> bool {
+        self.status.code() == status.code()
+            && self.out.bytes() == out.as_bytes()
+            && self.err.bytes() == err.as_bytes()
+    }
+}
+
+/// Calls the program with these words. Its shelf has one file, `file`, with this text.
+pub fn run(
+    alloc: Global,
+    words: &[&str],
+    text: &[u8],
+    faults: Faults<'_>,
+) -> Result<Ending, AllocError> {
+    let words = texts(alloc, words)?;
+    let name = Text::from_string(String::from_str(alloc, "file")?);
+    let mut files = Vec::new(alloc);
+    files.push((name, Items::from_vec(text.to_vec(alloc)?)))?;
+    let mut shelf = MemoryShelf::new(alloc, files, faults.fetches.to_vec(alloc)?);
+    let mut out = MemorySink::new(alloc, 1000, faults.out.to_vec(alloc)?)?;
+    let mut err = MemorySink::new(alloc, 1000, faults.err.to_vec(alloc)?)?;
+    let status = signal(alloc, &words, &mut shelf, &mut out, &mut err);
+    Ok(Ending { status, out, err })
+}
+
+/// Calls the program with the words `plan file` over this text. Nothing fails.
+pub fn plan(alloc: Global, text: &[u8]) -> Result<Ending, AllocError> {
+    run(alloc, &["plan", "file"], text, NO_FAULTS)
+}
+
+/// Adds the lines of so many clusters of a phase, each of one second and of this size. The first
+/// arrives at `first`, and each later one `step` seconds after the one before.
+pub fn add_clusters(
+    text: &mut String,
+    phase: u8,
+    size: u32,
+    count: u8,
+    first: u32,
+    step: u32,
+) -> Result<(), AllocError> {
+    for place in 0..count {
+        let arr = step.wrapping_mul(u32::from(place)).wrapping_add(first);
+        writeln!(text, "cluster {phase} {size} {arr} 1")?;
+    }
+    Ok(())
+}
+
+fn texts(alloc: Global, words: &[&str]) -> Result<Vec<Text>, AllocError> {
+    let mut texts = Vec::new(alloc);
+    for word in words {
+        texts.push(Text::from_string(String::from_str(alloc, word)?))?;
+    }
+    Ok(texts)
+}
