@@ -5,24 +5,28 @@ use std::fs;
 use std::io::{self, ErrorKind, Write};
 use std::test::Fail;
 
+// Of a file of 20,000 bytes: the name, how many bytes are asked for, and how many come.
+const FETCHES: &[(&str, usize, Option<usize>)] = &[
+    ("text", 30_000, Some(20_000)),
+    ("text", 20_000, Some(20_000)),
+    ("text", 10_000, Some(10_000)),
+    ("text", 0, Some(0)),
+    ("absent", 10, None),
+];
+
 #[test]
 fn files(rt: HostRuntime) -> Result<(), Fail> {
     let alloc = rt.alloc();
     let text = vec![in alloc; b'a'; 20_000]?;
     fs::write(&rt, "text", text.as_slice())?;
     let mut shelf = FileShelf::new(alloc, &rt);
-    for (name, most, length) in [
-        ("text", 30_000, Some(20_000)),
-        ("text", 20_000, Some(20_000)),
-        ("text", 10_000, Some(10_000)),
-        ("text", 0, Some(0)),
-        ("absent", 10, None),
-    ] {
-        let fetched = shelf.fetch(alloc, name, most);
-        let failed = matches!(fetched, Err(ShelfFault::Failed));
-        assert_eq!(rt; failed, length.is_none(), "{name} {most}");
-        let count = fetched.ok().map(|bytes| bytes.len());
-        assert_eq!(rt; count, length, "{name} {most}");
+    for &(name, most, length) in FETCHES {
+        let length_here = match shelf.fetch(alloc, name, most) {
+            Ok(bytes) => Some(bytes.len()),
+            Err(ShelfFault::Failed) => None,
+            Err(ShelfFault::NoMemory) => return Err("out of memory".into()),
+        };
+        assert!(rt; length_here == length, "{name} {most}");
     }
     Ok(())
 }
@@ -57,6 +61,14 @@ impl Write for Slow {
     }
 }
 
+// What is put, and whether it is taken whole.
+const PIECES: &[(&str, bool)] = &[
+    ("abcde", true),
+    ("", true),
+    ("fghij", false),
+    ("klmno", true),
+];
+
 #[test]
 fn streams(rt: HostRuntime) -> Result<(), Fail> {
     let alloc = rt.alloc();
@@ -67,13 +79,8 @@ fn streams(rt: HostRuntime) -> Result<(), Fail> {
             takes_nothing,
         };
         let mut sink = StreamSink::new(&mut slow);
-        for (piece, taken) in [
-            ("abcde", true),
-            ("", true),
-            ("fghij", false),
-            ("klmno", true),
-        ] {
-            assert_eq!(rt; sink.put(piece.as_bytes()).is_ok(), taken, "{piece}");
+        for &(piece, taken) in PIECES {
+            assert!(rt; sink.put(piece.as_bytes()).is_ok() == taken, "{piece}");
         }
         drop(sink);
         assert_eq!(rt; slow.bytes.as_slice(), b"abcdefghklmno".as_slice());

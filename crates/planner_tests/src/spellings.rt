@@ -12,7 +12,7 @@ const TEXT: &str =
 type Accepted = (&'static str, &'static [usize]);
 
 /// A digit for the one before it, 0 for 9, and `x` for any other byte.
-const CHANGED: [Accepted; 8] = [
+const CHANGED: &[Accepted] = &[
     ("delay 20000\norder 1\n", &[26, 31, 33, 56]),
     (
         "delay 18000\norder 1\n",
@@ -29,7 +29,7 @@ const CHANGED: [Accepted; 8] = [
 ];
 
 /// A further 0.
-const WITH_ZERO: [Accepted; 4] = [
+const WITH_ZERO: &[Accepted] = &[
     ("delay 18000\norder 1\n", &[38, 39, 40, 59, 60, 61]),
     ("delay 180000\norder 1\n", &[89, 90, 91, 92]),
     ("delay 0\norder 1\n", &[94]),
@@ -54,7 +54,7 @@ fn changed(rt: HostRuntime) -> Result<(), Fail> {
         let byte = other_byte(text[place]);
         let other = spliced(alloc, &text[..place], byte, &text[place + 1..])?;
         assert!(rt;
-            is_as_told(alloc, &other, &CHANGED, place)?,
+            is_as_told(alloc, &other, CHANGED, place)?,
             "changed at {place}"
         );
     }
@@ -72,7 +72,7 @@ fn inserted(rt: HostRuntime) -> Result<(), Fail> {
             (b' ', never),
             (b'\n', never),
             (b'+', never),
-            (b'0', WITH_ZERO.as_slice()),
+            (b'0', WITH_ZERO),
         ] {
             let other = spliced(alloc, front, byte, back)?;
             assert!(rt;

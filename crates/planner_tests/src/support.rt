@@ -71,23 +71,6 @@ pub fn plan(alloc: Global, text: &[u8]) -> Result<Ending, AllocError> {
     run(alloc, &["plan", "file"], text, NO_FAULTS)
 }
 
-/// Adds the lines of so many clusters of a phase, each of one second and of this size. The first
-/// arrives at `first`, and each later one `step` seconds after the one before.
-pub fn add_clusters(
-    text: &mut String,
-    phase: u8,
-    size: u32,
-    count: u8,
-    first: u32,
-    step: u32,
-) -> Result<(), AllocError> {
-    for place in 0..count {
-        let arr = step.wrapping_mul(u32::from(place)).wrapping_add(first);
-        writeln!(text, "cluster {phase} {size} {arr} 1")?;
-    }
-    Ok(())
-}
-
 fn texts(alloc: Global, words: &[&str]) -> Result<Vec<Text>, AllocError> {
     let mut texts = Vec::new(alloc);
     for word in words {
