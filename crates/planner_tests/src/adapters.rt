@@ -1,6 +1,6 @@
 // The shelf over files and the sink over a stream.
 
-use outside_world::{FileShelf, Shelf, ShelfFault, Sink, StreamSink};
+use outside_world::{FileShelf, Shelf, Sink, StreamSink};
 use std::fs;
 use std::io::{self, ErrorKind, Write};
 use std::test::Fail;
@@ -23,8 +23,7 @@ fn files(rt: HostRuntime) -> Result<(), Fail> {
     for &(name, most, length) in FETCHES {
         let length_here = match shelf.fetch(alloc, name, most) {
             Ok(bytes) => Some(bytes.len()),
-            Err(ShelfFault::Failed) => None,
-            Err(ShelfFault::NoMemory) => return Err("out of memory".into()),
+            Err(_) => None,
         };
         assert!(rt; length_here == length, "{name} {most}");
     }

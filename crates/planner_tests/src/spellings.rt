@@ -61,27 +61,29 @@ fn changed(rt: HostRuntime) -> Result<(), Fail> {
     Ok(())
 }
 
+// What may stand between any two bytes.
+const INSERTED: &[(u8, &[Accepted])] = &[(b' ', &[]), (b'\n', &[]), (b'+', &[]), (b'0', WITH_ZERO)];
+
 #[test]
 fn inserted(rt: HostRuntime) -> Result<(), Fail> {
-    let alloc = rt.alloc();
-    let text = TEXT.as_bytes();
-    let never: &[Accepted] = &[];
-    for place in 0..text.len() + 1 {
-        let (front, back) = text.split_at(place);
-        for (byte, accepted) in [
-            (b' ', never),
-            (b'\n', never),
-            (b'+', never),
-            (b'0', WITH_ZERO),
-        ] {
-            let other = spliced(alloc, front, byte, back)?;
-            assert!(rt;
-                is_as_told(alloc, &other, accepted, place)?,
-                "byte {byte} at {place}"
-            );
+    for &(byte, accepted) in INSERTED {
+        for place in 0..TEXT.len() + 1 {
+            let held = insertion_is_as_told(rt.alloc(), byte, accepted, place)?;
+            assert!(rt; held, "byte {byte} at {place}");
         }
     }
     Ok(())
+}
+
+fn insertion_is_as_told(
+    alloc: Global,
+    byte: u8,
+    accepted: &[Accepted],
+    place: usize,
+) -> Result<bool, AllocError> {
+    let (front, back) = TEXT.as_bytes().split_at(place.min(TEXT.len()));
+    let other = spliced(alloc, front, byte, back)?;
+    is_as_told(alloc, &other, accepted, place)
 }
 
 fn other_byte(byte: u8) -> u8 {

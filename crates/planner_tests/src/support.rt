@@ -56,12 +56,9 @@ pub fn run(
     faults: Faults<'_>,
 ) -> Result<Ending, AllocError> {
     let words = texts(alloc, words)?;
-    let name = Text::from_string(String::from_str(alloc, "file")?);
-    let mut files = Vec::new(alloc);
-    files.push((name, Items::from_vec(text.to_vec(alloc)?)))?;
-    let mut shelf = MemoryShelf::new(alloc, files, faults.fetches.to_vec(alloc)?);
-    let mut out = MemorySink::new(alloc, 1000, faults.out.to_vec(alloc)?)?;
-    let mut err = MemorySink::new(alloc, 1000, faults.err.to_vec(alloc)?)?;
+    let mut shelf = shelf_of(alloc, text, faults.fetches)?;
+    let mut out = sink_of(alloc, faults.out)?;
+    let mut err = sink_of(alloc, faults.err)?;
     let status = signal(alloc, &words, &mut shelf, &mut out, &mut err);
     Ok(Ending { status, out, err })
 }
@@ -77,4 +74,15 @@ fn texts(alloc: Global, words: &[&str]) -> Result<Vec<Text>, AllocError> {
         texts.push(Text::from_string(String::from_str(alloc, word)?))?;
     }
     Ok(texts)
+}
+
+fn shelf_of(alloc: Global, text: &[u8], fails: &[u32]) -> Result<MemoryShelf, AllocError> {
+    let name = Text::from_string(String::from_str(alloc, "file")?);
+    let content = Items::from_vec(text.to_vec(alloc)?);
+    let files = vec![in alloc; (name, content)]?;
+    Ok(MemoryShelf::new(alloc, files, fails.to_vec(alloc)?))
+}
+
+fn sink_of(alloc: Global, fails: &[SinkFail]) -> Result<MemorySink, AllocError> {
+    MemorySink::new(alloc, 1000, fails.to_vec(alloc)?)
 }
