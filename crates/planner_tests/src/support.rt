@@ -1,0 +1,88 @@
+// The program over files and sinks in memory.
+
+use foundation::items::Items;
+use foundation::text::Text;
+use outside_world::{MemoryShelf, MemorySink, SinkFail};
+use signal_cli::{Status, signal};
+use std::alloc::{AllocError, Global};
+
+/// The lines of two phases alike, up to the head's.
+pub const TWO_PHASES: &str = "instance 1\nphases 2\nphase 5 30 3 2 2 120\nphase 5 30 3 2 2 120\n";
+
+/// The whole text of two clusters that meet: the plan is 0 1, with delay 24000.
+pub const TWO_CLUSTERS: &str =
+    "instance 1\nphases 2\nphase 5 30 3 2 2 120\nphase 5 30 3 2 2 120\nhead 0 0 0 kept\ncluster 0 4000 0 8\ncluster 1 2000 3 4\nend\n";
+
+/// What `plan` writes for the two clusters.
+pub const TWO_CLUSTERS_PLAN: &str = "delay 24000\norder 0 1\n";
+
+/// Which calls of the shelf and of the two sinks fail.
+#[derive(Clone, Copy)]
+pub struct Faults<'a> {
+    pub fetches: &'a [u32],
+    pub out: &'a [SinkFail],
+    pub err: &'a [SinkFail],
+}
+
+/// Nothing fails.
+pub const NO_FAULTS: Faults<'static> = Faults {
+    fetches: &[],
+    out: &[],
+    err: &[],
+};
+
+/// How a call of the program ended.
+#[derive(Drop)]
+pub struct Ending {
+    status: Status,
+    out: MemorySink,
+    err: MemorySink,
+}
+
+impl Ending {
+    /// Whether it ended with this status, and these texts in `out` and `err`.
+    pub fn is(&self, status: Status, out: &str, err: &str) -> bool {
+        self.status.code() == status.code()
+            && self.out.bytes() == out.as_bytes()
+            && self.err.bytes() == err.as_bytes()
+    }
+}
+
+/// Calls the program with these words. Its shelf has one file, `file`, with this text.
+pub fn run(
+    alloc: Global,
+    words: &[&str],
+    text: &[u8],
+    faults: Faults<'_>,
+) -> Result<Ending, AllocError> {
+    let words = texts(alloc, words)?;
+    let mut shelf = shelf_of(alloc, text, faults.fetches)?;
+    let mut out = sink_of(alloc, faults.out)?;
+    let mut err = sink_of(alloc, faults.err)?;
+    let status = signal(alloc, &words, &mut shelf, &mut out, &mut err);
+    Ok(Ending { status, out, err })
+}
+
+/// Calls the program with the words `plan file` over this text. Nothing fails.
+pub fn plan(alloc: Global, text: &[u8]) -> Result<Ending, AllocError> {
+    run(alloc, &["plan", "file"], text, NO_FAULTS)
+}
+
+fn texts(alloc: Global, words: &[&str]) -> Result<Vec<Text>, AllocError> {
+    let mut texts = Vec::new(alloc);
+    for word in words {
+        texts.push(Text::from_string(String::from_str(alloc, word)?))?;
+    }
+    Ok(texts)
+}
+
+fn shelf_of(alloc: Global, text: &[u8], fails: &[u32]) -> Result<MemoryShelf, AllocError> {
+    let name = Text::from_string(String::from_str(alloc, "file")?);
+    let content = Items::from_vec(text.to_vec(alloc)?);
+    let files = vec![in alloc; (name, content)]?;
+    Ok(MemoryShelf::new(alloc, files, fails.to_vec(alloc)?))
+}
+
+fn sink_of(alloc: Global, fails: &[SinkFail]) -> Result<MemorySink, AllocError> {
+    MemorySink::new(alloc, 1000, fails.to_vec(alloc)?)
+}

@@ -1,0 +1,130 @@
+#!/usr/bin/env python3
+"""Runs a program over recorded cases, prints those that it answers otherwise, and counts them.
+
+A case is a folder with a file `words`, which has the words of the program's command line, one a
+line, and with the answer that is wanted: `status` has the exit status, `stdout` and `stderr` have
+the bytes written there. A `stdout` or `stderr` that is absent stands for no bytes. The program is
+run in a copy of the case's folder, so that the words can name its other files.
+
+Each FOLDER is a case, or holds cases at any depth. The exit status is 0 where all cases agree, 1
+where any differs, and 2 where there are none or the program can't be run.
+"""
+
+import argparse
+import os
+import re
+import shutil
+import subprocess
+import sys
+import tempfile
+from concurrent.futures import ThreadPoolExecutor
+from pathlib import Path
+
+ANSWER = ("status", "stdout", "stderr")
+
+
+def cases_in(folder):
+    """The cases at or below a folder, by name."""
+    return sorted(words.parent for words in Path(folder).rglob("words") if words.is_file())
+
+
+def bytes_of(path):
+    return path.read_bytes() if path.exists() else b""
+
+
+def recorded(case):
+    """The answer that is wanted: status, standard output, standard error."""
+    return int((case / "status").read_text()), bytes_of(case / "stdout"), bytes_of(case / "stderr")
+
+
+def answered(program, case, seconds):
+    """What the program answers, or None where it took too long."""
+    words = bytes_of(case / "words").split(b"\n")
+    if words[-1] == b"":
+        words.pop()
+    with tempfile.TemporaryDirectory() as place:
+        copy = Path(place) / "case"
+        shutil.copytree(case, copy, ignore=shutil.ignore_patterns("words", *ANSWER))
+        try:
+            run = subprocess.run(
+                [os.fsencode(program), *words],
+                cwd=copy,
+                stdin=subprocess.DEVNULL,
+                capture_output=True,
+                timeout=seconds,
+            )
+        except subprocess.TimeoutExpired:
+            return None
+    return run.returncode, run.stdout, run.stderr
+
+
+def without_code(answer):
+    """The answer without what follows `signal: bad K` in a line of standard error."""
+    status, out, err = answer
+    return status, out, re.sub(rb"(?m)^(signal: bad \d+) .*$", rb"\1", err)
+
+
+def difference(program, case, seconds, bad_prefix):
+    """What differs in a case, in a few words, or None."""
+    wanted, found = recorded(case), answered(program, case, seconds)
+    if found is None:
+        return f"no answer in {seconds:g} seconds"
+    if bad_prefix:
+        wanted, found = without_code(wanted), without_code(found)
+    differing = [
+        f"{part} is {shown(there)} in place of {shown(here)}"
+        for part, here, there in zip(ANSWER, wanted, found)
+        if here != there
+    ]
+    return "; ".join(differing) or None
+
+
+def shown(value):
+    text = repr(value.decode(errors="replace")) if isinstance(value, bytes) else str(value)
+    return text if len(text) <= 200 else text[:200] + ".."
+
+
+def main():
+    parser = argparse.ArgumentParser(
+        description=__doc__, formatter_class=argparse.RawDescriptionHelpFormatter
+    )
+    parser.add_argument("--program", required=True, metavar="PATH", help="the program to run")
+    parser.add_argument(
+        "--bad-prefix",
+        action="store_true",
+        help="leave out what follows `signal: bad K` on standard error, on both sides",
+    )
+    parser.add_argument(
+        "--jobs", type=int, default=os.cpu_count(), metavar="N", help="runs side by side"
+    )
+    parser.add_argument(
+        "--seconds", type=float, default=60, metavar="N", help="the time of one run, 60 if left out"
+    )
+    parser.add_argument("folders", nargs="+", metavar="FOLDER", help="a case, or a folder of cases")
+    options = parser.parse_args()
+
+    program = shutil.which(os.path.abspath(options.program))
+    if program is None:
+        parser.error(f"{options.program} is no program")
+    cases = [case for folder in options.folders for case in cases_in(folder)]
+    if not cases:
+        parser.error("no cases: a case is a folder with a file `words`")
+    unrecorded = [case for case in cases if not (case / "status").is_file()]
+    if unrecorded:
+        parser.error(f"{unrecorded[0]} has no file `status`")
+
+    with ThreadPoolExecutor(options.jobs) as runs:
+        found = runs.map(
+            lambda case: difference(program, case, options.seconds, options.bad_prefix), cases
+        )
+        differing = 0
+        for case, told in zip(cases, found):
+            if told is not None:
+                differing += 1
+                print(f"{case}: {told}", flush=True)
+    print(f"{len(cases)} cases, {differing} differ")
+    sys.exit(1 if differing else 0)
+
+
+if __name__ == "__main__":
+    main()
