@@ -1,6 +1,6 @@
 // Why texts are no instance's: the first fault, where there are several.
 
-use super::support::TWO_CLUSTERS;
+use super::texts::TWO_CLUSTERS;
 use phase_plan::{Field, PlanFault};
 use schedule_meaning::{InstanceFault, TextFault, read_instance};
 use std::alloc::{AllocError, Global};

@@ -2,7 +2,7 @@
 
 ghost use Rattle.std.specs.Prelude.{◌≡◌, ◌<◌};
 
-use super::support::TWO_PHASES;
+use super::texts::TWO_PHASES;
 use foundation::items::Items;
 use foundation::steps::Steps;
 use line_text::field_u64;
