@@ -1,5 +1,5 @@
 -- What a network file says: its table, as `toml` reads it, and the draft that it stands for.
-use Rattle.std.specs.Prelude.{codes, ℕ, suc, ◌+◌, ◌-◌, ◌^◌, ◌==◌, nat_lt, ℤ, pos, negsuc, if◌then◌else◌, List, [], ◌∷◌, Option, Some, None, is_some, option_map}
+use Rattle.std.specs.Prelude.{codes, ℕ, suc, ◌+◌, ◌-◌, ◌^◌, ◌==◌, nat_lt, ℤ, pos, negsuc, if◌then◌else◌, List, [], ◌∷◌, Option, Some, None, is_some}
 use Rattle.toml.specs.Data.{Data, Items, no_items, item, Members, no_members, member, get_member, as_str, as_integer, as_array, as_table}
 use Rattle.phase_plan.specs.declared.Phase.{Phase}
 use Rattle.net_draft.specs.Faults.{◌>>=◌, each}

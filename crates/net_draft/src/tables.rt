@@ -301,13 +301,19 @@ fn read_texts(alloc: Global, values: &[Value], place: Place) -> Result<Vec<Text>
 {
     let mut texts = Vec::new(alloc);
     for value in values {
-        let text = match value.as_str() {
-            Some(text) => copied(alloc, text)?,
-            None => return Err(NetFault::Shape(place)),
-        };
+        let text = read_text(alloc, value, place)?;
         texts.push(text)?;
     }
     Ok(texts)
+}
+
+fn read_text(alloc: Global, value: &Value, place: Place) -> Result<Text, NetFault>
+    ensures { Gives (λ text. text) result (as_str (view value.now)) }
+{
+    match value.as_str() {
+        Some(text) => Ok(copied(alloc, text)?),
+        None => Err(NetFault::Shape(place)),
+    }
 }
 
 /// A copy of the text.
