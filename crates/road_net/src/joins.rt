@@ -1,0 +1,159 @@
+ghost use Rattle.std.specs.Prelude.{◌≡◌, ◌≢◌, ◌≤◌, ◌<◌, ◌↔◌, IsTrue, IfOk, All, AllPairs, length, sum_by};
+ghost use Rattle.road_net.specs.Outcome.{Tests};
+ghost use Rattle.road_net.specs.Joins.{HasEnds, node_at, is_node, links_of_node, IsShareTable, HasShares, share_of, named_links, times_named, IsPhased, IsConflict};
+
+use crate::numbering::phase_with;
+use crate::roads::{Link, Side, Turn};
+use foundation::items::Items;
+use net_draft::NetFault;
+use std::alloc::{AllocError, Global};
+
+/// Tests that each link comes from a node or ends at one, and not both at the same.
+pub(crate) fn check_ends(links: &[Link]) -> Result<(), NetFault> {
+    for (index, link) in links.iter().enumerate() {
+        if link.from == link.to {
+            return Err(NetFault::Ends(index as u32));
+        }
+    }
+    Ok(())
+}
+
+/// For each node the links that have it at this side, in number order.
+pub(crate) fn links_by_node(
+    alloc: Global,
+    links: &[Link],
+    nodes: u32,
+    side: Side,
+) -> Result<Vec<Items<u32>>, AllocError> {
+    let mut lists = Vec::new(alloc);
+    for node in 0..nodes {
+        let list = links_of_node(alloc, links, node, side)?;
+        lists.push(Items::from_vec(list))?;
+    }
+    Ok(lists)
+}
+
+fn links_of_node(
+    alloc: Global,
+    links: &[Link],
+    node: u32,
+    side: Side,
+) -> Result<Vec<u32>, AllocError> {
+    let mut numbers = Vec::new(alloc);
+    for (index, link) in links.iter().enumerate() {
+        if node_at(link, side) == Some(node) {
+            numbers.push(index as u32)?;
+        }
+    }
+    Ok(numbers)
+}
+
+fn node_at(link: &Link, side: Side) -> Option<u32> {
+    match side {
+        Side::From => link.from,
+        Side::To => link.to,
+    }
+}
+
+/// Tests that no list has more than 16 links.
+pub(crate) fn check_room(entry_links: &[Items<u32>]) -> Result<(), NetFault> {
+    for (index, links) in entry_links.iter().enumerate() {
+        if links.len() > 16 {
+            return Err(NetFault::Crowd(index as u32));
+        }
+    }
+    Ok(())
+}
+
+/// Tests the turns of each link.
+pub(crate) fn check_shares(links: &[Link], turns: &[Items<Turn>]) -> Result<(), NetFault> {
+    for (index, link) in links.iter().enumerate() {
+        if !has_shares(links, turns[index].as_slice(), link.to) {
+            return Err(NetFault::Shares(index as u32));
+        }
+    }
+    Ok(())
+}
+
+fn has_shares(links: &[Link], turns: &[Turn], to: Option<u32>) -> bool {
+    match to {
+        Some(node) => {
+            turns_leave(links, turns, node)
+                && exits_differ(turns)
+                && turns.iter().map(|turn| turn.share).sum::<u32>() == 1000
+        }
+        None => turns.is_empty(),
+    }
+}
+
+fn turns_leave(links: &[Link], turns: &[Turn], node: u32) -> bool {
+    for turn in turns {
+        if links[turn.exit as usize].from != Some(node) {
+            return false;
+        }
+    }
+    true
+}
+
+fn exits_differ(turns: &[Turn]) -> bool {
+    for (index, turn) in turns.iter().enumerate() {
+        if turns[index + 1..]
+            .iter()
+            .any(|later| later.exit == turn.exit)
+        {
+            return false;
+        }
+    }
+    true
+}
+
+/// Tests that phases name each link that ends at a node once, in a phase of that node, and no other link.
+pub(crate) fn check_phases(
+    alloc: Global,
+    links: &[Link],
+    phase_links: &[Items<Items<u32>>],
+) -> Result<(), NetFault> {
+    let named = named_links(alloc, phase_links)?;
+    for (index, link) in links.iter().enumerate() {
+        if !is_phased(named.as_slice(), phase_links, index as u32, link.to) {
+            return Err(NetFault::Phaseless(index as u32));
+        }
+    }
+    Ok(())
+}
+
+fn is_phased(named: &[u32], phase_links: &[Items<Items<u32>>], link: u32, to: Option<u32>) -> bool {
+    let times = named.iter().filter(|other| **other == link).count();
+    match to {
+        Some(node) => times == 1
+            && phase_with(phase_links[node as usize].as_slice(), link).is_some(),
+        None => times == 0,
+    }
+}
+
+/// All links that phases name, phase by phase.
+fn named_links(alloc: Global, phase_links: &[Items<Items<u32>>]) -> Result<Vec<u32>, AllocError> {
+    let mut named = Vec::new(alloc);
+    for phases in phase_links {
+        for links in phases.as_slice() {
+            named.extend_from_slice(links.as_slice())?;
+        }
+    }
+    Ok(named)
+}
+
+/// Tests that the links of each conflict end at one node, in two phases.
+pub(crate) fn check_conflicts(links: &[Link], conflicts: &[(u32, u32)]) -> Result<(), NetFault> {
+    for (a, b) in conflicts {
+        if !can_conflict(links, *a, *b) {
+            return Err(NetFault::Clash { a: *a, b: *b });
+        }
+    }
+    Ok(())
+}
+
+fn can_conflict(links: &[Link], a: u32, b: u32) -> bool {
+    let first = &links[a as usize];
+    let second = &links[b as usize];
+    a != b && first.to.is_some() && first.to == second.to && first.phase != second.phase
+}
