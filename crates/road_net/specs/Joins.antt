@@ -1,5 +1,5 @@
 -- How the parts of a network are joined.
-use Rattle.std.specs.Prelude.{◌≡◌, ◌≢◌, ℕ, suc, ◌+◌, ◌-◌, ◌*◌, ◌/◌, ◌≤◌, ◌<◌, ◌==◌, Bool, false, if◌then◌else◌, List, [], ◌∷◌, Option, Some, None, IsSome, MatchOption, map, position, length, take, sum_by, count_by, slice_index_or, All, AllPairs}
+use Rattle.std.specs.Prelude.{◌≡◌, ◌≢◌, ℕ, suc, ◌+◌, ◌-◌, ◌*◌, ◌/◌, ◌≤◌, ◌<◌, ◌==◌, Bool, false, if◌then◌else◌, List, [], ◌∷◌, Option, Some, None, IsSome, MatchOption, EachIndex, map, position, length, take, sum_by, count_by, slice_index_or, All, AllPairs}
 use Rattle.std.specs.List.{concat}
 use Rattle.std.specs.Option.{option_map_or}
 use Rattle.road_net.specs.declared.roads.Link.{Link}
@@ -73,6 +73,18 @@ pub record IsConflict (links : List Link) (c : ℕ × ℕ) : Type 0 where
   pub ends : IsSome (link_at links c.0).to
   pub node : (link_at links c.0).to ≡ (link_at links c.1).to
   pub phases : (link_at links c.0).phase ≢ (link_at links c.1).phase
+
+-- each link has turns as it must, and is named as it must
+abbrev pub AreShared : List Link → List (List Turn) → Type 0
+AreShared links turns = EachIndex links (λ l. HasShares links (slice_index_or turns l []) (link_at links l).to)
+
+abbrev pub ArePhased : List Link → List (List (List ℕ)) → Type 0
+ArePhased links phase_links = EachIndex links (λ l. IsPhased phase_links l (link_at links l).to)
+
+-- the lists are those of the links that have each node at this side
+pub record AreByNode (side : Side) (links : List Link) (nodes : ℕ) (lists : List (List ℕ)) : Type 0 where
+  pub count : length lists ≡ nodes
+  pub each : (n : ℕ) → n < nodes → slice_index_or lists n [] ≡ links_of_node side links n
 
 -- the shares of the first k turns together, in thousandths
 abbrev pub shares_to : List Turn → ℕ → ℕ

@@ -67,6 +67,13 @@ turn_of links t = do
 abbrev pub turns_of : List (List ℕ) → DraftLink → Option (List Turn)
 turns_of links l = each (turn_of links) l.turns
 
+-- the links, and the turns of each
+unfoldable pub roads_of : List (List ℕ) → List (List ℕ) → List (List (List ℕ)) → List DraftLink → Option (List Link × List (List Turn))
+roads_of nodes links phase_links ls = do
+  roads ← each (link_of nodes links phase_links) ls
+  turns ← each (turns_of links) ls
+  Some (roads, turns)
+
 unfoldable pub conflict_of : List (List ℕ) → DraftConflict → Option (ℕ × ℕ)
 conflict_of links c = do
   a ← number_of links c.a
@@ -80,11 +87,14 @@ node_names d = map (λ n. n.name) d.nodes
 abbrev pub link_names : Draft → List (List ℕ)
 link_names d = map (λ l. l.name) d.links
 
+-- the phases of a node
+abbrev pub plan_of : DraftNode → List Phase
+plan_of n = map (λ p. p.phase) n.phases
+
 -- the draft with numbers for names, where each name that it uses is the name of a node or a link
 unfoldable pub numbered : Draft → Option Net
 numbered d = do
   phase_links ← each (phases_of (link_names d)) d.nodes
-  links ← each (link_of (node_names d) (link_names d) phase_links) d.links
-  turns ← each (turns_of (link_names d)) d.links
+  roads ← roads_of (node_names d) (link_names d) phase_links d.links
   conflicts ← each (conflict_of (link_names d)) d.conflicts
-  Some (record { run = d.run; node_names = node_names d; plans = map (λ n. map (λ p. p.phase) n.phases) d.nodes; phase_links = phase_links; link_names = link_names d; links = links; turns = turns; conflicts = conflicts })
+  Some (record { run = d.run; node_names = node_names d; plans = map plan_of d.nodes; phase_links = phase_links; link_names = link_names d; links = roads.0; turns = roads.1; conflicts = conflicts })

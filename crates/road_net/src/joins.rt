@@ -1,6 +1,6 @@
-ghost use Rattle.std.specs.Prelude.{◌≡◌, ◌≢◌, ◌≤◌, ◌<◌, ◌↔◌, IsTrue, IfOk, All, AllPairs, length, sum_by};
+ghost use Rattle.std.specs.Prelude.{◌≡◌, ◌≢◌, ◌≤◌, ◌<◌, ◌^◌, ◌↔◌, IsTrue, IfOk, IfSome, Some, All, AllPairs, length, sum_by};
 ghost use Rattle.road_net.specs.Outcome.{Tests};
-ghost use Rattle.road_net.specs.Joins.{HasEnds, node_at, is_node, links_of_node, IsShareTable, HasShares, share_of, named_links, times_named, IsPhased, IsConflict};
+ghost use Rattle.road_net.specs.Joins.{HasEnds, link_at, node_at, links_of_node, AreByNode, HasShares, AreShared, share_of, named_links, IsPhased, ArePhased, IsConflict};
 
 use crate::numbering::phase_with;
 use crate::roads::{Link, Side, Turn};
@@ -9,7 +9,10 @@ use net_draft::NetFault;
 use std::alloc::{AllocError, Global};
 
 /// Tests that each link comes from a node or ends at one, and not both at the same.
-pub(crate) fn check_ends(links: &[Link]) -> Result<(), NetFault> {
+pub(crate) fn check_ends(links: &[Link]) -> Result<(), NetFault>
+    requires { length links.now ≤ 320 }
+    ensures { Tests (All HasEnds links.now) result }
+{
     for (index, link) in links.iter().enumerate() {
         if link.from == link.to {
             return Err(NetFault::Ends(index as u32));
@@ -24,7 +27,10 @@ pub(crate) fn links_by_node(
     links: &[Link],
     nodes: u32,
     side: Side,
-) -> Result<Vec<Items<u32>>, AllocError> {
+) -> Result<Vec<Items<u32>>, AllocError>
+    requires { length links.now ≤ 320 }
+    ensures { IfOk result (λ lists. AreByNode side links.now nodes lists.items) }
+{
     let mut lists = Vec::new(alloc);
     for node in 0..nodes {
         let list = links_of_node(alloc, links, node, side)?;
@@ -38,7 +44,10 @@ fn links_of_node(
     links: &[Link],
     node: u32,
     side: Side,
-) -> Result<Vec<u32>, AllocError> {
+) -> Result<Vec<u32>, AllocError>
+    requires { length links.now ≤ 320 }
+    ensures { IfOk result (λ numbers. numbers.items ≡ links_of_node side links.now node) }
+{
     let mut numbers = Vec::new(alloc);
     for (index, link) in links.iter().enumerate() {
         if node_at(link, side) == Some(node) {
@@ -48,7 +57,9 @@ fn links_of_node(
     Ok(numbers)
 }
 
-fn node_at(link: &Link, side: Side) -> Option<u32> {
+fn node_at(link: &Link, side: Side) -> Option<u32>
+    ensures { result ≡ node_at side link.now }
+{
     match side {
         Side::From => link.from,
         Side::To => link.to,
@@ -56,7 +67,10 @@ fn node_at(link: &Link, side: Side) -> Option<u32> {
 }
 
 /// Tests that no list has more than 16 links.
-pub(crate) fn check_room(entry_links: &[Items<u32>]) -> Result<(), NetFault> {
+pub(crate) fn check_room(entry_links: &[Items<u32>]) -> Result<(), NetFault>
+    requires { length entry_links.now ≤ 64 }
+    ensures { Tests (All (λ links. length links ≤ 16) entry_links.now) result }
+{
     for (index, links) in entry_links.iter().enumerate() {
         if links.len() > 16 {
             return Err(NetFault::Crowd(index as u32));
@@ -66,7 +80,13 @@ pub(crate) fn check_room(entry_links: &[Items<u32>]) -> Result<(), NetFault> {
 }
 
 /// Tests the turns of each link.
-pub(crate) fn check_shares(links: &[Link], turns: &[Items<Turn>]) -> Result<(), NetFault> {
+pub(crate) fn check_shares(links: &[Link], turns: &[Items<Turn>]) -> Result<(), NetFault>
+    requires few { length links.now ≤ 320 }
+    requires same { length turns.now ≡ length links.now }
+    requires exits { All (λ list. All (λ t. t.exit < length links.now) list) turns.now }
+    requires sums { All (λ list. sum_by share_of list < 2 ^ 32) turns.now }
+    ensures { Tests (AreShared links.now turns.now) result }
+{
     for (index, link) in links.iter().enumerate() {
         if !has_shares(links, turns[index].as_slice(), link.to) {
             return Err(NetFault::Shares(index as u32));
@@ -75,7 +95,11 @@ pub(crate) fn check_shares(links: &[Link], turns: &[Items<Turn>]) -> Result<(), 
     Ok(())
 }
 
-fn has_shares(links: &[Link], turns: &[Turn], to: Option<u32>) -> bool {
+fn has_shares(links: &[Link], turns: &[Turn], to: Option<u32>) -> bool
+    requires exits { All (λ t. t.exit < length links.now) turns.now }
+    requires sum { sum_by share_of turns.now < 2 ^ 32 }
+    ensures { IsTrue result ↔ HasShares links.now turns.now to }
+{
     match to {
         Some(node) => {
             turns_leave(links, turns, node)
@@ -86,7 +110,10 @@ fn has_shares(links: &[Link], turns: &[Turn], to: Option<u32>) -> bool {
     }
 }
 
-fn turns_leave(links: &[Link], turns: &[Turn], node: u32) -> bool {
+fn turns_leave(links: &[Link], turns: &[Turn], node: u32) -> bool
+    requires { All (λ t. t.exit < length links.now) turns.now }
+    ensures { IsTrue result ↔ All (λ t. (link_at links.now t.exit).from ≡ Some node) turns.now }
+{
     for turn in turns {
         if links[turn.exit as usize].from != Some(node) {
             return false;
@@ -95,7 +122,9 @@ fn turns_leave(links: &[Link], turns: &[Turn], node: u32) -> bool {
     true
 }
 
-fn exits_differ(turns: &[Turn]) -> bool {
+fn exits_differ(turns: &[Turn]) -> bool
+    ensures { IsTrue result ↔ AllPairs (λ s t. s.exit ≢ t.exit) turns.now }
+{
     for (index, turn) in turns.iter().enumerate() {
         if turns[index + 1..]
             .iter()
@@ -112,7 +141,12 @@ pub(crate) fn check_phases(
     alloc: Global,
     links: &[Link],
     phase_links: &[Items<Items<u32>>],
-) -> Result<(), NetFault> {
+) -> Result<(), NetFault>
+    requires few { length links.now ≤ 320 }
+    requires nodes { All (λ l. IfSome l.to (λ node. node < length phase_links.now)) links.now }
+    requires phases { All (λ phases. length phases ≤ 4) phase_links.now }
+    ensures { Tests (ArePhased links.now phase_links.now) result }
+{
     let named = named_links(alloc, phase_links)?;
     for (index, link) in links.iter().enumerate() {
         if !is_phased(named.as_slice(), phase_links, index as u32, link.to) {
@@ -122,7 +156,12 @@ pub(crate) fn check_phases(
     Ok(())
 }
 
-fn is_phased(named: &[u32], phase_links: &[Items<Items<u32>>], link: u32, to: Option<u32>) -> bool {
+fn is_phased(named: &[u32], phase_links: &[Items<Items<u32>>], link: u32, to: Option<u32>) -> bool
+    requires named { named.now ≡ named_links phase_links.now }
+    requires node { IfSome to (λ node. node < length phase_links.now) }
+    requires phases { All (λ phases. length phases ≤ 4) phase_links.now }
+    ensures { IsTrue result ↔ IsPhased phase_links.now link to }
+{
     let times = named.iter().filter(|other| **other == link).count();
     match to {
         Some(node) => times == 1
@@ -132,7 +171,9 @@ fn is_phased(named: &[u32], phase_links: &[Items<Items<u32>>], link: u32, to: Op
 }
 
 /// All links that phases name, phase by phase.
-fn named_links(alloc: Global, phase_links: &[Items<Items<u32>>]) -> Result<Vec<u32>, AllocError> {
+fn named_links(alloc: Global, phase_links: &[Items<Items<u32>>]) -> Result<Vec<u32>, AllocError>
+    ensures { IfOk result (λ named. named.items ≡ named_links phase_links.now) }
+{
     let mut named = Vec::new(alloc);
     for phases in phase_links {
         for links in phases.as_slice() {
@@ -143,7 +184,10 @@ fn named_links(alloc: Global, phase_links: &[Items<Items<u32>>]) -> Result<Vec<u
 }
 
 /// Tests that the links of each conflict end at one node, in two phases.
-pub(crate) fn check_conflicts(links: &[Link], conflicts: &[(u32, u32)]) -> Result<(), NetFault> {
+pub(crate) fn check_conflicts(links: &[Link], conflicts: &[(u32, u32)]) -> Result<(), NetFault>
+    requires { All (λ c. (c.0 < length links.now) × (c.1 < length links.now)) conflicts.now }
+    ensures { Tests (All (IsConflict links.now) conflicts.now) result }
+{
     for (a, b) in conflicts {
         if !can_conflict(links, *a, *b) {
             return Err(NetFault::Clash { a: *a, b: *b });
@@ -152,7 +196,11 @@ pub(crate) fn check_conflicts(links: &[Link], conflicts: &[(u32, u32)]) -> Resul
     Ok(())
 }
 
-fn can_conflict(links: &[Link], a: u32, b: u32) -> bool {
+fn can_conflict(links: &[Link], a: u32, b: u32) -> bool
+    requires first { a < length links.now }
+    requires second { b < length links.now }
+    ensures { IsTrue result ↔ IsConflict links.now (a, b) }
+{
     let first = &links[a as usize];
     let second = &links[b as usize];
     a != b && first.to.is_some() && first.to == second.to && first.phase != second.phase

@@ -1,9 +1,10 @@
-ghost use Rattle.std.specs.Prelude.{◌≡◌, ◌≤◌, ◌<◌, ◌>◌, IfOk, IfErr, All, length, map};
-ghost use Rattle.net_draft.specs.Faults.{each, ◌>>=◌};
-ghost use Rattle.road_net.specs.Bounds.{IsBoundedNode, IsBounded};
-ghost use Rattle.road_net.specs.Outcome.{Makes, Refuses};
+ghost use Rattle.std.specs.Prelude.{◌≡◌, ◌≤◌, ◌<◌, IfOk, IfSome, All, length, map, position};
+ghost use Rattle.net_draft.specs.Faults.{each};
+ghost use Rattle.road_net.specs.Bounds.{IsBoundedNode, IsBoundedPhase, IsBounded};
+ghost use Rattle.road_net.specs.Outcome.{Makes, Lists};
 ghost use Rattle.road_net.specs.Numbers as spec;
-ghost use Rattle.road_net.specs.Numbers.{number_of, number_if, AreDistinct, has_link};
+ghost use Rattle.road_net.specs.Numbers.{number_of, number_if, has_link};
+ghost use Rattle.road_net.specs.Stored.{Numbers};
 
 use crate::names::Names;
 use crate::roads::{Link, Turn};
@@ -30,7 +31,11 @@ pub(crate) struct Parts {
 
 /// The draft with numbers for names. The fault is `Twice` or `Unknown` at the first place that repeats a
 /// name, or else that uses one which stands for nothing.
-pub(crate) fn numbered(alloc: Global, draft: &Draft) -> Result<Parts, NetFault> {
+#[tactic(auto, unfolding(crate::specs::Numbers::numbered))]
+pub(crate) fn numbered(alloc: Global, draft: &Draft) -> Result<Parts, NetFault>
+    requires { IsBounded draft.now }
+    ensures { Numbers draft.now result }
+{
     let node_names = node_names(alloc, draft.nodes.as_slice())?;
     let link_names = link_names(alloc, draft.links.as_slice())?;
     let phase_links = phase_links(alloc, &link_names, draft.nodes.as_slice())?;
@@ -54,7 +59,10 @@ pub(crate) fn numbered(alloc: Global, draft: &Draft) -> Result<Parts, NetFault> 
     })
 }
 
-fn node_names(alloc: Global, nodes: &[DraftNode]) -> Result<Names, NetFault> {
+fn node_names(alloc: Global, nodes: &[DraftNode]) -> Result<Names, NetFault>
+    requires { length nodes.now ≤ 64 }
+    ensures { Lists (map (λ n. n.name) nodes.now) result }
+{
     let mut names = Names::new(alloc);
     for (index, node) in nodes.iter().enumerate() {
         if !names.add(alloc, node.name.as_str())? {
@@ -64,7 +72,10 @@ fn node_names(alloc: Global, nodes: &[DraftNode]) -> Result<Names, NetFault> {
     Ok(names)
 }
 
-fn link_names(alloc: Global, links: &[DraftLink]) -> Result<Names, NetFault> {
+fn link_names(alloc: Global, links: &[DraftLink]) -> Result<Names, NetFault>
+    requires { length links.now ≤ 320 }
+    ensures { Lists (map (λ l. l.name) links.now) result }
+{
     let mut names = Names::new(alloc);
     for (index, link) in links.iter().enumerate() {
         if !names.add(alloc, link.name.as_str())? {
@@ -74,7 +85,9 @@ fn link_names(alloc: Global, links: &[DraftLink]) -> Result<Names, NetFault> {
     Ok(names)
 }
 
-fn place(part: Part, item: u32, sub: u32) -> Place {
+fn place(part: Part, item: u32, sub: u32) -> Place
+    ensures { result ≡ record { part = part; item = item; sub = sub } }
+{
     Place { part, item, sub }
 }
 
@@ -132,6 +145,7 @@ fn links_of_phases(
     phases: &[DraftPhase],
     item: u32,
 ) -> Result<Vec<Items<u32>>, NetFault>
+    requires { length phases.now ≤ 4 }
     ensures { Makes (λ lists. lists.items) result (each (λ p. each (number_of names.now) p.links) phases.now) }
 {
     let mut lists = Vec::new(alloc);
@@ -152,11 +166,19 @@ struct Tables<'a> {
 }
 
 /// The links, and the turns of each.
+#[tactic(auto, unfolding(crate::specs::Numbers::roads_of))]
 fn roads(
     alloc: Global,
     names: &Tables,
     links: &[DraftLink],
-) -> Result<(Vec<Link>, Vec<Items<Turn>>), NetFault> {
+) -> Result<(Vec<Link>, Vec<Items<Turn>>), NetFault>
+    requires few { length links.now ≤ 320 }
+    requires turns { All (λ l. length l.turns ≤ 16) links.now }
+    requires nodes { length names.now.nodes.now ≤ length names.now.phase_links.now }
+    requires phases { All (λ phases. length phases ≤ 4) names.now.phase_links.now }
+    ensures { Makes (λ roads. (roads.0.items, roads.1.items)) result
+        (spec.roads_of names.now.nodes.now names.now.links.now names.now.phase_links.now links.now) }
+{
     let mut roads = Vec::new(alloc);
     let mut lists = Vec::new(alloc);
     for (index, link) in links.iter().enumerate() {
@@ -169,7 +191,13 @@ fn roads(
     Ok((roads, lists))
 }
 
-fn road(names: &Tables, link: &DraftLink, place: Place) -> Result<Link, NetFault> {
+#[tactic(auto, unfolding(crate::specs::Numbers::link_of))]
+fn road(names: &Tables, link: &DraftLink, place: Place) -> Result<Link, NetFault>
+    requires nodes { length names.now.nodes.now ≤ length names.now.phase_links.now }
+    requires phases { All (λ phases. length phases ≤ 4) names.now.phase_links.now }
+    ensures { Makes (λ link. link) result
+        (spec.link_of names.now.nodes.now names.now.links.now names.now.phase_links.now link.now) }
+{
     let from = number_if(names.nodes, &link.from, place)?;
     let to = number_if(names.nodes, &link.to, place)?;
     let number = number(names.links, &link.name, place)?;
@@ -183,7 +211,11 @@ fn road(names: &Tables, link: &DraftLink, place: Place) -> Result<Link, NetFault
 }
 
 /// The first phase of the node that names the link; 0 where there is no node or no such phase.
-fn phase_of(phase_links: &[Items<Items<u32>>], link: u32, to: Option<u32>) -> u8 {
+fn phase_of(phase_links: &[Items<Items<u32>>], link: u32, to: Option<u32>) -> u8
+    requires node { IfSome to (λ node. node < length phase_links.now) }
+    requires phases { All (λ phases. length phases ≤ 4) phase_links.now }
+    ensures { result ≡ spec.phase_of phase_links.now link to }
+{
     match to {
         Some(node) => match phase_with(phase_links[node as usize].as_slice(), link) {
             Some(phase) => phase,
@@ -194,7 +226,10 @@ fn phase_of(phase_links: &[Items<Items<u32>>], link: u32, to: Option<u32>) -> u8
 }
 
 /// The first phase that names the link.
-pub(crate) fn phase_with(phases: &[Items<u32>], link: u32) -> Option<u8> {
+pub(crate) fn phase_with(phases: &[Items<u32>], link: u32) -> Option<u8>
+    requires { length phases.now ≤ 4 }
+    ensures { result ≡ position (has_link link) phases.now }
+{
     for (index, links) in phases.iter().enumerate() {
         if links.as_slice().contains(&link) {
             return Some(index as u8);
@@ -203,12 +238,14 @@ pub(crate) fn phase_with(phases: &[Items<u32>], link: u32) -> Option<u8> {
     None
 }
 
+#[tactic(auto, unfolding(crate::specs::Numbers::turn_of))]
 fn turns(
     alloc: Global,
     names: &Names,
     turns: &[DraftTurn],
     item: u32,
 ) -> Result<Vec<Turn>, NetFault>
+    requires { length turns.now ≤ 16 }
     ensures { Makes (λ turns. turns.items) result (each (spec.turn_of names.now) turns.now) }
 {
     let mut numbered = Vec::new(alloc);
@@ -222,11 +259,13 @@ fn turns(
     Ok(numbered)
 }
 
+#[tactic(auto, unfolding(crate::specs::Numbers::conflict_of))]
 fn conflicts(
     alloc: Global,
     names: &Names,
     conflicts: &[DraftConflict],
 ) -> Result<Vec<(u32, u32)>, NetFault>
+    requires { length conflicts.now ≤ 1024 }
     ensures { Makes (λ pairs. pairs.items) result (each (spec.conflict_of names.now) conflicts.now) }
 {
     let mut pairs = Vec::new(alloc);
@@ -240,7 +279,10 @@ fn conflicts(
 }
 
 /// The plan of each node.
-fn plans(alloc: Global, nodes: &[DraftNode]) -> Result<Vec<PhasePlan>, AllocError> {
+fn plans(alloc: Global, nodes: &[DraftNode]) -> Result<Vec<PhasePlan>, AllocError>
+    requires { All IsBoundedNode nodes.now }
+    ensures { IfOk result (λ plans. plans.items ≡ map spec.plan_of nodes.now) }
+{
     let mut plans = Vec::new(alloc);
     for node in nodes {
         let plan = plan(alloc, node.phases.as_slice())?;
@@ -249,7 +291,12 @@ fn plans(alloc: Global, nodes: &[DraftNode]) -> Result<Vec<PhasePlan>, AllocErro
     Ok(plans)
 }
 
-fn plan(alloc: Global, phases: &[DraftPhase]) -> Result<PhasePlan, AllocError> {
+fn plan(alloc: Global, phases: &[DraftPhase]) -> Result<PhasePlan, AllocError>
+    requires some { 2 ≤ length phases.now }
+    requires few { length phases.now ≤ 4 }
+    requires bounds { All IsBoundedPhase phases.now }
+    ensures { IfOk result (λ plan. plan ≡ map (λ p. p.phase) phases.now) }
+{
     let phases = phases.iter().map(|phase| phase.phase).collect(alloc)?;
     match PhasePlan::new(phases) {
         Ok(plan) => Ok(plan),
