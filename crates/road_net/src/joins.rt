@@ -1,4 +1,5 @@
-ghost use Rattle.std.specs.Prelude.{◌≡◌, ◌≢◌, ◌≤◌, ◌<◌, ◌^◌, ◌↔◌, IsTrue, IfOk, IfSome, Some, All, AllPairs, length, sum_by};
+ghost use Rattle.std.specs.Prelude.{◌≡◌, ◌≢◌, ◌≤◌, ◌<◌, ◌^◌, ◌↔◌, IsTrue, IfOk, OnOk, IfSome, ◌++◌, Some, All, AllPairs, length, sum_by};
+ghost use Rattle.std.specs.List.{concat};
 ghost use Rattle.road_net.specs.Outcome.{Tests};
 ghost use Rattle.road_net.specs.Joins.{HasEnds, link_at, node_at, links_of_node, AreByNode, HasShares, AreShared, share_of, named_links, IsPhased, ArePhased, IsConflict};
 
@@ -176,11 +177,19 @@ fn named_links(alloc: Global, phase_links: &[Items<Items<u32>>]) -> Result<Vec<u
 {
     let mut named = Vec::new(alloc);
     for phases in phase_links {
-        for links in phases.as_slice() {
-            named.extend_from_slice(links.as_slice())?;
-        }
+        push_links(&mut named, phases.as_slice())?;
     }
     Ok(named)
+}
+
+/// Adds the links of these phases at the end.
+fn push_links(named: &mut Vec<u32>, phases: &[Items<u32>]) -> Result<(), AllocError>
+    ensures { OnOk result (named.new.items ≡ named.old.items ++ concat phases.now) }
+{
+    for links in phases {
+        named.extend_from_slice(links.as_slice())?;
+    }
+    Ok(())
 }
 
 /// Tests that the links of each conflict end at one node, in two phases.
