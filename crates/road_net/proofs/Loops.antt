@@ -1,0 +1,34 @@
+-- A test of each element of a list, one element after another.
+use Rattle.std.proofs.Common.{◌≡◌, ℕ, ◌+◌, ◌<◌, ◌≤◌, List, length, get_or, take, All, Result, Err, sym, subst}
+use Rattle.std.proofs.lemmas.List.{take_all}
+use Rattle.std.proofs.lemmas.List.Elements.{All-more}
+use Rattle.net_draft.specs.declared.faults.NetFault.{NetFault}
+use Rattle.net_draft.specs.declared.faults.NetFault.TheVariants.{NoMemory, NotToml, Shape, Bound, Twice, Unknown, Ends, Crowd, Shares, Phaseless, Clash}
+use Rattle.road_net.specs.Outcome.{Refuses, Tests}
+
+module _ {X : Type 0} (P : X → Type 0) (xs : List X) (i : ℕ) where
+  -- one more element
+  pub All-step : (x : X) → i < length xs → x ≡ get_or xs i x → All P (take i xs) → P x → All P (take (i + 1) xs)
+  All-step x h at before here = All-more P xs i x h before (subst P at here)
+
+  -- the end of the list
+  pub All-end : length xs ≤ i → All P (take i xs) → All P xs
+  All-end h all = rw (take_all i xs h) at all
+
+  -- an element that fails the test
+  pub All-not : (x : X) → i < length xs → x ≡ get_or xs i x → (P x → ⊥) → All P xs → ⊥
+  All-not x h at fails all = fails (subst P (sym at) (all i x h))
+
+-- what a fault of a part says of the whole
+pub Refuses-weaker : {P Q : Type 0} (fault : NetFault) → (P → Q) → Refuses fault P → Refuses fault Q
+Refuses-weaker NoMemory f h = tt
+Refuses-weaker NotToml f h = h
+Refuses-weaker (Shape place) f h = h
+Refuses-weaker (Bound place) f h = f h
+Refuses-weaker (Twice place) f h = f h
+Refuses-weaker (Unknown place) f h = f h
+Refuses-weaker (Ends link) f h = f h
+Refuses-weaker (Crowd node) f h = f h
+Refuses-weaker (Shares link) f h = f h
+Refuses-weaker (Phaseless link) f h = f h
+Refuses-weaker (Clash a b) f h = f h
