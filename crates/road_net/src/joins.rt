@@ -127,14 +127,17 @@ fn exits_differ(turns: &[Turn]) -> bool
     ensures { IsTrue result ↔ AllPairs (λ s t. s.exit ≢ t.exit) turns.now }
 {
     for (index, turn) in turns.iter().enumerate() {
-        if turns[index + 1..]
-            .iter()
-            .any(|later| later.exit == turn.exit)
-        {
+        if !lacks_exit(&turns[index + 1..], turn.exit) {
             return false;
         }
     }
     true
+}
+
+fn lacks_exit(turns: &[Turn], exit: u32) -> bool
+    ensures { IsTrue result ↔ All (λ t. t.exit ≢ exit) turns.now }
+{
+    turns.iter().all(|turn| turn.exit != exit)
 }
 
 /// Tests that phases name each link that ends at a node once, in a phase of that node, and no other link.

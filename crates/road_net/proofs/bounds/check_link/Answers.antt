@@ -9,5 +9,5 @@ returns c = record {
   travel = search rules;
   sat = search rules;
   count = search rules;
-  turns = rw c.as_slice-turns.ensures at (All-end IsBoundedTurn c.as_slice-turns.result.now c.loop-index.index c.loop-index-test.false c.loop-index.invariant)
+  turns = rw c.as_slice-turns.ensures at (All-end IsBoundedTurn c.as_slice-turns.result.now c.loop-index.index c.loop-index-test.false c.loop-index.invariant);
 }
