@@ -1,3 +1,4 @@
+pub mod Ends
 pub mod Loops
 pub mod Places
 pub mod Shares

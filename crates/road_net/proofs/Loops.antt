@@ -1,10 +1,12 @@
 -- A test of each element of a list, one element after another.
-use Rattle.std.proofs.Common.{◌≡◌, ℕ, ◌+◌, ◌<◌, ◌≤◌, List, length, get_or, take, All, Result, Err, sym, subst}
+use Rattle.std.proofs.Common.{◌≡◌, ℕ, ◌+◌, ◌<◌, ◌≤◌, List, length, get_or, take, All, Option, None, Result, Err, sym, subst}
 use Rattle.std.proofs.lemmas.List.{take_all}
 use Rattle.std.proofs.lemmas.List.Elements.{All-more}
 use Rattle.net_draft.specs.declared.faults.NetFault.{NetFault}
 use Rattle.net_draft.specs.declared.faults.NetFault.TheVariants.{NoMemory, NotToml, Shape, Bound, Twice, Unknown, Ends, Crowd, Shares, Phaseless, Clash}
-use Rattle.road_net.specs.Outcome.{Refuses, Tests}
+use Rattle.net_draft.specs.Faults.{each}
+use Rattle.net_draft.proofs.Each.{each-none}
+use Rattle.road_net.specs.Outcome.{Refuses, Makes}
 
 module _ {X : Type 0} (P : X → Type 0) (xs : List X) (i : ℕ) where
   -- one more element
@@ -32,3 +34,7 @@ Refuses-weaker (Crowd node) f h = f h
 Refuses-weaker (Shares link) f h = f h
 Refuses-weaker (Phaseless link) f h = f h
 Refuses-weaker (Clash a b) f h = f h
+
+-- a fault of one element, at the exit of a loop
+pub Makes-each : {X Y Z : Type 0} (f : X → Option Y) (view : Z → List Y) (xs : List X) (i : ℕ) (x : X) (fault : NetFault) (result : Result Z NetFault) → i < length xs → x ≡ get_or xs i x → Refuses fault (f x ≡ None) → result ≡ Err fault → Makes view result (each f xs)
+Makes-each f view xs i x fault result h at none is = rw is (Refuses-weaker fault (λ e. each-none f xs i x h (rw (← at) e)) none)

@@ -1,7 +1,7 @@
 ghost use Rattle.std.specs.Prelude.{◌≡◌, ◌≢◌, ◌≤◌, ◌<◌, ◌^◌, ◌↔◌, IsTrue, IfOk, OnOk, IfSome, ◌++◌, Some, All, AllPairs, length, sum_by};
 ghost use Rattle.std.specs.List.{concat};
 ghost use Rattle.road_net.specs.Outcome.{Tests};
-ghost use Rattle.road_net.specs.Joins.{HasEnds, link_at, node_at, links_of_node, AreByNode, HasShares, AreShared, share_of, named_links, IsPhased, ArePhased, IsConflict};
+ghost use Rattle.road_net.specs.Joins.{HasEnds, link_at, node_at, is_node, links_of_node, AreByNode, HasShares, AreShared, share_of, named_links, IsPhased, ArePhased, IsConflict};
 
 use crate::numbering::phase_with;
 use crate::roads::{Link, Side, Turn};
@@ -51,19 +51,24 @@ fn links_of_node(
 {
     let mut numbers = Vec::new(alloc);
     for (index, link) in links.iter().enumerate() {
-        if node_at(link, side) == Some(node) {
+        if has_node(link, side, node) {
             numbers.push(index as u32)?;
         }
     }
     Ok(numbers)
 }
 
-fn node_at(link: &Link, side: Side) -> Option<u32>
-    ensures { result ≡ node_at side link.now }
+/// Whether the link has the node at this side.
+fn has_node(link: &Link, side: Side, node: u32) -> bool
+    ensures { result ≡ is_node node (node_at side link.now) }
 {
-    match side {
+    let end = match side {
         Side::From => link.from,
         Side::To => link.to,
+    };
+    match end {
+        Some(other) => other == node,
+        None => false,
     }
 }
 

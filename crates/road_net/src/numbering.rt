@@ -128,7 +128,8 @@ fn phase_links(
     names: &Names,
     nodes: &[DraftNode],
 ) -> Result<Vec<Items<Items<u32>>>, NetFault>
-    requires { length nodes.now ≤ 64 }
+    requires few { length nodes.now ≤ 64 }
+    requires bounds { All IsBoundedNode nodes.now }
     ensures { Makes (λ lists. lists.items) result (each (spec.phases_of names.now) nodes.now) }
 {
     let mut lists = Vec::new(alloc);
@@ -238,7 +239,6 @@ pub(crate) fn phase_with(phases: &[Items<u32>], link: u32) -> Option<u8>
     None
 }
 
-#[tactic(auto, unfolding(crate::specs::Numbers::turn_of))]
 fn turns(
     alloc: Global,
     names: &Names,
@@ -250,16 +250,23 @@ fn turns(
 {
     let mut numbered = Vec::new(alloc);
     for (index, turn) in turns.iter().enumerate() {
-        let exit = number(names, &turn.exit, place(Part::Turn, item, index as u32 + 1))?;
-        numbered.push(Turn {
-            exit,
-            share: turn.share,
-        })?;
+        let turn = turn_of(names, turn, place(Part::Turn, item, index as u32 + 1))?;
+        numbered.push(turn)?;
     }
     Ok(numbered)
 }
 
-#[tactic(auto, unfolding(crate::specs::Numbers::conflict_of))]
+#[tactic(auto, unfolding(crate::specs::Numbers::turn_of))]
+fn turn_of(names: &Names, turn: &DraftTurn, place: Place) -> Result<Turn, NetFault>
+    ensures { Makes (λ turn. turn) result (spec.turn_of names.now turn.now) }
+{
+    let exit = number(names, &turn.exit, place)?;
+    Ok(Turn {
+        exit,
+        share: turn.share,
+    })
+}
+
 fn conflicts(
     alloc: Global,
     names: &Names,
@@ -271,11 +278,23 @@ fn conflicts(
     let mut pairs = Vec::new(alloc);
     for (index, conflict) in conflicts.iter().enumerate() {
         let place = place(Part::Conflict, index as u32 + 1, 0);
-        let a = number(names, &conflict.a, place)?;
-        let b = number(names, &conflict.b, place)?;
-        pairs.push((a, b))?;
+        let pair = conflict_of(names, conflict, place)?;
+        pairs.push(pair)?;
     }
     Ok(pairs)
+}
+
+#[tactic(auto, unfolding(crate::specs::Numbers::conflict_of))]
+fn conflict_of(
+    names: &Names,
+    conflict: &DraftConflict,
+    place: Place,
+) -> Result<(u32, u32), NetFault>
+    ensures { Makes (λ pair. pair) result (spec.conflict_of names.now conflict.now) }
+{
+    let a = number(names, &conflict.a, place)?;
+    let b = number(names, &conflict.b, place)?;
+    Ok((a, b))
 }
 
 /// The plan of each node.
