@@ -38,3 +38,11 @@ Refuses-weaker (Clash a b) f h = f h
 -- a fault of one element, at the exit of a loop
 pub Makes-each : {X Y Z : Type 0} (f : X → Option Y) (view : Z → List Y) (xs : List X) (i : ℕ) (x : X) (fault : NetFault) (result : Result Z NetFault) → i < length xs → x ≡ get_or xs i x → Refuses fault (f x ≡ None) → result ≡ Err fault → Makes view result (each f xs)
 Makes-each f view xs i x fault result h at none is = rw is (Refuses-weaker fault (λ e. each-none f xs i x h (rw (← at) e)) none)
+
+-- what holds of all elements holds of one
+pub All-at : {X : Type 0} (P : X → Type 0) (xs : List X) (i : ℕ) (x : X) → i < length xs → x ≡ get_or xs i x → All P xs → P x
+All-at P xs i x h at all = subst P (sym at) (all i x h)
+
+-- a fault of a part, at the exit of a `?`
+pub Makes-none : {P Y Z : Type 0} (view : Z → Y) (meaning : Option Y) (fault : NetFault) (result : Result Z NetFault) → (P → meaning ≡ None) → Refuses fault P → result ≡ Err fault → Makes view result meaning
+Makes-none view meaning fault result none h is = rw is (Refuses-weaker fault none h)

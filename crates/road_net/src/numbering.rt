@@ -13,7 +13,7 @@ use foundation::text::Text;
 use net_draft::{
     Draft, DraftConflict, DraftLink, DraftNode, DraftPhase, DraftTurn, NetFault, Part, Place, Run,
 };
-use phase_plan::PhasePlan;
+use phase_plan::{Phase, PhasePlan};
 use std::alloc::{AllocError, Global};
 
 /// A network by numbers, before it is tested how its parts are joined.
@@ -316,9 +316,14 @@ fn plan(alloc: Global, phases: &[DraftPhase]) -> Result<PhasePlan, AllocError>
     requires bounds { All IsBoundedPhase phases.now }
     ensures { IfOk result (λ plan. plan ≡ map (λ p. p.phase) phases.now) }
 {
-    let phases = phases.iter().map(|phase| phase.phase).collect(alloc)?;
-    match PhasePlan::new(phases) {
+    match PhasePlan::new(times(alloc, phases)?) {
         Ok(plan) => Ok(plan),
         Err(_) => unreachable!(),
     }
+}
+
+fn times(alloc: Global, phases: &[DraftPhase]) -> Result<Vec<Phase>, AllocError>
+    ensures { IfOk result (λ times. times.items ≡ map (λ p. p.phase) phases.now) }
+{
+    phases.iter().map(|phase| phase.phase).collect(alloc)
 }
