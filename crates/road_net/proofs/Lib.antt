@@ -2,6 +2,8 @@ pub mod AllRoads
 pub mod Distinct
 pub mod Ends
 pub mod Loops
+pub mod Numbered
+pub mod Outline
 pub mod Places
 pub mod Plans
 pub mod Shares
