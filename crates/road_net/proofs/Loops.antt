@@ -1,12 +1,17 @@
 -- A test of each element of a list, one element after another.
-use Rattle.std.proofs.Common.{◌≡◌, ℕ, ◌+◌, ◌<◌, ◌≤◌, List, length, get_or, take, All, Option, None, Result, Err, sym, subst}
+use Rattle.std.proofs.Common.{◌≡◌, ℕ, ◌+◌, ◌<◌, ◌≤◌, List, length, get_or, take, All, Option, None, Some, Result, Err, sym, subst}
 use Rattle.std.proofs.lemmas.List.{take_all}
 use Rattle.std.proofs.lemmas.List.Elements.{All-more}
 use Rattle.net_draft.specs.declared.faults.NetFault.{NetFault}
 use Rattle.net_draft.specs.declared.faults.NetFault.TheVariants.{NoMemory, NotToml, Shape, Bound, Twice, Unknown, Ends, Crowd, Shares, Phaseless, Clash}
 use Rattle.net_draft.specs.Faults.{each}
 use Rattle.net_draft.proofs.Each.{each-none}
+use Rattle.net_draft.specs.declared.drafts.Draft.{Draft}
+use Rattle.road_net.specs.declared.numbering.Parts.{Parts}
 use Rattle.road_net.specs.Outcome.{Refuses, Makes}
+use Rattle.road_net.specs.Numbers.{Net, AreDistinct, numbered, node_names, link_names}
+use Rattle.road_net.specs.Network.{IsJoined}
+use Rattle.road_net.specs.Stored.{Numbers, Joins}
 
 module _ {X : Type 0} (P : X → Type 0) (xs : List X) (i : ℕ) where
   -- one more element
@@ -46,3 +51,11 @@ All-at P xs i x h at all = subst P (sym at) (all i x h)
 -- a fault of a part, at the exit of a `?`
 pub Makes-none : {P Y Z : Type 0} (view : Z → Y) (meaning : Option Y) (fault : NetFault) (result : Result Z NetFault) → (P → meaning ≡ None) → Refuses fault P → result ≡ Err fault → Makes view result meaning
 Makes-none view meaning fault result none h is = rw is (Refuses-weaker fault none h)
+
+-- the same where the whole draft is numbered
+pub Numbers-none : {P : Type 0} (d : Draft) (fault : NetFault) (result : Result Parts NetFault) → (P → (net : Net) → AreDistinct (node_names d) → AreDistinct (link_names d) → numbered d ≡ Some net → ⊥) → Refuses fault P → result ≡ Err fault → Numbers d result
+Numbers-none d fault result none h is = rw is (Refuses-weaker fault none h)
+
+-- the same where the parts are joined
+pub Joins-none : {P : Type 0} (net : Net) (fault : NetFault) (result : Result Net NetFault) → (P → IsJoined net → ⊥) → Refuses fault P → result ≡ Err fault → Joins net result
+Joins-none net fault result none h is = rw is (Refuses-weaker fault none h)

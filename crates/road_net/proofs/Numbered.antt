@@ -1,20 +1,16 @@
 -- What the numbers of a draft are.
-use Rattle.std.proofs.Common.{◌≡◌, ◌≢◌, ℕ, ◌<◌, ◌≤◌, Bool, true, false, List, [], length, get_or, map, All, Option, Some, None, IfSome, refl, ap, ◌∙◌, sym, subst, arith}
+use Rattle.std.proofs.Common.{◌≡◌, ℕ, ◌<◌, Bool, true, false, List, [], length, get_or, map, Option, Some, None, IfSome, refl, ap, ◌∙◌, sym, subst}
 use Rattle.std.proofs.lemmas.List.Quantifiers.{position-Some}
 use Rattle.std.proofs.lemmas.Option.{same_Some}
-use Rattle.std.proofs.lemmas.Bool.{cases_Bool, true≢false}
 use Rattle.std.proofs.lemmas.Slice.Eq.{bytes_eq-Decides}
 use Rattle.std.specs.Str.{bytes_eq}
-use Rattle.phase_plan.specs.declared.Phase.{Phase}
 use Rattle.net_draft.specs.Faults.{each, ◌>>=◌}
 use Rattle.net_draft.proofs.Each.{bind-some}
 use Rattle.net_draft.specs.declared.drafts.Draft.{Draft}
 use Rattle.net_draft.specs.declared.drafts.DraftLink.{DraftLink}
-use Rattle.net_draft.specs.declared.drafts.DraftTurn.{DraftTurn}
-use Rattle.net_draft.specs.declared.drafts.DraftConflict.{DraftConflict}
 use Rattle.road_net.specs.declared.roads.Link.{Link}
 use Rattle.road_net.specs.declared.roads.Turn.{Turn}
-use Rattle.road_net.specs.Numbers.{Net, AreDistinct, number_of, number_if, phase_of, plan_of, phases_of, link_of, turn_of, turns_of, conflict_of, roads_of, node_names, link_names, numbered}
+use Rattle.road_net.specs.Numbers.{Net, AreDistinct, number_of, number_if, plan_of, phases_of, link_of, turns_of, conflict_of, roads_of, node_names, link_names, numbered}
 use Rattle.road_net.proofs.Places.{position-first}
 
 -- the parts of the network of a draft

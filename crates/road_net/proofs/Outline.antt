@@ -1,14 +1,13 @@
 -- The numbers of a draft within its bounds.
-use Rattle.std.proofs.Common.{◌≡◌, ◌≢◌, ℕ, ◌+◌, ◌*◌, ◌<◌, ◌≤◌, ◌^◌, List, [], length, get_or, map, sum_by, All, Option, Some, None, IfSome, refl, ap, ◌∙◌, sym, subst, arith}
+use Rattle.std.proofs.Common.{◌≡◌, ℕ, ◌<◌, ◌≤◌, ◌^◌, List, [], length, get_or, sum_by, All, Some, None, refl, ◌∙◌, sym, arith}
 use Rattle.std.specs.Bool.{⊤}
 use Rattle.std.proofs.Math.Nat.{mul-le-mul_right}
-use Rattle.std.proofs.lemmas.List.{length-map, get_or-map}
+use Rattle.std.proofs.lemmas.List.{length-map, get_or-map, get_or_default}
 use Rattle.std.proofs.lemmas.List.Elements.{All-map, All-weaker}
 use Rattle.std.proofs.lemmas.List.Sums.{sum_by-le}
 use Rattle.std.proofs.lemmas.Option.{same_Some}
-use Rattle.phase_plan.specs.declared.Phase.{Phase}
 use Rattle.phase_plan.specs.Phases.{IsPlan}
-use Rattle.net_draft.specs.Faults.{each, ◌>>=◌}
+use Rattle.net_draft.specs.Faults.{each}
 use Rattle.net_draft.proofs.Each.{bind-some, each-length, each-at, each-All}
 use Rattle.net_draft.specs.declared.drafts.Draft.{Draft}
 use Rattle.net_draft.specs.declared.drafts.DraftNode.{DraftNode}
@@ -18,10 +17,10 @@ use Rattle.net_draft.specs.declared.drafts.DraftTurn.{DraftTurn}
 use Rattle.net_draft.specs.declared.drafts.DraftConflict.{DraftConflict}
 use Rattle.road_net.specs.declared.roads.Link.{Link}
 use Rattle.road_net.specs.declared.roads.Turn.{Turn}
-use Rattle.road_net.specs.Bounds.{IsName, IsRun, IsBounded, IsBoundedNode, IsBoundedPhase, IsBoundedLink, IsBoundedTurn}
+use Rattle.road_net.specs.Bounds.{IsName, IsBounded, IsBoundedNode, IsBoundedPhase, IsBoundedLink, IsBoundedTurn}
 use Rattle.road_net.specs.Numbers.{Net, AreDistinct, number_of, number_if, phase_of, plan_of, phases_of, link_of, turn_of, turns_of, conflict_of, node_names, link_names, numbered}
-use Rattle.road_net.specs.Joins as joins
-use Rattle.road_net.specs.Joins.{no_link, share_of}
+use Rattle.road_net.specs.declared.roads.Side.TheVariants.{To}
+use Rattle.road_net.specs.Joins.{no_link, share_of, AreByNode, IsRoomy}
 use Rattle.road_net.specs.Network.{IsOutline, IsLink, AreTurns, ArePhaseLinks, phases_at, plan_at, link_at}
 use Rattle.road_net.proofs.Numbered.{IsNumbered, numbered-parts, number_of-within, number_if-within, number_of-own}
 use Rattle.road_net.proofs.Plans.{IsPlan-from_bounds}
@@ -143,3 +142,16 @@ module _ (d : Draft) (net : Net) (bounds : IsBounded d) (nodes_differ : AreDisti
 
 pub outline : (d : Draft) (net : Net) → IsBounded d → AreDistinct (node_names d) → AreDistinct (link_names d) → numbered d ≡ Some net → IsOutline net
 outline d net bounds nodes_differ links_differ h = outline-from d net bounds nodes_differ links_differ (numbered-parts d net h)
+
+-- the phases of a node of a network are at most 4
+pub outline-few : (net : Net) → IsOutline net → All (λ phases. length phases ≤ 4) net.phase_links
+outline-few net ok k d h =
+    let inside : k < length net.node_names = omega (arith, ok.phases_count) in
+    let planned : k < length net.plans = omega (arith, ok.plan_count) in
+    rw (get_or_default net.phase_links k d [] h) (omega (arith, ok.phase_counts k inside, (ok.plans k [] planned).count.1))
+
+-- lists of the links of each node, where none is too long
+pub roomy-lists : (links : List Link) (nodes : ℕ) (lists : List (List ℕ)) → AreByNode To links nodes lists → ((n : ℕ) → n < nodes → IsRoomy links n) → All (λ list. length list ≤ 16) lists
+roomy-lists links nodes lists by_node roomy k d h =
+    let inside : k < nodes = omega (arith, by_node.count) in
+    rw (get_or_default lists k d [] h, by_node.each k inside) (roomy k inside)

@@ -1,5 +1,5 @@
 -- Phases within their bounds are a plan.
-use Rattle.std.proofs.Common.{◌≡◌, ◌≤◌, ◌<◌, List, length, map, All, inl, inr, arith}
+use Rattle.std.proofs.Common.{◌≤◌, List, length, map, All, inl, inr, arith}
 use Rattle.std.proofs.lemmas.List.{length-map}
 use Rattle.std.proofs.lemmas.List.Elements.{All-map}
 use Rattle.phase_plan.specs.declared.Phase.{Phase}

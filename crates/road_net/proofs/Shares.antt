@@ -1,5 +1,5 @@
 -- The parts of a split.
-use Rattle.std.proofs.Common.{◌≡◌, ◌≢◌, ℕ, zero, suc, ◌+◌, ◌-◌, ◌*◌, ◌/◌, ◌<◌, ◌≤◌, true, false, eqb, List, [], ◌∷◌, length, get_or, take, drop, sum_by, position, Option, Some, None, IsSome, All, AllPairs, refl, ap, ◌∙◌, sym, subst, inl, inr, add-one, arith, lit<}
+use Rattle.std.proofs.Common.{◌≡◌, ◌≢◌, ℕ, zero, suc, ◌+◌, ◌-◌, ◌*◌, ◌/◌, ◌<◌, ◌≤◌, true, false, eqb, List, length, get_or, take, drop, sum_by, Option, Some, None, IsSome, All, AllPairs, refl, ap, ◌∙◌, sym, subst, inl, inr, add-one, arith, lit<}
 use Rattle.std.specs.Option.{option_map_or}
 use Rattle.std.proofs.Math.Nat.{mul-div_cancel, mul-div-le, mul-le-mul_left}
 use Rattle.std.proofs.lemmas.Nat.{le-div}

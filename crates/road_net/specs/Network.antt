@@ -1,5 +1,5 @@
 -- Which network a draft and a text stand for, and what is true of every network.
-use Rattle.std.specs.Prelude.{◌≡◌, ℕ, ◌<◌, ◌≤◌, List, [], Option, Some, IfSome, IsUtf8, length, slice_index_or, All}
+use Rattle.std.specs.Prelude.{◌≡◌, ℕ, ◌<◌, ◌≤◌, List, [], Some, IfSome, IsUtf8, length, slice_index_or, All}
 use Rattle.phase_plan.specs.declared.Phase.{Phase}
 use Rattle.phase_plan.specs.Phases.{IsPlan}
 use Rattle.toml.specs.Data.{Members}

@@ -1,5 +1,5 @@
 -- A network by numbers: nodes and links are numbered from 0 in the order of the file, and numbers stand for their names.
-use Rattle.std.specs.Prelude.{◌≡◌, ◌≢◌, ℕ, suc, ◌==◌, Bool, false, if◌then◌else◌, List, [], ◌∷◌, Option, Some, None, map, position, unwrap_or, slice_index_or, AllPairs}
+use Rattle.std.specs.Prelude.{◌≢◌, ℕ, ◌==◌, Bool, List, [], Option, Some, None, map, position, unwrap_or, slice_index_or, AllPairs}
 use Rattle.std.specs.List.{list_any}
 use Rattle.std.specs.Str.{bytes_eq}
 use Rattle.phase_plan.specs.declared.Phase.{Phase}
@@ -7,7 +7,6 @@ use Rattle.net_draft.specs.Faults.{each, ◌>>=◌}
 use Rattle.net_draft.specs.declared.drafts.Run.{Run}
 use Rattle.net_draft.specs.declared.drafts.Draft.{Draft}
 use Rattle.net_draft.specs.declared.drafts.DraftNode.{DraftNode}
-use Rattle.net_draft.specs.declared.drafts.DraftPhase.{DraftPhase}
 use Rattle.net_draft.specs.declared.drafts.DraftLink.{DraftLink}
 use Rattle.net_draft.specs.declared.drafts.DraftTurn.{DraftTurn}
 use Rattle.net_draft.specs.declared.drafts.DraftConflict.{DraftConflict}

@@ -2,8 +2,8 @@ use Rattle.std.proofs.Common.{◌∙◌, ap, sym, Err, Some}
 use Rattle.std.proofs.lemmas.Result.{err_from_is_err_and}
 use Rattle.net_draft.proofs.Each.{each-none, each-more}
 use Rattle.road_net.specs.Numbers.{link_of, turns_of}
-use Rattle.road_net.proofs.AllRoads.{roads_of-no_road, roads_of-no_turns, roads_of-all}
-use Rattle.road_net.proofs.Loops.{All-at, Makes-none}
+use Rattle.road_net.proofs.AllRoads.{roads_of-no_road, roads_of-no_turns}
+use Rattle.road_net.proofs.Loops.{Makes-none}
 use Rattle.road_net.proofs.numbering.roads.Goals as goal
 
 pub returns-in_err-road : goal.returns-in_err-road

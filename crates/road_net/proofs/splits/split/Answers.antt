@@ -1,6 +1,5 @@
-use Rattle.std.proofs.Common.{◌≡◌, ◌*◌, ◌+◌, ◌-◌, ◌/◌, ap, ◌∙◌, sym, arith}
+use Rattle.std.proofs.Common.{sym, arith}
 use Rattle.road_net.specs.declared.roads.Turn.{Turn}
-use Rattle.road_net.specs.Joins.{shares_to, part}
 use Rattle.road_net.proofs.Shares.{shares-more, split-found, split-none}
 use Rattle.road_net.proofs.splits.split.Goals as goal
 

@@ -1,4 +1,4 @@
-use Rattle.std.proofs.Common.{◌∙◌, ap, is_some, not, sym, string_bytes}
+use Rattle.std.proofs.Common.{◌∙◌, ap, not, string_bytes}
 use Rattle.std.specs.Str.{bytes_eq}
 use Rattle.road_net.proofs.Places.{list_any-position, position-map}
 use Rattle.road_net.proofs.names.Names.add.Goals as goal
