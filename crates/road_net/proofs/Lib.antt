@@ -6,4 +6,6 @@ pub mod Numbered
 pub mod Outline
 pub mod Places
 pub mod Plans
+pub mod Served
+pub mod Serving
 pub mod Shares

@@ -155,3 +155,7 @@ pub roomy-lists : (links : List Link) (nodes : ℕ) (lists : List (List ℕ)) �
 roomy-lists links nodes lists by_node roomy k d h =
     let inside : k < nodes = omega (arith, by_node.count) in
     rw (get_or_default lists k d [] h, by_node.each k inside) (roomy k inside)
+
+-- and the other way round
+pub lists-roomy : (links : List Link) (nodes : ℕ) (lists : List (List ℕ)) → AreByNode To links nodes lists → All (λ list. length list ≤ 16) lists → (n : ℕ) → n < nodes → IsRoomy links n
+lists-roomy links nodes lists by_node short n h = rw (← by_node.each n h) (short n [] (omega (arith, by_node.count)))

@@ -1,5 +1,5 @@
 -- Which network a draft and a text stand for, and what is true of every network.
-use Rattle.std.specs.Prelude.{◌≡◌, ℕ, ◌<◌, ◌≤◌, List, [], Some, IfSome, IsUtf8, length, slice_index_or, All}
+use Rattle.std.specs.Prelude.{◌≡◌, ◌≢◌, ℕ, ◌<◌, ◌≤◌, List, [], Some, IfSome, IsUtf8, length, slice_index, slice_index_or, All, AllPairs, Contains}
 use Rattle.phase_plan.specs.declared.Phase.{Phase}
 use Rattle.phase_plan.specs.Phases.{IsPlan}
 use Rattle.toml.specs.Data.{Members}
@@ -109,7 +109,17 @@ pub record IsOutline (net : Net) : Type 0 where
   pub conflict_count : length net.conflicts ≤ 1024
   pub conflicts : All (λ c. (c.0 < length net.link_names) × (c.1 < length net.link_names)) net.conflicts
 
+-- How phases serve links. A link that a phase serves ends at its node, has this phase, and stands there once; a link
+-- that ends at a node is served by its phase there.
+pub record IsServed (net : Net) : Type 0 where
+  pub phase_links : (n k i : ℕ) → n < length net.node_names → k < length (plan_at net n) → i < length (phase_links_at net n k)
+      → ((link_at net (slice_index (phase_links_at net n k) i)).to ≡ Some n) × ((link_at net (slice_index (phase_links_at net n k) i)).phase ≡ k)
+  pub differ : (n k : ℕ) → n < length net.node_names → k < length (plan_at net n) → AllPairs (λ a b. a ≢ b) (phase_links_at net n k)
+  pub entries : (l n : ℕ) → l < length net.link_names → (link_at net l).to ≡ Some n
+      → ((link_at net l).phase < length (plan_at net n)) × Contains (phase_links_at net n (link_at net l).phase) l
+
 -- what is true of every network
 pub record IsNetwork (net : Net) : Type 0 where
   pub outline : IsOutline net
   pub joins : IsJoined net
+  pub served : IsServed net

@@ -1,11 +1,12 @@
-use Rattle.std.proofs.Common.{◌<◌, ◌^◌, Err, length, sum_by, ap, ◌∙◌, arith}
+use Rattle.std.proofs.Common.{◌<◌, ◌^◌, Err, length, sum_by, ap, ◌∙◌, arith, rules}
 use Rattle.std.proofs.lemmas.List.Elements.{All-weaker}
 use Rattle.std.proofs.lemmas.Result.{err_from_is_err_and}
 use Rattle.road_net.specs.Joins.{share_of}
-use Rattle.road_net.specs.Network.{AreTurns}
+use Rattle.road_net.specs.Network.{AreTurns, IsJoined}
+use Rattle.road_net.proofs.Served.{served}
 use Rattle.road_net.specs.Stored.{net_of}
 use Rattle.road_net.proofs.Loops.{Joins-none}
-use Rattle.road_net.proofs.Outline.{shares-small, outline-few, roomy-lists}
+use Rattle.road_net.proofs.Outline.{shares-small, outline-few, roomy-lists, lists-roomy}
 use Rattle.road_net.proofs.joined.Goals as goal
 
 pub returns-in_err-check_room : goal.returns-in_err-check_room
@@ -20,3 +21,15 @@ check_shares-requires-clause-sums c =
 
 pub check_phases-requires-clause-phases : goal.check_phases-requires-clause-phases
 check_phases-requires-clause-phases c = rw c.as_slice-7.ensures.value (outline-few (net_of c.args.parts) c.requires)
+
+pub invariant_of-result : goal.invariant_of-result
+invariant_of-result c =
+    let entries = (rw c.as_slice-2.ensures.value at c.in_ok-entry_links.ensures) in
+    let exits = (rw c.as_slice-10.ensures.value at c.in_ok-exit_links.ensures) in
+    let room = lists-roomy c.args.parts.links.items c.len-nodes.result c.in_ok-entry_links.entry_links.items entries (rw c.as_slice-3.ensures.value at c.in_ok-check_room.ensures) in
+    let joined : IsJoined (net_of c.args.parts) = record { ends = search rules; room = λ n h. room n (omega (arith, c.len-nodes.ensures)); shares = search rules; phases = search rules; conflicts = rw (c.as_slice-8.ensures.value, c.as_slice-9.ensures.value) at c.in_ok-check_conflicts.ensures } in
+    record {
+      network = record { outline = c.requires; joins = joined; served = served (net_of c.args.parts) c.requires joined };
+      entries = rw c.len-nodes.ensures at entries;
+      exits = rw c.len-nodes.ensures at exits
+    }

@@ -1,0 +1,9 @@
+//! Tests of the road network: its worked file, each fault at each kind of place, and drafts.
+#![tactic(auto)]
+
+#[cfg(test)]
+mod accessors;
+#[cfg(test)]
+mod refusals;
+#[cfg(test)]
+mod texts;
