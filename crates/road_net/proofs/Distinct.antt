@@ -1,9 +1,10 @@
 -- Names of which no two are the same.
-use Rattle.std.proofs.Common.{◌≡◌, ◌≢◌, ℕ, zero, suc, ◌+◌, ◌<◌, Bool, true, false, not, ◌||◌, List, [], ◌∷◌, ◌++◌, length, get_or, take, map, if◌then◌else◌, Option, Some, None, is_none, refl, ap, ◌∙◌, sym, arith, length-take}
+use Rattle.std.proofs.Common.{◌≡◌, ◌≢◌, ℕ, zero, suc, ◌+◌, ◌<◌, Bool, true, false, not, ◌||◌, List, [], ◌∷◌, ◌++◌, length, get_or, take, map, if◌then◌else◌, Option, Some, None, is_none, refl, ap, ◌∙◌, sym, arith, length-take, IsNone, IfSome, Contains, slice_get, ◌↔◌}
 use Rattle.std.proofs.lemmas.Bool.{true≢false}
 use Rattle.std.proofs.lemmas.List.{get_or-take, get_or-map, length-map, take-map, map_more}
 use Rattle.std.proofs.lemmas.List.Quantifiers.{all_pairs_push, position-Some}
 use Rattle.std.proofs.lemmas.Slice.Eq.{bytes_eq-Decides}
+use Rattle.std.proofs.lemmas.Option.{slice_get-get_or}
 use Rattle.std.specs.List.{list_any}
 use Rattle.std.specs.Str.{bytes_eq}
 use Rattle.road_net.specs.Numbers.{AreDistinct, number_of}
@@ -53,3 +54,28 @@ module _ {X : Type 0} (f : X → List ℕ) (xs : List X) (i : ℕ) (x : X) (h : 
   names-more new fresh is differ =
       let pushed : new ≡ names ++ name ∷ [] = is ∙ ap (λ b. if b then names ++ name ∷ [] else names) fresh in
       (pushed ∙ rw (map_more f xs i x h, ← at, ← its, ← same), rw pushed (AreDistinct-push names name differ (sym tells ∙ fresh)))
+
+-- a name has a number where it is there
+pub number_of-found : (names : List (List ℕ)) (name : List ℕ) → IfSome (number_of names name) (λ n. slice_get names n ≡ Some name)
+number_of-found names name = by (number_of names name) refl
+  where
+    by : (o : Option ℕ) → number_of names name ≡ o → IfSome o (λ n. slice_get names n ≡ Some name)
+    by None is = tt
+    by (Some n) is =
+        let (within, passes, _) = position-Some (bytes_eq name) names n [] is in
+        slice_get-get_or names n [] within ∙ ap Some (sym ((bytes_eq-Decides name (get_or names n [])).0 passes))
+
+-- and none where it is not
+pub number_of-none : (names : List (List ℕ)) (name : List ℕ) → IsNone (number_of names name) ↔ ¬ Contains names name
+number_of-none names name = (none, by (number_of names name) refl)
+  where
+    none : IsNone (number_of names name) → Contains names name → ⊥
+    none is (k, within, same) =
+        let found = list_any-at (bytes_eq name) names k name within ((bytes_eq-Decides name (get_or names k name)).1 (sym same)) in
+        true≢false (sym found ∙ list_any-position (bytes_eq name) names ∙ is)
+
+    by : (o : Option ℕ) → number_of names name ≡ o → (Contains names name → ⊥) → IsNone o
+    by None is absent = refl
+    by (Some n) is absent =
+        let (within, passes, _) = position-Some (bytes_eq name) names n name is in
+        absurd (absent (n, within, sym ((bytes_eq-Decides name (get_or names n name)).0 passes)))

@@ -1,4 +1,6 @@
 pub mod AllRoads
+pub mod AtSide
+pub mod Causes
 pub mod Distinct
 pub mod Ends
 pub mod Loops

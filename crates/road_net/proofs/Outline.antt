@@ -32,7 +32,7 @@ anything xs k d h = tt
 phase_links-bounds : (links : List (List ℕ)) (p : DraftPhase) (numbers : List ℕ) → IsBoundedPhase p → each (number_of links) p.links ≡ Some numbers → ArePhaseLinks (length links) numbers
 phase_links-bounds links p numbers bounds is = record {
   count = rw (each-length (number_of links) p.links numbers is) bounds.links;
-  exist = each-All (number_of links) (λ _. ⊤) (λ l. l < length links) (λ name n _ h. number_of-within links name n h) p.links numbers (anything p.links) is
+  exist = each-All (number_of links) (λ _. ⊤) (λ l. l < length links) (λ name n _ h. number_of-within links name n h) p.links numbers (anything p.links) is;
 }
 
 phases-bounds : (links : List (List ℕ)) (n : DraftNode) (lists : List (List ℕ)) → IsBoundedNode n → phases_of links n ≡ Some lists → All (ArePhaseLinks (length links)) lists
@@ -75,7 +75,7 @@ turns-bounds : (links : List (List ℕ)) (x : DraftLink) (ts : List Turn) → Is
 turns-bounds links x ts bounds is = record {
   count = rw (each-length (turn_of links) x.turns ts is) bounds.count;
   exits = each-All (turn_of links) IsBoundedTurn (λ t. t.exit < length links) (λ d t _ h. (turn-exit links d t h).0) x.turns ts bounds.turns is;
-  shares = each-All (turn_of links) IsBoundedTurn (λ t. t.share ≤ 1000) (λ d t ok h. rw (turn-exit links d t h).1 ok) x.turns ts bounds.turns is
+  shares = each-All (turn_of links) IsBoundedTurn (λ t. t.share ≤ 1000) (λ d t ok h. rw (turn-exit links d t h).1 ok) x.turns ts bounds.turns is;
 }
 
 conflict-bounds : (links : List (List ℕ)) (x : DraftConflict) (c : ℕ × ℕ) → conflict_of links x ≡ Some c → (c.0 < length links) × (c.1 < length links)
@@ -137,7 +137,7 @@ module _ (d : Draft) (net : Net) (bounds : IsBounded d) (nodes_differ : AreDisti
     turn_count = each-length (turns_of (link_names d)) d.links net.turns is.turns ∙ sym link_total;
     turns = rw is.names (each-All (turns_of (link_names d)) IsBoundedLink (AreTurns (length (link_names d))) (turns-bounds (link_names d)) d.links net.turns bounds.links is.turns);
     conflict_count = rw (each-length (conflict_of (link_names d)) d.conflicts net.conflicts is.conflicts) bounds.conflict_count;
-    conflicts = rw is.names (each-All (conflict_of (link_names d)) (λ _. ⊤) (λ c. (c.0 < length (link_names d)) × (c.1 < length (link_names d))) (λ x c _ h. conflict-bounds (link_names d) x c h) d.conflicts net.conflicts (anything d.conflicts) is.conflicts)
+    conflicts = rw is.names (each-All (conflict_of (link_names d)) (λ _. ⊤) (λ c. (c.0 < length (link_names d)) × (c.1 < length (link_names d))) (λ x c _ h. conflict-bounds (link_names d) x c h) d.conflicts net.conflicts (anything d.conflicts) is.conflicts);
   }
 
 pub outline : (d : Draft) (net : Net) → IsBounded d → AreDistinct (node_names d) → AreDistinct (link_names d) → numbered d ≡ Some net → IsOutline net

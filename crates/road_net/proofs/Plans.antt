@@ -29,5 +29,5 @@ IsPlanFault-not plan (Bound k field) ok why = why.4.here (in_bounds _ (ok.phases
 pub IsPlan-from_bounds : (phases : List DraftPhase) → 2 ≤ length phases → length phases ≤ 4 → All IsBoundedPhase phases → IsPlan (map (λ p. p.phase) phases)
 IsPlan-from_bounds phases some few bounds = record {
   count = (simp length-map some, simp length-map few);
-  phases = All-map IsPhase (λ p. p.phase) phases (λ k d h. (bounds k d h).phase)
+  phases = All-map IsPhase (λ p. p.phase) phases (λ k d h. (bounds k d h).phase);
 }

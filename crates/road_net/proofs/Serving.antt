@@ -18,9 +18,9 @@ two_within f xs i j d less h =
 
 two_apart : {X : Type 0} (f : X → ℕ) (xs : List X) (i j : ℕ) (d : X) → i ≢ j → i < length xs → j < length xs → f (get_or xs i d) + f (get_or xs j d) ≤ sum_by f xs
 two_apart f xs i j d other h g = elim (cases_lt i j) [
-    | inl less ↦ two_within f xs i j d less g
-    | inr more ↦ omega (arith, two_within f xs j i d (omega arith) h)
-  ]
+  | inl less ↦ two_within f xs i j d less g
+  | inr more ↦ omega (arith, two_within f xs j i d (omega arith) h)
+]
 
 one_passes : (b : Bool) (n : ℕ) → b ≡ true → cond b 1 0 ≤ n → 1 ≤ n
 one_passes true n is h = h
@@ -93,16 +93,16 @@ module _ (phase_links : List (List (List ℕ))) (link : ℕ) where
       let there = count-any it (get_or (get_or phase_links m []) j []) has in
       let its = count-in it (get_or phase_links m []) j in_its there in
       let one_node : m ≡ n = elim (eqb_tells m n) [
-          | inl e ↦ e.1
-          | inr q ↦ absurd (omega (arith, once, here, node, there, its, count-named it phase_links, two_apart (in_lists it) phase_links m n [] q.1 within in_nodes))
-        ] in
+        | inl e ↦ e.1
+        | inr q ↦ absurd (omega (arith, once, here, node, there, its, count-named it phase_links, two_apart (in_lists it) phase_links m n [] q.1 within in_nodes))
+      ] in
       let is_here = subst (λ q. position (has_link link) (get_or phase_links q []) ≡ Some j) one_node is in
       let (in_own, has_own, _) = position-Some (has_link link) (get_or phase_links n []) j [] is_here in
       let own = count-any it (get_or (get_or phase_links n []) j []) has_own in
       let one_phase : j ≡ k = elim (eqb_tells j k) [
-          | inl e ↦ e.1
-          | inr q ↦ absurd (omega (arith, once, here, own, count-named it phase_links, get_or-le-sum_by (in_lists it) phase_links n [] in_nodes, two_apart (λ ys. count_by it ys) (get_or phase_links n []) j k [] q.1 in_own in_phases))
-        ] in
+        | inl e ↦ e.1
+        | inr q ↦ absurd (omega (arith, once, here, own, count-named it phase_links, get_or-le-sum_by (in_lists it) phase_links n [] in_nodes, two_apart (λ ys. count_by it ys) (get_or phase_links n []) j k [] q.1 in_own in_phases))
+      ] in
       (ap Some one_node, ap (λ o. unwrap_or o 0) is ∙ one_phase)
 
   -- a link that ends at a node is named in its phase there

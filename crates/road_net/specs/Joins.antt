@@ -1,6 +1,7 @@
 -- How the parts of a network are joined.
-use Rattle.std.specs.Prelude.{◌≡◌, ◌≢◌, ℕ, suc, ◌+◌, ◌-◌, ◌*◌, ◌/◌, ◌≤◌, ◌<◌, ◌==◌, Bool, false, if◌then◌else◌, List, [], ◌∷◌, Option, Some, None, IsSome, MatchOption, EachIndex, map, position, length, take, sum_by, count_by, slice_index_or, All, AllPairs}
+use Rattle.std.specs.Prelude.{◌≡◌, ◌≢◌, ℕ, suc, ◌+◌, ◌-◌, ◌*◌, ◌/◌, ◌≤◌, ◌<◌, ◌==◌, Bool, false, if◌then◌else◌, List, [], ◌∷◌, Option, Some, None, IsSome, MatchOption, EachIndex, map, position, length, take, sum_by, count_by, slice_index_or, All, AllPairs, Contains}
 use Rattle.std.specs.List.{concat}
+use Rattle.std.specs.List.Sorted.{IsStrictlyIncreasing}
 use Rattle.std.specs.Option.{option_map_or}
 use Rattle.road_net.specs.declared.roads.Link.{Link}
 use Rattle.road_net.specs.declared.roads.Turn.{Turn}
@@ -37,6 +38,12 @@ links_from side node first (l ∷ ls) = if is_node node (node_at side l) then fi
 
 abbrev pub links_of_node : Side → List Link → ℕ → List ℕ
 links_of_node side links node = links_from side node 0 links
+
+-- the links that have the node at this side, and no others, rising
+pub record AreLinksAt (side : Side) (links : List Link) (node : ℕ) (numbers : List ℕ) : Type 0 where
+  pub have : All (λ l. (l < length links) × (node_at side (link_at links l) ≡ Some node)) numbers
+  pub all : (l : ℕ) → l < length links → node_at side (link_at links l) ≡ Some node → Contains numbers l
+  pub rising : IsStrictlyIncreasing numbers
 
 -- at most 16 links end at a node
 abbrev pub IsRoomy : List Link → ℕ → Type 0

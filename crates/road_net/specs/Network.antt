@@ -1,11 +1,13 @@
 -- Which network a draft and a text stand for, and what is true of every network.
-use Rattle.std.specs.Prelude.{◌≡◌, ◌≢◌, ℕ, ◌<◌, ◌≤◌, List, [], Some, IfSome, IsUtf8, length, slice_index, slice_index_or, All, AllPairs, Contains}
+use Rattle.std.specs.Prelude.{◌≡◌, ◌≢◌, ℕ, ◌<◌, ◌≤◌, List, [], Some, IfSome, IsUtf8, length, slice_index, slice_index_or, All, AllPairs, Contains, None}
 use Rattle.phase_plan.specs.declared.Phase.{Phase}
 use Rattle.phase_plan.specs.Phases.{IsPlan}
 use Rattle.toml.specs.Data.{Members}
 use Rattle.toml.specs.Parse.{parse_document}
 use Rattle.net_draft.specs.Table.{draft_of}
 use Rattle.net_draft.specs.declared.drafts.Draft.{Draft}
+use Rattle.net_draft.specs.declared.faults.NetFault.{NetFault}
+use Rattle.net_draft.specs.declared.faults.NetFault.TheVariants.{NoMemory, NotToml, Shape}
 use Rattle.road_net.specs.declared.roads.Link.{Link}
 use Rattle.road_net.specs.declared.roads.Turn.{Turn}
 use Rattle.road_net.specs.declared.roads.Side.TheVariants.{From, To}
@@ -39,6 +41,13 @@ pub record IsNetworkText (bytes : List ℕ) (net : Net) : Type 0 where
   pub draft : Draft
   pub form : draft_of table ≡ Some draft
   pub network : IsNetworkOf draft net
+
+-- Why a text is refused: it is no TOML, or its table stands for no draft, or its draft for no network.
+abbrev pub IsCause : List ℕ → NetFault → Type 0
+IsCause bytes NoMemory = Unit {0}
+IsCause bytes NotToml = IsUtf8 bytes → parse_document bytes ≡ None
+IsCause bytes (Shape place) = (table : Members) → parse_document bytes ≡ Some table → draft_of table ≡ None
+IsCause bytes _ = (table : Members) (draft : Draft) (net : Net) → parse_document bytes ≡ Some table → draft_of table ≡ Some draft → ¬ IsNetworkOf draft net
 
 -- the parts of a network by number
 abbrev pub link_at : Net → ℕ → Link

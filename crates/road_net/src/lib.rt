@@ -1,13 +1,11 @@
 //! The road network: nodes with signals, links between them, and how vehicles turn from link to link.
 #![tactic(auto)]
 
-ghost use Rattle.std.specs.Prelude.{◌≡◌, ◌<◌, ◌^◌, ◌↔◌, IsTrue, IsUtf8, IfOk, IfErr, None, length};
-ghost use Rattle.toml.specs.Errors.{IsMemory};
-ghost use Rattle.toml.specs.Parse.{parse_document};
+ghost use Rattle.std.specs.Prelude.{◌≡◌, ◌<◌, ◌^◌, IfOk, IfErr, length};
 ghost use Rattle.net_draft.specs.Faults.{Unless};
 ghost use Rattle.road_net.specs.Numbers.{Net};
 ghost use Rattle.road_net.specs.Outcome.{Refuses};
-ghost use Rattle.road_net.specs.Network.{IsNetworkOf, IsNetworkText, IsOutline};
+ghost use Rattle.road_net.specs.Network.{IsNetworkOf, IsNetworkText, IsCause, IsOutline};
 ghost use Rattle.road_net.specs.Stored.{Joins, net_of};
 
 mod bounds;
@@ -50,9 +48,9 @@ impl Model for Network {
 }
 
 impl Network {
-    ghost use Rattle.std.specs.Prelude.{◌≡◌, ◌<◌, ◌≢◌, IsSome, sum_by, length};
+    ghost use Rattle.std.specs.Prelude.{◌≡◌, ◌<◌, ◌↔◌, Some, IsSome, IsNone, IfSome, Contains, sum_by, slice_get, length};
     ghost use Rattle.road_net.specs.Numbers.{number_of};
-    ghost use Rattle.road_net.specs.Joins.{split_of};
+    ghost use Rattle.road_net.specs.Joins.{split_of, AreLinksAt};
     ghost use Rattle.road_net.specs.Network.{IsNetwork, link_at, turns_at, plan_at, phases_at, phase_links_at, node_name_at, link_name_at, entry_links, exit_links};
 
     /// How the network is run.
@@ -103,6 +101,7 @@ impl Network {
     pub fn entry_links(&self, node: u32) -> &[u32]
         requires { node < length self.now.node_names }
         ensures value { result.now ≡ entry_links self.now node }
+        ensures links { AreLinksAt Side.To self.now.links node result.now }
         ensures network { IsNetwork self.now }
     {
         self.entry_links[node as usize].as_slice()
@@ -112,6 +111,7 @@ impl Network {
     pub fn exit_links(&self, node: u32) -> &[u32]
         requires { node < length self.now.node_names }
         ensures value { result.now ≡ exit_links self.now node }
+        ensures links { AreLinksAt Side.From self.now.links node result.now }
         ensures network { IsNetwork self.now }
     {
         self.exit_links[node as usize].as_slice()
@@ -175,6 +175,8 @@ impl Network {
     /// The node with this name.
     pub fn find_node(&self, name: &str) -> Option<u32>
         ensures value { result ≡ number_of self.now.node_names name.now }
+        ensures none { IsNone result ↔ ¬ Contains self.now.node_names name.now }
+        ensures found { IfSome result (λ number. slice_get self.now.node_names number ≡ Some name.now) }
         ensures network { IsNetwork self.now }
     {
         self.parts.node_names.find(name)
@@ -183,6 +185,8 @@ impl Network {
     /// The link with this name.
     pub fn find_link(&self, name: &str) -> Option<u32>
         ensures value { result ≡ number_of self.now.link_names name.now }
+        ensures none { IsNone result ↔ ¬ Contains self.now.link_names name.now }
+        ensures found { IfSome result (λ number. slice_get self.now.link_names number ≡ Some name.now) }
         ensures network { IsNetwork self.now }
     {
         self.parts.link_names.find(name)
@@ -231,24 +235,17 @@ pub fn read_network(alloc: Global, bytes: &[u8]) -> Result<Network, NetFault>
     requires { length bytes.now < 2 ^ 32 }
     ensures ok { IfOk result (IsNetworkText bytes.now) }
     ensures refused { IfErr result (λ fault. Unless fault ((net : Net) → ¬ IsNetworkText bytes.now net)) }
-    ensures not_toml { result ≡ Err NetFault.NotToml → IsUtf8 bytes.now → parse_document bytes.now ≡ None }
+    ensures cause { IfErr result (IsCause bytes.now) }
 {
     let table = match toml::de::table_from_slice(alloc, bytes) {
         Ok(table) => table,
-        Err(error) => return Err(text_fault(&error)),
+        Err(error) => {
+            if error.is_memory() {
+                return Err(NetFault::NoMemory);
+            }
+            return Err(NetFault::NotToml);
+        }
     };
     let draft = net_draft::read_draft(alloc, &table)?;
     build(alloc, draft)
-}
-
-/// Why a text was not read.
-fn text_fault(error: &toml::de::Error) -> NetFault
-    ensures memory { IsMemory error.now → result ≡ NetFault.NoMemory }
-    ensures toml { ¬ IsMemory error.now → result ≡ NetFault.NotToml }
-{
-    if error.is_memory() {
-        NetFault::NoMemory
-    } else {
-        NetFault::NotToml
-    }
 }

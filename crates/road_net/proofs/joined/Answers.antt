@@ -31,5 +31,5 @@ invariant_of-result c =
     record {
       network = record { outline = c.requires; joins = joined; served = served (net_of c.args.parts) c.requires joined };
       entries = rw c.len-nodes.ensures at entries;
-      exits = rw c.len-nodes.ensures at exits
+      exits = rw c.len-nodes.ensures at exits;
     }

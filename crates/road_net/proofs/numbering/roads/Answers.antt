@@ -27,5 +27,5 @@ loop-index-preserved c =
     let names = c.args.names.now in
     record {
       roads = rw c.in_ok-push.ensures.items (each-more (link_of names.nodes.now names.links.now names.phase_links.now) c.args.links.now c.loop-index.index c.index-links-index.result c.loop-index.roads.items c.in_ok-road.road c.loop-index-test.true c.index-links-index.is c.loop-index.invariant.roads c.in_ok-road.ensures);
-      turns = rw c.in_ok-push-2.ensures.items (each-more (turns_of names.links.now) c.args.links.now c.loop-index.index c.index-links-index.result c.loop-index.lists.items c.from_vec.result c.loop-index-test.true c.index-links-index.is c.loop-index.invariant.turns ((rw c.as_slice.ensures at c.in_ok-turns.ensures) ∙ ap Some (sym c.from_vec.ensures)))
+      turns = rw c.in_ok-push-2.ensures.items (each-more (turns_of names.links.now) c.args.links.now c.loop-index.index c.index-links-index.result c.loop-index.lists.items c.from_vec.result c.loop-index-test.true c.index-links-index.is c.loop-index.invariant.turns ((rw c.as_slice.ensures at c.in_ok-turns.ensures) ∙ ap Some (sym c.from_vec.ensures)));
     }
