@@ -4,6 +4,8 @@
 #[cfg(test)]
 mod accessors;
 #[cfg(test)]
+mod drafts;
+#[cfg(test)]
 mod refusals;
 #[cfg(test)]
 mod texts;
