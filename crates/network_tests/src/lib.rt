@@ -8,4 +8,6 @@ mod drafts;
 #[cfg(test)]
 mod refusals;
 #[cfg(test)]
+mod shown;
+#[cfg(test)]
 mod texts;
