@@ -1,0 +1,19 @@
+use Rattle.std.proofs.Common.{◌∙◌, ap, Err}
+use Rattle.std.proofs.lemmas.List.{take_all}
+use Rattle.std.proofs.lemmas.Result.{err_from_is_err_and}
+use Rattle.toml.specs.View.{view}
+use Rattle.net_draft.specs.Table as spec
+use Rattle.net_draft.proofs.Each.{each-map, each-more, Gives-each}
+use Rattle.net_draft.proofs.tables.read_nodes.Goals as goal
+
+pub returns-in_err-node : goal.returns-in_err-node
+returns-in_err-node c =
+    let p = err_from_is_err_and c.from_residual.result c.from_residual.ensures.1 in
+    rw (each-map spec.node_of view c.args.values.now) (Gives-each (λ v. spec.node_of (view v)) _ c.args.values.now c.loop-index.index c.index-values-index.result _ _ c.loop-index-test.true c.index-values-index.is c.in_err-node.ensures (p.1 ∙ ap Err p.2))
+
+pub loop-index-preserved : goal.loop-index-preserved
+loop-index-preserved c =
+    rw c.in_ok-push.ensures.items (each-more (λ v. spec.node_of (view v)) c.args.values.now c.loop-index.index c.index-values-index.result c.loop-index.nodes.items c.in_ok-node.node c.loop-index-test.true c.index-values-index.is c.loop-index.invariant c.in_ok-node.ensures)
+
+pub returns : goal.returns
+returns c = each-map spec.node_of view c.args.values.now ∙ (rw (take_all c.loop-index.index c.args.values.now c.loop-index-test.false) at c.loop-index.invariant)

@@ -1,0 +1,34 @@
+use Rattle.std.specs.Prelude.{◌≡◌, Option, Some, None, Result, Ok, Err, List, [], ◌∷◌}
+use Rattle.net_draft.specs.declared.faults.NetFault.{NetFault}
+use Rattle.net_draft.specs.declared.faults.NetFault.TheVariants.{NoMemory, Shape}
+
+-- the fact holds, unless the fault is want of memory
+abbrev pub Unless : NetFault → Type 0 → Type 0
+Unless NoMemory fact = Unit {0}
+Unless _ fact = fact
+
+-- A table can be refused with the fault. Unless it is want of memory, the fact holds.
+abbrev pub Misses : NetFault → Type 0 → Type 0
+Misses NoMemory fact = Unit {0}
+Misses (Shape place) fact = fact
+Misses _ fact = ⊥
+
+-- What a function answered, seen by `view`, is what the reading gives. A fault is `Shape`, where the reading gives
+-- nothing, or want of memory.
+abbrev pub Gives : {X Y : Type 0} → (X → Y) → Result X NetFault → Option Y → Type 0
+Gives view (Ok x) reading = reading ≡ Some (view x)
+Gives view (Err fault) reading = Misses fault (reading ≡ None)
+
+-- one reading after another
+infixl 10 ◌>>=◌
+abbrev pub ◌>>=◌ : {X Y : Type 0} → Option X → (X → Option Y) → Option Y
+None >>= f = None
+(Some x) >>= f = f x
+
+-- what f gives of each element, where it gives something of all of them
+abbrev pub each : {X Y : Type 0} → (X → Option Y) → List X → Option (List Y)
+each f [] = Some []
+each f (x ∷ xs) = do
+  y ← f x
+  ys ← each f xs
+  Some (y ∷ ys)

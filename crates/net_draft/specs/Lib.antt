@@ -1,0 +1,3 @@
+pub mod Borrowed
+pub mod Faults
+pub mod Table

@@ -1,0 +1,10 @@
+//! The road network file: what stands in it, by names, and how it is read.
+#![tactic(auto)]
+
+mod drafts;
+mod faults;
+mod tables;
+
+pub use drafts::{Draft, DraftConflict, DraftLink, DraftNode, DraftPhase, DraftTurn, Run};
+pub use faults::{NetFault, Part, Place};
+pub use tables::read_draft;

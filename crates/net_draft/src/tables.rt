@@ -1,0 +1,467 @@
+ghost use Rattle.std.specs.Prelude.{◌≡◌, ◌≢◌, ◌≤◌, option_map, option_copied, IfOk, IfErr, OnOk, OnErr, map};
+ghost use Rattle.toml.specs.Data.{get_member, as_str, as_array, as_table};
+ghost use Rattle.toml.specs.View.{view, table_view};
+ghost use Rattle.net_draft.specs.Faults.{Gives, each};
+ghost use Rattle.net_draft.specs.Table as spec;
+ghost use Rattle.net_draft.specs.Borrowed.{parts_view, road_view};
+
+use crate::drafts::{Draft, DraftConflict, DraftLink, DraftNode, DraftPhase, DraftTurn, Run};
+use crate::faults::{NetFault, Part, Place};
+use foundation::items::Items;
+use foundation::text::Text;
+use phase_plan::Phase;
+use std::alloc::{AllocError, Global};
+use toml::{Table, Value};
+
+/// The draft that a network file's table stands for.
+///
+/// The fault is want of memory, or `Shape` of the first table of the file that has not the form of its
+/// place. A whole number that is no u32 is read as the greatest u32, which is out of every bound.
+#[tactic(auto, unfolding(crate::specs::Table::draft_of))]
+pub fn read_draft(alloc: Global, table: &Table) -> Result<Draft, NetFault>
+    ensures draft { Gives (λ draft. draft) result (spec.draft_of (table_view table.now)) }
+{
+    let parts = read_parts(table)?;
+    let run = read_run(parts.run)?;
+    let nodes = read_nodes(alloc, parts.nodes)?;
+    let links = read_links(alloc, parts.links)?;
+    let conflicts = read_conflicts(alloc, parts.conflicts)?;
+    Ok(Draft {
+        run,
+        nodes: Items::from_vec(nodes),
+        links: Items::from_vec(links),
+        conflicts: Items::from_vec(conflicts),
+    })
+}
+
+/// The arrays of the file, and the run's table.
+#[derive(Drop)]
+struct Parts<'a> {
+    run: &'a Table,
+    nodes: &'a [Value],
+    links: &'a [Value],
+    conflicts: &'a [Value],
+}
+
+#[tactic(auto, unfolding(crate::specs::Table::parts_of, crate::specs::Table::only))]
+fn read_parts(table: &Table) -> Result<Parts<'_>, NetFault>
+    ensures { Gives parts_view result (spec.parts_of (table_view table.now)) }
+{
+    let place = Place {
+        part: Part::Top,
+        item: 0,
+        sub: 0,
+    };
+    let run = table_at(table, "run", place)?;
+    let nodes = list_at(table, "node", place)?;
+    let links = list_at(table, "link", place)?;
+    let conflicts = optional_list_at(table, "conflict", place)?;
+    only(table, 3 + present(table, "conflict"), place)?;
+    Ok(Parts {
+        run,
+        nodes,
+        links,
+        conflicts,
+    })
+}
+
+#[tactic(auto, unfolding(crate::specs::Table::run_of, crate::specs::Table::only))]
+fn read_run(table: &Table) -> Result<Run, NetFault>
+    ensures { Gives (λ run. run) result (spec.run_of (table_view table.now)) }
+{
+    let place = Place {
+        part: Part::Run,
+        item: 0,
+        sub: 0,
+    };
+    let step = number_at(table, "step", place)?;
+    let look = number_at(table, "look", place)?;
+    let gap = number_at(table, "gap", place)?;
+    let rounds = number_at(table, "rounds", place)?;
+    only(table, 4, place)?;
+    Ok(Run {
+        step,
+        look,
+        gap,
+        rounds,
+    })
+}
+
+fn read_nodes(alloc: Global, values: &[Value]) -> Result<Vec<DraftNode>, NetFault>
+    ensures { Gives (λ nodes. nodes.items) result (each spec.node_of (map view values.now)) }
+{
+    let mut nodes = Vec::new(alloc);
+    for (index, value) in values.iter().enumerate() {
+        let node = read_node(alloc, value, ordinal(index))?;
+        nodes.push(node)?;
+    }
+    Ok(nodes)
+}
+
+#[tactic(auto, unfolding(crate::specs::Table::node_of, crate::specs::Table::only))]
+fn read_node(alloc: Global, value: &Value, item: u32) -> Result<DraftNode, NetFault>
+    ensures { Gives (λ node. node) result (spec.node_of (view value.now)) }
+{
+    let place = Place {
+        part: Part::Node,
+        item,
+        sub: 0,
+    };
+    let table = table_of(value, place)?;
+    let name = text_at(table, "name", place)?;
+    let values = list_at(table, "phase", place)?;
+    only(table, 2, place)?;
+    let phases = read_phases(alloc, values, item)?;
+    let name = copied(alloc, name)?;
+    Ok(DraftNode {
+        name,
+        phases: Items::from_vec(phases),
+    })
+}
+
+fn read_phases(alloc: Global, values: &[Value], item: u32) -> Result<Vec<DraftPhase>, NetFault>
+    ensures { Gives (λ phases. phases.items) result (each spec.phase_of (map view values.now)) }
+{
+    let mut phases = Vec::new(alloc);
+    for (index, value) in values.iter().enumerate() {
+        let place = Place {
+            part: Part::Phase,
+            item,
+            sub: ordinal(index),
+        };
+        let phase = read_phase(alloc, value, place)?;
+        phases.push(phase)?;
+    }
+    Ok(phases)
+}
+
+#[tactic(auto, unfolding(crate::specs::Table::phase_of, crate::specs::Table::only))]
+fn read_phase(alloc: Global, value: &Value, place: Place) -> Result<DraftPhase, NetFault>
+    ensures { Gives (λ phase. phase) result (spec.phase_of (view value.now)) }
+{
+    let table = table_of(value, place)?;
+    let phase = read_times(table, place)?;
+    let values = list_at(table, "links", place)?;
+    only(table, 7, place)?;
+    let links = read_texts(alloc, values, place)?;
+    Ok(DraftPhase {
+        phase,
+        links: Items::from_vec(links),
+    })
+}
+
+#[tactic(auto, unfolding(crate::specs::Table::times_of))]
+fn read_times(table: &Table, place: Place) -> Result<Phase, NetFault>
+    ensures { Gives (λ phase. phase) result (spec.times_of (table_view table.now)) }
+{
+    let least = number_at(table, "least", place)?;
+    let greatest = number_at(table, "greatest", place)?;
+    let yellow = number_at(table, "yellow", place)?;
+    let clear = number_at(table, "clear", place)?;
+    let loss = number_at(table, "loss", place)?;
+    let wait = number_at(table, "wait", place)?;
+    Ok(Phase {
+        least,
+        greatest,
+        yellow,
+        clear,
+        loss,
+        wait,
+    })
+}
+
+fn read_links(alloc: Global, values: &[Value]) -> Result<Vec<DraftLink>, NetFault>
+    ensures { Gives (λ links. links.items) result (each spec.link_of (map view values.now)) }
+{
+    let mut links = Vec::new(alloc);
+    for (index, value) in values.iter().enumerate() {
+        let link = read_link(alloc, value, ordinal(index))?;
+        links.push(link)?;
+    }
+    Ok(links)
+}
+
+#[tactic(auto, unfolding(crate::specs::Table::link_of))]
+fn read_link(alloc: Global, value: &Value, item: u32) -> Result<DraftLink, NetFault>
+    ensures { Gives (λ link. link) result (spec.link_of (view value.now)) }
+{
+    let place = Place {
+        part: Part::Link,
+        item,
+        sub: 0,
+    };
+    let table = table_of(value, place)?;
+    let road = read_road(table, place)?;
+    let turns = read_turns(alloc, road.turns, item)?;
+    let name = copied(alloc, road.name)?;
+    let from = copied_if(alloc, road.from)?;
+    let to = copied_if(alloc, road.to)?;
+    Ok(DraftLink {
+        name,
+        from,
+        to,
+        travel: road.travel,
+        sat: road.sat,
+        turns: Items::from_vec(turns),
+    })
+}
+
+/// A link's own table.
+#[derive(Drop)]
+struct Road<'a> {
+    name: &'a str,
+    from: Option<&'a str>,
+    to: Option<&'a str>,
+    travel: u32,
+    sat: u32,
+    turns: &'a [Value],
+}
+
+#[tactic(auto, unfolding(crate::specs::Table::road_of, crate::specs::Table::only))]
+fn read_road(table: &Table, place: Place) -> Result<Road<'_>, NetFault>
+    ensures { Gives road_view result (spec.road_of (table_view table.now)) }
+{
+    let name = text_at(table, "name", place)?;
+    let from = optional_text_at(table, "from", place)?;
+    let to = optional_text_at(table, "to", place)?;
+    let travel = number_at(table, "travel", place)?;
+    let sat = number_at(table, "sat", place)?;
+    let turns = optional_list_at(table, "turn", place)?;
+    let keys = 3 + present(table, "from") + present(table, "to") + present(table, "turn");
+    only(table, keys, place)?;
+    Ok(Road {
+        name,
+        from,
+        to,
+        travel,
+        sat,
+        turns,
+    })
+}
+
+fn read_turns(alloc: Global, values: &[Value], item: u32) -> Result<Vec<DraftTurn>, NetFault>
+    ensures { Gives (λ turns. turns.items) result (each spec.turn_of (map view values.now)) }
+{
+    let mut turns = Vec::new(alloc);
+    for (index, value) in values.iter().enumerate() {
+        let place = Place {
+            part: Part::Turn,
+            item,
+            sub: ordinal(index),
+        };
+        let turn = read_turn(alloc, value, place)?;
+        turns.push(turn)?;
+    }
+    Ok(turns)
+}
+
+#[tactic(auto, unfolding(crate::specs::Table::turn_of, crate::specs::Table::only))]
+fn read_turn(alloc: Global, value: &Value, place: Place) -> Result<DraftTurn, NetFault>
+    ensures { Gives (λ turn. turn) result (spec.turn_of (view value.now)) }
+{
+    let table = table_of(value, place)?;
+    let exit = text_at(table, "exit", place)?;
+    let share = number_at(table, "share", place)?;
+    only(table, 2, place)?;
+    let exit = copied(alloc, exit)?;
+    Ok(DraftTurn { exit, share })
+}
+
+fn read_conflicts(alloc: Global, values: &[Value]) -> Result<Vec<DraftConflict>, NetFault>
+    ensures { Gives (λ conflicts. conflicts.items) result (each spec.conflict_of (map view values.now)) }
+{
+    let mut conflicts = Vec::new(alloc);
+    for (index, value) in values.iter().enumerate() {
+        let place = Place {
+            part: Part::Conflict,
+            item: ordinal(index),
+            sub: 0,
+        };
+        let conflict = read_conflict(alloc, value, place)?;
+        conflicts.push(conflict)?;
+    }
+    Ok(conflicts)
+}
+
+#[tactic(auto, unfolding(crate::specs::Table::conflict_of, crate::specs::Table::only))]
+fn read_conflict(alloc: Global, value: &Value, place: Place) -> Result<DraftConflict, NetFault>
+    ensures { Gives (λ conflict. conflict) result (spec.conflict_of (view value.now)) }
+{
+    let table = table_of(value, place)?;
+    let a = text_at(table, "a", place)?;
+    let b = text_at(table, "b", place)?;
+    only(table, 2, place)?;
+    let a = copied(alloc, a)?;
+    let b = copied(alloc, b)?;
+    Ok(DraftConflict { a, b })
+}
+
+fn read_texts(alloc: Global, values: &[Value], place: Place) -> Result<Vec<Text>, NetFault>
+    ensures { Gives (λ texts. texts.items) result (each as_str (map view values.now)) }
+{
+    let mut texts = Vec::new(alloc);
+    for value in values {
+        let text = read_text(alloc, value, place)?;
+        texts.push(text)?;
+    }
+    Ok(texts)
+}
+
+fn read_text(alloc: Global, value: &Value, place: Place) -> Result<Text, NetFault>
+    ensures { Gives (λ text. text) result (as_str (view value.now)) }
+{
+    match value.as_str() {
+        Some(text) => Ok(copied(alloc, text)?),
+        None => Err(NetFault::Shape(place)),
+    }
+}
+
+/// A copy of the text.
+fn copied(alloc: Global, text: &str) -> Result<Text, AllocError>
+    ensures { IfOk result (λ copy. copy ≡ text.now) }
+{
+    Ok(Text::from_string(String::from_str(alloc, text)?))
+}
+
+fn copied_if(alloc: Global, text: Option<&str>) -> Result<Option<Text>, AllocError>
+    ensures { IfOk result (λ copy. copy ≡ option_copied text.entry) }
+{
+    match text {
+        Some(text) => Ok(Some(copied(alloc, text)?)),
+        None => Ok(None),
+    }
+}
+
+/// The number of the element at this index, counted from 1.
+fn ordinal(index: usize) -> u32 {
+    u32::try_from(index).unwrap_or(u32::MAX).saturating_add(1)
+}
+
+/// The value at a key.
+fn member<'a>(table: &'a Table, key: &str) -> Option<&'a Value>
+    ensures { option_map (λ value. view value.now) result ≡ get_member key.now (table_view table.now) }
+{
+    table.get(key)
+}
+
+#[tactic(auto, unfolding(crate::specs::Table::number_at))]
+fn number_at(table: &Table, key: &str, place: Place) -> Result<u32, NetFault>
+    ensures { Gives (λ number. number) result (spec.number_at key.now (table_view table.now)) }
+{
+    match member(table, key) {
+        Some(value) => match value.as_integer() {
+            Some(number) => Ok(field_of(number)),
+            None => Err(NetFault::Shape(place)),
+        },
+        None => Err(NetFault::Shape(place)),
+    }
+}
+
+/// The number, or the greatest u32 where it is no u32.
+fn field_of(number: i64) -> u32
+    ensures { result ≡ spec.field_of number }
+{
+    if (0..=4_294_967_295).contains(&number) {
+        number as u32
+    } else {
+        u32::MAX
+    }
+}
+
+#[tactic(auto, unfolding(crate::specs::Table::text_at))]
+fn text_at<'a>(table: &'a Table, key: &str, place: Place) -> Result<&'a str, NetFault>
+    ensures { Gives (λ text. text.now) result (spec.text_at key.now (table_view table.now)) }
+{
+    match member(table, key) {
+        Some(value) => value.as_str().ok_or(NetFault::Shape(place)),
+        None => Err(NetFault::Shape(place)),
+    }
+}
+
+#[tactic(auto, unfolding(crate::specs::Table::optional_text_at))]
+fn optional_text_at<'a>(
+    table: &'a Table,
+    key: &str,
+    place: Place,
+) -> Result<Option<&'a str>, NetFault>
+    ensures { Gives (λ text. option_copied text) result (spec.optional_text_at key.now (table_view table.now)) }
+{
+    match member(table, key) {
+        Some(value) => match value.as_str() {
+            Some(text) => Ok(Some(text)),
+            None => Err(NetFault::Shape(place)),
+        },
+        None => Ok(None),
+    }
+}
+
+fn table_of(value: &Value, place: Place) -> Result<&Table, NetFault>
+    ensures { Gives (λ table. table_view table.now) result (as_table (view value.now)) }
+{
+    match value.as_table() {
+        Some(table) => Ok(table),
+        None => Err(NetFault::Shape(place)),
+    }
+}
+
+#[tactic(auto, unfolding(crate::specs::Table::table_at))]
+fn table_at<'a>(table: &'a Table, key: &str, place: Place) -> Result<&'a Table, NetFault>
+    ensures { Gives (λ found. table_view found.now) result (spec.table_at key.now (table_view table.now)) }
+{
+    match member(table, key) {
+        Some(value) => table_of(value, place),
+        None => Err(NetFault::Shape(place)),
+    }
+}
+
+fn list_of(value: &Value, place: Place) -> Result<&[Value], NetFault>
+    ensures { Gives (λ values. map view values.now) result (option_map spec.list_of (as_array (view value.now))) }
+{
+    match value.as_array() {
+        Some(values) => Ok(values.as_slice()),
+        None => Err(NetFault::Shape(place)),
+    }
+}
+
+#[tactic(auto, unfolding(crate::specs::Table::list_at))]
+fn list_at<'a>(table: &'a Table, key: &str, place: Place) -> Result<&'a [Value], NetFault>
+    ensures { Gives (λ values. map view values.now) result (spec.list_at key.now (table_view table.now)) }
+{
+    match member(table, key) {
+        Some(value) => list_of(value, place),
+        None => Err(NetFault::Shape(place)),
+    }
+}
+
+/// The array at a key; an absent one is empty.
+#[tactic(auto, unfolding(crate::specs::Table::optional_list_at))]
+fn optional_list_at<'a>(table: &'a Table, key: &str, place: Place) -> Result<&'a [Value], NetFault>
+    ensures { Gives (λ values. map view values.now) result (spec.optional_list_at key.now (table_view table.now)) }
+{
+    match member(table, key) {
+        Some(value) => list_of(value, place),
+        None => Ok(&[]),
+    }
+}
+
+/// 1 where the key is there.
+#[tactic(auto, unfolding(crate::specs::Table::present))]
+fn present(table: &Table, key: &str) -> usize
+    ensures count { result ≡ spec.present key.now (table_view table.now) }
+    ensures small { result ≤ 1 }
+{
+    if member(table, key).is_some() { 1 } else { 0 }
+}
+
+/// Refuses a table that has not this many keys.
+fn only(table: &Table, keys: usize, place: Place) -> Result<(), NetFault>
+    ensures ok { OnOk result (spec.size (table_view table.now) ≡ keys) }
+    ensures err { OnErr result (spec.size (table_view table.now) ≢ keys) }
+    ensures fault { IfErr result (λ fault. fault ≡ NetFault.Shape place) }
+{
+    if table.len() == keys {
+        Ok(())
+    } else {
+        Err(NetFault::Shape(place))
+    }
+}

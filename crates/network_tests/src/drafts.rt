@@ -1,0 +1,118 @@
+//! Networks made of drafts.
+use crate::texts::fault_text;
+use foundation::items::Items;
+use foundation::text::Text;
+use phase_plan::Phase;
+use road_net::{Draft, DraftConflict, DraftLink, DraftNode, DraftPhase, DraftTurn, Run, build};
+use std::alloc::{AllocError, Global};
+use std::test::Fail;
+
+fn text(alloc: Global, text: &str) -> Result<Text, AllocError> {
+    Ok(Text::from_string(String::from_str(alloc, text)?))
+}
+
+/// A phase that serves the entry links from `from` up to `to`.
+fn phase(alloc: Global, from: u32, to: u32) -> Result<DraftPhase, AllocError> {
+    let mut links = Vec::new(alloc);
+    for number in from..to {
+        let name = format!(in alloc; "e{number}")?;
+        links.push(Text::from_string(name))?;
+    }
+    let phase = Phase {
+        least: 5,
+        greatest: 30,
+        yellow: 3,
+        clear: 2,
+        loss: 2,
+        wait: 120,
+    };
+    Ok(DraftPhase {
+        phase,
+        links: Items::from_vec(links),
+    })
+}
+
+fn node(alloc: Global, name: &str, first: u32, last: u32) -> Result<DraftNode, AllocError> {
+    let middle = first / 2 + last / 2;
+    let mut phases = Vec::new(alloc);
+    phases.push(phase(alloc, first, middle)?)?;
+    phases.push(phase(alloc, middle, last)?)?;
+    Ok(DraftNode {
+        name: text(alloc, name)?,
+        phases: Items::from_vec(phases),
+    })
+}
+
+fn entry_link(alloc: Global, number: u32) -> Result<DraftLink, AllocError> {
+    let mut turns = Vec::new(alloc);
+    turns.push(DraftTurn {
+        exit: text(alloc, "x")?,
+        share: 1000,
+    })?;
+    Ok(DraftLink {
+        name: Text::from_string(format!(in alloc; "e{number}")?),
+        from: None,
+        to: Some(text(alloc, "n")?),
+        travel: 1,
+        sat: 5000,
+        turns: Items::from_vec(turns),
+    })
+}
+
+/// A node with so many entry links and one link that leaves the network, and further nodes without links.
+fn crossing(alloc: Global, entries: u32, further: u32) -> Result<Draft, AllocError> {
+    let mut nodes = Vec::new(alloc);
+    nodes.push(node(alloc, "n", 0, entries)?)?;
+    for number in 0..further {
+        let name = format!(in alloc; "n{number}")?;
+        nodes.push(node(alloc, name.as_str(), 0, 0)?)?;
+    }
+    let mut links = Vec::new(alloc);
+    for number in 0..entries {
+        links.push(entry_link(alloc, number)?)?;
+    }
+    links.push(DraftLink {
+        name: text(alloc, "x")?,
+        from: Some(text(alloc, "n")?),
+        to: None,
+        travel: 120,
+        sat: 1,
+        turns: Items::from_vec(Vec::new(alloc)),
+    })?;
+    let conflicts: Vec<DraftConflict> = Vec::new(alloc);
+    Ok(Draft {
+        run: Run {
+            step: 1,
+            look: 10,
+            gap: 0,
+            rounds: 600,
+        },
+        nodes: Items::from_vec(nodes),
+        links: Items::from_vec(links),
+        conflicts: Items::from_vec(conflicts),
+    })
+}
+
+#[test]
+fn counts_of_nodes_and_entry_links(rt: HostRuntime) -> Result<(), Fail> {
+    let alloc = rt.alloc();
+    for (entries, further, line) in [
+        (1, 0, "1 2"),
+        (16, 63, "64 17"),
+        (17, 0, "crowd 0"),
+        (1, 64, "bound top 0 0"),
+        (320, 0, "bound top 0 0"),
+        (34, 0, "bound phase 1 1"),
+    ] {
+        let found = match build(alloc, crossing(alloc, entries, further)?) {
+            Ok(network) => {
+                let nodes = network.nodes();
+                let links = network.links();
+                format!(in alloc; "{nodes} {links}")?
+            }
+            Err(fault) => fault_text(alloc, fault)?,
+        };
+        assert_eq!(rt; found.as_str(), line);
+    }
+    Ok(())
+}

@@ -1,0 +1,13 @@
+//! Tests of the road network: its worked file, each fault at each kind of place, and drafts.
+#![tactic(auto)]
+
+#[cfg(test)]
+mod accessors;
+#[cfg(test)]
+mod drafts;
+#[cfg(test)]
+mod refusals;
+#[cfg(test)]
+mod shown;
+#[cfg(test)]
+mod texts;

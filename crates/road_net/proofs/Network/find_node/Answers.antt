@@ -1,0 +1,14 @@
+use Rattle.std.proofs.Common.{◌≡◌, ap, ◌∙◌}
+use Rattle.road_net.specs.Numbers.{number_of}
+use Rattle.road_net.proofs.Distinct.{number_of-none, number_of-found}
+use Rattle.road_net.proofs.Network.find_node.Goals as goal
+
+pub returns-clause-none : goal.returns-clause-none
+returns-clause-none c =
+    let is : c.find.result ≡ number_of c.args.self.now.node_names c.args.name.now = c.find.ensures ∙ ap (λ net. number_of net.node_names c.args.name.now) c.self.view_is in
+    rw is (number_of-none c.args.self.now.node_names c.args.name.now)
+
+pub returns-clause-found : goal.returns-clause-found
+returns-clause-found c =
+    let is : c.find.result ≡ number_of c.args.self.now.node_names c.args.name.now = c.find.ensures ∙ ap (λ net. number_of net.node_names c.args.name.now) c.self.view_is in
+    rw is (number_of-found c.args.self.now.node_names c.args.name.now)

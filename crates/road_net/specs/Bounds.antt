@@ -1,0 +1,52 @@
+-- The bounds of what stands in a draft.
+use Rattle.std.specs.Prelude.{◌≡◌, ℕ, ◌≤◌, ◌⊎◌, List, length, All}
+use Rattle.phase_plan.specs.Phases.{IsPhase}
+use Rattle.net_draft.specs.declared.drafts.Run.{Run}
+use Rattle.net_draft.specs.declared.drafts.Draft.{Draft}
+use Rattle.net_draft.specs.declared.drafts.DraftNode.{DraftNode}
+use Rattle.net_draft.specs.declared.drafts.DraftPhase.{DraftPhase}
+use Rattle.net_draft.specs.declared.drafts.DraftLink.{DraftLink}
+use Rattle.net_draft.specs.declared.drafts.DraftTurn.{DraftTurn}
+
+-- a to z, 0 to 9 and _
+abbrev pub IsNameByte : ℕ → Type 0
+IsNameByte b = ((97 ≤ b) × (b ≤ 122)) ⊎ (((48 ≤ b) × (b ≤ 57)) ⊎ (b ≡ 95))
+
+-- 1 to 16 of these characters
+pub record IsName (name : List ℕ) : Type 0 where
+  pub count : (1 ≤ length name) × (length name ≤ 16)
+  pub bytes : All IsNameByte name
+
+pub record IsRun (run : Run) : Type 0 where
+  pub step : (1 ≤ run.step) × (run.step ≤ 30)
+  pub look : (10 ≤ run.look) × (run.look ≤ 180)
+  pub within : run.step ≤ run.look
+  pub gap : run.gap ≤ 10
+  pub rounds : (1 ≤ run.rounds) × (run.rounds ≤ 600)
+
+pub record IsBoundedPhase (p : DraftPhase) : Type 0 where
+  pub phase : IsPhase p.phase
+  pub links : length p.links ≤ 16
+
+pub record IsBoundedNode (n : DraftNode) : Type 0 where
+  pub name : IsName n.name
+  pub count : (2 ≤ length n.phases) × (length n.phases ≤ 4)
+  pub phases : All IsBoundedPhase n.phases
+
+abbrev pub IsBoundedTurn : DraftTurn → Type 0
+IsBoundedTurn t = t.share ≤ 1000
+
+pub record IsBoundedLink (l : DraftLink) : Type 0 where
+  pub name : IsName l.name
+  pub travel : (1 ≤ l.travel) × (l.travel ≤ 120)
+  pub sat : (1 ≤ l.sat) × (l.sat ≤ 5000)
+  pub count : length l.turns ≤ 16
+  pub turns : All IsBoundedTurn l.turns
+
+pub record IsBounded (d : Draft) : Type 0 where
+  pub node_count : (1 ≤ length d.nodes) × (length d.nodes ≤ 64)
+  pub link_count : (1 ≤ length d.links) × (length d.links ≤ 320)
+  pub conflict_count : length d.conflicts ≤ 1024
+  pub run : IsRun d.run
+  pub nodes : All IsBoundedNode d.nodes
+  pub links : All IsBoundedLink d.links

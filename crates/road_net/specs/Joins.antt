@@ -1,0 +1,106 @@
+-- How the parts of a network are joined.
+use Rattle.std.specs.Prelude.{◌≡◌, ◌≢◌, ℕ, suc, ◌+◌, ◌-◌, ◌*◌, ◌/◌, ◌≤◌, ◌<◌, ◌==◌, Bool, false, if◌then◌else◌, List, [], ◌∷◌, Option, Some, None, IsSome, MatchOption, EachIndex, map, position, length, take, sum_by, count_by, slice_index_or, All, AllPairs, Contains}
+use Rattle.std.specs.List.{concat}
+use Rattle.std.specs.List.Sorted.{IsStrictlyIncreasing}
+use Rattle.std.specs.Option.{option_map_or}
+use Rattle.road_net.specs.declared.roads.Link.{Link}
+use Rattle.road_net.specs.declared.roads.Turn.{Turn}
+use Rattle.road_net.specs.declared.roads.Side.{Side}
+use Rattle.road_net.specs.declared.roads.Side.TheVariants.{From, To}
+use Rattle.road_net.specs.Numbers.{has_link}
+
+-- what stands where there is no link
+abbrev pub no_link : Link
+no_link = record { from = None; to = None; travel = 0; sat = 0; phase = 0 }
+
+-- the link with this number
+abbrev pub link_at : List Link → ℕ → Link
+link_at links l = slice_index_or links l no_link
+
+-- a link comes from a node or ends at one, and not both at the same
+abbrev pub HasEnds : Link → Type 0
+HasEnds l = l.from ≢ l.to
+
+-- the node at a side of a link
+abbrev pub node_at : Side → Link → Option ℕ
+node_at From l = l.from
+node_at To l = l.to
+
+-- whether this is the node
+abbrev pub is_node : ℕ → Option ℕ → Bool
+is_node node None = false
+is_node node (Some n) = n == node
+
+-- the numbers of the links that have the node at this side, rising; the first link of the list has the number `first`
+abbrev pub links_from : Side → ℕ → ℕ → List Link → List ℕ
+links_from side node first [] = []
+links_from side node first (l ∷ ls) = if is_node node (node_at side l) then first ∷ links_from side node (suc first) ls else links_from side node (suc first) ls
+
+abbrev pub links_of_node : Side → List Link → ℕ → List ℕ
+links_of_node side links node = links_from side node 0 links
+
+-- the links that have the node at this side, and no others, rising
+pub record AreLinksAt (side : Side) (links : List Link) (node : ℕ) (numbers : List ℕ) : Type 0 where
+  pub have : All (λ l. (l < length links) × (node_at side (link_at links l) ≡ Some node)) numbers
+  pub all : (l : ℕ) → l < length links → node_at side (link_at links l) ≡ Some node → Contains numbers l
+  pub rising : IsStrictlyIncreasing numbers
+
+-- at most 16 links end at a node
+abbrev pub IsRoomy : List Link → ℕ → Type 0
+IsRoomy links node = length (links_of_node To links node) ≤ 16
+
+abbrev pub share_of : Turn → ℕ
+share_of t = t.share
+
+-- the turns of a link that ends at the node: they leave it by links that differ, and their shares are the whole
+pub record IsShareTable (links : List Link) (turns : List Turn) (node : ℕ) : Type 0 where
+  pub leave : All (λ t. (link_at links t.exit).from ≡ Some node) turns
+  pub differ : AllPairs (λ s t. s.exit ≢ t.exit) turns
+  pub whole : sum_by share_of turns ≡ 1000
+
+-- a link that ends at no node has no turns
+abbrev pub HasShares : List Link → List Turn → Option ℕ → Type 0
+HasShares links turns to = MatchOption to (turns ≡ []) (IsShareTable links turns)
+
+-- all links that phases name, phase by phase
+abbrev pub named_links : List (List (List ℕ)) → List ℕ
+named_links phase_links = concat (map concat phase_links)
+
+-- how often phases name a link
+abbrev pub times_named : List (List (List ℕ)) → ℕ → ℕ
+times_named phase_links link = count_by (λ l. l == link) (named_links phase_links)
+
+-- a link that ends at a node is named once, in a phase of that node; one that ends at no node is not named
+abbrev pub IsPhased : List (List (List ℕ)) → ℕ → Option ℕ → Type 0
+IsPhased phase_links link to = MatchOption to (times_named phase_links link ≡ 0) (λ node. (times_named phase_links link ≡ 1) × IsSome (position (has_link link) (slice_index_or phase_links node [])))
+
+-- the links of a conflict end at one node, in two phases
+pub record IsConflict (links : List Link) (c : ℕ × ℕ) : Type 0 where
+  pub differ : c.0 ≢ c.1
+  pub ends : IsSome (link_at links c.0).to
+  pub node : (link_at links c.0).to ≡ (link_at links c.1).to
+  pub phases : (link_at links c.0).phase ≢ (link_at links c.1).phase
+
+-- each link has turns as it must, and is named as it must
+abbrev pub AreShared : List Link → List (List Turn) → Type 0
+AreShared links turns = EachIndex links (λ l. HasShares links (slice_index_or turns l []) (link_at links l).to)
+
+abbrev pub ArePhased : List Link → List (List (List ℕ)) → Type 0
+ArePhased links phase_links = EachIndex links (λ l. IsPhased phase_links l (link_at links l).to)
+
+-- the lists are those of the links that have each node at this side
+pub record AreByNode (side : Side) (links : List Link) (nodes : ℕ) (lists : List (List ℕ)) : Type 0 where
+  pub count : length lists ≡ nodes
+  pub each : (n : ℕ) → n < nodes → slice_index_or lists n [] ≡ links_of_node side links n
+
+-- the shares of the first k turns together, in thousandths
+abbrev pub shares_to : List Turn → ℕ → ℕ
+shares_to turns k = sum_by share_of (take k turns)
+
+-- the part of an amount that makes the turn with the number k: what the turns up to it get, less what those before it get
+abbrev pub part : List Turn → ℕ → ℕ → ℕ
+part turns amount k = amount * shares_to turns (k + 1) / 1000 - amount * shares_to turns k / 1000
+
+-- the part of an amount that turns into the link `exit`; 0 where no turn leads there
+abbrev pub split_of : List Turn → ℕ → ℕ → ℕ
+split_of turns amount exit = option_map_or (part turns amount) (position (λ t. t.exit == exit) turns) 0

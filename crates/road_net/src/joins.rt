@@ -1,0 +1,224 @@
+ghost use Rattle.std.specs.Prelude.{◌≡◌, ◌≢◌, ◌≤◌, ◌<◌, ◌^◌, ◌↔◌, IsTrue, IfOk, OnOk, IfSome, ◌++◌, Some, All, AllPairs, length, sum_by};
+ghost use Rattle.std.specs.List.{concat};
+ghost use Rattle.road_net.specs.Outcome.{Tests};
+ghost use Rattle.road_net.specs.Joins.{HasEnds, link_at, node_at, is_node, links_of_node, AreByNode, HasShares, AreShared, share_of, named_links, IsPhased, ArePhased, IsConflict};
+
+use crate::numbering::phase_with;
+use crate::roads::{Link, Side, Turn};
+use foundation::items::Items;
+use net_draft::NetFault;
+use std::alloc::{AllocError, Global};
+
+/// Tests that each link comes from a node or ends at one, and not both at the same.
+pub(crate) fn check_ends(links: &[Link]) -> Result<(), NetFault>
+    requires { length links.now ≤ 320 }
+    ensures { Tests (All HasEnds links.now) result }
+{
+    for (index, link) in links.iter().enumerate() {
+        if link.from == link.to {
+            return Err(NetFault::Ends(index as u32));
+        }
+    }
+    Ok(())
+}
+
+/// For each node the links that have it at this side, in number order.
+pub(crate) fn links_by_node(
+    alloc: Global,
+    links: &[Link],
+    nodes: u32,
+    side: Side,
+) -> Result<Vec<Items<u32>>, AllocError>
+    requires { length links.now ≤ 320 }
+    ensures { IfOk result (λ lists. AreByNode side links.now nodes lists.items) }
+{
+    let mut lists = Vec::new(alloc);
+    for node in 0..nodes {
+        let list = links_of_node(alloc, links, node, side)?;
+        lists.push(Items::from_vec(list))?;
+    }
+    Ok(lists)
+}
+
+fn links_of_node(
+    alloc: Global,
+    links: &[Link],
+    node: u32,
+    side: Side,
+) -> Result<Vec<u32>, AllocError>
+    requires { length links.now ≤ 320 }
+    ensures { IfOk result (λ numbers. numbers.items ≡ links_of_node side links.now node) }
+{
+    let mut numbers = Vec::new(alloc);
+    for (index, link) in links.iter().enumerate() {
+        if has_node(link, side, node) {
+            numbers.push(index as u32)?;
+        }
+    }
+    Ok(numbers)
+}
+
+/// Whether the link has the node at this side.
+fn has_node(link: &Link, side: Side, node: u32) -> bool
+    ensures { result ≡ is_node node (node_at side link.now) }
+{
+    let end = match side {
+        Side::From => link.from,
+        Side::To => link.to,
+    };
+    match end {
+        Some(other) => other == node,
+        None => false,
+    }
+}
+
+/// Tests that no list has more than 16 links.
+pub(crate) fn check_room(entry_links: &[Items<u32>]) -> Result<(), NetFault>
+    requires { length entry_links.now ≤ 64 }
+    ensures { Tests (All (λ links. length links ≤ 16) entry_links.now) result }
+{
+    for (index, links) in entry_links.iter().enumerate() {
+        if links.len() > 16 {
+            return Err(NetFault::Crowd(index as u32));
+        }
+    }
+    Ok(())
+}
+
+/// Tests the turns of each link.
+pub(crate) fn check_shares(links: &[Link], turns: &[Items<Turn>]) -> Result<(), NetFault>
+    requires few { length links.now ≤ 320 }
+    requires same { length turns.now ≡ length links.now }
+    requires exits { All (λ list. All (λ t. t.exit < length links.now) list) turns.now }
+    requires sums { All (λ list. sum_by share_of list < 2 ^ 32) turns.now }
+    ensures { Tests (AreShared links.now turns.now) result }
+{
+    for (index, link) in links.iter().enumerate() {
+        if !has_shares(links, turns[index].as_slice(), link.to) {
+            return Err(NetFault::Shares(index as u32));
+        }
+    }
+    Ok(())
+}
+
+fn has_shares(links: &[Link], turns: &[Turn], to: Option<u32>) -> bool
+    requires exits { All (λ t. t.exit < length links.now) turns.now }
+    requires sum { sum_by share_of turns.now < 2 ^ 32 }
+    ensures { IsTrue result ↔ HasShares links.now turns.now to }
+{
+    match to {
+        Some(node) => {
+            turns_leave(links, turns, node)
+                && exits_differ(turns)
+                && turns.iter().map(|turn| turn.share).sum::<u32>() == 1000
+        }
+        None => turns.is_empty(),
+    }
+}
+
+fn turns_leave(links: &[Link], turns: &[Turn], node: u32) -> bool
+    requires { All (λ t. t.exit < length links.now) turns.now }
+    ensures { IsTrue result ↔ All (λ t. (link_at links.now t.exit).from ≡ Some node) turns.now }
+{
+    for turn in turns {
+        if links[turn.exit as usize].from != Some(node) {
+            return false;
+        }
+    }
+    true
+}
+
+fn exits_differ(turns: &[Turn]) -> bool
+    ensures { IsTrue result ↔ AllPairs (λ s t. s.exit ≢ t.exit) turns.now }
+{
+    for (index, turn) in turns.iter().enumerate() {
+        if !lacks_exit(&turns[index + 1..], turn.exit) {
+            return false;
+        }
+    }
+    true
+}
+
+fn lacks_exit(turns: &[Turn], exit: u32) -> bool
+    ensures { IsTrue result ↔ All (λ t. t.exit ≢ exit) turns.now }
+{
+    turns.iter().all(|turn| turn.exit != exit)
+}
+
+/// Tests that phases name each link that ends at a node once, in a phase of that node, and no other link.
+pub(crate) fn check_phases(
+    alloc: Global,
+    links: &[Link],
+    phase_links: &[Items<Items<u32>>],
+) -> Result<(), NetFault>
+    requires few { length links.now ≤ 320 }
+    requires nodes { All (λ l. IfSome l.to (λ node. node < length phase_links.now)) links.now }
+    requires phases { All (λ phases. length phases ≤ 4) phase_links.now }
+    ensures { Tests (ArePhased links.now phase_links.now) result }
+{
+    let named = named_links(alloc, phase_links)?;
+    for (index, link) in links.iter().enumerate() {
+        if !is_phased(named.as_slice(), phase_links, index as u32, link.to) {
+            return Err(NetFault::Phaseless(index as u32));
+        }
+    }
+    Ok(())
+}
+
+fn is_phased(named: &[u32], phase_links: &[Items<Items<u32>>], link: u32, to: Option<u32>) -> bool
+    requires named { named.now ≡ named_links phase_links.now }
+    requires node { IfSome to (λ node. node < length phase_links.now) }
+    requires phases { All (λ phases. length phases ≤ 4) phase_links.now }
+    ensures { IsTrue result ↔ IsPhased phase_links.now link to }
+{
+    let times = named.iter().filter(|other| **other == link).count();
+    match to {
+        Some(node) => times == 1
+            && phase_with(phase_links[node as usize].as_slice(), link).is_some(),
+        None => times == 0,
+    }
+}
+
+/// All links that phases name, phase by phase.
+fn named_links(alloc: Global, phase_links: &[Items<Items<u32>>]) -> Result<Vec<u32>, AllocError>
+    ensures { IfOk result (λ named. named.items ≡ named_links phase_links.now) }
+{
+    let mut named = Vec::new(alloc);
+    for phases in phase_links {
+        push_links(&mut named, phases.as_slice())?;
+    }
+    Ok(named)
+}
+
+/// Adds the links of these phases at the end.
+fn push_links(named: &mut Vec<u32>, phases: &[Items<u32>]) -> Result<(), AllocError>
+    ensures { OnOk result (named.new.items ≡ named.old.items ++ concat phases.now) }
+{
+    for links in phases {
+        named.extend_from_slice(links.as_slice())?;
+    }
+    Ok(())
+}
+
+/// Tests that the links of each conflict end at one node, in two phases.
+pub(crate) fn check_conflicts(links: &[Link], conflicts: &[(u32, u32)]) -> Result<(), NetFault>
+    requires { All (λ c. (c.0 < length links.now) × (c.1 < length links.now)) conflicts.now }
+    ensures { Tests (All (IsConflict links.now) conflicts.now) result }
+{
+    for (a, b) in conflicts {
+        if !can_conflict(links, *a, *b) {
+            return Err(NetFault::Clash { a: *a, b: *b });
+        }
+    }
+    Ok(())
+}
+
+fn can_conflict(links: &[Link], a: u32, b: u32) -> bool
+    requires first { a < length links.now }
+    requires second { b < length links.now }
+    ensures { IsTrue result ↔ IsConflict links.now (a, b) }
+{
+    let first = &links[a as usize];
+    let second = &links[b as usize];
+    a != b && first.to.is_some() && first.to == second.to && first.phase != second.phase
+}

@@ -1,0 +1,251 @@
+//! The road network: nodes with signals, links between them, and how vehicles turn from link to link.
+#![tactic(auto)]
+
+ghost use Rattle.std.specs.Prelude.{◌≡◌, ◌<◌, ◌^◌, IfOk, IfErr, length};
+ghost use Rattle.net_draft.specs.Faults.{Unless};
+ghost use Rattle.road_net.specs.Numbers.{Net};
+ghost use Rattle.road_net.specs.Outcome.{Refuses};
+ghost use Rattle.road_net.specs.Network.{IsNetworkOf, IsNetworkText, IsCause, IsOutline};
+ghost use Rattle.road_net.specs.Stored.{Joins, net_of};
+
+mod bounds;
+mod joins;
+mod names;
+mod numbering;
+mod roads;
+mod splits;
+
+use bounds::check_bounds;
+use foundation::items::Items;
+pub use net_draft::{
+    Draft, DraftConflict, DraftLink, DraftNode, DraftPhase, DraftTurn, NetFault, Part, Place, Run,
+};
+use numbering::{Parts, numbered};
+use phase_plan::PhasePlan;
+use roads::Side;
+pub use roads::{Link, LinkSense, Sensed, Turn};
+use std::alloc::Global;
+use std::marker::Model;
+
+/// A valid road network. Its nodes and links are numbered from 0 in the order of its file.
+#[derive(Drop)]
+pub struct Network {
+    parts: Parts,
+    entry_links: Vec<Items<u32>>,
+    exit_links: Vec<Items<u32>>,
+}
+
+impl Model for Network {
+    ghost use Rattle.road_net.specs.Numbers.{Net};
+
+    ghost Value = { Net };
+
+    ghost use Rattle.road_net.specs.Stored.{net_of, IsStored};
+
+    ghost view = { λ network. net_of network.parts };
+
+    ghost invariant = { λ network. IsStored network.parts network.entry_links.items network.exit_links.items };
+}
+
+impl Network {
+    ghost use Rattle.std.specs.Prelude.{◌≡◌, ◌<◌, ◌↔◌, Some, IsSome, IsNone, IfSome, Contains, sum_by, slice_get, length};
+    ghost use Rattle.road_net.specs.Numbers.{number_of};
+    ghost use Rattle.road_net.specs.Joins.{split_of, AreLinksAt};
+    ghost use Rattle.road_net.specs.Network.{IsNetwork, link_at, turns_at, plan_at, phases_at, phase_links_at, node_name_at, link_name_at, entry_links, exit_links};
+
+    /// How the network is run.
+    pub fn run(&self) -> Run
+        ensures value { result ≡ self.now.run }
+        ensures network { IsNetwork self.now }
+    {
+        self.parts.run
+    }
+
+    /// How many nodes there are, 1 to 64.
+    pub fn nodes(&self) -> u32
+        ensures value { result ≡ length self.now.node_names }
+        ensures network { IsNetwork self.now }
+    {
+        self.parts.node_names.len()
+    }
+
+    /// How many links there are, 1 to 320.
+    pub fn links(&self) -> u32
+        ensures value { result ≡ length self.now.link_names }
+        ensures network { IsNetwork self.now }
+    {
+        self.parts.link_names.len()
+    }
+
+    /// The phases of a node.
+    pub fn plan(&self, node: u32) -> &PhasePlan
+        requires { node < length self.now.node_names }
+        ensures value { result.now ≡ plan_at self.now node }
+        ensures network { IsNetwork self.now }
+    {
+        &self.parts.plans[node as usize]
+    }
+
+    /// The links that a phase of a node serves, in the order of the file.
+    pub fn phase_links(&self, node: u32, phase: u8) -> &[u32]
+        requires node { node < length self.now.node_names }
+        requires phase { phase < length (plan_at self.now node) }
+        ensures value { result.now ≡ phase_links_at self.now node phase }
+        ensures network { IsNetwork self.now }
+    {
+        let phases = self.parts.phase_links[node as usize].as_slice();
+        phases[phase as usize].as_slice()
+    }
+
+    /// The links that end at a node, in number order.
+    pub fn entry_links(&self, node: u32) -> &[u32]
+        requires { node < length self.now.node_names }
+        ensures value { result.now ≡ entry_links self.now node }
+        ensures links { AreLinksAt Side.To self.now.links node result.now }
+        ensures network { IsNetwork self.now }
+    {
+        self.entry_links[node as usize].as_slice()
+    }
+
+    /// The links that come from a node, in number order.
+    pub fn exit_links(&self, node: u32) -> &[u32]
+        requires { node < length self.now.node_names }
+        ensures value { result.now ≡ exit_links self.now node }
+        ensures links { AreLinksAt Side.From self.now.links node result.now }
+        ensures network { IsNetwork self.now }
+    {
+        self.exit_links[node as usize].as_slice()
+    }
+
+    /// A link.
+    pub fn link(&self, l: u32) -> Link
+        requires { l < length self.now.link_names }
+        ensures value { result ≡ link_at self.now l }
+        ensures network { IsNetwork self.now }
+    {
+        self.parts.links[l as usize]
+    }
+
+    /// The turns of a link, in the order of the file.
+    pub fn turns(&self, l: u32) -> &[Turn]
+        requires { l < length self.now.link_names }
+        ensures value { result.now ≡ turns_at self.now l }
+        ensures network { IsNetwork self.now }
+    {
+        self.parts.turns[l as usize].as_slice()
+    }
+
+    /// The part of an amount, in thousandths of a vehicle, that turns at the end of link `l` into the link
+    /// `exit`; 0 where no turn leads there.
+    pub fn split(&self, l: u32, amount: u32, exit: u32) -> u32
+        requires { l < length self.now.link_names }
+        ensures value { result ≡ split_of (turns_at self.now l) amount exit }
+        ensures whole { IsSome (link_at self.now l).to → sum_by (λ t. split_of (turns_at self.now l) amount t.exit) (turns_at self.now l) ≡ amount }
+        ensures network { IsNetwork self.now }
+    {
+        splits::split(self.turns(l), amount, exit)
+    }
+
+    /// The pairs of links that must never be green together, in the order of the file.
+    pub fn conflicts(&self) -> &[(u32, u32)]
+        ensures value { result.now ≡ self.now.conflicts }
+        ensures network { IsNetwork self.now }
+    {
+        self.parts.conflicts.as_slice()
+    }
+
+    /// The name of a node.
+    pub fn node_name(&self, n: u32) -> &str
+        requires { n < length self.now.node_names }
+        ensures value { result.now ≡ node_name_at self.now n }
+        ensures network { IsNetwork self.now }
+    {
+        self.parts.node_names.name(n)
+    }
+
+    /// The name of a link.
+    pub fn link_name(&self, l: u32) -> &str
+        requires { l < length self.now.link_names }
+        ensures value { result.now ≡ link_name_at self.now l }
+        ensures network { IsNetwork self.now }
+    {
+        self.parts.link_names.name(l)
+    }
+
+    /// The node with this name.
+    pub fn find_node(&self, name: &str) -> Option<u32>
+        ensures value { result ≡ number_of self.now.node_names name.now }
+        ensures none { IsNone result ↔ ¬ Contains self.now.node_names name.now }
+        ensures found { IfSome result (λ number. slice_get self.now.node_names number ≡ Some name.now) }
+        ensures network { IsNetwork self.now }
+    {
+        self.parts.node_names.find(name)
+    }
+
+    /// The link with this name.
+    pub fn find_link(&self, name: &str) -> Option<u32>
+        ensures value { result ≡ number_of self.now.link_names name.now }
+        ensures none { IsNone result ↔ ¬ Contains self.now.link_names name.now }
+        ensures found { IfSome result (λ number. slice_get self.now.link_names number ≡ Some name.now) }
+        ensures network { IsNetwork self.now }
+    {
+        self.parts.link_names.find(name)
+    }
+}
+
+/// The network of a draft.
+///
+/// The fault is want of memory, or the first that is found when the whole draft is tested for bounds, then for
+/// names that come twice, for unknown names, for the ends of links, for crowded nodes, for shares, for phases
+/// and for conflicts. It is never `NotToml` or `Shape`.
+pub fn build(alloc: Global, draft: Draft) -> Result<Network, NetFault>
+    ensures ok { IfOk result (IsNetworkOf draft) }
+    ensures refused { IfErr result (λ fault. Refuses fault ((net : Net) → ¬ IsNetworkOf draft net)) }
+{
+    check_bounds(&draft)?;
+    let parts = numbered(alloc, &draft)?;
+    joined(alloc, parts)
+}
+
+/// The network of these parts, where they are joined as they must be.
+fn joined(alloc: Global, parts: Parts) -> Result<Network, NetFault>
+    requires { IsOutline (net_of parts) }
+    ensures { Joins (net_of parts) result }
+{
+    let nodes = parts.node_names.len();
+    joins::check_ends(parts.links.as_slice())?;
+    let entry_links = joins::links_by_node(alloc, parts.links.as_slice(), nodes, Side::To)?;
+    joins::check_room(entry_links.as_slice())?;
+    joins::check_shares(parts.links.as_slice(), parts.turns.as_slice())?;
+    joins::check_phases(alloc, parts.links.as_slice(), parts.phase_links.as_slice())?;
+    joins::check_conflicts(parts.links.as_slice(), parts.conflicts.as_slice())?;
+    let exit_links = joins::links_by_node(alloc, parts.links.as_slice(), nodes, Side::From)?;
+    Ok(Network {
+        parts,
+        entry_links,
+        exit_links,
+    })
+}
+
+/// The network of a text, which is read as TOML.
+///
+/// The fault is `NotToml` where the text is no TOML, `Shape` where a table has not the form of its place, and
+/// else that of `build`.
+pub fn read_network(alloc: Global, bytes: &[u8]) -> Result<Network, NetFault>
+    requires { length bytes.now < 2 ^ 32 }
+    ensures ok { IfOk result (IsNetworkText bytes.now) }
+    ensures refused { IfErr result (λ fault. Unless fault ((net : Net) → ¬ IsNetworkText bytes.now net)) }
+    ensures cause { IfErr result (IsCause bytes.now) }
+{
+    let table = match toml::de::table_from_slice(alloc, bytes) {
+        Ok(table) => table,
+        Err(error) => {
+            if error.is_memory() {
+                return Err(NetFault::NoMemory);
+            }
+            return Err(NetFault::NotToml);
+        }
+    };
+    let draft = net_draft::read_draft(alloc, &table)?;
+    build(alloc, draft)
+}
