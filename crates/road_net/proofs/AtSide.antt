@@ -1,10 +1,10 @@
 -- The links at a side of a node: which they are, and their order.
-use Rattle.std.proofs.Common.{◌≡◌, ℕ, zero, suc, ◌+◌, ◌<◌, ◌≤◌, Bool, true, false, cond, List, [], ◌∷◌, ◌++◌, length, get_or, take, All, Contains, Option, Some, None, refl, ap, ◌∙◌, sym, subst, inl, inr, add-one, arith, length-append}
+use Rattle.std.proofs.Common.{◌≡◌, ℕ, zero, suc, ◌+◌, ◌<◌, ◌≤◌, Bool, true, false, List, [], ◌∷◌, ◌++◌, length, get_or, take, All, Contains, Option, Some, None, refl, ap, ◌∙◌, sym, subst, inl, inr, add-one, arith, length-append}
 use Rattle.std.specs.List.Sorted.{IsStrictlyIncreasing}
 use Rattle.std.proofs.lemmas.Bool.{cases_lt, false≢true}
 use Rattle.std.proofs.lemmas.Bool.Decides.{eqb_tells}
 use Rattle.std.proofs.lemmas.List.{append-nil, take_all, get_or_append_left, get_or_default, get_or_push}
-use Rattle.std.proofs.lemmas.List.Elements.{All-nil, All-push, All-weaker, All-get_or, Contains-append_left, Contains-push}
+use Rattle.std.proofs.lemmas.List.Elements.{All-nil, All-push, All-weaker, Contains-append_left, Contains-push}
 use Rattle.road_net.specs.declared.roads.Link.{Link}
 use Rattle.road_net.specs.declared.roads.Side.{Side}
 use Rattle.road_net.specs.Joins.{node_at, is_node, links_from, links_of_node, link_at, no_link, AreLinksAt, AreByNode}

@@ -1,5 +1,5 @@
 -- Why a text is refused.
-use Rattle.std.proofs.Common.{◌≡◌, ℕ, List, Some, None, IfErr, Result, Err, ap, ◌∙◌, sym, subst}
+use Rattle.std.proofs.Common.{◌≡◌, ℕ, List, Some, None, ap, ◌∙◌, sym, subst}
 use Rattle.std.proofs.lemmas.Option.{same_Some}
 use Rattle.toml.specs.Data.{Members}
 use Rattle.toml.specs.Parse.{parse_document}

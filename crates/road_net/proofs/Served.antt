@@ -3,7 +3,7 @@ use Rattle.std.proofs.Common.{◌≡◌, ◌≢◌, ℕ, ◌<◌, List, [], leng
 use Rattle.std.proofs.lemmas.List.{get_or_default}
 use Rattle.road_net.specs.Numbers.{Net, phase_of}
 use Rattle.road_net.specs.Joins.{no_link, IsPhased}
-use Rattle.road_net.specs.Network.{IsOutline, IsJoined, IsServed, ArePhaseLinks, phases_at, phase_links_at, plan_at, link_at}
+use Rattle.road_net.specs.Network.{IsOutline, IsJoined, IsServed, phases_at, phase_links_at, plan_at, link_at}
 use Rattle.road_net.proofs.Serving.{named-here, named-there, named-once}
 
 module _ (net : Net) (ok : IsOutline net) (joined : IsJoined net) where

@@ -1,11 +1,11 @@
 -- Where the phases of a network name its links.
-use Rattle.std.proofs.Common.{◌≡◌, ◌≢◌, ℕ, zero, suc, ◌+◌, ◌<◌, ◌≤◌, Bool, true, false, cond, ◌||◌, ◌==◌, eqb, List, [], ◌∷◌, length, get_or, take, map, sum_by, count_by, position, Option, Some, None, IsSome, IfSome, Contains, AllPairs, is_some, unwrap_or, refl, ap, ◌∙◌, sym, subst, inl, inr, arith, length-take}
+use Rattle.std.proofs.Common.{◌≡◌, ◌≢◌, ℕ, suc, ◌+◌, ◌<◌, ◌≤◌, Bool, true, false, cond, ◌||◌, ◌==◌, List, [], ◌∷◌, length, get_or, take, map, sum_by, count_by, position, Option, Some, None, IsSome, IfSome, Contains, unwrap_or, refl, ap, ◌∙◌, sym, subst, inl, inr, arith, length-take}
 use Rattle.std.specs.List.{concat, list_any}
 use Rattle.std.proofs.lemmas.Bool.{cases_lt, false≢true}
 use Rattle.std.proofs.lemmas.Bool.Decides.{eqb_tells}
 use Rattle.std.proofs.lemmas.List.{get_or-take, get_or_default}
 use Rattle.std.proofs.lemmas.List.Quantifiers.{position-Some}
-use Rattle.std.proofs.lemmas.List.Sums.{sum_by-append, sum_by-cons, sum_by_more_le, get_or-le-sum_by, sum_by-take-le}
+use Rattle.std.proofs.lemmas.List.Sums.{sum_by-append, sum_by-cons, sum_by_more_le, get_or-le-sum_by}
 use Rattle.road_net.specs.Numbers.{has_link, phase_of}
 use Rattle.road_net.specs.Joins.{times_named, IsPhased}
 

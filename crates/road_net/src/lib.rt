@@ -24,6 +24,7 @@ use numbering::{Parts, numbered};
 use phase_plan::PhasePlan;
 use roads::Side;
 pub use roads::{Link, LinkSense, Sensed, Turn};
+pub use splits::parts_are_the_whole;
 use std::alloc::Global;
 use std::marker::Model;
 

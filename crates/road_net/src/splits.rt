@@ -1,4 +1,5 @@
-ghost use Rattle.std.specs.Prelude.{◌≡◌, ◌≤◌, sum_by};
+ghost use Rattle.std.specs.Prelude.{◌≡◌, ◌≢◌, ◌≤◌, ℕ, List, AllPairs, sum_by};
+ghost use Rattle.road_net.specs.declared.roads.Turn.{Turn};
 ghost use Rattle.road_net.specs.Joins.{share_of, split_of};
 
 use crate::roads::Turn;
@@ -19,3 +20,9 @@ pub(crate) fn split(turns: &[Turn], amount: u32, exit: u32) -> u32
     }
     0
 }
+
+/// The parts of a split are the whole amount, for all turns into links that differ whose shares are the whole.
+pub fn parts_are_the_whole()
+    ensures { (turns : List Turn) (amount : ℕ) → AllPairs (λ s t. s.exit ≢ t.exit) turns → sum_by share_of turns ≡ 1000
+        → sum_by (λ t. split_of turns amount t.exit) turns ≡ amount }
+{}

@@ -1,4 +1,3 @@
-use Rattle.std.proofs.Common.{Err, ap, ◌∙◌}
 use Rattle.std.proofs.lemmas.Result.{err_from_is_err_and, IfErr-weaker}
 use Rattle.road_net.specs.Network.{IsCause}
 use Rattle.road_net.proofs.Causes.{IsCause-form, IsCause-draft}
