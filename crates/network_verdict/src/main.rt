@@ -1,0 +1,85 @@
+//! A small program beside the product: it reads a road network file and prints `accepted`, or the fault
+//! by its place.
+#![tactic(auto)]
+
+use outside_world::{FileShelf, Shelf};
+use road_net::{NetFault, Part, Place, read_network};
+use std::env;
+use std::process::ExitCode;
+
+/// The greatest length of a file, in bytes.
+const MOST_BYTES: usize = 100_663_296;
+
+/// The status where the words or the file cannot be had.
+const CANNOT_READ: u8 = 4;
+
+fn main(rt: HostRuntime) -> ExitCode {
+    let alloc = rt.alloc();
+    let Ok(mut args) = env::args(&rt) else {
+        return ExitCode::from(CANNOT_READ);
+    };
+    let _ = args.next();
+    let Some(name) = args.next() else {
+        return ExitCode::from(CANNOT_READ);
+    };
+    let mut shelf = FileShelf::new(alloc, &rt);
+    let Ok(bytes) = shelf.fetch(alloc, name.as_str(), MOST_BYTES) else {
+        return ExitCode::from(CANNOT_READ);
+    };
+    match read_network(alloc, &bytes) {
+        Ok(_) => print(&rt, "accepted"),
+        Err(fault) => print_fault(&rt, fault),
+    }
+    ExitCode::from(0)
+}
+
+/// Prints a fault: its name, and its place or the numbers of its links, counted from 1.
+fn print_fault(rt: &impl Print, fault: NetFault) {
+    match fault {
+        NetFault::NoMemory => print(rt, "no memory"),
+        NetFault::NotToml => print(rt, "toml"),
+        NetFault::Shape(place) => print_place(rt, "shape", place),
+        NetFault::Bound(place) => print_place(rt, "bound", place),
+        NetFault::Twice(place) => print_place(rt, "twice", place),
+        NetFault::Unknown(place) => print_place(rt, "unknown", place),
+        NetFault::Ends(link) => print_number(rt, "ends", link),
+        NetFault::Crowd(node) => print_number(rt, "crowd", node),
+        NetFault::Shares(link) => print_number(rt, "shares", link),
+        NetFault::Phaseless(link) => print_number(rt, "phaseless", link),
+        NetFault::Clash { a, b } => print_clash(rt, a, b),
+    }
+}
+
+fn print(rt: &impl Print, line: &str) {
+    let _ = println!(rt; "{line}");
+}
+
+fn print_place(rt: &impl Print, fault: &str, place: Place) {
+    let part = part_name(place.part);
+    let item = place.item;
+    let sub = place.sub;
+    let _ = println!(rt; "{fault} {part} {item} {sub}");
+}
+
+fn print_number(rt: &impl Print, fault: &str, number: u32) {
+    let number = number.saturating_add(1);
+    let _ = println!(rt; "{fault} {number}");
+}
+
+fn print_clash(rt: &impl Print, a: u32, b: u32) {
+    let a = a.saturating_add(1);
+    let b = b.saturating_add(1);
+    let _ = println!(rt; "clash {a} {b}");
+}
+
+fn part_name(part: Part) -> &'static str {
+    match part {
+        Part::Top => "top",
+        Part::Run => "run",
+        Part::Node => "node",
+        Part::Phase => "phase",
+        Part::Link => "link",
+        Part::Turn => "turn",
+        Part::Conflict => "conflict",
+    }
+}
