@@ -1,6 +1,6 @@
 //! A network as a text, by its accessors.
 ghost use Rattle.std.specs.Prelude.{◌<◌, length};
-ghost use Rattle.road_net.specs.Network.{plan_at};
+ghost use Rattle.net_numbers.specs.Outline.{plan_at};
 
 use crate::texts::fault_text;
 use road_net::{Network, read_network};

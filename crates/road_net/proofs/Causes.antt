@@ -8,8 +8,8 @@ use Rattle.net_draft.specs.Table.{draft_of}
 use Rattle.net_draft.specs.declared.drafts.Draft.{Draft}
 use Rattle.net_draft.specs.declared.faults.NetFault.{NetFault}
 use Rattle.net_draft.specs.declared.faults.NetFault.TheVariants.{NoMemory, NotToml, Shape, Bound, Twice, Unknown, Ends, Crowd, Shares, Phaseless, Clash}
-use Rattle.road_net.specs.Numbers.{Net}
-use Rattle.road_net.specs.Outcome.{Refuses}
+use Rattle.net_numbers.specs.Numbers.{Net}
+use Rattle.net_numbers.specs.Outcome.{Refuses}
 use Rattle.road_net.specs.Network.{IsNetworkOf, IsCause}
 
 module _ (bytes : List ℕ) (table : Members) (read : parse_document bytes ≡ Some table) where

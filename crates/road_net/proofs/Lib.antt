@@ -1,13 +1,7 @@
-pub mod AllRoads
 pub mod AtSide
 pub mod Causes
-pub mod Distinct
 pub mod Ends
-pub mod Loops
-pub mod Numbered
-pub mod Outline
-pub mod Places
-pub mod Plans
+pub mod Joining
 pub mod Served
 pub mod Serving
 pub mod Shares

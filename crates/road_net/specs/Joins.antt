@@ -3,15 +3,11 @@ use Rattle.std.specs.Prelude.{◌≡◌, ◌≢◌, ℕ, suc, ◌+◌, ◌-◌, 
 use Rattle.std.specs.List.{concat}
 use Rattle.std.specs.List.Sorted.{IsStrictlyIncreasing}
 use Rattle.std.specs.Option.{option_map_or}
-use Rattle.road_net.specs.declared.roads.Link.{Link}
-use Rattle.road_net.specs.declared.roads.Turn.{Turn}
-use Rattle.road_net.specs.declared.roads.Side.{Side}
-use Rattle.road_net.specs.declared.roads.Side.TheVariants.{From, To}
-use Rattle.road_net.specs.Numbers.{has_link}
-
--- what stands where there is no link
-abbrev pub no_link : Link
-no_link = record { from = None; to = None; travel = 0; sat = 0; phase = 0 }
+use Rattle.net_numbers.specs.declared.roads.Link.{Link}
+use Rattle.net_numbers.specs.declared.roads.Turn.{Turn}
+use Rattle.road_net.specs.declared.joins.Side.{Side}
+use Rattle.road_net.specs.declared.joins.Side.TheVariants.{From, To}
+use Rattle.net_numbers.specs.Numbers.{no_link, has_link}
 
 -- the link with this number
 abbrev pub link_at : List Link → ℕ → Link

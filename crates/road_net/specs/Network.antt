@@ -8,11 +8,12 @@ use Rattle.net_draft.specs.Table.{draft_of}
 use Rattle.net_draft.specs.declared.drafts.Draft.{Draft}
 use Rattle.net_draft.specs.declared.faults.NetFault.{NetFault}
 use Rattle.net_draft.specs.declared.faults.NetFault.TheVariants.{NoMemory, NotToml, Shape}
-use Rattle.road_net.specs.declared.roads.Link.{Link}
-use Rattle.road_net.specs.declared.roads.Turn.{Turn}
-use Rattle.road_net.specs.declared.roads.Side.TheVariants.{From, To}
-use Rattle.road_net.specs.Bounds.{IsName, IsRun, IsBounded}
-use Rattle.road_net.specs.Numbers.{Net, AreDistinct, numbered, node_names, link_names, phase_of}
+use Rattle.net_numbers.specs.declared.roads.Link.{Link}
+use Rattle.net_numbers.specs.declared.roads.Turn.{Turn}
+use Rattle.road_net.specs.declared.joins.Side.TheVariants.{From, To}
+use Rattle.net_numbers.specs.Bounds.{IsName, IsRun, IsBounded}
+use Rattle.net_numbers.specs.Numbers.{Net, AreDistinct, numbered, node_names, link_names}
+use Rattle.net_numbers.specs.Outline.{IsOutline, link_at, plan_at, phase_links_at}
 use Rattle.road_net.specs.Joins as joins
 use Rattle.road_net.specs.Joins.{HasEnds, IsRoomy, AreShared, ArePhased, IsConflict}
 
@@ -49,74 +50,12 @@ IsCause bytes NotToml = IsUtf8 bytes → parse_document bytes ≡ None
 IsCause bytes (Shape place) = (table : Members) → parse_document bytes ≡ Some table → draft_of table ≡ None
 IsCause bytes _ = (table : Members) (draft : Draft) (net : Net) → parse_document bytes ≡ Some table → draft_of table ≡ Some draft → ¬ IsNetworkOf draft net
 
--- the parts of a network by number
-abbrev pub link_at : Net → ℕ → Link
-link_at net l = joins.link_at net.links l
-
-abbrev pub turns_at : Net → ℕ → List Turn
-turns_at net l = slice_index_or net.turns l []
-
-abbrev pub plan_at : Net → ℕ → List Phase
-plan_at net n = slice_index_or net.plans n []
-
-abbrev pub phases_at : Net → ℕ → List (List ℕ)
-phases_at net n = slice_index_or net.phase_links n []
-
-abbrev pub phase_links_at : Net → ℕ → ℕ → List ℕ
-phase_links_at net n k = slice_index_or (phases_at net n) k []
-
-abbrev pub node_name_at : Net → ℕ → List ℕ
-node_name_at net n = slice_index_or net.node_names n []
-
-abbrev pub link_name_at : Net → ℕ → List ℕ
-link_name_at net l = slice_index_or net.link_names l []
-
 -- the links that end at a node and those that leave it, rising
 abbrev pub entry_links : Net → ℕ → List ℕ
 entry_links net n = joins.links_of_node To net.links n
 
 abbrev pub exit_links : Net → ℕ → List ℕ
 exit_links net n = joins.links_of_node From net.links n
-
--- a link of a network with so many nodes
-pub record IsLink (nodes : ℕ) (l : Link) : Type 0 where
-  pub from : IfSome l.from (λ n. n < nodes)
-  pub to : IfSome l.to (λ n. n < nodes)
-  pub travel : (1 ≤ l.travel) × (l.travel ≤ 120)
-  pub sat : (1 ≤ l.sat) × (l.sat ≤ 5000)
-
--- turns into a network of so many links
-pub record AreTurns (links : ℕ) (turns : List Turn) : Type 0 where
-  pub count : length turns ≤ 16
-  pub exits : All (λ t. t.exit < links) turns
-  pub shares : All (λ t. t.share ≤ 1000) turns
-
--- the links that a phase serves, in a network of so many links
-pub record ArePhaseLinks (links : ℕ) (numbers : List ℕ) : Type 0 where
-  pub count : length numbers ≤ 16
-  pub exist : All (λ l. l < links) numbers
-
--- The counts and bounds of a network: every list has its place for each node or link, and numbers are those of nodes and links.
-pub record IsOutline (net : Net) : Type 0 where
-  pub run : IsRun net.run
-  pub node_count : (1 ≤ length net.node_names) × (length net.node_names ≤ 64)
-  pub link_count : (1 ≤ length net.link_names) × (length net.link_names ≤ 320)
-  pub node_names : All IsName net.node_names
-  pub nodes_differ : AreDistinct net.node_names
-  pub link_names : All IsName net.link_names
-  pub links_differ : AreDistinct net.link_names
-  pub plan_count : length net.plans ≡ length net.node_names
-  pub plans : All IsPlan net.plans
-  pub phases_count : length net.phase_links ≡ length net.node_names
-  pub phase_counts : (n : ℕ) → n < length net.node_names → length (phases_at net n) ≡ length (plan_at net n)
-  pub phase_links : All (λ phases. All (ArePhaseLinks (length net.link_names)) phases) net.phase_links
-  pub road_count : length net.links ≡ length net.link_names
-  pub links : All (IsLink (length net.node_names)) net.links
-  pub phases : (l : ℕ) → l < length net.links → (link_at net l).phase ≡ phase_of net.phase_links l (link_at net l).to
-  pub turn_count : length net.turns ≡ length net.link_names
-  pub turns : All (AreTurns (length net.link_names)) net.turns
-  pub conflict_count : length net.conflicts ≤ 1024
-  pub conflicts : All (λ c. (c.0 < length net.link_names) × (c.1 < length net.link_names)) net.conflicts
 
 -- How phases serve links. A link that a phase serves ends at its node, has this phase, and stands there once; a link
 -- that ends at a node is served by its phase there.

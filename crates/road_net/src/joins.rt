@@ -1,13 +1,19 @@
 ghost use Rattle.std.specs.Prelude.{◌≡◌, ◌≢◌, ◌≤◌, ◌<◌, ◌^◌, ◌↔◌, IsTrue, IfOk, OnOk, IfSome, ◌++◌, Some, All, AllPairs, length, sum_by};
 ghost use Rattle.std.specs.List.{concat};
-ghost use Rattle.road_net.specs.Outcome.{Tests};
+ghost use Rattle.net_numbers.specs.Outcome.{Tests};
 ghost use Rattle.road_net.specs.Joins.{HasEnds, link_at, node_at, is_node, links_of_node, AreByNode, HasShares, AreShared, share_of, named_links, IsPhased, ArePhased, IsConflict};
 
-use crate::numbering::phase_with;
-use crate::roads::{Link, Side, Turn};
 use foundation::items::Items;
 use net_draft::NetFault;
+use net_numbers::{Link, Turn, phase_with};
 use std::alloc::{AllocError, Global};
+
+/// A side of a link.
+#[derive(Clone, Copy)]
+pub(crate) enum Side {
+    From,
+    To,
+}
 
 /// Tests that each link comes from a node or ends at one, and not both at the same.
 pub(crate) fn check_ends(links: &[Link]) -> Result<(), NetFault>

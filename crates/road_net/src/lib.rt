@@ -3,27 +3,26 @@
 
 ghost use Rattle.std.specs.Prelude.{◌≡◌, ◌<◌, ◌^◌, IfOk, IfErr, length};
 ghost use Rattle.net_draft.specs.Faults.{Unless};
-ghost use Rattle.road_net.specs.Numbers.{Net};
-ghost use Rattle.road_net.specs.Outcome.{Refuses};
-ghost use Rattle.road_net.specs.Network.{IsNetworkOf, IsNetworkText, IsCause, IsOutline};
-ghost use Rattle.road_net.specs.Stored.{Joins, net_of};
+ghost use Rattle.net_numbers.specs.Numbers.{Net};
+ghost use Rattle.net_numbers.specs.Outcome.{Refuses};
+ghost use Rattle.net_numbers.specs.Outline.{IsOutline};
+ghost use Rattle.net_numbers.specs.Parts.{net_of};
+ghost use Rattle.road_net.specs.Network.{IsNetworkOf, IsNetworkText, IsCause};
+ghost use Rattle.road_net.specs.Stored.{Joins};
 
-mod bounds;
 mod joins;
-mod names;
-mod numbering;
-mod roads;
+mod senses;
 mod splits;
 
-use bounds::check_bounds;
 use foundation::items::Items;
 pub use net_draft::{
     Draft, DraftConflict, DraftLink, DraftNode, DraftPhase, DraftTurn, NetFault, Part, Place, Run,
 };
-use numbering::{Parts, numbered};
+use joins::Side;
+use net_numbers::{Parts, check_bounds, numbered};
+pub use net_numbers::{Link, Turn};
 use phase_plan::PhasePlan;
-use roads::Side;
-pub use roads::{Link, LinkSense, Sensed, Turn};
+pub use senses::{LinkSense, Sensed};
 pub use splits::parts_are_the_whole;
 use std::alloc::Global;
 use std::marker::Model;
@@ -37,11 +36,12 @@ pub struct Network {
 }
 
 impl Model for Network {
-    ghost use Rattle.road_net.specs.Numbers.{Net};
+    ghost use Rattle.net_numbers.specs.Numbers.{Net};
 
     ghost Value = { Net };
 
-    ghost use Rattle.road_net.specs.Stored.{net_of, IsStored};
+    ghost use Rattle.net_numbers.specs.Parts.{net_of};
+    ghost use Rattle.road_net.specs.Stored.{IsStored};
 
     ghost view = { λ network. net_of network.parts };
 
@@ -50,9 +50,10 @@ impl Model for Network {
 
 impl Network {
     ghost use Rattle.std.specs.Prelude.{◌≡◌, ◌<◌, ◌↔◌, Some, IsSome, IsNone, IfSome, Contains, sum_by, slice_get, length};
-    ghost use Rattle.road_net.specs.Numbers.{number_of};
+    ghost use Rattle.net_numbers.specs.Numbers.{number_of};
     ghost use Rattle.road_net.specs.Joins.{split_of, AreLinksAt};
-    ghost use Rattle.road_net.specs.Network.{IsNetwork, link_at, turns_at, plan_at, phases_at, phase_links_at, node_name_at, link_name_at, entry_links, exit_links};
+    ghost use Rattle.net_numbers.specs.Outline.{link_at, turns_at, plan_at, phases_at, phase_links_at, node_name_at, link_name_at};
+    ghost use Rattle.road_net.specs.Network.{IsNetwork, entry_links, exit_links};
 
     /// How the network is run.
     pub fn run(&self) -> Run

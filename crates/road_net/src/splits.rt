@@ -1,8 +1,8 @@
 ghost use Rattle.std.specs.Prelude.{◌≡◌, ◌≢◌, ◌≤◌, ℕ, List, AllPairs, sum_by};
-ghost use Rattle.road_net.specs.declared.roads.Turn.{Turn};
+ghost use Rattle.net_numbers.specs.declared.roads.Turn.{Turn};
 ghost use Rattle.road_net.specs.Joins.{share_of, split_of};
 
-use crate::roads::Turn;
+use net_numbers::Turn;
 
 /// The part of an amount that turns into the link `exit`: 0 where no turn leads there.
 pub(crate) fn split(turns: &[Turn], amount: u32, exit: u32) -> u32

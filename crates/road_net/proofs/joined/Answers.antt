@@ -2,11 +2,12 @@ use Rattle.std.proofs.Common.{◌<◌, ◌^◌, Err, length, sum_by, ap, ◌∙�
 use Rattle.std.proofs.lemmas.List.Elements.{All-weaker}
 use Rattle.std.proofs.lemmas.Result.{err_from_is_err_and}
 use Rattle.road_net.specs.Joins.{share_of}
-use Rattle.road_net.specs.Network.{AreTurns, IsJoined}
+use Rattle.net_numbers.specs.Outline.{AreTurns}
+use Rattle.road_net.specs.Network.{IsJoined}
 use Rattle.road_net.proofs.Served.{served}
-use Rattle.road_net.specs.Stored.{net_of}
-use Rattle.road_net.proofs.Loops.{Joins-none}
-use Rattle.road_net.proofs.Outline.{shares-small, outline-few, roomy-lists, lists-roomy}
+use Rattle.net_numbers.specs.Parts.{net_of}
+use Rattle.net_numbers.proofs.Outline.{outline-few}
+use Rattle.road_net.proofs.Joining.{Joins-none, shares-small, roomy-lists, lists-roomy}
 use Rattle.road_net.proofs.joined.Goals as goal
 
 pub returns-in_err-check_room : goal.returns-in_err-check_room

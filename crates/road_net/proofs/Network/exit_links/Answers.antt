@@ -1,5 +1,5 @@
 use Rattle.std.proofs.Common.{◌≡◌, ◌<◌, length, ap, arith}
-use Rattle.road_net.specs.declared.roads.Side.TheVariants.{From}
+use Rattle.road_net.specs.declared.joins.Side.TheVariants.{From}
 use Rattle.road_net.proofs.AtSide.{links_of_node-are, by_node-at}
 use Rattle.road_net.proofs.Network.exit_links.Goals as goal
 

@@ -1,7 +1,7 @@
 use Rattle.std.proofs.Common.{rules}
 use Rattle.road_net.specs.Joins.{IsConflict}
 use Rattle.std.proofs.lemmas.List.Elements.{All-more}
-use Rattle.road_net.proofs.Loops.{All-end}
+use Rattle.net_numbers.proofs.Loops.{All-end}
 use Rattle.road_net.proofs.joins.check_conflicts.Goals as goal
 
 pub loop-a-preserved : goal.loop-a-preserved

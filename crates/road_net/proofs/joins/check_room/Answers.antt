@@ -1,5 +1,5 @@
 use Rattle.std.proofs.Common.{ℕ, ◌≤◌, List, length, arith}
-use Rattle.road_net.proofs.Loops.{All-step, All-end}
+use Rattle.net_numbers.proofs.Loops.{All-step, All-end}
 use Rattle.road_net.proofs.joins.check_room.Goals as goal
 
 pub loop-index-preserved : goal.loop-index-preserved

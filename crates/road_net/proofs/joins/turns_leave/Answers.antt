@@ -1,8 +1,8 @@
 use Rattle.std.proofs.Common.{◌≡◌, Some, rules}
-use Rattle.road_net.specs.declared.roads.Turn.{Turn}
+use Rattle.net_numbers.specs.declared.roads.Turn.{Turn}
 use Rattle.road_net.specs.Joins.{link_at}
 use Rattle.std.proofs.lemmas.List.Elements.{All-more}
-use Rattle.road_net.proofs.Loops.{All-end}
+use Rattle.net_numbers.proofs.Loops.{All-end}
 use Rattle.road_net.proofs.joins.turns_leave.Goals as goal
 
 pub loop-turn-preserved : goal.loop-turn-preserved

@@ -1,0 +1,81 @@
+-- Names of which no two are the same.
+use Rattle.std.proofs.Common.{◌≡◌, ◌≢◌, ℕ, zero, suc, ◌+◌, ◌<◌, Bool, true, false, not, ◌||◌, List, [], ◌∷◌, ◌++◌, length, get_or, take, map, if◌then◌else◌, Option, Some, None, is_none, refl, ap, ◌∙◌, sym, arith, length-take, IsNone, IfSome, Contains, slice_get, ◌↔◌}
+use Rattle.std.proofs.lemmas.Bool.{true≢false}
+use Rattle.std.proofs.lemmas.List.{get_or-take, get_or-map, length-map, take-map, map_more}
+use Rattle.std.proofs.lemmas.List.Quantifiers.{all_pairs_push, position-Some}
+use Rattle.std.proofs.lemmas.Slice.Eq.{bytes_eq-Decides}
+use Rattle.std.proofs.lemmas.Option.{slice_get-get_or}
+use Rattle.std.specs.List.{list_any}
+use Rattle.std.specs.Str.{bytes_eq}
+use Rattle.net_numbers.specs.Numbers.{AreDistinct, number_of}
+use Rattle.net_numbers.proofs.Places.{list_any-position}
+
+or_true : (b : Bool) → (b || true) ≡ true
+or_true true = refl
+or_true false = refl
+
+-- an element that passes is among those that any passes
+pub list_any-at : {X : Type 0} (p : X → Bool) (xs : List X) (k : ℕ) (d : X) → k < length xs → p (get_or xs k d) ≡ true → list_any p xs ≡ true
+list_any-at p [] k d h here = absurd (omega arith)
+list_any-at p (x ∷ xs) zero d h here = rw here
+list_any-at p (x ∷ xs) (suc k) d h here = rw (list_any-at p xs k d (omega arith) here) (or_true (p x))
+
+-- a name that has no number yet is a new one
+pub AreDistinct-push : (names : List (List ℕ)) (name : List ℕ) → AreDistinct names → is_none (number_of names name) ≡ true → AreDistinct (names ++ name ∷ [])
+AreDistinct-push names name differ new =
+    all_pairs_push (λ a b. a ≢ b) names name differ
+    (λ k d h same.
+    let found = list_any-at (bytes_eq name) names k d h ((bytes_eq-Decides name (get_or names k d)).1 (sym same)) in
+    true≢false (sym new ∙ ap not (sym (list_any-position (bytes_eq name) names) ∙ found)))
+
+-- a name that has a number before its own place stands twice
+pub AreDistinct-not : (names : List (List ℕ)) (i : ℕ) (name : List ℕ) → i < length names → name ≡ get_or names i [] → is_none (number_of (take i names) name) ≡ false → AreDistinct names → ⊥
+AreDistinct-not names i name h at old differ = by (number_of (take i names) name) refl old
+  where
+    by : (o : Option ℕ) → number_of (take i names) name ≡ o → is_none o ≡ false → ⊥
+    by None e none = true≢false none
+    by (Some k) e none =
+        let (within, passes, _) = position-Some (bytes_eq name) (take i names) k [] e in
+        let below : k < i = omega (arith, length-take i names) in
+        let same = (bytes_eq-Decides name (get_or (take i names) k [])).0 passes in
+        differ k i [] below h (sym (get_or-take i names k [] below) ∙ sym same ∙ at)
+
+-- a loop over elements with names: the element at i, after the names of those before it
+module _ {X : Type 0} (f : X → List ℕ) (xs : List X) (i : ℕ) (x : X) (h : i < length xs) (at : x ≡ get_or xs i x) (names : List (List ℕ)) (name : List ℕ) (added : Bool)
+    (same : names ≡ map f (take i xs)) (its : name ≡ f x) (tells : added ≡ is_none (number_of names name)) where
+  pub names-twice : added ≡ false → AreDistinct (map f xs) → ⊥
+  names-twice old =
+      let inside : i < length (map f xs) = simp length-map h in
+      let here : name ≡ get_or (map f xs) i [] = its ∙ ap f at ∙ sym (get_or-map f xs i x [] h) in
+      let before : is_none (number_of (take i (map f xs)) name) ≡ false = rw (take-map f i xs, ← same) (sym tells ∙ old) in
+      AreDistinct-not (map f xs) i name inside here before
+
+  pub names-more : (new : List (List ℕ)) → added ≡ true → new ≡ (if added then names ++ name ∷ [] else names) → AreDistinct names → (new ≡ map f (take (i + 1) xs)) × AreDistinct new
+  names-more new fresh is differ =
+      let pushed : new ≡ names ++ name ∷ [] = is ∙ ap (λ b. if b then names ++ name ∷ [] else names) fresh in
+      (pushed ∙ rw (map_more f xs i x h, ← at, ← its, ← same), rw pushed (AreDistinct-push names name differ (sym tells ∙ fresh)))
+
+-- a name has a number where it is there
+pub number_of-found : (names : List (List ℕ)) (name : List ℕ) → IfSome (number_of names name) (λ n. slice_get names n ≡ Some name)
+number_of-found names name = by (number_of names name) refl
+  where
+    by : (o : Option ℕ) → number_of names name ≡ o → IfSome o (λ n. slice_get names n ≡ Some name)
+    by None is = tt
+    by (Some n) is =
+        let (within, passes, _) = position-Some (bytes_eq name) names n [] is in
+        slice_get-get_or names n [] within ∙ ap Some (sym ((bytes_eq-Decides name (get_or names n [])).0 passes))
+
+-- and none where it is not
+pub number_of-none : (names : List (List ℕ)) (name : List ℕ) → IsNone (number_of names name) ↔ ¬ Contains names name
+number_of-none names name = (none, by (number_of names name) refl)
+  where
+    none : IsNone (number_of names name) → Contains names name → ⊥
+    none is (k, within, same) =
+        let found = list_any-at (bytes_eq name) names k name within ((bytes_eq-Decides name (get_or names k name)).1 (sym same)) in
+        true≢false (sym found ∙ list_any-position (bytes_eq name) names ∙ is)
+
+    by : (o : Option ℕ) → number_of names name ≡ o → (Contains names name → ⊥) → IsNone o
+    by None is absent = refl
+    by (Some n) is absent =
+        let (within, passes, _) = position-Some (bytes_eq name) names n name is in
+        absurd (absent (n, within, sym ((bytes_eq-Decides name (get_or names n name)).0 passes)))

@@ -1,0 +1,17 @@
+use Rattle.std.proofs.Common.{◌∙◌, ap, sym, Err, Some}
+use Rattle.std.proofs.lemmas.Result.{err_from_is_err_and}
+use Rattle.net_draft.specs.Faults.{each}
+use Rattle.net_draft.specs.declared.drafts.DraftPhase.{DraftPhase}
+use Rattle.net_numbers.specs.Numbers.{number_of}
+use Rattle.net_draft.proofs.Each.{each-more}
+use Rattle.net_numbers.proofs.Loops.{Makes-each}
+use Rattle.net_numbers.proofs.numbering.links_of_phases.Goals as goal
+
+pub returns-in_err-links : goal.returns-in_err-links
+returns-in_err-links c =
+    let p = err_from_is_err_and c.from_residual.result c.from_residual.ensures.1 in
+    Makes-each (λ (p : DraftPhase). each (number_of c.args.names.now) p.links) _ c.args.phases.now c.loop-index.index c.index-phases-index.result _ _ c.loop-index-test.true c.index-phases-index.is (rw c.as_slice.ensures at c.in_err-links.ensures) (p.1 ∙ ap Err p.2)
+
+pub loop-index-preserved : goal.loop-index-preserved
+loop-index-preserved c =
+    rw c.in_ok-push.ensures.items (each-more (λ (p : DraftPhase). each (number_of c.args.names.now) p.links) c.args.phases.now c.loop-index.index c.index-phases-index.result c.loop-index.lists.items c.from_vec.result c.loop-index-test.true c.index-phases-index.is c.loop-index.invariant ((rw c.as_slice.ensures at c.in_ok-links.ensures) ∙ ap Some (sym c.from_vec.ensures)))

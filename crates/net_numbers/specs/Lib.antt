@@ -1,0 +1,5 @@
+pub mod Bounds
+pub mod Numbers
+pub mod Outcome
+pub mod Outline
+pub mod Parts

@@ -1,0 +1,331 @@
+ghost use Rattle.std.specs.Prelude.{◌≡◌, ◌≤◌, ◌<◌, IfOk, IfSome, All, length, map, position};
+ghost use Rattle.net_draft.specs.Faults.{each};
+ghost use Rattle.net_numbers.specs.Bounds.{IsBoundedNode, IsBoundedPhase, IsBounded};
+ghost use Rattle.net_numbers.specs.Outcome.{Makes, Lists};
+ghost use Rattle.net_numbers.specs.Numbers as spec;
+ghost use Rattle.net_numbers.specs.Numbers.{number_of, number_if, has_link};
+ghost use Rattle.net_numbers.specs.Outline.{IsOutline};
+ghost use Rattle.net_numbers.specs.Parts.{Numbers, net_of};
+
+use crate::names::Names;
+use crate::roads::{Link, Turn};
+use foundation::items::Items;
+use foundation::text::Text;
+use net_draft::{
+    Draft, DraftConflict, DraftLink, DraftNode, DraftPhase, DraftTurn, NetFault, Part, Place, Run,
+};
+use phase_plan::{Phase, PhasePlan};
+use std::alloc::{AllocError, Global};
+
+/// A network by numbers, before it is tested how its parts are joined.
+#[derive(Drop)]
+pub struct Parts {
+    pub run: Run,
+    pub node_names: Names,
+    pub plans: Vec<PhasePlan>,
+    pub phase_links: Vec<Items<Items<u32>>>,
+    pub link_names: Names,
+    pub links: Vec<Link>,
+    pub turns: Vec<Items<Turn>>,
+    pub conflicts: Vec<(u32, u32)>,
+}
+
+/// The draft with numbers for names. The fault is `Twice` or `Unknown` at the first place that repeats a
+/// name, or else that uses one which stands for nothing.
+#[tactic(auto, unfolding(crate::specs::Numbers::numbered))]
+pub fn numbered(alloc: Global, draft: &Draft) -> Result<Parts, NetFault>
+    requires { IsBounded draft.now }
+    ensures numbers { Numbers draft.now result }
+    ensures outline { IfOk result (λ parts. IsOutline (net_of parts)) }
+{
+    let node_names = node_names(alloc, draft.nodes.as_slice())?;
+    let link_names = link_names(alloc, draft.links.as_slice())?;
+    let phase_links = phase_links(alloc, &link_names, draft.nodes.as_slice())?;
+    let names = Tables {
+        nodes: &node_names,
+        links: &link_names,
+        phase_links: phase_links.as_slice(),
+    };
+    let (links, turns) = roads(alloc, &names, draft.links.as_slice())?;
+    let conflicts = conflicts(alloc, &link_names, draft.conflicts.as_slice())?;
+    let plans = plans(alloc, draft.nodes.as_slice())?;
+    Ok(Parts {
+        run: draft.run,
+        node_names,
+        plans,
+        phase_links,
+        link_names,
+        links,
+        turns,
+        conflicts,
+    })
+}
+
+fn node_names(alloc: Global, nodes: &[DraftNode]) -> Result<Names, NetFault>
+    requires { length nodes.now ≤ 64 }
+    ensures { Lists (map (λ n. n.name) nodes.now) result }
+{
+    let mut names = Names::new(alloc);
+    for (index, node) in nodes.iter().enumerate() {
+        if !names.add(alloc, node.name.as_str())? {
+            return Err(NetFault::Twice(place(Part::Node, index as u32 + 1, 0)));
+        }
+    }
+    Ok(names)
+}
+
+fn link_names(alloc: Global, links: &[DraftLink]) -> Result<Names, NetFault>
+    requires { length links.now ≤ 320 }
+    ensures { Lists (map (λ l. l.name) links.now) result }
+{
+    let mut names = Names::new(alloc);
+    for (index, link) in links.iter().enumerate() {
+        if !names.add(alloc, link.name.as_str())? {
+            return Err(NetFault::Twice(place(Part::Link, index as u32 + 1, 0)));
+        }
+    }
+    Ok(names)
+}
+
+fn place(part: Part, item: u32, sub: u32) -> Place
+    ensures { result ≡ record { part = part; item = item; sub = sub } }
+{
+    Place { part, item, sub }
+}
+
+/// The number of a name.
+fn number(names: &Names, name: &Text, place: Place) -> Result<u32, NetFault>
+    ensures { Makes (λ number. number) result (number_of names.now name.now) }
+{
+    match names.find(name.as_str()) {
+        Some(number) => Ok(number),
+        None => Err(NetFault::Unknown(place)),
+    }
+}
+
+/// The number of a name that may be absent.
+fn number_if(names: &Names, name: &Option<Text>, place: Place) -> Result<Option<u32>, NetFault>
+    ensures { Makes (λ number. number) result (number_if names.now name.now) }
+{
+    match name {
+        Some(name) => Ok(Some(number(names, name, place)?)),
+        None => Ok(None),
+    }
+}
+
+fn numbers(alloc: Global, names: &Names, texts: &[Text], place: Place) -> Result<Vec<u32>, NetFault>
+    ensures { Makes (λ numbers. numbers.items) result (each (number_of names.now) texts.now) }
+{
+    let mut numbers = Vec::new(alloc);
+    for text in texts {
+        let number = number(names, text, place)?;
+        numbers.push(number)?;
+    }
+    Ok(numbers)
+}
+
+/// The links of each phase of each node.
+fn phase_links(
+    alloc: Global,
+    names: &Names,
+    nodes: &[DraftNode],
+) -> Result<Vec<Items<Items<u32>>>, NetFault>
+    requires few { length nodes.now ≤ 64 }
+    requires bounds { All IsBoundedNode nodes.now }
+    ensures { Makes (λ lists. lists.items) result (each (spec.phases_of names.now) nodes.now) }
+{
+    let mut lists = Vec::new(alloc);
+    for (index, node) in nodes.iter().enumerate() {
+        let phases = links_of_phases(alloc, names, node.phases.as_slice(), index as u32 + 1)?;
+        lists.push(Items::from_vec(phases))?;
+    }
+    Ok(lists)
+}
+
+fn links_of_phases(
+    alloc: Global,
+    names: &Names,
+    phases: &[DraftPhase],
+    item: u32,
+) -> Result<Vec<Items<u32>>, NetFault>
+    requires { length phases.now ≤ 4 }
+    ensures { Makes (λ lists. lists.items) result (each (λ p. each (number_of names.now) p.links) phases.now) }
+{
+    let mut lists = Vec::new(alloc);
+    for (index, phase) in phases.iter().enumerate() {
+        let place = place(Part::Phase, item, index as u32 + 1);
+        let links = numbers(alloc, names, phase.links.as_slice(), place)?;
+        lists.push(Items::from_vec(links))?;
+    }
+    Ok(lists)
+}
+
+/// What links are numbered by.
+#[derive(Drop)]
+struct Tables<'a> {
+    nodes: &'a Names,
+    links: &'a Names,
+    phase_links: &'a [Items<Items<u32>>],
+}
+
+/// The links, and the turns of each.
+#[tactic(auto, unfolding(crate::specs::Numbers::roads_of))]
+fn roads(
+    alloc: Global,
+    names: &Tables,
+    links: &[DraftLink],
+) -> Result<(Vec<Link>, Vec<Items<Turn>>), NetFault>
+    requires few { length links.now ≤ 320 }
+    requires turns { All (λ l. length l.turns ≤ 16) links.now }
+    requires nodes { length names.now.nodes.now ≤ length names.now.phase_links.now }
+    requires phases { All (λ phases. length phases ≤ 4) names.now.phase_links.now }
+    ensures { Makes (λ roads. (roads.0.items, roads.1.items)) result
+        (spec.roads_of names.now.nodes.now names.now.links.now names.now.phase_links.now links.now) }
+{
+    let mut roads = Vec::new(alloc);
+    let mut lists = Vec::new(alloc);
+    for (index, link) in links.iter().enumerate() {
+        let item = index as u32 + 1;
+        let road = road(names, link, place(Part::Link, item, 0))?;
+        let turns = turns(alloc, names.links, link.turns.as_slice(), item)?;
+        roads.push(road)?;
+        lists.push(Items::from_vec(turns))?;
+    }
+    Ok((roads, lists))
+}
+
+#[tactic(auto, unfolding(crate::specs::Numbers::link_of))]
+fn road(names: &Tables, link: &DraftLink, place: Place) -> Result<Link, NetFault>
+    requires nodes { length names.now.nodes.now ≤ length names.now.phase_links.now }
+    requires phases { All (λ phases. length phases ≤ 4) names.now.phase_links.now }
+    ensures { Makes (λ link. link) result
+        (spec.link_of names.now.nodes.now names.now.links.now names.now.phase_links.now link.now) }
+{
+    let from = number_if(names.nodes, &link.from, place)?;
+    let to = number_if(names.nodes, &link.to, place)?;
+    let number = number(names.links, &link.name, place)?;
+    Ok(Link {
+        from,
+        to,
+        travel: link.travel,
+        sat: link.sat,
+        phase: phase_of(names.phase_links, number, to),
+    })
+}
+
+/// The first phase of the node that names the link; 0 where there is no node or no such phase.
+fn phase_of(phase_links: &[Items<Items<u32>>], link: u32, to: Option<u32>) -> u8
+    requires node { IfSome to (λ node. node < length phase_links.now) }
+    requires phases { All (λ phases. length phases ≤ 4) phase_links.now }
+    ensures { result ≡ spec.phase_of phase_links.now link to }
+{
+    match to {
+        Some(node) => match phase_with(phase_links[node as usize].as_slice(), link) {
+            Some(phase) => phase,
+            None => 0,
+        },
+        None => 0,
+    }
+}
+
+/// The first phase that names the link.
+pub fn phase_with(phases: &[Items<u32>], link: u32) -> Option<u8>
+    requires { length phases.now ≤ 4 }
+    ensures { result ≡ position (has_link link) phases.now }
+{
+    for (index, links) in phases.iter().enumerate() {
+        if links.as_slice().contains(&link) {
+            return Some(index as u8);
+        }
+    }
+    None
+}
+
+fn turns(
+    alloc: Global,
+    names: &Names,
+    turns: &[DraftTurn],
+    item: u32,
+) -> Result<Vec<Turn>, NetFault>
+    requires { length turns.now ≤ 16 }
+    ensures { Makes (λ turns. turns.items) result (each (spec.turn_of names.now) turns.now) }
+{
+    let mut numbered = Vec::new(alloc);
+    for (index, turn) in turns.iter().enumerate() {
+        let turn = turn_of(names, turn, place(Part::Turn, item, index as u32 + 1))?;
+        numbered.push(turn)?;
+    }
+    Ok(numbered)
+}
+
+#[tactic(auto, unfolding(crate::specs::Numbers::turn_of))]
+fn turn_of(names: &Names, turn: &DraftTurn, place: Place) -> Result<Turn, NetFault>
+    ensures { Makes (λ turn. turn) result (spec.turn_of names.now turn.now) }
+{
+    let exit = number(names, &turn.exit, place)?;
+    Ok(Turn {
+        exit,
+        share: turn.share,
+    })
+}
+
+fn conflicts(
+    alloc: Global,
+    names: &Names,
+    conflicts: &[DraftConflict],
+) -> Result<Vec<(u32, u32)>, NetFault>
+    requires { length conflicts.now ≤ 1024 }
+    ensures { Makes (λ pairs. pairs.items) result (each (spec.conflict_of names.now) conflicts.now) }
+{
+    let mut pairs = Vec::new(alloc);
+    for (index, conflict) in conflicts.iter().enumerate() {
+        let place = place(Part::Conflict, index as u32 + 1, 0);
+        let pair = conflict_of(names, conflict, place)?;
+        pairs.push(pair)?;
+    }
+    Ok(pairs)
+}
+
+#[tactic(auto, unfolding(crate::specs::Numbers::conflict_of))]
+fn conflict_of(
+    names: &Names,
+    conflict: &DraftConflict,
+    place: Place,
+) -> Result<(u32, u32), NetFault>
+    ensures { Makes (λ pair. pair) result (spec.conflict_of names.now conflict.now) }
+{
+    let a = number(names, &conflict.a, place)?;
+    let b = number(names, &conflict.b, place)?;
+    Ok((a, b))
+}
+
+/// The plan of each node.
+fn plans(alloc: Global, nodes: &[DraftNode]) -> Result<Vec<PhasePlan>, AllocError>
+    requires { All IsBoundedNode nodes.now }
+    ensures { IfOk result (λ plans. plans.items ≡ map spec.plan_of nodes.now) }
+{
+    let mut plans = Vec::new(alloc);
+    for node in nodes {
+        let plan = plan(alloc, node.phases.as_slice())?;
+        plans.push(plan)?;
+    }
+    Ok(plans)
+}
+
+fn plan(alloc: Global, phases: &[DraftPhase]) -> Result<PhasePlan, AllocError>
+    requires some { 2 ≤ length phases.now }
+    requires few { length phases.now ≤ 4 }
+    requires bounds { All IsBoundedPhase phases.now }
+    ensures { IfOk result (λ plan. plan ≡ map (λ p. p.phase) phases.now) }
+{
+    match PhasePlan::new(times(alloc, phases)?) {
+        Ok(plan) => Ok(plan),
+        Err(_) => unreachable!(),
+    }
+}
+
+fn times(alloc: Global, phases: &[DraftPhase]) -> Result<Vec<Phase>, AllocError>
+    ensures { IfOk result (λ times. times.items ≡ map (λ p. p.phase) phases.now) }
+{
+    phases.iter().map(|phase| phase.phase).collect(alloc)
+}

@@ -1,0 +1,23 @@
+/// A one-way road, by numbers.
+#[derive(Clone, Copy)]
+pub struct Link {
+    /// The node that it comes from.
+    pub from: Option<u32>,
+    /// The node that it ends at.
+    pub to: Option<u32>,
+    /// The seconds from its begin to its end, 1 to 120.
+    pub travel: u32,
+    /// The most that leaves it in a second, in thousandths of a vehicle, 1 to 5000.
+    pub sat: u32,
+    /// Its phase at the node where it ends; 0 where it ends at no node.
+    pub phase: u8,
+}
+
+/// A turn from the end of a link into another one.
+#[derive(Clone, Copy)]
+pub struct Turn {
+    /// The link that is entered.
+    pub exit: u32,
+    /// The share of the vehicles that turn so, in thousandths.
+    pub share: u32,
+}

@@ -1,7 +1,0 @@
-use Rattle.std.proofs.Common.{All, take}
-use Rattle.road_net.specs.Bounds.{IsBoundedTurn}
-use Rattle.road_net.proofs.bounds.check_link.Given as goal
-
--- the turns so far are within their bounds
-abbrev pub invariant-loop-index : goal.invariant-loop-index
-invariant-loop-index l = All IsBoundedTurn (take l.index l.turns)

@@ -1,8 +1,0 @@
-use Rattle.std.proofs.Common.{◌≡◌, Some, take}
-use Rattle.net_draft.specs.Faults.{each}
-use Rattle.road_net.specs.Numbers.{number_of}
-use Rattle.road_net.proofs.numbering.links_of_phases.Given as goal
-
--- the links of the phases so far
-abbrev pub invariant-loop-index : goal.invariant-loop-index
-invariant-loop-index l = each (λ p. each (number_of l.names) p.links) (take l.index l.phases) ≡ Some l.lists.items

@@ -1,8 +1,0 @@
-use Rattle.std.proofs.Common.{◌≡◌, Some, take}
-use Rattle.net_draft.specs.Faults.{each}
-use Rattle.road_net.specs.Numbers.{number_of}
-use Rattle.road_net.proofs.numbering.numbers.Given as goal
-
--- the numbers of the texts so far
-abbrev pub invariant-loop-text : goal.invariant-loop-text
-invariant-loop-text l = each (number_of l.names) (take l.text-index l.texts) ≡ Some l.numbers.items
