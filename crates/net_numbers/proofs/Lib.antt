@@ -1,7 +1,7 @@
 pub mod AllRoads
 pub mod Distinct
+pub mod DraftParts
 pub mod Loops
-pub mod Numbered
 pub mod Outline
 pub mod Places
 pub mod Plans

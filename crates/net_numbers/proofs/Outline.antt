@@ -20,7 +20,7 @@ use Rattle.net_numbers.specs.declared.roads.Turn.{Turn}
 use Rattle.net_numbers.specs.Bounds.{IsName, IsBounded, IsBoundedNode, IsBoundedPhase, IsBoundedLink, IsBoundedTurn}
 use Rattle.net_numbers.specs.Numbers.{Net, no_link, AreDistinct, number_of, number_if, phase_of, plan_of, phases_of, link_of, turn_of, turns_of, conflict_of, node_names, link_names, numbered}
 use Rattle.net_numbers.specs.Outline.{IsOutline, IsLink, AreTurns, ArePhaseLinks, phases_at, plan_at, link_at}
-use Rattle.net_numbers.proofs.Numbered.{IsNumbered, numbered-parts, number_of-within, number_if-within, number_of-own}
+use Rattle.net_numbers.proofs.DraftParts.{IsNumbered, numbered-parts, number_of-within, number_if-within, number_of-own}
 use Rattle.net_numbers.proofs.Plans.{IsPlan-from_bounds}
 
 anything : {X : Type 0} (xs : List X) → All (λ _. ⊤) xs

@@ -4,8 +4,7 @@ ghost use Rattle.net_numbers.specs.Bounds.{IsBoundedNode, IsBoundedPhase, IsBoun
 ghost use Rattle.net_numbers.specs.Outcome.{Makes, Lists};
 ghost use Rattle.net_numbers.specs.Numbers as spec;
 ghost use Rattle.net_numbers.specs.Numbers.{number_of, number_if, has_link};
-ghost use Rattle.net_numbers.specs.Outline.{IsOutline};
-ghost use Rattle.net_numbers.specs.Parts.{Numbers, net_of};
+ghost use Rattle.net_numbers.specs.Parts.{Numbers};
 
 use crate::names::Names;
 use crate::roads::{Link, Turn};
@@ -35,8 +34,7 @@ pub struct Parts {
 #[tactic(auto, unfolding(crate::specs::Numbers::numbered))]
 pub fn numbered(alloc: Global, draft: &Draft) -> Result<Parts, NetFault>
     requires { IsBounded draft.now }
-    ensures numbers { Numbers draft.now result }
-    ensures outline { IfOk result (λ parts. IsOutline (net_of parts)) }
+    ensures { Numbers draft.now result }
 {
     let node_names = node_names(alloc, draft.nodes.as_slice())?;
     let link_names = link_names(alloc, draft.links.as_slice())?;

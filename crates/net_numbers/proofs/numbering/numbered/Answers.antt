@@ -4,7 +4,7 @@ use Rattle.std.proofs.lemmas.Result.{err_from_is_err_and}
 use Rattle.net_draft.proofs.Each.{each-length}
 use Rattle.net_numbers.specs.Numbers.{phases_of}
 use Rattle.net_numbers.proofs.Loops.{Numbers-none}
-use Rattle.net_numbers.proofs.Outline.{phases-few, outline}
+use Rattle.net_numbers.proofs.Outline.{phases-few}
 use Rattle.net_numbers.proofs.numbering.numbered.Goals as goal
 
 pub returns-in_err-node_names : goal.returns-in_err-node_names
