@@ -1,10 +1,8 @@
 -- The numbers of a draft within its bounds.
-use Rattle.std.proofs.Common.{◌≡◌, ℕ, ◌<◌, ◌≤◌, ◌^◌, List, [], length, get_or, sum_by, All, Some, None, refl, ◌∙◌, sym, arith}
+use Rattle.std.proofs.Common.{◌≡◌, ℕ, ◌<◌, ◌≤◌, List, [], length, get_or, All, Some, None, refl, ◌∙◌, sym, arith}
 use Rattle.std.specs.Bool.{⊤}
-use Rattle.std.proofs.Math.Nat.{mul-le-mul_right}
 use Rattle.std.proofs.lemmas.List.{length-map, get_or-map, get_or_default}
 use Rattle.std.proofs.lemmas.List.Elements.{All-map, All-weaker}
-use Rattle.std.proofs.lemmas.List.Sums.{sum_by-le}
 use Rattle.std.proofs.lemmas.Option.{same_Some}
 use Rattle.phase_plan.specs.Phases.{IsPlan}
 use Rattle.net_draft.specs.Faults.{each}

@@ -1,5 +1,5 @@
 -- What the fields of the code stand for, and what numbering a draft answers.
-use Rattle.std.specs.Prelude.{◌≡◌, List, Some, Result, Ok, Err}
+use Rattle.std.specs.Prelude.{◌≡◌, Some, Result, Ok, Err}
 use Rattle.net_draft.specs.declared.faults.NetFault.{NetFault}
 use Rattle.net_draft.specs.declared.drafts.Draft.{Draft}
 use Rattle.net_numbers.specs.declared.numbering.Parts.{Parts}

@@ -1,17 +1,13 @@
 -- Which network a draft and a text stand for, and what is true of every network.
-use Rattle.std.specs.Prelude.{◌≡◌, ◌≢◌, ℕ, ◌<◌, ◌≤◌, List, [], Some, IfSome, IsUtf8, length, slice_index, slice_index_or, All, AllPairs, Contains, None}
-use Rattle.phase_plan.specs.declared.Phase.{Phase}
-use Rattle.phase_plan.specs.Phases.{IsPlan}
+use Rattle.std.specs.Prelude.{◌≡◌, ◌≢◌, ℕ, ◌<◌, List, Some, IsUtf8, length, slice_index, All, AllPairs, Contains, None}
 use Rattle.toml.specs.Data.{Members}
 use Rattle.toml.specs.Parse.{parse_document}
 use Rattle.net_draft.specs.Table.{draft_of}
 use Rattle.net_draft.specs.declared.drafts.Draft.{Draft}
 use Rattle.net_draft.specs.declared.faults.NetFault.{NetFault}
 use Rattle.net_draft.specs.declared.faults.NetFault.TheVariants.{NoMemory, NotToml, Shape}
-use Rattle.net_numbers.specs.declared.roads.Link.{Link}
-use Rattle.net_numbers.specs.declared.roads.Turn.{Turn}
 use Rattle.road_net.specs.declared.joins.Side.TheVariants.{From, To}
-use Rattle.net_numbers.specs.Bounds.{IsName, IsRun, IsBounded}
+use Rattle.net_numbers.specs.Bounds.{IsBounded}
 use Rattle.net_numbers.specs.Numbers.{Net, AreDistinct, numbered, node_names, link_names}
 use Rattle.net_numbers.specs.Outline.{IsOutline, link_at, plan_at, phase_links_at}
 use Rattle.road_net.specs.Joins as joins

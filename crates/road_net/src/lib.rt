@@ -15,10 +15,10 @@ mod senses;
 mod splits;
 
 use foundation::items::Items;
+use joins::Side;
 pub use net_draft::{
     Draft, DraftConflict, DraftLink, DraftNode, DraftPhase, DraftTurn, NetFault, Part, Place, Run,
 };
-use joins::Side;
 use net_numbers::{Parts, check_bounds, numbered};
 pub use net_numbers::{Link, Turn};
 use phase_plan::PhasePlan;
