@@ -11,6 +11,8 @@ use switch_rules::{Cluster, Head};
 /// What the lines of an instance's text say: 2 to 4 phases, a head, and the clusters of each phase.
 ///
 /// The numbers are as they stand in the text: they may be no plan, no head and no clusters.
+///
+/// docs/FORMATS.md, "Instance text".
 #[derive(Drop)]
 pub struct Form {
     /// The phases, in order.
@@ -22,6 +24,8 @@ pub struct Form {
 }
 
 /// Why bytes are no instance's text.
+///
+/// docs/FORMATS.md, "Instance text".
 #[derive(Clone, Copy)]
 pub enum FormFault {
     /// The first line, from 1, that has not the form of its place.

@@ -9,6 +9,8 @@ use phase_plan::Phase;
 use switch_rules::{Cluster, Head};
 
 /// The number of phases, 2 to 4, and the bytes after its line.
+///
+/// docs/FORMATS.md, "Instance text".
 #[tactic(auto, unfolding(crate::specs::Lines::count_line_at))]
 pub fn count_line(bytes: &[u8]) -> Option<(u8, &[u8])>
     ensures exact { option_map seen result ≡ count_line_at bytes.now }
@@ -25,6 +27,8 @@ pub fn count_line(bytes: &[u8]) -> Option<(u8, &[u8])>
 }
 
 /// A phase, and the bytes after its line.
+///
+/// docs/FORMATS.md, "Instance text".
 #[tactic(auto, unfolding(crate::specs::Lines::phase_line_at))]
 pub fn phase_line(bytes: &[u8]) -> Option<(Phase, &[u8])>
     ensures exact { option_map seen result ≡ phase_line_at bytes.now }
@@ -49,6 +53,8 @@ pub fn phase_line(bytes: &[u8]) -> Option<(Phase, &[u8])>
 }
 
 /// The head, and the bytes after its line.
+///
+/// docs/FORMATS.md, "Instance text".
 #[tactic(auto, unfolding(crate::specs::Lines::head_line_at))]
 pub fn head_line(bytes: &[u8]) -> Option<(Head, &[u8])>
     ensures exact { option_map seen result ≡ head_line_at bytes.now }
@@ -82,6 +88,8 @@ fn freshness(bytes: &[u8]) -> Option<(bool, &[u8])>
 }
 
 /// A cluster of this phase, and the bytes after its line.
+///
+/// docs/FORMATS.md, "Instance text".
 #[tactic(auto, unfolding(crate::specs::Lines::cluster_line_at))]
 pub fn cluster_line(phase: u8, bytes: &[u8]) -> Option<(Cluster, &[u8])>
     ensures exact { option_map seen result ≡ cluster_line_at phase bytes.now }

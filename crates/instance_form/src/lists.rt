@@ -11,6 +11,8 @@ use std::alloc::{AllocError, Global};
 use switch_rules::Cluster;
 
 /// So many phases, the first of them in this line, and the bytes after them.
+///
+/// docs/FORMATS.md, "Instance text".
 pub fn phases(
     alloc: Global,
     count: u8,
@@ -32,6 +34,8 @@ pub fn phases(
 }
 
 /// The clusters of a phase, as many as follow one another, and the bytes after them.
+///
+/// docs/FORMATS.md, "Instance text".
 pub fn clusters(alloc: Global, phase: u8, bytes: &[u8]) -> Result<(Vec<Cluster>, &[u8]), AllocError>
     ensures exact { IfOk result (λ x. clusters_at (length bytes.now) phase bytes.now ≡ (x.0.items, x.1.now)) }
     ensures few { IfOk result (λ x. length x.0.items + length x.1.now ≤ length bytes.now) }
@@ -46,6 +50,8 @@ pub fn clusters(alloc: Global, phase: u8, bytes: &[u8]) -> Result<(Vec<Cluster>,
 }
 
 /// The clusters of each of so many phases, how many they are in all, and the bytes after them.
+///
+/// docs/FORMATS.md, "Instance text".
 pub fn lists(
     alloc: Global,
     count: u8,

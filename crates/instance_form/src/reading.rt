@@ -72,6 +72,8 @@ fn form_front(alloc: Global, line: u32, bytes: &[u8]) -> Result<(Form, u32, &[u8
 /// text's first line has the number `line`.
 ///
 /// A fault `Line` comes only where no text of a form that has one stands at the front.
+///
+/// docs/FORMATS.md, "Instance text".
 pub fn read_front(alloc: Global, line: u32, bytes: &[u8]) -> Result<(Form, u32, &[u8]), FormFault>
     requires { line + length bytes.now ≤ 2 ^ 32 }
     ensures fits { IfOk result (λ x. HasText x.0.phases.items x.0.head x.0.lists.items) }
@@ -89,6 +91,8 @@ pub fn read_front(alloc: Global, line: u32, bytes: &[u8]) -> Result<(Form, u32, 
 /// The form whose text the bytes are.
 ///
 /// A fault `Line` comes only where the bytes are the text of no form that has one.
+///
+/// docs/FORMATS.md, "Instance text".
 pub fn read_form(alloc: Global, bytes: &[u8]) -> Result<Form, FormFault>
     requires { length bytes.now < 2 ^ 32 }
     ensures fits { IfOk result (λ form. HasText form.phases.items form.head form.lists.items) }
@@ -108,6 +112,8 @@ pub fn read_form(alloc: Global, bytes: &[u8]) -> Result<Form, FormFault>
 }
 
 /// Each text is that of one form, and none begins another.
+///
+/// docs/FORMATS.md, "Instance text".
 pub fn one_text()
     ensures { (plan others : List Phase) (h g : Head) (lists queues : List (List Cluster)) (x y : List ℕ)
         → HasText plan h lists → HasText others g queues

@@ -11,6 +11,8 @@ ghost use Rattle.std.specs.Fmt.{decimal};
 ghost use Rattle.line_text.specs.Fields.{literal_at, field_at, field_seen};
 
 /// The bytes after `text`, or none where the bytes do not begin with it.
+///
+/// docs/FORMATS.md, "Numbers and lines".
 pub fn literal<'a>(text: &str, bytes: &'a [u8]) -> Option<&'a [u8]>
     ensures found { IfSome result (λ rest. bytes.now ≡ text.now ++ rest.now) }
     ensures only { (rest : List ℕ) → bytes.now ≡ text.now ++ rest → IsSomeAnd result (λ x. x.now ≡ rest) }
@@ -24,6 +26,8 @@ pub fn literal<'a>(text: &str, bytes: &'a [u8]) -> Option<&'a [u8]>
 /// The number at the front, which is a `u8`, up to the separator, and the bytes after that.
 ///
 /// A number has digits alone, and its first is 0 only where it is 0.
+///
+/// docs/FORMATS.md, "Numbers and lines".
 pub fn field_u8(separator: u8, bytes: &[u8]) -> Option<(u8, &[u8])>
     requires { ¬ IsAsciiDigit separator }
     ensures found { IfSome result (λ x. bytes.now ≡ decimal x.0 ++ separator ∷ x.1.now) }
@@ -40,6 +44,8 @@ pub fn field_u8(separator: u8, bytes: &[u8]) -> Option<(u8, &[u8])>
 /// The number at the front, which is a `u32`, up to the separator, and the bytes after that.
 ///
 /// A number has digits alone, and its first is 0 only where it is 0.
+///
+/// docs/FORMATS.md, "Numbers and lines".
 pub fn field_u32(separator: u8, bytes: &[u8]) -> Option<(u32, &[u8])>
     requires { ¬ IsAsciiDigit separator }
     ensures found { IfSome result (λ x. bytes.now ≡ decimal x.0 ++ separator ∷ x.1.now) }
@@ -56,6 +62,8 @@ pub fn field_u32(separator: u8, bytes: &[u8]) -> Option<(u32, &[u8])>
 /// The number at the front, which is a `u64`, up to the separator, and the bytes after that.
 ///
 /// A number has digits alone, and its first is 0 only where it is 0.
+///
+/// docs/FORMATS.md, "Numbers and lines".
 pub fn field_u64(separator: u8, bytes: &[u8]) -> Option<(u64, &[u8])>
     requires { ¬ IsAsciiDigit separator }
     ensures found { IfSome result (λ x. bytes.now ≡ decimal x.0 ++ separator ∷ x.1.now) }
@@ -103,6 +111,8 @@ fn with_digit(most: u64, number: u64, byte: u8) -> Option<u64>
 }
 
 /// Bytes begin with at most one number before a separator.
+///
+/// docs/FORMATS.md, "Numbers and lines".
 pub fn one_field()
     ensures { (m n separator : ℕ) (x y : List ℕ) → m < 2 ^ 64 → n < 2 ^ 64 → ¬ IsAsciiDigit separator
         → decimal m ++ separator ∷ x ≡ decimal n ++ separator ∷ y → (m ≡ n) × (x ≡ y) }

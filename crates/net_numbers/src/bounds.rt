@@ -1,12 +1,12 @@
 ghost use Rattle.std.specs.Prelude.{◌≡◌, ◌≤◌, ◌↔◌, IsTrue, All, length};
-ghost use Rattle.phase_plan.specs.Phases.{IsPhase};
 ghost use Rattle.net_numbers.specs.Outcome.{Tests};
 ghost use Rattle.net_numbers.specs.Bounds.{IsNameByte, IsName, IsRun, IsBoundedPhase, IsBoundedNode, IsBoundedLink, IsBoundedTurn, IsBounded};
 
 use net_draft::{Draft, DraftLink, DraftNode, DraftPhase, NetFault, Part, Place, Run};
-use phase_plan::Phase;
 
 /// Tests the bounds of a draft, and names the first place where one does not hold.
+///
+/// docs/RULES.md, "Road network".
 pub fn check_bounds(draft: &Draft) -> Result<(), NetFault>
     ensures { Tests (IsBounded draft.now) result }
 {
@@ -66,23 +66,11 @@ fn check_phases(phases: &[DraftPhase], item: u32) -> Result<(), NetFault>
     ensures { Tests (All IsBoundedPhase phases.now) result }
 {
     for (index, phase) in phases.iter().enumerate() {
-        if !is_phase(&phase.phase) || phase.links.len() > 16 {
+        if !phase.phase.is_within_bounds() || phase.links.len() > 16 {
             return Err(bound(Part::Phase, item, index as u32 + 1));
         }
     }
     Ok(())
-}
-
-fn is_phase(phase: &Phase) -> bool
-    ensures { IsTrue result ↔ IsPhase phase.now }
-{
-    (1..=120).contains(&phase.least)
-        && (phase.least..=240).contains(&phase.greatest)
-        && (1..=10).contains(&phase.yellow)
-        && phase.clear <= 10
-        && phase.loss <= 10
-        && phase.loss < phase.greatest
-        && (1..=3600).contains(&phase.wait)
 }
 
 fn check_links(links: &[DraftLink]) -> Result<(), NetFault>

@@ -4,6 +4,8 @@ use std::marker::Model;
 
 /// Names, numbered from 0 in the order in which they were added, and found by hash. Contracts see it as
 /// the list of the names.
+///
+/// docs/RULES.md, "Road network".
 #[derive(Drop)]
 pub struct Names {
     set: IndexSet<String>,

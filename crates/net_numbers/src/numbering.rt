@@ -17,6 +17,8 @@ use phase_plan::{Phase, PhasePlan};
 use std::alloc::{AllocError, Global};
 
 /// A network by numbers, before it is tested how its parts are joined.
+///
+/// docs/RULES.md, "Road network".
 #[derive(Drop)]
 pub struct Parts {
     pub run: Run,
@@ -31,6 +33,8 @@ pub struct Parts {
 
 /// The draft with numbers for names. The fault is `Twice` or `Unknown` at the first place that repeats a
 /// name, or else that uses one which stands for nothing.
+///
+/// docs/RULES.md, "Road network".
 #[tactic(auto, unfolding(crate::specs::Numbers::numbered))]
 pub fn numbered(alloc: Global, draft: &Draft) -> Result<Parts, NetFault>
     requires { IsBounded draft.now }
@@ -227,6 +231,8 @@ fn phase_of(phase_links: &[Items<Items<u32>>], link: u32, to: Option<u32>) -> u8
 }
 
 /// The first phase that names the link.
+///
+/// docs/RULES.md, "Links".
 pub fn phase_with(phases: &[Items<u32>], link: u32) -> Option<u8>
     requires { length phases.now ≤ 4 }
     ensures { result ≡ position (has_link link) phases.now }

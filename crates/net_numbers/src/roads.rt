@@ -1,9 +1,11 @@
 /// A one-way road, by numbers.
+///
+/// docs/RULES.md, "Links".
 #[derive(Clone, Copy)]
 pub struct Link {
-    /// The node that it comes from.
+    /// The node that it comes from; `None` where it comes from outside.
     pub from: Option<u32>,
-    /// The node that it ends at.
+    /// The node that it ends at; `None` where it leaves the network.
     pub to: Option<u32>,
     /// The seconds from its begin to its end, 1 to 120.
     pub travel: u32,
@@ -14,10 +16,12 @@ pub struct Link {
 }
 
 /// A turn from the end of a link into another one.
+///
+/// docs/RULES.md, "Turning".
 #[derive(Clone, Copy)]
 pub struct Turn {
     /// The link that is entered.
     pub exit: u32,
-    /// The share of the vehicles that turn so, in thousandths.
+    /// The share of the vehicles that turn so, 0 to 1000 thousandths.
     pub share: u32,
 }

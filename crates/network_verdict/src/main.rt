@@ -1,5 +1,5 @@
 //! A small program beside the product: it reads a road network file and prints `accepted`, or the fault
-//! by its place.
+//! by its place, or `long` where the file has more than 100,663,296 bytes.
 #![tactic(auto)]
 
 use outside_world::{FileShelf, Shelf};
@@ -23,9 +23,13 @@ fn main(rt: HostRuntime) -> ExitCode {
         return ExitCode::from(CANNOT_READ);
     };
     let mut shelf = FileShelf::new(alloc, &rt);
-    let Ok(bytes) = shelf.fetch(alloc, name.as_str(), MOST_BYTES) else {
+    let Ok(bytes) = shelf.fetch(alloc, name.as_str(), MOST_BYTES + 1) else {
         return ExitCode::from(CANNOT_READ);
     };
+    if bytes.len() > MOST_BYTES {
+        print(&rt, "long");
+        return ExitCode::from(0);
+    }
     match read_network(alloc, &bytes) {
         Ok(_) => print(&rt, "accepted"),
         Err(fault) => print_fault(&rt, fault),

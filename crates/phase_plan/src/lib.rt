@@ -7,6 +7,8 @@ ghost use Rattle.phase_plan.specs.Phases.{IsPhase, IsFirstFault, passing};
 use std::marker::Model;
 
 /// The times of one phase, in whole seconds.
+///
+/// docs/RULES.md, "Phases".
 #[derive(Clone, Copy)]
 pub struct Phase {
     /// The least duration of a green, 1 to 120.
@@ -23,6 +25,20 @@ pub struct Phase {
     pub wait: u32,
 }
 
+impl Phase {
+    ghost use Rattle.std.specs.Prelude.{◌↔◌, IsTrue};
+    ghost use Rattle.phase_plan.specs.Phases.{IsPhase};
+
+    /// Whether each time is within its bounds.
+    ///
+    /// docs/RULES.md, "Phases".
+    pub fn is_within_bounds(&self) -> bool
+        ensures { IsTrue result ↔ IsPhase self.now }
+    {
+        out_of_bounds(self).is_none()
+    }
+}
+
 /// A field of a `Phase`, as a fault names it.
 #[derive(Clone, Copy)]
 pub enum Field {
@@ -35,6 +51,8 @@ pub enum Field {
 }
 
 /// Why phases are no plan.
+///
+/// docs/RULES.md, "Phases".
 #[derive(Clone, Copy)]
 pub enum PlanFault {
     /// The number of phases, which is not 2 to 4.
@@ -45,6 +63,8 @@ pub enum PlanFault {
 
 /// Phases that an intersection serves in a fixed ring, 2 to 4 of them, each within its bounds.
 /// Contracts see it as the list of its phases.
+///
+/// docs/RULES.md, "Phases".
 #[derive(Drop)]
 pub struct PhasePlan {
     phases: Vec<Phase>,
@@ -71,6 +91,8 @@ impl PhasePlan {
     ///
     /// The fault is the number of phases, or else the first phase that is out of bounds, with the
     /// first of its fields that is.
+    ///
+    /// docs/RULES.md, "Phases".
     pub fn new(phases: Vec<Phase>) -> Result<PhasePlan, PlanFault>
         requires { vec_len phases < 2 ^ 32 }
         ensures ok { IfOk result (λ plan. (plan ≡ phases.items) × IsPlan phases.items) }
@@ -111,6 +133,8 @@ impl PhasePlan {
     /// The seconds from the end of a green of phase `s` to the begin of a green of phase `j`, at the
     /// least: the yellow and clear time of `s`, and a least green with its yellow and clear time
     /// for each phase that the ring passes on the way.
+    ///
+    /// docs/RULES.md, "Ring and switch time".
     pub fn switch_time(&self, s: u8, j: u8) -> u32
         requires from { s < length self.now }
         requires to { j < length self.now }

@@ -30,21 +30,38 @@ pub record IsNetworkOf (d : Draft) (net : Net) : Type 0 where
   pub numbers : numbered d ≡ Some net
   pub joins : IsJoined net
 
--- the network of a text: it is TOML, its table stands for a draft, and the draft for the network
-pub record IsNetworkText (bytes : List ℕ) (net : Net) : Type 0 where
+-- the draft of a text: it is TOML, and its table stands for the draft
+pub record IsDraftText (bytes : List ℕ) (draft : Draft) : Type 0 where
   pub utf8 : IsUtf8 bytes
   pub table : Members
   pub toml : parse_document bytes ≡ Some table
-  pub draft : Draft
   pub form : draft_of table ≡ Some draft
+
+-- the network of a text is that of its draft
+pub record IsNetworkText (bytes : List ℕ) (net : Net) : Type 0 where
+  pub draft : Draft
+  pub text : IsDraftText bytes draft
   pub network : IsNetworkOf draft net
 
--- Why a text is refused: it is no TOML, or its table stands for no draft, or its draft for no network.
+-- a text that is TOML, and whose table stands for no draft
+pub record HasNoDraft (bytes : List ℕ) : Type 0 where
+  pub utf8 : IsUtf8 bytes
+  pub table : Members
+  pub toml : parse_document bytes ≡ Some table
+  pub form : draft_of table ≡ None
+
+-- a text that has a draft, which stands for no network
+pub record HasNoNetwork (bytes : List ℕ) : Type 0 where
+  pub draft : Draft
+  pub text : IsDraftText bytes draft
+  pub network : (net : Net) → ¬ IsNetworkOf draft net
+
+-- Why a text is refused: it is no UTF-8 or no TOML, or its table stands for no draft, or its draft for no network.
 abbrev pub IsCause : List ℕ → NetFault → Type 0
 IsCause bytes NoMemory = Unit {0}
 IsCause bytes NotToml = IsUtf8 bytes → parse_document bytes ≡ None
-IsCause bytes (Shape place) = (table : Members) → parse_document bytes ≡ Some table → draft_of table ≡ None
-IsCause bytes _ = (table : Members) (draft : Draft) (net : Net) → parse_document bytes ≡ Some table → draft_of table ≡ Some draft → ¬ IsNetworkOf draft net
+IsCause bytes (Shape place) = HasNoDraft bytes
+IsCause bytes _ = HasNoNetwork bytes
 
 -- the links that end at a node and those that leave it, rising
 abbrev pub entry_links : Net → ℕ → List ℕ

@@ -1,13 +1,16 @@
 -- What the fields of the code stand for.
-use Rattle.std.specs.Prelude.{◌≡◌, ℕ, List, Result, Ok, Err, length}
+use Rattle.std.specs.Prelude.{◌≡◌, ℕ, List, None, Result, Ok, Err, IsUtf8, length}
+use Rattle.toml.specs.Parse.{parse_document}
 use Rattle.net_draft.specs.declared.faults.NetFault.{NetFault}
+use Rattle.net_draft.specs.declared.faults.NetFault.TheVariants.{NoMemory, NotToml, Shape}
+use Rattle.net_draft.specs.declared.drafts.Draft.{Draft}
 use Rattle.net_numbers.specs.declared.numbering.Parts.{Parts}
 use Rattle.road_net.specs.declared.joins.Side.TheVariants.{From, To}
 use Rattle.net_numbers.specs.Outcome.{Refuses}
 use Rattle.net_numbers.specs.Numbers.{Net}
 use Rattle.net_numbers.specs.Parts.{net_of}
 use Rattle.road_net.specs.Joins.{AreByNode}
-use Rattle.road_net.specs.Network.{IsNetwork, IsJoined}
+use Rattle.road_net.specs.Network.{IsNetwork, IsJoined, IsDraftText, HasNoDraft}
 
 -- a network with the lists of links of each node
 pub record IsStored (parts : Parts) (entry_links exit_links : List (List ℕ)) : Type 0 where
@@ -19,3 +22,11 @@ pub record IsStored (parts : Parts) (entry_links exit_links : List (List ℕ)) :
 abbrev pub Joins : Net → Result Net NetFault → Type 0
 Joins net (Ok network) = (network ≡ net) × IsJoined net
 Joins net (Err fault) = Refuses fault (¬ IsJoined net)
+
+-- the draft is that of the text; a fault says why it has none
+abbrev pub Drafts : List ℕ → Result Draft NetFault → Type 0
+Drafts bytes (Ok draft) = IsDraftText bytes draft
+Drafts bytes (Err NoMemory) = Unit {0}
+Drafts bytes (Err NotToml) = IsUtf8 bytes → parse_document bytes ≡ None
+Drafts bytes (Err (Shape place)) = HasNoDraft bytes
+Drafts bytes (Err _) = ⊥

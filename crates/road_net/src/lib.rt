@@ -8,13 +8,14 @@ ghost use Rattle.net_numbers.specs.Outcome.{Refuses};
 ghost use Rattle.net_numbers.specs.Outline.{IsOutline};
 ghost use Rattle.net_numbers.specs.Parts.{net_of};
 ghost use Rattle.road_net.specs.Network.{IsNetworkOf, IsNetworkText, IsCause};
-ghost use Rattle.road_net.specs.Stored.{Joins};
+ghost use Rattle.road_net.specs.Stored.{Drafts, Joins};
 
 mod joins;
 mod senses;
 mod splits;
 
 use foundation::items::Items;
+use foundation::threads::CrossesThreads;
 use joins::Side;
 pub use net_draft::{
     Draft, DraftConflict, DraftLink, DraftNode, DraftPhase, DraftTurn, NetFault, Part, Place, Run,
@@ -28,6 +29,8 @@ use std::alloc::Global;
 use std::marker::Model;
 
 /// A valid road network. Its nodes and links are numbered from 0 in the order of its file.
+///
+/// docs/RULES.md, "Road network".
 #[derive(Drop)]
 pub struct Network {
     parts: Parts,
@@ -48,6 +51,8 @@ impl Model for Network {
     ghost invariant = { λ network. IsStored network.parts network.entry_links.items network.exit_links.items };
 }
 
+impl CrossesThreads for Network {}
+
 impl Network {
     ghost use Rattle.std.specs.Prelude.{◌≡◌, ◌<◌, ◌↔◌, Some, IsSome, IsNone, IfSome, Contains, sum_by, slice_get, length};
     ghost use Rattle.net_numbers.specs.Numbers.{number_of};
@@ -56,6 +61,8 @@ impl Network {
     ghost use Rattle.road_net.specs.Network.{IsNetwork, entry_links, exit_links};
 
     /// How the network is run.
+    ///
+    /// docs/RULES.md, "Road network".
     pub fn run(&self) -> Run
         ensures value { result ≡ self.now.run }
         ensures network { IsNetwork self.now }
@@ -88,7 +95,9 @@ impl Network {
         &self.parts.plans[node as usize]
     }
 
-    /// The links that a phase of a node serves, in the order of the file.
+    /// The links that a phase of a node serves, at most 16, in the order of the file.
+    ///
+    /// docs/RULES.md, "Links".
     pub fn phase_links(&self, node: u32, phase: u8) -> &[u32]
         requires node { node < length self.now.node_names }
         requires phase { phase < length (plan_at self.now node) }
@@ -99,7 +108,9 @@ impl Network {
         phases[phase as usize].as_slice()
     }
 
-    /// The links that end at a node, in number order.
+    /// The links that end at a node, at most 16, in number order.
+    ///
+    /// docs/RULES.md, "Links".
     pub fn entry_links(&self, node: u32) -> &[u32]
         requires { node < length self.now.node_names }
         ensures value { result.now ≡ entry_links self.now node }
@@ -110,6 +121,8 @@ impl Network {
     }
 
     /// The links that come from a node, in number order.
+    ///
+    /// docs/RULES.md, "Links".
     pub fn exit_links(&self, node: u32) -> &[u32]
         requires { node < length self.now.node_names }
         ensures value { result.now ≡ exit_links self.now node }
@@ -119,7 +132,7 @@ impl Network {
         self.exit_links[node as usize].as_slice()
     }
 
-    /// A link.
+    /// A link: its ends, travel time, greatest discharge and phase.
     pub fn link(&self, l: u32) -> Link
         requires { l < length self.now.link_names }
         ensures value { result ≡ link_at self.now l }
@@ -128,7 +141,7 @@ impl Network {
         self.parts.links[l as usize]
     }
 
-    /// The turns of a link, in the order of the file.
+    /// The turns of a link, at most 16, in the order of the file; none where it ends at no node.
     pub fn turns(&self, l: u32) -> &[Turn]
         requires { l < length self.now.link_names }
         ensures value { result.now ≡ turns_at self.now l }
@@ -138,7 +151,9 @@ impl Network {
     }
 
     /// The part of an amount, in thousandths of a vehicle, that turns at the end of link `l` into the link
-    /// `exit`; 0 where no turn leads there.
+    /// `exit`; 0 where no turn leads there. Where the link ends at a node, the parts of its turns are the amount.
+    ///
+    /// docs/RULES.md, "Turning".
     pub fn split(&self, l: u32, amount: u32, exit: u32) -> u32
         requires { l < length self.now.link_names }
         ensures value { result ≡ split_of (turns_at self.now l) amount exit }
@@ -148,7 +163,9 @@ impl Network {
         splits::split(self.turns(l), amount, exit)
     }
 
-    /// The pairs of links that must never be green together, in the order of the file.
+    /// The pairs of links that must never be green together, at most 1024, in the order of the file.
+    ///
+    /// docs/RULES.md, "Conflicts".
     pub fn conflicts(&self) -> &[(u32, u32)]
         ensures value { result.now ≡ self.now.conflicts }
         ensures network { IsNetwork self.now }
@@ -174,7 +191,7 @@ impl Network {
         self.parts.link_names.name(l)
     }
 
-    /// The node with this name.
+    /// The number of the node with this name; `None` exactly where no node has it.
     pub fn find_node(&self, name: &str) -> Option<u32>
         ensures value { result ≡ number_of self.now.node_names name.now }
         ensures none { IsNone result ↔ ¬ Contains self.now.node_names name.now }
@@ -184,7 +201,7 @@ impl Network {
         self.parts.node_names.find(name)
     }
 
-    /// The link with this name.
+    /// The number of the link with this name; `None` exactly where no link has it.
     pub fn find_link(&self, name: &str) -> Option<u32>
         ensures value { result ≡ number_of self.now.link_names name.now }
         ensures none { IsNone result ↔ ¬ Contains self.now.link_names name.now }
@@ -200,6 +217,8 @@ impl Network {
 /// The fault is want of memory, or the first that is found when the whole draft is tested for bounds, then for
 /// names that come twice, for unknown names, for the ends of links, for crowded nodes, for shares, for phases
 /// and for conflicts. It is never `NotToml` or `Shape`.
+///
+/// docs/RULES.md, "Road network".
 pub fn build(alloc: Global, draft: Draft) -> Result<Network, NetFault>
     ensures ok { IfOk result (IsNetworkOf draft) }
     ensures refused { IfErr result (λ fault. Refuses fault ((net : Net) → ¬ IsNetworkOf draft net)) }
@@ -229,15 +248,26 @@ fn joined(alloc: Global, parts: Parts) -> Result<Network, NetFault>
     })
 }
 
-/// The network of a text, which is read as TOML.
+/// The network of a text, which is read as TOML. The text has fewer than 2^32 bytes.
 ///
-/// The fault is `NotToml` where the text is no TOML, `Shape` where a table has not the form of its place, and
-/// else that of `build`.
+/// The fault is want of memory, `NotToml` where the text is no UTF-8 or no TOML, `Shape` of the first table that has
+/// not the form of its place, and else that of `build`.
+///
+/// docs/FORMATS.md, "Network file".
 pub fn read_network(alloc: Global, bytes: &[u8]) -> Result<Network, NetFault>
     requires { length bytes.now < 2 ^ 32 }
     ensures ok { IfOk result (IsNetworkText bytes.now) }
     ensures refused { IfErr result (λ fault. Unless fault ((net : Net) → ¬ IsNetworkText bytes.now net)) }
     ensures cause { IfErr result (IsCause bytes.now) }
+{
+    let draft = drafted(alloc, bytes)?;
+    build(alloc, draft)
+}
+
+/// The draft of a text. The text's table is given back before the network is built.
+fn drafted(alloc: Global, bytes: &[u8]) -> Result<Draft, NetFault>
+    requires { length bytes.now < 2 ^ 32 }
+    ensures { Drafts bytes.now result }
 {
     let table = match toml::de::table_from_slice(alloc, bytes) {
         Ok(table) => table,
@@ -248,6 +278,5 @@ pub fn read_network(alloc: Global, bytes: &[u8]) -> Result<Network, NetFault>
             return Err(NetFault::NotToml);
         }
     };
-    let draft = net_draft::read_draft(alloc, &table)?;
-    build(alloc, draft)
+    net_draft::read_draft(alloc, &table)
 }

@@ -1,19 +1,26 @@
 use foundation::items::Items;
 
-/// What is seen of a link that ends at a node.
+/// What a node sees of one of its entry links.
+///
+/// docs/RULES.md, "What a node sees".
 #[derive(Drop)]
 pub struct LinkSense {
+    /// The number of the link.
     pub link: u32,
     /// The queue at its end, in thousandths of a vehicle.
     pub queue: u32,
-    /// What reaches its end in each of the next seconds, one number for each second that it takes to travel it.
+    /// What reaches its end in each of the next seconds, in thousandths of a vehicle: one number for each second that
+    /// it takes to travel the link.
     pub coming: Items<u32>,
 }
 
-/// What a node sees of its entry links, in link order.
+/// What a node sees of its entry links in one second. All amounts together are at most 2,000,000,000.
+///
+/// docs/RULES.md, "What a node sees".
 #[derive(Drop)]
 pub struct Sensed {
     /// The second, at most 18,000.
     pub now: u32,
+    /// One for each entry link of the node, in the order of the links' numbers.
     pub links: Items<LinkSense>,
 }

@@ -22,6 +22,8 @@ pub(crate) fn split(turns: &[Turn], amount: u32, exit: u32) -> u32
 }
 
 /// The parts of a split are the whole amount, for all turns into links that differ whose shares are the whole.
+///
+/// docs/RULES.md, "Turning".
 pub fn parts_are_the_whole()
     ensures { (turns : List Turn) (amount : ℕ) → AllPairs (λ s t. s.exit ≢ t.exit) turns → sum_by share_of turns ≡ 1000
         → sum_by (λ t. split_of turns amount t.exit) turns ≡ amount }

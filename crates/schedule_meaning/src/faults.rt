@@ -1,6 +1,8 @@
 use switch_rules::Unfit;
 
 /// Why parts make no instance. Phases are numbered from 0, places in a list from 1.
+///
+/// docs/RULES.md, "Instance".
 #[derive(Clone, Copy)]
 pub enum InstanceFault {
     /// The head's phase is none of the plan.
@@ -18,6 +20,8 @@ pub enum InstanceFault {
 }
 
 /// Why a sequence is not feasible. Places are numbered from 1.
+///
+/// docs/RULES.md, "Instance".
 #[derive(Clone, Copy)]
 pub enum SeqFault {
     /// The first number that is no phase.

@@ -7,12 +7,15 @@ ghost use Rattle.schedule_meaning.specs.Faults.{AreMany, IsBoundFault, IsFirstEa
 
 use super::faults::InstanceFault;
 use foundation::items::Items;
+use foundation::threads::CrossesThreads;
 use phase_plan::PhasePlan;
 use std::marker::Model;
 use switch_rules::{Cluster, Head, MOST_ORDERS, ways};
 
 /// What one intersection plans: its phases, its signal head, and the clusters of each phase in the
 /// order of their arrival, all within bounds. Contracts see it as a `Problem`.
+///
+/// docs/RULES.md, "Instance".
 #[derive(Drop)]
 pub struct Instance {
     plan: PhasePlan,
@@ -30,6 +33,8 @@ impl Model for Instance {
     ghost invariant = { λ i. IsInstance (record { plan = i.plan; head = i.head; lists = i.lists }) };
 }
 
+impl CrossesThreads for Instance {}
+
 /// The greatest number of clusters in an instance.
 const MOST_CLUSTERS: u64 = 40;
 
@@ -42,6 +47,8 @@ impl Instance {
     /// The instance of these parts, where all bounds hold. The fault is the first in the order of
     /// `InstanceFault`, and there the one of the first phase and the first place. Each list has fewer
     /// than 2^32 clusters.
+    ///
+    /// docs/RULES.md, "Instance".
     pub fn new(
         plan: PhasePlan,
         head: Head,

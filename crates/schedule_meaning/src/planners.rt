@@ -9,12 +9,15 @@ use super::instances::Instance;
 use super::replays::next_cluster;
 use foundation::items::Items;
 use foundation::steps::Steps;
+use foundation::threads::CrossesThreads;
 use std::alloc::{AllocError, Global};
 use std::marker::Brand;
 use std::sync::ledger::{Blank, Ledger};
 use switch_rules::{Head, serve};
 
 /// What a planner answers.
+///
+/// docs/RULES.md, "Best answer".
 #[derive(Drop)]
 pub enum Answer {
     /// The best sequence of phases, and its delay in thousandths of a vehicle times seconds.
@@ -23,7 +26,11 @@ pub enum Answer {
     NoPlan,
 }
 
+impl CrossesThreads for Answer {}
+
 /// Finds the best answer of an instance. All planners have this one contract.
+///
+/// docs/RULES.md, "Best answer".
 pub trait Planner {
     /// The sequence of least delay, and of several that reach it the lexicographically first; or
     /// no plan, exactly where no sequence is feasible.
@@ -38,8 +45,12 @@ pub trait Planner {
 }
 
 /// The plain planner: it walks along all orders of the clusters, and keeps the best.
+///
+/// docs/RULES.md, "Best answer".
 #[derive(Clone, Copy)]
 pub struct PlainPlanner;
+
+impl CrossesThreads for PlainPlanner {}
 
 impl Planner for PlainPlanner {
     fn best<L: Ledger>(
@@ -119,6 +130,8 @@ fn keep_better(best: &mut Answer, sequence: &Vec<u8>, delay: u64) -> Result<(), 
 }
 
 /// The best answer of an instance by this planner, for callers that count no steps.
+///
+/// docs/RULES.md, "Best answer".
 pub fn best_answer<P: Planner>(
     alloc: Global,
     planner: &mut P,

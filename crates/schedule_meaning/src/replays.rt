@@ -11,6 +11,8 @@ use std::sync::ledger::Ledger;
 use switch_rules::{Cluster, Head, serve};
 
 /// A feasible sequence, timed: its delay, and the head behind its last serving.
+///
+/// docs/RULES.md, "Sequence, feasibility, delay".
 #[derive(Clone, Copy)]
 pub struct Timed {
     /// Thousandths of a vehicle times seconds.
@@ -23,6 +25,8 @@ pub struct Timed {
 ///
 /// It is refused exactly where it is not feasible; the fault is the first in the order of `SeqFault`.
 /// The sequence has fewer than 2^32 numbers.
+///
+/// docs/RULES.md, "Sequence, feasibility, delay".
 pub fn replay<L: Ledger>(i: &Instance, seq: &[u8], steps: &mut Steps<L>) -> Result<Timed, SeqFault>
     requires { length seq.now < 2 ^ 32 }
     ensures ok { IfOk result (λ t. timing i.now seq.now ≡ Some (t.delay, t.head)) }

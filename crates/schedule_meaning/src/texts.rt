@@ -10,6 +10,8 @@ use phase_plan::{PhasePlan, PlanFault};
 use std::alloc::Global;
 
 /// Why a text is no instance's.
+///
+/// docs/FORMATS.md, "Instance text".
 #[derive(Clone, Copy)]
 pub enum TextFault {
     /// The first line, from 1, that has not the form of its place.
@@ -40,6 +42,8 @@ impl From<FormFault> for TextFault {
 ///
 /// A fault other than want of memory comes only where the bytes are the spelling of no instance: the
 /// first line that has not its form, or else the fault of the plan, or else that of the instance.
+///
+/// docs/FORMATS.md, "Instance text".
 pub fn read_instance(alloc: Global, bytes: &[u8]) -> Result<Instance, TextFault>
     requires { length bytes.now < 2 ^ 32 }
     ensures found { IfOk result (λ i. bytes.now ≡ instance_text i.plan i.head i.lists) }

@@ -5,6 +5,8 @@ use schedule_meaning::Answer;
 use std::alloc::{AllocError, Global};
 
 /// The text that `plan` writes for an answer.
+///
+/// docs/FORMATS.md, "Answer text".
 pub fn answer_text(alloc: Global, answer: &Answer) -> Result<String, AllocError>
     ensures { IfOk result (λ text. string_bytes text ≡ answer_text answer.now) }
 {

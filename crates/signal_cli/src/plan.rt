@@ -45,6 +45,8 @@ fn deliver<O: Sink>(out: &mut O, text: &[u8]) -> Status
 ///
 /// `Done`, `BadInput`, `ReadFault`, `WriteFault` and `NoMemory` come each with its cause, and nothing
 /// is written to `out` before all work is done. A refusal writes its line to `err`.
+///
+/// docs/FORMATS.md, "Words".
 pub fn plan_job<S: Shelf, O: Sink, E: Sink>(
     alloc: Global,
     file: &str,

@@ -4,6 +4,8 @@ ghost use Rattle.signal_cli.specs.Refusals.{Reports, exit_status, line_of};
 use outside_world::Sink;
 
 /// How a command ended. The number of each is the program's exit status.
+///
+/// docs/FORMATS.md, "Exit statuses and lines of refusal".
 #[derive(Clone, Copy)]
 pub enum Status {
     /// The work is done, and what it gives is written.
@@ -24,6 +26,8 @@ pub enum Status {
 
 impl Status {
     /// The program's exit status.
+    ///
+    /// docs/FORMATS.md, "Exit statuses and lines of refusal".
     pub fn code(self) -> u8
         ensures { result ≡ exit_status self }
     {
@@ -45,6 +49,8 @@ impl Status {
     }
 
     /// Writes the line of a refusal. Where the sink fails, the status stays.
+    ///
+    /// docs/FORMATS.md, "Exit statuses and lines of refusal".
     pub fn report<E: Sink>(self, err: &mut E)
         ensures { Reports self (E.written err.old) (E.written err.new) (E.faults err.old) (E.faults err.new) }
     {

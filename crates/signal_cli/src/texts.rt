@@ -7,9 +7,13 @@ use outside_world::{Shelf, ShelfFault};
 use std::alloc::Global;
 
 /// The greatest length of a text, in bytes.
+///
+/// docs/FORMATS.md, "Numbers and lines".
 pub const MOST_BYTES: usize = 100_663_296;
 
 /// The text of a file, where it is within the limit.
+///
+/// docs/FORMATS.md, "Exit statuses and lines of refusal".
 pub fn fetch_text<S: Shelf>(alloc: Global, shelf: &mut S, file: &str) -> Result<Vec<u8>, Status>
     ensures files { S.files shelf.new ≡ S.files shelf.old }
     ensures limit { IfOk result (λ text. length text.items ≤ 100663296) }

@@ -16,6 +16,8 @@ use std::alloc::Global;
 /// The words are `plan FILE`, which writes the best answer of the instance that the file's text
 /// spells; all others are `Usage`. Each status comes with its cause, nothing is written to `out`
 /// before all work is done, and a refusal writes its line to `err`.
+///
+/// docs/FORMATS.md, "Words".
 pub fn signal<S: Shelf, O: Sink, E: Sink>(
     alloc: Global,
     words: &[Text],

@@ -11,6 +11,8 @@ use phase_plan::{Phase, PhasePlan};
 use std::sync::ledger::Ledger;
 
 /// Vehicles of one phase that arrive together.
+///
+/// docs/RULES.md, "Clusters".
 #[derive(Clone, Copy)]
 pub struct Cluster {
     /// Thousandths of a vehicle, 1 to 20,000,000.
@@ -22,6 +24,8 @@ pub struct Cluster {
 }
 
 /// The state of a signal: which phase is green, since when, and up to when its time is spent.
+///
+/// docs/RULES.md, "Head".
 #[derive(Clone, Copy)]
 pub struct Head {
     /// The phase that is green, from 0.
@@ -36,6 +40,8 @@ pub struct Head {
 }
 
 /// A cluster that has been served.
+///
+/// docs/RULES.md, "Serving".
 #[derive(Clone, Copy)]
 pub struct Served {
     /// The second at which the green that serves it began.
@@ -51,6 +57,8 @@ pub struct Served {
 }
 
 /// Why a cluster cannot be served from a head.
+///
+/// docs/RULES.md, "Serving".
 #[derive(Clone, Copy)]
 pub enum Unfit {
     /// It does not end within the greatest green.
@@ -64,6 +72,8 @@ pub enum Unfit {
 ///
 /// The head is one of the plan with `at` up to 104,000, the phase is one of the plan, and the cluster
 /// is within its bounds.
+///
+/// docs/RULES.md, "Serving".
 pub fn serve<L: Ledger>(
     plan: &PhasePlan,
     head: &Head,
@@ -160,10 +170,14 @@ fn served_from(
 }
 
 /// The greatest number of orders that an instance may have.
+///
+/// docs/RULES.md, "Instance".
 pub const MOST_ORDERS: u32 = 50_000;
 
 /// In how many orders clusters can be served, given how many each of at most 4 phases has, at most
 /// 41 in all; where there are more than 50,000, the answer is 50,001.
+///
+/// docs/RULES.md, "Instance".
 pub fn ways(counts: &[u32]) -> u32
     requires few { length counts.now ≤ 4 }
     requires sum { sum counts.now ≤ 41 }
