@@ -1,11 +1,11 @@
 // The shelf over files and the sink over a stream.
 
-use outside_world::{FileShelf, Shelf, Sink, StreamSink};
+use outside_world::{FileShelf, Shelf, ShelfFault, Sink, StreamSink};
 use std::fs;
 use std::io::{self, ErrorKind, Write};
 use std::test::Fail;
 
-// Of a file of 20,000 bytes: the name, how many bytes are asked for, and how many come.
+// Of a file of 20,000 bytes, none like those beside it: the name, how many bytes are asked for, and how many come.
 const FETCHES: &[(&str, usize, Option<usize>)] = &[
     ("text", 30_000, Some(20_000)),
     ("text", 20_000, Some(20_000)),
@@ -17,15 +17,19 @@ const FETCHES: &[(&str, usize, Option<usize>)] = &[
 #[test]
 fn files(rt: HostRuntime) -> Result<(), Fail> {
     let alloc = rt.alloc();
-    let text = vec![in alloc; b'a'; 20_000]?;
+    let mut text = Vec::new(alloc);
+    for index in 0u32..20_000 {
+        text.push((index % 251) as u8)?;
+    }
     fs::write(&rt, "text", text.as_slice())?;
     let mut shelf = FileShelf::new(alloc, &rt);
     for &(name, most, length) in FETCHES {
-        let length_here = match shelf.fetch(alloc, name, most) {
-            Ok(bytes) => Some(bytes.len()),
-            Err(_) => None,
+        let as_wanted = match (shelf.fetch(alloc, name, most), length) {
+            (Ok(bytes), Some(length)) => Some(bytes.as_slice()) == text.get(..length),
+            (Err(ShelfFault::Failed), None) => true,
+            _ => false,
         };
-        assert!(rt; length_here == length, "{name} {most}");
+        assert!(rt; as_wanted, "{name} {most}");
     }
     Ok(())
 }

@@ -1,10 +1,18 @@
 // What `plan` answers for worked instances.
 
-use super::support::{NO_FAULTS, TWO_CLUSTERS, TWO_CLUSTERS_PLAN, TWO_PHASES, plan, run};
+use super::support::{NO_FAULTS, TWO_CLUSTERS, TWO_CLUSTERS_PLAN, TWO_PHASES, job, plan, run};
 use signal_cli::Status;
 use std::test::Fail;
 
 const IMPATIENT: &str = "instance 1\nphases 2\nphase 5 30 3 2 2 20\nphase 5 30 3 2 2 10\n";
+
+const WIDE: &str =
+    "instance 1\nphases 2\nphase 120 240 10 10 10 3600\nphase 120 240 10 10 10 3600\n";
+
+const NO_LOSS: &str =
+    "instance 1\nphases 2\nphase 5 240 3 2 0 3600\nphase 5 240 3 2 0 3600\n";
+
+const NARROW: &str = "instance 1\nphases 2\nphase 1 1 1 0 0 1\nphase 1 1 1 0 0 1\n";
 
 const FOUR_PHASES: &str =
     "instance 1\nphases 4\nphase 5 30 3 2 2 120\nphase 7 20 4 1 3 90\nphase 10 40 3 0 1 200\nphase 6 15 2 2 2 120\n";
@@ -84,6 +92,38 @@ const WORKED: &[(&str, &str, &str, &str)] = &[
         "delay 64100\norder 2 3 0 1 1\n",
     ),
     (
+        "forty clusters in one order",
+        TWO_PHASES,
+        "head 0 0 0 kept\n\
+         cluster 1 1 0 1\ncluster 1 1 10 1\ncluster 1 1 20 1\ncluster 1 1 30 1\ncluster 1 1 40 1\n\
+         cluster 1 1 50 1\ncluster 1 1 60 1\ncluster 1 1 70 1\ncluster 1 1 80 1\ncluster 1 1 90 1\n\
+         cluster 1 1 100 1\ncluster 1 1 110 1\ncluster 1 1 120 1\ncluster 1 1 130 1\ncluster 1 1 140 1\n\
+         cluster 1 1 150 1\ncluster 1 1 160 1\ncluster 1 1 170 1\ncluster 1 1 180 1\ncluster 1 1 190 1\n\
+         cluster 1 1 200 1\ncluster 1 1 210 1\ncluster 1 1 220 1\ncluster 1 1 230 1\ncluster 1 1 240 1\n\
+         cluster 1 1 250 1\ncluster 1 1 260 1\ncluster 1 1 270 1\ncluster 1 1 280 1\ncluster 1 1 290 1\n\
+         cluster 1 1 300 1\ncluster 1 1 310 1\ncluster 1 1 320 1\ncluster 1 1 330 1\ncluster 1 1 340 1\n\
+         cluster 1 1 350 1\ncluster 1 1 360 1\ncluster 1 1 370 1\ncluster 1 1 380 1\ncluster 1 1 390 1\n",
+        "delay 87\norder 1 1 1 1 1 1 1 1 1 1 1 1 1 1 1 1 1 1 1 1 1 1 1 1 1 1 1 1 1 1 1 1 1 1 1 1 1 1 1 1\n",
+    ),
+    (
+        "the greatest numbers",
+        WIDE,
+        "head 1 100000 100240 kept\ncluster 0 20000000 100000 230\ncluster 1 20000000 100000 230\n",
+        "delay 16000000000\norder 0 1\n",
+    ),
+    (
+        "the longest cluster",
+        NO_LOSS,
+        "head 0 0 0 kept\ncluster 1 20000000 100000 240\n",
+        "delay 0\norder 1\n",
+    ),
+    (
+        "the least numbers",
+        NARROW,
+        "head 0 0 0 fresh\ncluster 0 1 0 1\n",
+        "delay 0\norder 0\n",
+    ),
+    (
         "nine clusters and nine",
         TWO_PHASES,
         "head 0 0 0 kept\n\
@@ -103,6 +143,13 @@ fn worked_instances(rt: HostRuntime) -> Result<(), Fail> {
         let ending = plan(alloc, text.as_bytes())?;
         assert!(rt; ending.is(Status::Done, written, ""), "{shows}");
     }
+    Ok(())
+}
+
+#[test]
+fn the_job_alone(rt: HostRuntime) -> Result<(), Fail> {
+    let ending = job(rt.alloc(), TWO_CLUSTERS.as_bytes())?;
+    assert!(rt; ending.is(Status::Done, TWO_CLUSTERS_PLAN, ""));
     Ok(())
 }
 

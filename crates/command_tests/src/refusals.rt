@@ -21,6 +21,18 @@ const REFUSED: &[(&[&str], &str, Status, &str)] = &[
     (&[], TWO_CLUSTERS, Status::Usage, "signal: usage\n"),
     (&["plan"], TWO_CLUSTERS, Status::Usage, "signal: usage\n"),
     (
+        &["--help"],
+        TWO_CLUSTERS,
+        Status::Usage,
+        "signal: usage\n",
+    ),
+    (
+        &["--version"],
+        TWO_CLUSTERS,
+        Status::Usage,
+        "signal: usage\n",
+    ),
+    (
         &["plan", "file", "file"],
         TWO_CLUSTERS,
         Status::Usage,
@@ -98,10 +110,16 @@ const OUT_KEEPS_NOTHING: Faults<'static> = Faults {
     err: &[],
 };
 
-const OUT_KEEPS_THREE: Faults<'static> = Faults {
+const OUT_KEEPS_ONE: Faults<'static> = Faults {
     fetches: &[],
-    out: &[SinkFail { call: 1, kept: 3 }],
+    out: &[SinkFail { call: 1, kept: 1 }],
     err: &[],
+};
+
+const BOTH_KEEP_LITTLE: Faults<'static> = Faults {
+    fetches: &[],
+    out: &[SinkFail { call: 1, kept: 1 }],
+    err: &[SinkFail { call: 1, kept: 0 }],
 };
 
 const OUT_KEEPS_ALL: Faults<'static> = Faults {
@@ -137,11 +155,12 @@ const FAULTY: &[(&str, Faults<'static>, Status, &str, &str)] = &[
     ),
     (
         "plan",
-        OUT_KEEPS_THREE,
+        OUT_KEEPS_ONE,
         Status::WriteFault,
-        "del",
+        "d",
         "signal: cannot write\n",
     ),
+    ("plan", BOTH_KEEP_LITTLE, Status::WriteFault, "d", ""),
     (
         "plan",
         OUT_KEEPS_ALL,

@@ -3,7 +3,7 @@
 use foundation::items::Items;
 use foundation::text::Text;
 use outside_world::{MemoryShelf, MemorySink, SinkFail};
-use signal_cli::{Status, signal};
+use signal_cli::{Status, plan_job, signal};
 use std::alloc::{AllocError, Global};
 
 /// The lines of two phases alike, up to the head's.
@@ -66,6 +66,15 @@ pub fn run(
 /// Calls the program with the words `plan file` over this text. Nothing fails.
 pub fn plan(alloc: Global, text: &[u8]) -> Result<Ending, AllocError> {
     run(alloc, &["plan", "file"], text, NO_FAULTS)
+}
+
+/// Calls the job of `plan` by itself over the file `file` with this text. Nothing fails.
+pub fn job(alloc: Global, text: &[u8]) -> Result<Ending, AllocError> {
+    let mut shelf = shelf_of(alloc, text, &[])?;
+    let mut out = sink_of(alloc, &[])?;
+    let mut err = sink_of(alloc, &[])?;
+    let status = plan_job(alloc, "file", &mut shelf, &mut out, &mut err);
+    Ok(Ending { status, out, err })
 }
 
 fn texts(alloc: Global, words: &[&str]) -> Result<Vec<Text>, AllocError> {

@@ -27,6 +27,18 @@ pub record Reads (text : List ℕ) (p : Problem) : Type 0 where
 abbrev pub IsBad : List ℕ → Type 0
 IsBad text = (p : Problem) → ¬ Reads text p
 
+-- the file's text is longer than the limit
+pub record IsLongFile (files : Option (List (List ℕ × List ℕ))) (name : List ℕ) : Type 0 where
+  pub text : List ℕ
+  pub told : IsSome files → text_of files name ≡ Some text
+  pub long : 100663296 < length text
+
+-- the file's text is read as no instance
+pub record IsBadFile (files : Option (List (List ℕ × List ℕ))) (name : List ℕ) : Type 0 where
+  pub text : List ℕ
+  pub told : IsSome files → text_of files name ≡ Some text
+  pub bad : IsBad text
+
 -- these bytes are the text of the best answer of the instance that the file's text spells
 pub record IsBestText (files : Option (List (List ℕ × List ℕ))) (name bytes : List ℕ) : Type 0 where
   pub text : List ℕ
@@ -43,7 +55,7 @@ abbrev pub PlanFails : Option (List (List ℕ × List ℕ)) → List (List ℕ) 
 PlanFails files old new name Done = ⊥
 PlanFails files old new name Rejected = ⊥
 PlanFails files old new name Usage = ⊥
-PlanFails files old new name BadInput = (new ≡ old) × ((text : List ℕ) → text_of files name ≡ Some text → IsBad text)
+PlanFails files old new name BadInput = (new ≡ old) × IsBadFile files name
 PlanFails files old new name ReadFault = GainsLast old new name
 PlanFails files old new name WriteFault = ⊥
 PlanFails files old new name NoMemory = new ≡ old
@@ -61,7 +73,7 @@ abbrev pub FetchFails : Option (List (List ℕ × List ℕ)) → List (List ℕ)
 FetchFails files old new name Done = ⊥
 FetchFails files old new name Rejected = ⊥
 FetchFails files old new name Usage = ⊥
-FetchFails files old new name BadInput = (new ≡ old) × ((text : List ℕ) → text_of files name ≡ Some text → 100663296 < length text)
+FetchFails files old new name BadInput = (new ≡ old) × IsLongFile files name
 FetchFails files old new name ReadFault = GainsLast old new name
 FetchFails files old new name WriteFault = ⊥
 FetchFails files old new name NoMemory = new ≡ old

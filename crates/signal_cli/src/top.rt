@@ -2,7 +2,7 @@ ghost use Rattle.std.specs.Prelude.{◌≡◌, ◌≢◌, ◌↔◌, ℕ, List, 
 ghost use Rattle.outside_world.specs.Shelf.{GainsLast};
 ghost use Rattle.outside_world.specs.Sink.{Gains, GainsFront, Rose};
 ghost use Rattle.schedule_meaning.specs.Instances.{Problem};
-ghost use Rattle.signal_cli.specs.Jobs.{IsBad, IsDone, IsPlanOf, IsRefused, Reads, WritesBest, text_of};
+ghost use Rattle.signal_cli.specs.Jobs.{IsBad, IsBadFile, IsDone, IsPlanOf, IsRefused, Reads, WritesBest, text_of};
 ghost use Rattle.signal_cli.specs.Refusals.{Reports};
 
 use super::plan::plan_job;
@@ -34,12 +34,13 @@ pub fn signal<S: Shelf, O: Sink, E: Sink>(
     ensures read_fault { result ≡ Status.ReadFault → (file : List ℕ) × IsPlanOf words.now file
         × GainsLast (S.failed shelf.old) (S.failed shelf.new) file }
     ensures bad_input { result ≡ Status.BadInput → (file : List ℕ) × IsPlanOf words.now file
-        × (S.failed shelf.new ≡ S.failed shelf.old)
-        × ((text : List ℕ) → text_of (S.files shelf.old) file ≡ Some text → IsBad text) }
+        × IsBadFile (S.files shelf.old) file }
     ensures never { result ≢ Status.Rejected }
 
-    // Nothing else is written to out, and the line of the refusal to err.
-    ensures out { result ≢ Status.Done → result ≢ Status.WriteFault → O.written out.new ≡ O.written out.old }
+    // Nothing else changes the shelf's list or out, and the line of the refusal is written to err.
+    ensures shelf { result ≢ Status.ReadFault → S.failed shelf.new ≡ S.failed shelf.old }
+    ensures out { result ≢ Status.Done → result ≢ Status.WriteFault
+        → (O.written out.new ≡ O.written out.old) × (O.faults out.new ≡ O.faults out.old) }
     ensures err { Reports result (E.written err.old) (E.written err.new) (E.faults err.old) (E.faults err.new) }
 
     // A text that is no instance's is refused, and one that is an instance's is planned.

@@ -6,6 +6,7 @@ use outside_world::{FileShelf, StreamSink};
 use signal_cli::{Status, signal};
 use std::alloc::Global;
 use std::env;
+use std::io::ErrorKind;
 use std::process::ExitCode;
 use std::rt::Env;
 use thiserror::Error;
@@ -38,8 +39,10 @@ fn main(rt: HostRuntime) -> ExitCode {
 
 /// The words of the command line, without the program's name.
 fn words<R: Env + AllocGlobal>(rt: &R, alloc: Global) -> Result<Vec<Text>, NoWords> {
-    let Ok(args) = env::args(rt) else {
-        return Err(NoWords::Refused);
+    let args = match env::args(rt) {
+        Ok(args) => args,
+        Err(fault) if fault.kind() == ErrorKind::OutOfMemory => return Err(NoWords::Memory),
+        Err(_) => return Err(NoWords::Refused),
     };
     let mut words = Vec::new(alloc);
     for word in args.skip(1) {

@@ -13,4 +13,4 @@ pub returns-in-Some-clause-read_fault : goal.returns-in-Some-clause-read_fault
 returns-in-Some-clause-read_fault g c = λ e. (c.in-Some.file.now, c.in-Some.ensures.some, c.plan_job.ensures.read_fault e)
 
 pub returns-in-Some-clause-bad_input : goal.returns-in-Some-clause-bad_input
-returns-in-Some-clause-bad_input g c = λ e. let h = c.plan_job.ensures.bad_input e in (c.in-Some.file.now, c.in-Some.ensures.some, h.0, h.1)
+returns-in-Some-clause-bad_input g c = λ e. (c.in-Some.file.now, c.in-Some.ensures.some, c.plan_job.ensures.bad_input e)
