@@ -25,7 +25,7 @@ pub fn literal<'a>(text: &str, bytes: &'a [u8]) -> Option<&'a [u8]>
 
 /// The number at the front, which is a `u8`, up to the separator, and the bytes after that.
 ///
-/// A number has digits alone, and its first is 0 only where it is 0.
+/// A number has digits alone, and its first is 0 only where it is 0. The separator is no digit.
 ///
 /// docs/FORMATS.md, "Numbers and lines".
 pub fn field_u8(separator: u8, bytes: &[u8]) -> Option<(u8, &[u8])>
@@ -43,7 +43,7 @@ pub fn field_u8(separator: u8, bytes: &[u8]) -> Option<(u8, &[u8])>
 
 /// The number at the front, which is a `u32`, up to the separator, and the bytes after that.
 ///
-/// A number has digits alone, and its first is 0 only where it is 0.
+/// A number has digits alone, and its first is 0 only where it is 0. The separator is no digit.
 ///
 /// docs/FORMATS.md, "Numbers and lines".
 pub fn field_u32(separator: u8, bytes: &[u8]) -> Option<(u32, &[u8])>
@@ -61,7 +61,7 @@ pub fn field_u32(separator: u8, bytes: &[u8]) -> Option<(u32, &[u8])>
 
 /// The number at the front, which is a `u64`, up to the separator, and the bytes after that.
 ///
-/// A number has digits alone, and its first is 0 only where it is 0.
+/// A number has digits alone, and its first is 0 only where it is 0. The separator is no digit.
 ///
 /// docs/FORMATS.md, "Numbers and lines".
 pub fn field_u64(separator: u8, bytes: &[u8]) -> Option<(u64, &[u8])>

@@ -1,4 +1,4 @@
-use Rattle.std.specs.Prelude.{◌≡◌, ℕ, ◌+◌, ◌<◌, ◌≤◌, ◌⊎◌, List, ◌++◌, length, All, sum_by, take, slice_range, slice_index_or, nat_lt, if◌then◌else◌}
+use Rattle.std.specs.Prelude.{◌≡◌, ℕ, ◌+◌, ◌<◌, ◌≤◌, ◌⊎◌, List, [], ◌++◌, length, All, sum_by, take, slice_range, slice_index_or, nat_lt, if◌then◌else◌}
 use Rattle.phase_plan.specs.declared.Phase.{Phase}
 use Rattle.phase_plan.specs.declared.Field.{Field}
 use Rattle.phase_plan.specs.declared.PlanFault.{PlanFault}
@@ -47,6 +47,17 @@ passing p = p.least + p.yellow + p.clear
 -- from the end of a green of phase s to the begin of a green of phase j, at the least
 abbrev pub switch_time : List Phase → ℕ → ℕ → ℕ
 switch_time plan s j = (phase_at plan s).yellow + (phase_at plan s).clear + sum_by passing (passed plan s j)
+
+-- a row of numbers has the switch times from phase s to each; all are at most 440
+pub record AreSwitchTimesFrom (plan : List Phase) (s : ℕ) (row : List ℕ) : Type 0 where
+  pub room : length row ≡ 4
+  pub times : (j : ℕ) → j < length plan → slice_index_or row j 0 ≡ switch_time plan s j
+  pub bounds : (j : ℕ) → j < length plan → slice_index_or row j 0 ≤ 440
+
+-- the rows of all phases
+pub record AreSwitchTimes (plan : List Phase) (rows : List (List ℕ)) : Type 0 where
+  pub room : length rows ≡ 4
+  pub each : (s : ℕ) → s < length plan → AreSwitchTimesFrom plan s (slice_index_or rows s [])
 
 -- the order in which the fields are judged
 abbrev pub rank : Field → ℕ

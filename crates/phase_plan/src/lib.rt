@@ -2,7 +2,8 @@
 #![tactic(auto)]
 
 ghost use Rattle.std.specs.Prelude.{◌≡◌, ◌+◌, ◌*◌, ◌<◌, ◌≤◌, length, All, sum_by, IfNone, IfSome};
-ghost use Rattle.phase_plan.specs.Phases.{IsPhase, IsFirstFault, passing};
+ghost use Rattle.phase_plan.specs.Phases as spec;
+ghost use Rattle.phase_plan.specs.Phases.{IsPhase, IsPlan, IsFirstFault, AreSwitchTimes, AreSwitchTimesFrom, passing};
 
 use std::marker::Model;
 
@@ -40,6 +41,8 @@ impl Phase {
 }
 
 /// A field of a `Phase`, as a fault names it.
+///
+/// docs/RULES.md, "Phases".
 #[derive(Clone, Copy)]
 pub enum Field {
     Least,
@@ -62,12 +65,14 @@ pub enum PlanFault {
 }
 
 /// Phases that an intersection serves in a fixed ring, 2 to 4 of them, each within its bounds.
-/// Contracts see it as the list of its phases.
+/// Contracts see it as the list of its phases. The switch times are kept beside them.
 ///
 /// docs/RULES.md, "Phases".
 #[derive(Drop)]
 pub struct PhasePlan {
     phases: Vec<Phase>,
+    /// The switch time from each phase to each, row by row.
+    switch_times: [[u32; 4]; 4],
 }
 
 impl Model for PhasePlan {
@@ -76,18 +81,18 @@ impl Model for PhasePlan {
 
     ghost Value = { List Phase };
 
-    ghost use Rattle.phase_plan.specs.Phases.{IsPlan};
+    ghost use Rattle.phase_plan.specs.Phases.{IsPlan, AreSwitchTimes};
 
     ghost view = { λ plan. plan.phases.items };
 
-    ghost invariant = { λ plan. IsPlan plan.phases.items };
+    ghost invariant = { λ plan. IsPlan plan.phases.items × AreSwitchTimes plan.phases.items plan.switch_times };
 }
 
 impl PhasePlan {
     ghost use Rattle.std.specs.Prelude.{◌≡◌, ◌<◌, ◌≤◌, ◌^◌, IfOk, IfErr, OnErr, length, vec_len};
     ghost use Rattle.phase_plan.specs.Phases.{IsPlan, IsPlanFault, IsPhase, phase_at, switch_time};
 
-    /// The plan of these phases, where there are 2 to 4 of them and each is within its bounds.
+    /// The plan of these phases, fewer than 2^32, where there are 2 to 4 of them and each is within its bounds.
     ///
     /// The fault is the number of phases, or else the first phase that is out of bounds, with the
     /// first of its fields that is.
@@ -110,10 +115,15 @@ impl PhasePlan {
                 });
             }
         }
-        Ok(PhasePlan { phases })
+        Ok(PhasePlan {
+            switch_times: switch_times(&phases),
+            phases,
+        })
     }
 
     /// How many phases there are, 2 to 4.
+    ///
+    /// docs/RULES.md, "Phases".
     pub fn count(&self) -> u8
         ensures count { result ≡ length self.now }
         ensures plan { IsPlan self.now }
@@ -121,7 +131,9 @@ impl PhasePlan {
         self.phases.len() as u8
     }
 
-    /// The phase with this number.
+    /// The phase with this number, which is below their count.
+    ///
+    /// docs/RULES.md, "Phases".
     pub fn phase(&self, k: u8) -> &Phase
         requires { k < length self.now }
         ensures value { result.now ≡ phase_at self.now k }
@@ -132,7 +144,7 @@ impl PhasePlan {
 
     /// The seconds from the end of a green of phase `s` to the begin of a green of phase `j`, at the
     /// least: the yellow and clear time of `s`, and a least green with its yellow and clear time
-    /// for each phase that the ring passes on the way.
+    /// for each phase that the ring passes on the way. Both numbers are below the count of phases. At most 440.
     ///
     /// docs/RULES.md, "Ring and switch time".
     pub fn switch_time(&self, s: u8, j: u8) -> u32
@@ -141,13 +153,7 @@ impl PhasePlan {
         ensures value { result ≡ switch_time self.now s j }
         ensures bounds { result ≤ 440 }
     {
-        let leaving = &self.phases[s as usize];
-        let passed = if s < j {
-            passing_time(&self.phases[s as usize + 1..j as usize])
-        } else {
-            passing_time(&self.phases[s as usize + 1..]) + passing_time(&self.phases[..j as usize])
-        };
-        leaving.yellow + leaving.clear + passed
+        self.switch_times[s as usize][j as usize]
     }
 }
 
@@ -171,6 +177,48 @@ fn out_of_bounds(phase: &Phase) -> Option<Field>
     } else {
         None
     }
+}
+
+/// The switch times from each phase to each.
+fn switch_times(phases: &[Phase]) -> [[u32; 4]; 4]
+    requires { IsPlan phases.now }
+    ensures { AreSwitchTimes phases.now result }
+{
+    let mut rows = [[0; 4]; 4];
+    for s in 0..phases.len() {
+        rows[s] = switch_times_from(phases, s);
+    }
+    rows
+}
+
+/// The switch times from phase `s` to each.
+fn switch_times_from(phases: &[Phase], s: usize) -> [u32; 4]
+    requires plan { IsPlan phases.now }
+    requires from { s < length phases.now }
+    ensures { AreSwitchTimesFrom phases.now s result }
+{
+    let mut row = [0; 4];
+    for j in 0..phases.len() {
+        row[j] = switch_time(phases, s, j);
+    }
+    row
+}
+
+/// The seconds from the end of a green of phase `s` to the begin of a green of phase `j`.
+fn switch_time(phases: &[Phase], s: usize, j: usize) -> u32
+    requires plan { IsPlan phases.now }
+    requires from { s < length phases.now }
+    requires to { j < length phases.now }
+    ensures value { result ≡ spec.switch_time phases.now s j }
+    ensures bounds { result ≤ 440 }
+{
+    let leaving = &phases[s];
+    let passed = if s < j {
+        passing_time(&phases[s + 1..j])
+    } else {
+        passing_time(&phases[s + 1..]) + passing_time(&phases[..j])
+    };
+    leaving.yellow + leaving.clear + passed
 }
 
 /// The seconds that the ring takes to pass these phases.

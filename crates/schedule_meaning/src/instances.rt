@@ -74,6 +74,8 @@ impl Instance {
     }
 
     /// The phases.
+    ///
+    /// docs/RULES.md, "Phases".
     pub fn plan(&self) -> &PhasePlan
         ensures value { result.now ≡ self.now.plan }
         ensures instance { IsInstance self.now }
@@ -82,6 +84,8 @@ impl Instance {
     }
 
     /// The signal head from which all sequences start.
+    ///
+    /// docs/RULES.md, "Head".
     pub fn head(&self) -> Head
         ensures value { result ≡ self.now.head }
         ensures instance { IsInstance self.now }
@@ -89,7 +93,9 @@ impl Instance {
         self.head
     }
 
-    /// The clusters of a phase of the plan, in their order.
+    /// The clusters of a phase of the plan, in the order of their arrival; with all phases at most 40.
+    ///
+    /// docs/RULES.md, "Clusters".
     pub fn list(&self, phase: u8) -> &[Cluster]
         requires { phase < length self.now.plan }
         ensures value { result.now ≡ list_at self.now.lists phase }
@@ -99,6 +105,8 @@ impl Instance {
     }
 
     /// Writes down how many clusters each phase has, into as many places as there are phases.
+    ///
+    /// docs/RULES.md, "Instance".
     pub fn count(&self, counts: &mut [u32])
         requires { length counts.old ≡ length self.now.plan }
         ensures { counts.new ≡ counts_of self.now.lists }

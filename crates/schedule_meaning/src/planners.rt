@@ -33,7 +33,7 @@ impl CrossesThreads for Answer {}
 /// docs/RULES.md, "Best answer".
 pub trait Planner {
     /// The sequence of least delay, and of several that reach it the lexicographically first; or
-    /// no plan, exactly where no sequence is feasible.
+    /// no plan, exactly where no sequence is feasible. An `Err` comes where memory runs out.
     fn best<L: Ledger>(
         &mut self,
         alloc: Global,
@@ -129,7 +129,8 @@ fn keep_better(best: &mut Answer, sequence: &Vec<u8>, delay: u64) -> Result<(), 
     Ok(())
 }
 
-/// The best answer of an instance by this planner, for callers that count no steps.
+/// The best answer of an instance by this planner, for callers that count no steps. An `Err` comes where memory
+/// runs out.
 ///
 /// docs/RULES.md, "Best answer".
 pub fn best_answer<P: Planner>(

@@ -109,7 +109,9 @@ fn walk<L: Ledger>(
     Ok(Timed { delay, head })
 }
 
-/// The next cluster of a phase, where so many of each phase are left.
+/// The next cluster of a phase, where so many of each phase are left, and of this phase at least one.
+///
+/// docs/RULES.md, "Sequence, feasibility, delay".
 pub fn next_cluster<'a>(i: &'a Instance, phase: u8, left: &[u32]) -> &'a Cluster
     requires phase { phase < length i.now.plan }
     requires lists { length left.now ≡ length i.now.plan }

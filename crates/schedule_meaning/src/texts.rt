@@ -38,7 +38,7 @@ impl From<FormFault> for TextFault {
     }
 }
 
-/// The instance whose one spelling the bytes are.
+/// The instance whose one spelling the bytes are, fewer than 2^32 of them.
 ///
 /// A fault other than want of memory comes only where the bytes are the spelling of no instance: the
 /// first line that has not its form, or else the fault of the plan, or else that of the instance.

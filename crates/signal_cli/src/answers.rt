@@ -4,7 +4,7 @@ ghost use Rattle.signal_cli.specs.Answers.{answer_text};
 use schedule_meaning::Answer;
 use std::alloc::{AllocError, Global};
 
-/// The text that `plan` writes for an answer.
+/// The text that `plan` writes for an answer. An `Err` comes where memory runs out.
 ///
 /// docs/FORMATS.md, "Answer text".
 pub fn answer_text(alloc: Global, answer: &Answer) -> Result<String, AllocError>
