@@ -3,7 +3,6 @@ use Rattle.std.specs.Prelude.{codes, ℕ, ◌-◌, ◌^◌, nat_lt, ℤ, pos, ne
 use Rattle.std.specs.List.{list_any}
 use Rattle.std.specs.Str.{bytes_eq}
 use Rattle.toml.specs.Data.{Data, Items, no_items, item, Members, no_members, member, get_member, as_str, as_integer, as_array, as_table}
-use Rattle.phase_plan.specs.declared.Phase.{Phase}
 use Rattle.net_draft.specs.Faults.{◌>>=◌, each}
 use Rattle.net_draft.specs.declared.drafts.Run.{Run}
 use Rattle.net_draft.specs.declared.drafts.Draft.{Draft}
@@ -74,6 +73,7 @@ list_if (Some d) = do
 unfoldable pub optional_list_at : List ℕ → Members → Option (List Data)
 optional_list_at key ms = list_if (get_member key ms)
 
+-- what each table stands for, where it has its keys and no other, each of its kind
 unfoldable pub run_of : Members → Option Run
 run_of ms = do
   ms ← only (codes "step" ∷ codes "look" ∷ codes "gap" ∷ codes "rounds" ∷ []) ms
@@ -83,6 +83,7 @@ run_of ms = do
   rounds ← number_at (codes "rounds") ms
   Some (record { step = step; look = look; gap = gap; rounds = rounds })
 
+-- the keys of a phase
 unfoldable pub phase_keys : List (List ℕ)
 phase_keys = codes "least" ∷ codes "greatest" ∷ codes "yellow" ∷ codes "clear" ∷ codes "loss" ∷ codes "wait" ∷ codes "links" ∷ []
 

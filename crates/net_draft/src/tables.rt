@@ -1,6 +1,5 @@
-ghost use Rattle.std.specs.Prelude.{◌≡◌, option_map, option_copied, IfOk, map, string_bytes};
-ghost use Rattle.std.specs.List.{list_any, list_all};
-ghost use Rattle.std.specs.BTreeMap.{keys as map_keys};
+ghost use Rattle.std.specs.Prelude.{◌≡◌, option_map, option_copied, IfOk, map};
+ghost use Rattle.std.specs.List.{list_any};
 ghost use Rattle.std.specs.Str.{bytes_eq};
 ghost use Rattle.toml.specs.Data.{get_member, as_str, as_array, as_table};
 ghost use Rattle.toml.specs.View.{view, table_view};
@@ -414,7 +413,7 @@ fn only<'a>(table: &'a Table, keys: &[&str], place: Place) -> Result<&'a Table, 
     }
 }
 
-/// Whether each key of the table is one of these.
+/// Whether each key of the table is one of these. It stops at the first that is not.
 fn has_only(table: &Table, keys: &[&str]) -> bool
     ensures { result ≡ spec.has_only (map (λ key. key.now) keys.now) (table_view table.now) }
 {
