@@ -16,9 +16,9 @@ use toml::{Table, Value};
 
 /// The draft that a network file's table stands for, as docs/FORMATS.md, "Network file", says.
 ///
-/// The fault is `NoMemory`, or `Shape` of the first table of the file that lacks a key, has a further key or
-/// one of the wrong kind, or is no table. The bounds of the draft are not tested here: a whole number that is
-/// no u32 is read as the greatest u32, which is out of every bound.
+/// The fault is `NoMemory`, or `Shape` of the first table, in the order of "Places and faults" there, that
+/// lacks a key, has a further key or one of the wrong kind, or is no table. The bounds of the draft are not
+/// tested here: a whole number that is no u32 is read as the greatest u32, which is out of every bound.
 #[tactic(auto, unfolding(crate::specs::Table::draft_of))]
 pub fn read_draft(alloc: Global, table: &Table) -> Result<Draft, NetFault>
     ensures draft { Gives (λ draft. draft) result (spec.draft_of (table_view table.now)) }
