@@ -1,3 +1,2 @@
-pub mod Borrowed
 pub mod Faults
 pub mod Table

@@ -1,7 +1,8 @@
 -- What a network file says: its table, as `toml` reads it, and the draft that it stands for.
-use Rattle.std.specs.Prelude.{codes, ℕ, suc, ◌+◌, ◌-◌, ◌^◌, ◌==◌, nat_lt, ℤ, pos, negsuc, if◌then◌else◌, List, [], ◌∷◌, Option, Some, None, is_some}
+use Rattle.std.specs.Prelude.{codes, ℕ, ◌-◌, ◌^◌, nat_lt, ℤ, pos, negsuc, Bool, true, ◌&&◌, if◌then◌else◌, List, [], ◌∷◌, Option, Some, None}
+use Rattle.std.specs.List.{list_any}
+use Rattle.std.specs.Str.{bytes_eq}
 use Rattle.toml.specs.Data.{Data, Items, no_items, item, Members, no_members, member, get_member, as_str, as_integer, as_array, as_table}
-use Rattle.phase_plan.specs.declared.Phase.{Phase}
 use Rattle.net_draft.specs.Faults.{◌>>=◌, each}
 use Rattle.net_draft.specs.declared.drafts.Run.{Run}
 use Rattle.net_draft.specs.declared.drafts.Draft.{Draft}
@@ -21,10 +22,14 @@ abbrev pub list_of : Items → List Data
 list_of no_items = []
 list_of (item d ds) = d ∷ list_of ds
 
--- how many keys a table has
-abbrev pub size : Members → ℕ
-size no_members = 0
-size (member key d ms) = suc (size ms)
+-- each key of a table is one of these
+abbrev pub has_only : List (List ℕ) → Members → Bool
+has_only keys no_members = true
+has_only keys (member key d ms) = list_any (bytes_eq key) keys && has_only keys ms
+
+-- the table, where it has no key beside these
+unfoldable pub only : List (List ℕ) → Members → Option Members
+only keys ms = if has_only keys ms then Some ms else None
 
 -- what stands at a key, where it has the right kind
 unfoldable pub number_at : List ℕ → Members → Option ℕ
@@ -68,103 +73,82 @@ list_if (Some d) = do
 unfoldable pub optional_list_at : List ℕ → Members → Option (List Data)
 optional_list_at key ms = list_if (get_member key ms)
 
--- 1 where the key is there
-unfoldable pub present : List ℕ → Members → ℕ
-present key ms = if is_some (get_member key ms) then 1 else 0
-
--- x, where the table has n keys in all: a table has no key twice, so where n keys were found there is no further one
-unfoldable pub only : {X : Type 0} → ℕ → Members → X → Option X
-only n ms x = if size ms == n then Some x else None
-
+-- what each table stands for, where it has its keys and no other, each of its kind
 unfoldable pub run_of : Members → Option Run
 run_of ms = do
+  ms ← only (codes "step" ∷ codes "look" ∷ codes "gap" ∷ codes "rounds" ∷ []) ms
   step ← number_at (codes "step") ms
   look ← number_at (codes "look") ms
   gap ← number_at (codes "gap") ms
   rounds ← number_at (codes "rounds") ms
-  only 4 ms (record { step = step; look = look; gap = gap; rounds = rounds })
+  Some (record { step = step; look = look; gap = gap; rounds = rounds })
 
-unfoldable pub times_of : Members → Option Phase
-times_of ms = do
+-- the keys of a phase
+unfoldable pub phase_keys : List (List ℕ)
+phase_keys = codes "least" ∷ codes "greatest" ∷ codes "yellow" ∷ codes "clear" ∷ codes "loss" ∷ codes "wait" ∷ codes "links" ∷ []
+
+unfoldable pub phase_of : Data → Option DraftPhase
+phase_of d = do
+  ms ← as_table d
+  ms ← only phase_keys ms
   least ← number_at (codes "least") ms
   greatest ← number_at (codes "greatest") ms
   yellow ← number_at (codes "yellow") ms
   clear ← number_at (codes "clear") ms
   loss ← number_at (codes "loss") ms
   wait ← number_at (codes "wait") ms
-  Some (record { least = least; greatest = greatest; yellow = yellow; clear = clear; loss = loss; wait = wait })
-
-unfoldable pub phase_of : Data → Option DraftPhase
-phase_of d = do
-  ms ← as_table d
-  phase ← times_of ms
-  names ← list_at (codes "links") ms
-  names ← only 7 ms names
-  links ← each as_str names
-  Some (record { phase = phase; links = links })
+  links ← list_at (codes "links") ms
+  links ← each as_str links
+  Some (record { phase = record { least = least; greatest = greatest; yellow = yellow; clear = clear; loss = loss; wait = wait }; links = links })
 
 unfoldable pub node_of : Data → Option DraftNode
 node_of d = do
   ms ← as_table d
+  ms ← only (codes "name" ∷ codes "phase" ∷ []) ms
   name ← text_at (codes "name") ms
   phases ← list_at (codes "phase") ms
-  phases ← only 2 ms phases
   phases ← each phase_of phases
   Some (record { name = name; phases = phases })
 
 unfoldable pub turn_of : Data → Option DraftTurn
 turn_of d = do
   ms ← as_table d
+  ms ← only (codes "exit" ∷ codes "share" ∷ []) ms
   exit ← text_at (codes "exit") ms
   share ← number_at (codes "share") ms
-  only 2 ms (record { exit = exit; share = share })
-
--- a link without its turns, and the turns as they stand there
-unfoldable pub road_of : Members → Option (DraftLink × List Data)
-road_of ms = do
-  name ← text_at (codes "name") ms
-  from ← optional_text_at (codes "from") ms
-  to ← optional_text_at (codes "to") ms
-  travel ← number_at (codes "travel") ms
-  sat ← number_at (codes "sat") ms
-  turns ← optional_list_at (codes "turn") ms
-  only (3 + present (codes "from") ms + present (codes "to") ms + present (codes "turn") ms) ms (record { name = name; from = from; to = to; travel = travel; sat = sat; turns = [] }, turns)
+  Some (record { exit = exit; share = share })
 
 unfoldable pub link_of : Data → Option DraftLink
 link_of d = do
   ms ← as_table d
-  road ← road_of ms
-  turns ← each turn_of road.1
-  Some (record road.0 { turns = turns })
+  ms ← only (codes "name" ∷ codes "from" ∷ codes "to" ∷ codes "travel" ∷ codes "sat" ∷ codes "turn" ∷ []) ms
+  name ← text_at (codes "name") ms
+  travel ← number_at (codes "travel") ms
+  sat ← number_at (codes "sat") ms
+  from ← optional_text_at (codes "from") ms
+  to ← optional_text_at (codes "to") ms
+  turns ← optional_list_at (codes "turn") ms
+  turns ← each turn_of turns
+  Some (record { name = name; from = from; to = to; travel = travel; sat = sat; turns = turns })
 
 unfoldable pub conflict_of : Data → Option DraftConflict
 conflict_of d = do
   ms ← as_table d
+  ms ← only (codes "a" ∷ codes "b" ∷ []) ms
   a ← text_at (codes "a") ms
   b ← text_at (codes "b") ms
-  only 2 ms (record { a = a; b = b })
-
--- the arrays of the file, and the run's table
-pub record FileParts : Type 0 where
-  pub run : Members
-  pub nodes : List Data
-  pub links : List Data
-  pub conflicts : List Data
-
-unfoldable pub parts_of : Members → Option FileParts
-parts_of ms = do
-  run ← table_at (codes "run") ms
-  nodes ← list_at (codes "node") ms
-  links ← list_at (codes "link") ms
-  conflicts ← optional_list_at (codes "conflict") ms
-  only (3 + present (codes "conflict") ms) ms (record { run = run; nodes = nodes; links = links; conflicts = conflicts })
+  Some (record { a = a; b = b })
 
 -- the draft that the file's table stands for
 unfoldable pub draft_of : Members → Option Draft
 draft_of ms = do
-  parts ← parts_of ms
-  run ← run_of parts.run
-  nodes ← each node_of parts.nodes
-  links ← each link_of parts.links
-  conflicts ← each conflict_of parts.conflicts
+  ms ← only (codes "run" ∷ codes "node" ∷ codes "link" ∷ codes "conflict" ∷ []) ms
+  run ← table_at (codes "run") ms
+  nodes ← list_at (codes "node") ms
+  links ← list_at (codes "link") ms
+  conflicts ← optional_list_at (codes "conflict") ms
+  run ← run_of run
+  nodes ← each node_of nodes
+  links ← each link_of links
+  conflicts ← each conflict_of conflicts
   Some (record { run = run; nodes = nodes; links = links; conflicts = conflicts })

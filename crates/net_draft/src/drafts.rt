@@ -2,70 +2,91 @@ use foundation::items::Items;
 use foundation::text::Text;
 use phase_plan::Phase;
 
-/// How the network is run, in seconds and rounds.
+/// How a network is run, in seconds and rounds (docs/RULES.md, "Road network").
+///
+/// In a `Draft` a number may be out of its bounds; they are tested when the network is made.
 #[derive(Clone, Copy)]
 pub struct Run {
-    /// The seconds of a round, 1 to 30, at most `look`.
+    /// The seconds of a round, 1 to 30 and at most `look`.
     pub step: u32,
     /// How many seconds each planning looks ahead, 10 to 180.
     pub look: u32,
-    /// The empty seconds that a cluster may have between vehicles, 0 to 10.
+    /// The empty seconds that a cluster may have between its vehicles, 0 to 10.
     pub gap: u32,
     /// The number of rounds, 1 to 600.
     pub rounds: u32,
 }
 
-/// A road network by names, in the order of its file.
+/// A road network by names, in the order of its file (docs/FORMATS.md, "Network file").
+///
+/// It is what stands in the file, so a number, a count or a name may be out of the bounds that are said
+/// here, and a name may stand for nothing. All this is tested when the network is made.
+///
+/// The name of a node or link has 1 to 16 characters out of a to z, 0 to 9 and `_`.
 #[derive(Drop)]
 pub struct Draft {
+    /// The numbers of the run.
     pub run: Run,
+    /// The nodes, 1 to 64 of them, no two with one name.
     pub nodes: Items<DraftNode>,
+    /// The links, 1 to 320 of them, no two with one name.
     pub links: Items<DraftLink>,
+    /// The conflicts, at most 1024; none where the file has no array of them.
     pub conflicts: Items<DraftConflict>,
 }
 
 /// An intersection with a signal.
 #[derive(Drop)]
 pub struct DraftNode {
+    /// Its name, of 1 to 16 characters out of a to z, 0 to 9 and `_`.
     pub name: Text,
+    /// Its phases, 2 to 4 of them, in the order of the ring.
     pub phases: Items<DraftPhase>,
 }
 
-/// A phase of a node, and the names of the links that it serves.
+/// A phase of a node, and the links that it serves.
 #[derive(Drop)]
 pub struct DraftPhase {
+    /// Its six times, in seconds; the bounds stand at the fields of `Phase`.
     pub phase: Phase,
+    /// The names of the links that are green in it, at most 16. Each ends at the node.
     pub links: Items<Text>,
 }
 
-/// A one-way road. It comes from a node or enters the network, and ends at a node or leaves the network.
+/// A one-way road. It comes from a node or enters the network, and ends at a node or leaves the network
+/// (docs/RULES.md, "Links").
 #[derive(Drop)]
 pub struct DraftLink {
+    /// Its name, of 1 to 16 characters out of a to z, 0 to 9 and `_`.
     pub name: Text,
-    /// The node that it comes from.
+    /// The name of the node that it comes from, or none where it enters the network.
     pub from: Option<Text>,
-    /// The node that it ends at.
+    /// The name of the node that it ends at, or none where it leaves the network.
     pub to: Option<Text>,
     /// The seconds from its begin to its end, 1 to 120.
     pub travel: u32,
     /// The most that leaves it in a second, in thousandths of a vehicle, 1 to 5000.
     pub sat: u32,
-    /// Where its vehicles turn at its end.
+    /// Where its vehicles turn at its end: at most 16 turns, none where it leaves the network or the
+    /// file has no array of them. Their shares add up to 1000 where it ends at a node.
     pub turns: Items<DraftTurn>,
 }
 
-/// A turn from the end of a link into another one.
+/// A turn from the end of a link into another one (docs/RULES.md, "Turning").
 #[derive(Drop)]
 pub struct DraftTurn {
-    /// The link that is entered.
+    /// The name of the link that is entered, which comes from the node where the turn is made.
     pub exit: Text,
-    /// The share of the vehicles that turn so, in thousandths.
+    /// The share of the vehicles that turn so, 0 to 1000 thousandths.
     pub share: u32,
 }
 
-/// Two links that must never be green together.
+/// Two links that must never be green together: they differ, end at one node and are in two phases of it
+/// (docs/RULES.md, "Conflicts").
 #[derive(Drop)]
 pub struct DraftConflict {
+    /// The name of the first link.
     pub a: Text,
+    /// The name of the second link.
     pub b: Text,
 }

@@ -1,20 +1,28 @@
 use std::alloc::{AllocError, AllocFailed};
 
-/// The parts of a network file.
+/// The parts of a network file: each is a kind of table (docs/FORMATS.md, "Places and faults").
 #[derive(Clone, Copy)]
 pub enum Part {
+    /// The table of the whole file.
     Top,
+    /// The table `run`.
     Run,
+    /// An element of the array `node`.
     Node,
+    /// An element of the array `phase` of a node.
     Phase,
+    /// An element of the array `link`.
     Link,
+    /// An element of the array `turn` of a link.
     Turn,
+    /// An element of the array `conflict`.
     Conflict,
 }
 
-/// A table of a network file.
+/// A table of a network file. A number past the greatest u32 stands as that one.
 #[derive(Clone, Copy)]
 pub struct Place {
+    /// The kind of table.
     pub part: Part,
     /// The number of the node, link or conflict, from 1, and 0 at `Top` and `Run`.
     pub item: u32,
@@ -22,10 +30,13 @@ pub struct Place {
     pub sub: u32,
 }
 
-/// Why a file or draft is no network. The first four name a place; the others name links and nodes by
-/// their numbers from 0.
+/// Why a file or draft is no network (docs/FORMATS.md, "Places and faults").
+///
+/// `Shape` to `Unknown` name a place. `Ends` to `Clash` name links, from 0 to 319, and nodes, from 0 to 63,
+/// by their numbers in the order of the file.
 #[derive(Clone, Copy)]
 pub enum NetFault {
+    /// Memory ran out. It says nothing of the file or draft.
     NoMemory,
     /// The text is no TOML.
     NotToml,

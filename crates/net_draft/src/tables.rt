@@ -1,9 +1,10 @@
-ghost use Rattle.std.specs.Prelude.{◌≡◌, ◌≢◌, ◌≤◌, option_map, option_copied, IfOk, IfErr, OnOk, OnErr, map};
+ghost use Rattle.std.specs.Prelude.{◌≡◌, option_map, option_copied, IfOk, map};
+ghost use Rattle.std.specs.List.{list_any};
+ghost use Rattle.std.specs.Str.{bytes_eq};
 ghost use Rattle.toml.specs.Data.{get_member, as_str, as_array, as_table};
 ghost use Rattle.toml.specs.View.{view, table_view};
 ghost use Rattle.net_draft.specs.Faults.{Gives, each};
 ghost use Rattle.net_draft.specs.Table as spec;
-ghost use Rattle.net_draft.specs.Borrowed.{parts_view, road_view};
 
 use crate::drafts::{Draft, DraftConflict, DraftLink, DraftNode, DraftPhase, DraftTurn, Run};
 use crate::faults::{NetFault, Part, Place};
@@ -13,19 +14,29 @@ use phase_plan::Phase;
 use std::alloc::{AllocError, Global};
 use toml::{Table, Value};
 
-/// The draft that a network file's table stands for.
+/// The draft that a network file's table stands for, as docs/FORMATS.md, "Network file", says.
 ///
-/// The fault is want of memory, or `Shape` of the first table of the file that has not the form of its
-/// place. A whole number that is no u32 is read as the greatest u32, which is out of every bound.
+/// The fault is `NoMemory`, or `Shape` of the first table, in the order of "Places and faults" there, that
+/// lacks a key, has a further key or one of the wrong kind, or is no table. The bounds of the draft are not
+/// tested here: a whole number that is no u32 is read as the greatest u32, which is out of every bound.
 #[tactic(auto, unfolding(crate::specs::Table::draft_of))]
 pub fn read_draft(alloc: Global, table: &Table) -> Result<Draft, NetFault>
     ensures draft { Gives (λ draft. draft) result (spec.draft_of (table_view table.now)) }
 {
-    let parts = read_parts(table)?;
-    let run = read_run(parts.run)?;
-    let nodes = read_nodes(alloc, parts.nodes)?;
-    let links = read_links(alloc, parts.links)?;
-    let conflicts = read_conflicts(alloc, parts.conflicts)?;
+    let place = Place {
+        part: Part::Top,
+        item: 0,
+        sub: 0,
+    };
+    let table = only(table, &["run", "node", "link", "conflict"], place)?;
+    let run = table_at(table, "run", place)?;
+    let nodes = list_at(table, "node", place)?;
+    let links = list_at(table, "link", place)?;
+    let conflicts = optional_list_at(table, "conflict", place)?;
+    let run = read_run(run)?;
+    let nodes = read_nodes(alloc, nodes)?;
+    let links = read_links(alloc, links)?;
+    let conflicts = read_conflicts(alloc, conflicts)?;
     Ok(Draft {
         run,
         nodes: Items::from_vec(nodes),
@@ -34,38 +45,7 @@ pub fn read_draft(alloc: Global, table: &Table) -> Result<Draft, NetFault>
     })
 }
 
-/// The arrays of the file, and the run's table.
-#[derive(Drop)]
-struct Parts<'a> {
-    run: &'a Table,
-    nodes: &'a [Value],
-    links: &'a [Value],
-    conflicts: &'a [Value],
-}
-
-#[tactic(auto, unfolding(crate::specs::Table::parts_of, crate::specs::Table::only))]
-fn read_parts(table: &Table) -> Result<Parts<'_>, NetFault>
-    ensures { Gives parts_view result (spec.parts_of (table_view table.now)) }
-{
-    let place = Place {
-        part: Part::Top,
-        item: 0,
-        sub: 0,
-    };
-    let run = table_at(table, "run", place)?;
-    let nodes = list_at(table, "node", place)?;
-    let links = list_at(table, "link", place)?;
-    let conflicts = optional_list_at(table, "conflict", place)?;
-    only(table, 3 + present(table, "conflict"), place)?;
-    Ok(Parts {
-        run,
-        nodes,
-        links,
-        conflicts,
-    })
-}
-
-#[tactic(auto, unfolding(crate::specs::Table::run_of, crate::specs::Table::only))]
+#[tactic(auto, unfolding(crate::specs::Table::run_of))]
 fn read_run(table: &Table) -> Result<Run, NetFault>
     ensures { Gives (λ run. run) result (spec.run_of (table_view table.now)) }
 {
@@ -74,11 +54,11 @@ fn read_run(table: &Table) -> Result<Run, NetFault>
         item: 0,
         sub: 0,
     };
+    let table = only(table, &["step", "look", "gap", "rounds"], place)?;
     let step = number_at(table, "step", place)?;
     let look = number_at(table, "look", place)?;
     let gap = number_at(table, "gap", place)?;
     let rounds = number_at(table, "rounds", place)?;
-    only(table, 4, place)?;
     Ok(Run {
         step,
         look,
@@ -98,7 +78,7 @@ fn read_nodes(alloc: Global, values: &[Value]) -> Result<Vec<DraftNode>, NetFaul
     Ok(nodes)
 }
 
-#[tactic(auto, unfolding(crate::specs::Table::node_of, crate::specs::Table::only))]
+#[tactic(auto, unfolding(crate::specs::Table::node_of))]
 fn read_node(alloc: Global, value: &Value, item: u32) -> Result<DraftNode, NetFault>
     ensures { Gives (λ node. node) result (spec.node_of (view value.now)) }
 {
@@ -108,10 +88,10 @@ fn read_node(alloc: Global, value: &Value, item: u32) -> Result<DraftNode, NetFa
         sub: 0,
     };
     let table = table_of(value, place)?;
+    let table = only(table, &["name", "phase"], place)?;
     let name = text_at(table, "name", place)?;
-    let values = list_at(table, "phase", place)?;
-    only(table, 2, place)?;
-    let phases = read_phases(alloc, values, item)?;
+    let phases = list_at(table, "phase", place)?;
+    let phases = read_phases(alloc, phases, item)?;
     let name = copied(alloc, name)?;
     Ok(DraftNode {
         name,
@@ -135,39 +115,42 @@ fn read_phases(alloc: Global, values: &[Value], item: u32) -> Result<Vec<DraftPh
     Ok(phases)
 }
 
-#[tactic(auto, unfolding(crate::specs::Table::phase_of, crate::specs::Table::only))]
+#[tactic(auto, unfolding(crate::specs::Table::phase_of))]
 fn read_phase(alloc: Global, value: &Value, place: Place) -> Result<DraftPhase, NetFault>
     ensures { Gives (λ phase. phase) result (spec.phase_of (view value.now)) }
 {
     let table = table_of(value, place)?;
-    let phase = read_times(table, place)?;
-    let values = list_at(table, "links", place)?;
-    only(table, 7, place)?;
-    let links = read_texts(alloc, values, place)?;
-    Ok(DraftPhase {
-        phase,
-        links: Items::from_vec(links),
-    })
-}
-
-#[tactic(auto, unfolding(crate::specs::Table::times_of))]
-fn read_times(table: &Table, place: Place) -> Result<Phase, NetFault>
-    ensures { Gives (λ phase. phase) result (spec.times_of (table_view table.now)) }
-{
+    let table = only_phase_keys(table, place)?;
     let least = number_at(table, "least", place)?;
     let greatest = number_at(table, "greatest", place)?;
     let yellow = number_at(table, "yellow", place)?;
     let clear = number_at(table, "clear", place)?;
     let loss = number_at(table, "loss", place)?;
     let wait = number_at(table, "wait", place)?;
-    Ok(Phase {
-        least,
-        greatest,
-        yellow,
-        clear,
-        loss,
-        wait,
+    let links = list_at(table, "links", place)?;
+    let links = read_texts(alloc, links, place)?;
+    Ok(DraftPhase {
+        phase: Phase {
+            least,
+            greatest,
+            yellow,
+            clear,
+            loss,
+            wait,
+        },
+        links: Items::from_vec(links),
     })
+}
+
+/// The table, which must have no key beside those of a phase.
+#[tactic(auto, unfolding(crate::specs::Table::phase_keys))]
+fn only_phase_keys(table: &Table, place: Place) -> Result<&Table, NetFault>
+    ensures { Gives (λ table. table_view table.now) result (spec.only spec.phase_keys (table_view table.now)) }
+{
+    let keys = [
+        "least", "greatest", "yellow", "clear", "loss", "wait", "links",
+    ];
+    only(table, &keys, place)
 }
 
 fn read_links(alloc: Global, values: &[Value]) -> Result<Vec<DraftLink>, NetFault>
@@ -191,51 +174,25 @@ fn read_link(alloc: Global, value: &Value, item: u32) -> Result<DraftLink, NetFa
         sub: 0,
     };
     let table = table_of(value, place)?;
-    let road = read_road(table, place)?;
-    let turns = read_turns(alloc, road.turns, item)?;
-    let name = copied(alloc, road.name)?;
-    let from = copied_if(alloc, road.from)?;
-    let to = copied_if(alloc, road.to)?;
-    Ok(DraftLink {
-        name,
-        from,
-        to,
-        travel: road.travel,
-        sat: road.sat,
-        turns: Items::from_vec(turns),
-    })
-}
-
-/// A link's own table.
-#[derive(Drop)]
-struct Road<'a> {
-    name: &'a str,
-    from: Option<&'a str>,
-    to: Option<&'a str>,
-    travel: u32,
-    sat: u32,
-    turns: &'a [Value],
-}
-
-#[tactic(auto, unfolding(crate::specs::Table::road_of, crate::specs::Table::only))]
-fn read_road(table: &Table, place: Place) -> Result<Road<'_>, NetFault>
-    ensures { Gives road_view result (spec.road_of (table_view table.now)) }
-{
+    let keys = ["name", "from", "to", "travel", "sat", "turn"];
+    let table = only(table, &keys, place)?;
     let name = text_at(table, "name", place)?;
-    let from = optional_text_at(table, "from", place)?;
-    let to = optional_text_at(table, "to", place)?;
     let travel = number_at(table, "travel", place)?;
     let sat = number_at(table, "sat", place)?;
+    let from = optional_text_at(table, "from", place)?;
+    let to = optional_text_at(table, "to", place)?;
     let turns = optional_list_at(table, "turn", place)?;
-    let keys = 3 + present(table, "from") + present(table, "to") + present(table, "turn");
-    only(table, keys, place)?;
-    Ok(Road {
+    let turns = read_turns(alloc, turns, item)?;
+    let name = copied(alloc, name)?;
+    let from = copied_if(alloc, from)?;
+    let to = copied_if(alloc, to)?;
+    Ok(DraftLink {
         name,
         from,
         to,
         travel,
         sat,
-        turns,
+        turns: Items::from_vec(turns),
     })
 }
 
@@ -255,14 +212,14 @@ fn read_turns(alloc: Global, values: &[Value], item: u32) -> Result<Vec<DraftTur
     Ok(turns)
 }
 
-#[tactic(auto, unfolding(crate::specs::Table::turn_of, crate::specs::Table::only))]
+#[tactic(auto, unfolding(crate::specs::Table::turn_of))]
 fn read_turn(alloc: Global, value: &Value, place: Place) -> Result<DraftTurn, NetFault>
     ensures { Gives (λ turn. turn) result (spec.turn_of (view value.now)) }
 {
     let table = table_of(value, place)?;
+    let table = only(table, &["exit", "share"], place)?;
     let exit = text_at(table, "exit", place)?;
     let share = number_at(table, "share", place)?;
-    only(table, 2, place)?;
     let exit = copied(alloc, exit)?;
     Ok(DraftTurn { exit, share })
 }
@@ -283,14 +240,14 @@ fn read_conflicts(alloc: Global, values: &[Value]) -> Result<Vec<DraftConflict>,
     Ok(conflicts)
 }
 
-#[tactic(auto, unfolding(crate::specs::Table::conflict_of, crate::specs::Table::only))]
+#[tactic(auto, unfolding(crate::specs::Table::conflict_of))]
 fn read_conflict(alloc: Global, value: &Value, place: Place) -> Result<DraftConflict, NetFault>
     ensures { Gives (λ conflict. conflict) result (spec.conflict_of (view value.now)) }
 {
     let table = table_of(value, place)?;
+    let table = only(table, &["a", "b"], place)?;
     let a = text_at(table, "a", place)?;
     let b = text_at(table, "b", place)?;
-    only(table, 2, place)?;
     let a = copied(alloc, a)?;
     let b = copied(alloc, b)?;
     Ok(DraftConflict { a, b })
@@ -444,24 +401,27 @@ fn optional_list_at<'a>(table: &'a Table, key: &str, place: Place) -> Result<&'a
     }
 }
 
-/// 1 where the key is there.
-#[tactic(auto, unfolding(crate::specs::Table::present))]
-fn present(table: &Table, key: &str) -> usize
-    ensures count { result ≡ spec.present key.now (table_view table.now) }
-    ensures small { result ≤ 1 }
+/// The table, which must have no key beside these.
+#[tactic(auto, unfolding(crate::specs::Table::only))]
+fn only<'a>(table: &'a Table, keys: &[&str], place: Place) -> Result<&'a Table, NetFault>
+    ensures { Gives (λ table. table_view table.now) result (spec.only (map (λ key. key.now) keys.now) (table_view table.now)) }
 {
-    if member(table, key).is_some() { 1 } else { 0 }
-}
-
-/// Refuses a table that has not this many keys.
-fn only(table: &Table, keys: usize, place: Place) -> Result<(), NetFault>
-    ensures ok { OnOk result (spec.size (table_view table.now) ≡ keys) }
-    ensures err { OnErr result (spec.size (table_view table.now) ≢ keys) }
-    ensures fault { IfErr result (λ fault. fault ≡ NetFault.Shape place) }
-{
-    if table.len() == keys {
-        Ok(())
+    if has_only(table, keys) {
+        Ok(table)
     } else {
         Err(NetFault::Shape(place))
     }
+}
+
+/// Whether each key of the table is one of these. It stops at the first that is not.
+fn has_only(table: &Table, keys: &[&str]) -> bool
+    ensures { result ≡ spec.has_only (map (λ key. key.now) keys.now) (table_view table.now) }
+{
+    table.keys().all(|key| is_one_of(key.as_str(), keys))
+}
+
+fn is_one_of(key: &str, keys: &[&str]) -> bool
+    ensures { result ≡ list_any (λ other. bytes_eq key.now other.now) keys.now }
+{
+    keys.iter().any(|other| key == *other)
 }
