@@ -32,7 +32,7 @@ const SEVEN: &str =
 #[test]
 fn seven_by_three_shares(rt: HostRuntime) -> Result<(), Fail> {
     let alloc = rt.alloc();
-    let three = changed(alloc, WORKED, SEVEN)?;
+    let three = changed(alloc, WORKED, SEVEN)?.ok_or("an edit does not fit")?;
     let found = all_parts(alloc, three.as_str(), 7)?;
     let line = "sa 0 7 0 0 0 0
 ab 0 0 3 0 2 2
@@ -72,7 +72,7 @@ zz None None
  None None
 ";
     assert_eq!(rt; found.as_str(), line);
-    let shared = changed(alloc, WORKED, SHARED)?;
+    let shared = changed(alloc, WORKED, SHARED)?.ok_or("an edit does not fit")?;
     let found = all_finds(alloc, shared.as_str(), "a,b,xb")?;
     assert_eq!(rt;
         found.as_str(),

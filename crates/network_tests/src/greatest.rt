@@ -1,4 +1,4 @@
-//! The greatest network that the bounds allow, made by loops.
+//! The greatest network that the bounds allow, made of pieces.
 use crate::rows::misjudged;
 use std::alloc::{AllocError, Global};
 use std::test::Fail;
@@ -28,9 +28,81 @@ name = "x143"|from = "n0" -> name = "x143"|to = "n1" & name = "y143" -> name = "
 name = "y143" -> name = "y143"|to = "n0" & name = "y142"|from = "n1" -> name = "y142" => ends 318
 name = "x143"|from = "n0" -> name = "x143"|to = "n1" & name = "e1" .. share = 1000 -> share = 999 => crowd 1"#;
 
-const RUN: &str = "[run]\nstep = 30\nlook = 180\ngap = 10\nrounds = 600\n";
+/// The pieces of the greatest network in their order, each written for the numbers from one up to another,
+/// which stand for its `#`. It has 64 nodes, of which the first serves 16 links in one phase; 320 links, of
+/// which 16 end at each of the first two nodes, and the first has 16 turns; and 1024 conflicts, which are two
+/// conflicts given 512 times, one the other reversed.
+const PIECES: &[(&str, u32, u32)] = &[
+    (
+        "[run]\nstep = 30\nlook = 180\ngap = 10\nrounds = 600\n",
+        0,
+        1,
+    ),
+    ("[[node]]\nname = \"n0\"\nphase = [{ links = [", 0, 1),
+    ("\"e#\", ", 0, 16),
+    (SERVED, 0, 1),
+    (SERVING_NONE, 0, 3),
+    ("]\n[[node]]\nname = \"n1\"\nphase = [{ links = [", 0, 1),
+    ("\"f#\", ", 0, 15),
+    (SERVED, 0, 1),
+    ("{ links = [\"f15\"", 0, 1),
+    (SERVED, 0, 1),
+    (SERVING_NONE, 0, 2),
+    ("]\n", 0, 1),
+    (NODE, 2, 64),
+    (
+        "[[link]]\nname = \"e0\"\nto = \"n0\"\ntravel = 120\nsat = 5000\nturn = [",
+        0,
+        1,
+    ),
+    ("{ exit = \"x0\", share = 1000 }, ", 0, 1),
+    ("{ exit = \"x#\", share = 0 }, ", 1, 16),
+    ("]\n", 0, 1),
+    (ENTRY_LINK, 1, 16),
+    (OTHER_ENTRY_LINK, 0, 16),
+    (
+        "[[link]]\nname = \"x#\"\nfrom = \"n0\"\ntravel = 120\nsat = 5000\n",
+        0,
+        144,
+    ),
+    (
+        "[[link]]\nname = \"y#\"\nfrom = \"n1\"\ntravel = 120\nsat = 5000\n",
+        0,
+        144,
+    ),
+    (CONFLICTS, 0, 512),
+];
 
-const TIMES: &str = "least = 1, greatest = 240, yellow = 10, clear = 10, loss = 10, wait = 3600";
+/// The rest of a phase, behind its links.
+const SERVED: &str =
+    "], least = 1, greatest = 240, yellow = 10, clear = 10, loss = 10, wait = 3600 }, ";
+
+const SERVING_NONE: &str =
+    "{ links = [], least = 1, greatest = 240, yellow = 10, clear = 10, loss = 10, wait = 3600 }, ";
+
+const NODE: &str = r#"[[node]]
+name = "n#"
+phase = [
+    { links = [], least = 120, greatest = 120, yellow = 1, clear = 0, loss = 0, wait = 1 },
+    { links = [], least = 1, greatest = 1, yellow = 1, clear = 0, loss = 0, wait = 1 },
+]
+"#;
+
+const ENTRY_LINK: &str = r#"[[link]]
+name = "e#"
+to = "n0"
+travel = 120
+sat = 5000
+turn = [{ exit = "x0", share = 1000 }]
+"#;
+
+const OTHER_ENTRY_LINK: &str = r#"[[link]]
+name = "f#"
+to = "n1"
+travel = 1
+sat = 1
+turn = [{ exit = "y0", share = 1000 }]
+"#;
 
 const CONFLICTS: &str = r#"[[conflict]]
 a = "f0"
@@ -40,86 +112,20 @@ a = "f15"
 b = "f0"
 "#;
 
-/// The names from one number up to another, as elements of an array.
-fn listed(alloc: Global, letter: &str, from: u32, to: u32) -> Result<String, AllocError> {
+/// A piece for each of the numbers.
+fn repeated(alloc: Global, piece: &str, from: u32, to: u32) -> Result<String, AllocError> {
     let mut text = String::new(alloc);
     for number in from..to {
-        let comma = if number == from { "" } else { ", " };
-        text.push_str(format!(in alloc; "{comma}\"{letter}{number}\"")?.as_str())?;
+        let digits = format!(in alloc; "{number}")?;
+        text.push_str(piece.replace(alloc, '#', digits.as_str())?.as_str())?;
     }
     Ok(text)
 }
 
-/// A node with four phases, of which two may serve links.
-fn node(alloc: Global, number: u32, first: &str, second: &str) -> Result<String, AllocError> {
-    let mut text = format!(in alloc; "[[node]]\nname = \"n{number}\"\nphase = [")?;
-    text.push_str(format!(in alloc; "{{ {TIMES}, links = [{first}] }}, ")?.as_str())?;
-    text.push_str(format!(in alloc; "{{ {TIMES}, links = [{second}] }}, ")?.as_str())?;
-    text.push_str(format!(in alloc;
-        "{{ {TIMES}, links = [] }}, {{ {TIMES}, links = [] }}]\n"
-    )?.as_str())?;
-    Ok(text)
-}
-
-/// 64 nodes. The first has 16 links in one phase, the second has 16 in two.
-fn nodes(alloc: Global) -> Result<String, AllocError> {
-    let mut text = node(alloc, 0, listed(alloc, "e", 0, 16)?.as_str(), "")?;
-    let (most, last) = (listed(alloc, "f", 0, 15)?, listed(alloc, "f", 15, 16)?);
-    text.push_str(node(alloc, 1, most.as_str(), last.as_str())?.as_str())?;
-    for number in 2..64 {
-        text.push_str(node(alloc, number, "", "")?.as_str())?;
-    }
-    Ok(text)
-}
-
-/// A link with this name, whose other keys are these.
-fn link(alloc: Global, letter: &str, number: u32, keys: &str) -> Result<String, AllocError> {
-    format!(in alloc; "[[link]]\nname = \"{letter}{number}\"\n{keys}\ntravel = 120\nsat = 5000\n")
-}
-
-/// The 16 turns of the first link: all vehicles take the first.
-fn turns(alloc: Global) -> Result<String, AllocError> {
-    let mut text = String::from_str(alloc, "{ exit = \"x0\", share = 1000 }")?;
-    for number in 1..16 {
-        text.push_str(format!(in alloc; ", {{ exit = \"x{number}\", share = 0 }}")?.as_str())?;
-    }
-    Ok(text)
-}
-
-/// 16 links that end at each of two nodes, and 144 that leave the network at each.
-fn links(alloc: Global) -> Result<String, AllocError> {
-    let keys = format!(in alloc; "to = \"n0\"\nturn = [{}]", turns(alloc)?)?;
-    let mut text = link(alloc, "e", 0, keys.as_str())?;
-    for (letter, first, last, keys) in [
-        (
-            "e",
-            1,
-            16,
-            "to = \"n0\"\nturn = [{ exit = \"x0\", share = 1000 }]",
-        ),
-        (
-            "f",
-            0,
-            16,
-            "to = \"n1\"\nturn = [{ exit = \"y0\", share = 1000 }]",
-        ),
-        ("x", 0, 144, "from = \"n0\""),
-        ("y", 0, 144, "from = \"n1\""),
-    ] {
-        for number in first..last {
-            text.push_str(link(alloc, letter, number, keys)?.as_str())?;
-        }
-    }
-    Ok(text)
-}
-
-/// 64 nodes, 320 links and 1024 conflicts, each of two conflicts given 512 times, one the other reversed.
 fn greatest(alloc: Global) -> Result<String, AllocError> {
-    let mut text = String::from_str(alloc, RUN)?;
-    text.push_str(nodes(alloc)?.as_str())?;
-    text.push_str(links(alloc)?.as_str())?;
-    for _ in 0..512 {
-        text.push_str(CONFLICTS)?;
+    let mut text = String::new(alloc);
+    for &(piece, from, to) in PIECES {
+        text.push_str(repeated(alloc, piece, from, to)?.as_str())?;
     }
     Ok(text)
 }
