@@ -1,4 +1,4 @@
-//! Tests of the road network: its worked file, each fault at each kind of place, and drafts.
+//! Tests of the road network: its worked file, each fault at each kind of place, the order of faults, and drafts.
 #![tactic(auto)]
 
 #[cfg(test)]
@@ -6,7 +6,13 @@ mod accessors;
 #[cfg(test)]
 mod drafts;
 #[cfg(test)]
+mod greatest;
+#[cfg(test)]
+mod orders;
+#[cfg(test)]
 mod refusals;
+#[cfg(test)]
+mod rows;
 #[cfg(test)]
 mod shown;
 #[cfg(test)]

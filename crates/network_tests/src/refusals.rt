@@ -1,502 +1,256 @@
-//! Each fault at each kind of place, and the first of two.
-use crate::texts::{WORKED, edited, outcome};
+//! Each fault at each kind of place, and what is accepted.
+use crate::rows::misjudged;
+use crate::texts::{BARE, WORKED, outcome, outcome_of};
+use std::alloc::{AllocError, Global};
 use std::test::Fail;
 
-/// A part of the worked network, what stands in its place, and the fault that comes of it.
-const REFUSALS: &str = "[run]
-step
-->
-[runs]
-step
-->
-shape top 0 0
-===
-[run]
-->
-extra = 1
-[run]
-->
-shape top 0 0
-===
-[run]
-step = 5
-look = 30
-gap = 1
-rounds = 4
-->
-run = 5
-->
-shape top 0 0
-===
-gap = 1
-->
+/// A key that must be there is not.
+const KEYS_ABSENT: &str = r#"[run]|step = 5|look = 30|gap = 1|rounds = 4 -> # => shape top 0 0
+step = 5 -> # => shape run 0 0
+look = 30 -> # => shape run 0 0
+gap = 1 -> # => shape run 0 0
+rounds = 4 -> # => shape run 0 0
+name = "a" -> # => shape node 1 0
+name = "b" -> # => shape node 2 0
+name = "a" .. least = 5 -> # => shape phase 1 1
+["ba"] .. greatest = 30 -> # => shape phase 1 2
+name = "b" .. yellow = 3 -> # => shape phase 2 1
+["ab"] .. clear = 2 -> # => shape phase 2 2
+name = "a" .. loss = 2 -> # => shape phase 1 1
+name = "a" .. wait = 120 -> # => shape phase 1 1
+links = ["ba"] -> # => shape phase 1 1
+name = "sa" -> # => shape link 1 0
+name = "xb" -> # => shape link 5 0
+name = "ab" .. travel = 10 -> # => shape link 2 0
+name = "xb" .. sat = 500 -> # => shape link 5 0
+exit = "ab", share = 1000 }]||[[link]]|name = "ab" -> share = 1000 }]||[[link]]|name = "ab" => shape turn 1 1
+exit = "ba", share = 500 -> exit = "ba" => shape turn 2 1
+exit = "xb", share = 500 -> share = 500 => shape turn 2 2
+a = "ba" -> # => shape conflict 1 0
+b = "sa" -> # => shape conflict 1 0
+b = "sb" -> # => shape conflict 2 0"#;
 
-->
-shape run 0 0
-===
-gap = 1
-->
-gap = 1
-more = 2
-->
-shape run 0 0
-===
-gap = 1
-->
-gap = \"1\"
-->
-shape run 0 0
-===
-name = \"a\"
-->
-name = 5
-->
-shape node 1 0
-===
-name = \"a\"
-->
-name = \"a\"
-hue = 1
-->
-shape node 1 0
-===
-wait = 120
-links = [\"ba\"]
-->
-links = [\"ba\"]
-->
-shape phase 1 1
-===
-links = [\"ba\"]
-->
-links = [5]
-->
-shape phase 1 1
-===
-links = [\"sb\"]
-->
-links = \"sb\"
-->
-shape phase 2 2
-===
-name = \"sa\"
-->
-name = \"sa\"
-hue = 1
-->
-shape link 1 0
-===
-to = \"a\"
-travel = 10
-->
-to = \"a\"
-travel = 1.5
-->
-shape link 1 0
-===
-from = \"a\"
-->
-from = 7
-->
-shape link 2 0
-===
-{ exit = \"ab\", share = 1000 }
-->
-{ exit = \"ab\" }
-->
-shape turn 1 1
-===
-{ exit = \"xb\", share = 500 }
-->
-5
-->
-shape turn 2 2
-===
-a = \"ba\"
-b = \"sa\"
-->
-a = \"ba\"
-->
-shape conflict 1 0
-===
-step = 5
-->
-step = 0
-->
-bound run 0 0
-===
-step = 5
-->
-step = 31
-->
-bound run 0 0
-===
-look = 30
-->
-look = 9
-->
-bound run 0 0
-===
-look = 30
-->
-look = 181
-->
-bound run 0 0
-===
-gap = 1
-->
-gap = 11
-->
-bound run 0 0
-===
-rounds = 4
-->
-rounds = 601
-->
-bound run 0 0
-===
-rounds = 4
-->
-rounds = -1
-->
-bound run 0 0
-===
-rounds = 4
-->
-rounds = 4294967297
-->
-bound run 0 0
-===
-name = \"a\"
-->
-name = \"A\"
-->
-bound node 1 0
-===
-name = \"a\"
-->
-name = \"aaaaaaaaaaaaaaaaa\"
-->
-bound node 1 0
-===
-name = \"a\"
-->
-name = \"\"
-->
-bound node 1 0
-===
-least = 5
-->
-least = 0
-->
-bound phase 1 1
-===
-loss = 2
-->
-loss = 11
-->
-bound phase 1 1
-===
-links = [\"ba\"]
-->
-links = [\"ba\", \"ba\", \"ba\", \"ba\", \"ba\", \"ba\", \"ba\", \"ba\", \"ba\", \"ba\", \"ba\", \"ba\", \"ba\", \"ba\", \"ba\", \"ba\", \"ba\"]
-->
-bound phase 1 1
-===
-to = \"a\"
-travel = 10
-->
-to = \"a\"
-travel = 0
-->
-bound link 1 0
-===
-to = \"a\"
-travel = 10
-->
-to = \"a\"
-travel = 121
-->
-bound link 1 0
-===
-travel = 10
-sat = 500
-->
-travel = 10
-sat = 5001
-->
-bound link 1 0
-===
-travel = 10
-sat = 500
-->
-travel = 10
-sat = -9223372036854775808
-->
-bound link 1 0
-===
-name = \"sa\"
-->
-name = \"s a\"
-->
-bound link 1 0
-===
-share = 1000
-->
-share = 1001
-->
-bound turn 1 1
-===
-share = 1000
-->
-share = 4294967296
-->
-bound turn 1 1
-===
-[[node]]
-name = \"a\"
-[[node.phase]]
-least = 5
-greatest = 30
-yellow = 3
-clear = 2
-loss = 2
-wait = 120
-links = [\"ba\"]
-->
-[[node]]
-name = \"a\"
-->
-bound node 1 0
-===
-name = \"b\"
-->
-name = \"a\"
-->
-twice node 2 0
-===
-name = \"xb\"
-->
-name = \"sb\"
-->
-twice link 5 0
-===
-links = [\"sb\"]
-->
-links = [\"sb\", \"zz\"]
-->
-unknown phase 2 2
-===
-to = \"a\"
-->
-to = \"c\"
-->
-unknown link 1 0
-===
-from = \"a\"
-->
-from = \"c\"
-->
-unknown link 2 0
-===
-exit = \"xb\"
-->
-exit = \"zz\"
-->
-unknown turn 2 2
-===
-b = \"sa\"
-->
-b = \"zz\"
-->
-unknown conflict 1 0
-===
-a = \"ab\"
-b
-->
-a = \"a\"
-b
-->
-unknown conflict 2 0
-===
-name = \"xb\"
-from = \"b\"
-->
-name = \"xb\"
-->
-ends 4
-===
-from = \"a\"
-to = \"b\"
-->
-from = \"a\"
-to = \"a\"
-->
-ends 1
-===
-{ exit = \"ba\", share = 500 }
-->
-{ exit = \"ba\", share = 499 }
-->
-shares 1
-===
-{ exit = \"ba\", share = 500 }
-->
-{ exit = \"sb\", share = 500 }
-->
-shares 1
-===
-{ exit = \"ba\", share = 500 }
-->
-{ exit = \"xb\", share = 500 }
-->
-shares 1
-===
-turn = [{ exit = \"ab\", share = 1000 }]
-->
+/// A key too many.
+const KEYS_FURTHER: &str = r#"[run] -> extra = 1|[run] => shape top 0 0
+[run] -> [runs]|[run] => shape top 0 0
+gap = 1 -> gap = 1|more = 2 => shape run 0 0
+name = "a" -> name = "a"|hue = 1 => shape node 1 0
+name = "b" -> name = "b"|links = [] => shape node 2 0
+links = ["ba"] -> links = ["ba"]|name = "p" => shape phase 1 1
+links = ["sb"] -> links = ["sb"]|skip = false => shape phase 2 2
+name = "sa" -> name = "sa"|hue = 1 => shape link 1 0
+name = "xb" -> name = "xb"|weight = 1 => shape link 5 0
+exit = "ba", -> exit = "ba", from = "a", => shape turn 2 1
+a = "ba" -> a = "ba"|c = "sa" => shape conflict 1 0
+b = "sb" -> b = "sb"|node = "b" => shape conflict 2 0"#;
 
-->
-shares 0
-===
-name = \"xb\"
-from = \"b\"
-travel = 10
-->
-name = \"xb\"
-from = \"b\"
-turn = [{ exit = \"ab\", share = 1000 }]
-travel = 10
-->
-shares 4
-===
-links = [\"sa\"]
-->
-links = []
-->
-phaseless 0
-===
-links = [\"sa\"]
-->
-links = [\"sa\", \"sa\"]
-->
-phaseless 0
-===
-links = [\"sa\"]
-->
-links = [\"sa\", \"xb\"]
-->
-phaseless 4
-===
-b = \"sa\"
-->
-b = \"ba\"
-->
-clash 2 2
-===
-b = \"sa\"
-->
-b = \"sb\"
-->
-clash 2 3
-===
-a = \"ba\"
-b = \"sa\"
-->
-a = \"xb\"
-b = \"xb\"
-->
-clash 4 4
-===
-a = \"ba\"
-b = \"sa\"
-->
-a = \"xb\"
-b = \"sa\"
-->
-clash 4 0
-===
-[run]
-->
-[run
-->
-toml
-===
-look = 30
-->
-look = 030
-->
-toml
-===
-rounds = 4
-->
-rounds = 9223372036854775808
-->
-toml
-===
-[[conflict]]
-a = \"ba\"
-->
-[conflict]
-a = \"ba\"
-->
-toml";
+/// A value of another kind than its key asks for.
+const KINDS: &str = r#"[run]|step = 5|look = 30|gap = 1|rounds = 4 -> run = 5 => shape top 0 0
+[run] -> [[run]] => shape top 0 0
+step = 5 -> step = "5" => shape run 0 0
+look = 30 -> look = 30.0 => shape run 0 0
+gap = 1 -> gap = true => shape run 0 0
+gap = 1 -> gap = 1979-05-27 => shape run 0 0
+rounds = 4 -> rounds = [4] => shape run 0 0
+name = "a" -> name = 5 => shape node 1 0
+name = "b" -> name = ["b"] => shape node 2 0
+name = "a" .. least = 5 -> least = "5" => shape phase 1 1
+["ba"] .. greatest = 30 -> greatest = 3e1 => shape phase 1 2
+name = "b" .. yellow = 3 -> yellow = [3] => shape phase 2 1
+["ab"] .. clear = 2 -> clear = { s = 2 } => shape phase 2 2
+name = "a" .. loss = 2 -> loss = false => shape phase 1 1
+name = "a" .. wait = 120 -> wait = 00:02:00 => shape phase 1 1
+links = ["ba"] -> links = [5] => shape phase 1 1
+links = ["sa"] -> links = ["sa", ["ba"]] => shape phase 1 2
+links = ["sb"] -> links = "sb" => shape phase 2 2
+name = "sa" -> name = 5 => shape link 1 0
+from = "a" -> from = 7 => shape link 2 0
+name = "xb"|from = "b" -> name = "xb"|from = ["b"] => shape link 5 0
+name = "sa"|to = "a" -> name = "sa"|to = 0 => shape link 1 0
+name = "sa" .. travel = 10 -> travel = 1.5 => shape link 1 0
+name = "xb" .. sat = 500 -> sat = "500" => shape link 5 0
+name = "xb" -> name = "xb"|turn = 5 => shape link 5 0
+name = "xb" -> name = "xb"|turn = { exit = "ba", share = 1000 } => shape link 5 0
+exit = "ba" -> exit = 2 => shape turn 2 1
+share = 1000 }]||[[link]]|name = "ab" -> share = "1000" }]||[[link]]|name = "ab" => shape turn 1 1
+a = "ba" -> a = 2 => shape conflict 1 0
+b = "sb" -> b = ["sb"] => shape conflict 2 0
+{ exit = "xb", share = 500 } -> 5 => shape turn 2 2
+{ exit = "ba", share = 500 } -> ["ba", 500] => shape turn 2 1"#;
+
+/// The arrays of the top, with elements that are no tables, and with one of them empty alone.
+const ARRAYS: &str = r#"gap = 1 -> gap = 2 => bound top 0 0
+node = [] -> # => shape top 0 0
+link = [] -> # => shape top 0 0
+conflict = [] -> # => bound top 0 0
+node = [] -> node = 5 => shape top 0 0
+node = [] -> node = {} => shape top 0 0
+link = [] -> link = "x" => shape top 0 0
+link = [] -> link = {} => shape top 0 0
+conflict = [] -> conflict = 5 => shape top 0 0
+conflict = [] -> conflict = {} => shape top 0 0
+node = [] -> node = [5] => shape node 1 0
+node = [] -> node = [[]] => shape node 1 0
+node = [] -> node = [{ name = "a", phase = [] }, 5] => shape node 2 0
+node = [] -> node = [{ name = "a" }] => shape node 1 0
+node = [] -> node = [{ name = "a", phase = 2 }] => shape node 1 0
+node = [] -> node = [{ name = "a", phase = {} }] => shape node 1 0
+node = [] -> node = [{ name = "a", phase = [5] }] => shape phase 1 1
+node = [] -> node = [{ name = "a", phase = [] }, { name = "b", phase = ["p"] }] => shape phase 2 1
+link = [] -> link = [5] => shape link 1 0
+link = [] -> link = [{ name = "l", travel = 1, sat = 1 }, "l"] => shape link 2 0
+link = [] -> link = [{ name = "l", travel = 1, sat = 1, turn = [[]] }] => shape turn 1 1
+conflict = [] -> conflict = [5] => shape conflict 1 0
+conflict = [] -> conflict = [{ a = "l", b = "l" }, ["l", "l"]] => shape conflict 2 0
+node = [] -> node = [{ name = "a", phase = [] }] => bound top 0 0
+link = [] -> link = [{ name = "l", travel = 1, sat = 1 }] => bound top 0 0
+gap = 1 -> gap = "1" => shape run 0 0
+conflict = [] -> conflict = 5 & gap = 1 -> gap = "1" => shape top 0 0
+step = 5 -> step = 0 => bound top 0 0"#;
+
+/// A number, a name or a count past its bounds.
+const BOUNDS: &str = r#"step = 5 -> step = 0 => bound run 0 0
+step = 5 -> step = 31 & look = 30 -> look = 31 => bound run 0 0
+step = 5 -> step = 31 => bound run 0 0
+step = 5 -> step = 30 & look = 30 -> look = 29 => bound run 0 0
+step = 5 -> step = 4294967301 => bound run 0 0
+look = 30 -> look = 9 => bound run 0 0
+look = 30 -> look = 181 => bound run 0 0
+gap = 1 -> gap = 11 => bound run 0 0
+gap = 1 -> gap = -1 => bound run 0 0
+rounds = 4 -> rounds = 0 => bound run 0 0
+rounds = 4 -> rounds = 601 => bound run 0 0
+rounds = 4 -> rounds = -1 => bound run 0 0
+rounds = 4 -> rounds = 4294967300 => bound run 0 0
+name = "a" -> name = "A" => bound node 1 0
+name = "a" -> name = "" => bound node 1 0
+name = "a" -> name = "aaaaaaaaaaaaaaaaa" => bound node 1 0
+name = "b" -> name = "b-1" => bound node 2 0
+name = "b" -> name = "ö" => bound node 2 0
+[[node]]|name = "b" -> [[node]]|name = "c"|phase = []|[[node]]|name = "b" => bound node 2 0
+[[link]]|name = "sa" -> [[node]]|name = "c"|[[node.phase]]|least = 5|greatest = 30|yellow = 3|clear = 2|loss = 2|wait = 120|links = []|[[link]]|name = "sa" => bound node 3 0
+name = "a" .. least = 5 -> least = 0 => bound phase 1 1
+name = "a" .. least = 5|greatest = 30 -> least = 121|greatest = 121 => bound phase 1 1
+["ba"] .. greatest = 30 -> greatest = 4 => bound phase 1 2
+["ba"] .. greatest = 30 -> greatest = 241 => bound phase 1 2
+name = "b" .. yellow = 3 -> yellow = 0 => bound phase 2 1
+name = "b" .. yellow = 3 -> yellow = 11 => bound phase 2 1
+["ab"] .. clear = 2 -> clear = 11 => bound phase 2 2
+["ab"] .. loss = 2 -> loss = 11 => bound phase 2 2
+name = "a" .. least = 5|greatest = 30 -> least = 1|greatest = 2 => bound phase 1 1
+name = "a" .. wait = 120 -> wait = 0 => bound phase 1 1
+name = "a" .. wait = 120 -> wait = 3601 => bound phase 1 1
+name = "a" .. wait = 120 -> wait = -120 => bound phase 1 1
+["ba"] -> ["ba", "sa", "ab", "sb", "ba", "sa", "ab", "sb", "ba", "sa", "ab", "sb", "ba", "sa", "ab", "sb", "ba"] => bound phase 1 1
+name = "sa" -> name = "s a" => bound link 1 0
+name = "xb" -> name = "" => bound link 5 0
+name = "xb" -> name = "xbxbxbxbxbxbxbxbx" => bound link 5 0
+name = "sa" .. travel = 10 -> travel = 0 => bound link 1 0
+name = "xb" .. travel = 10 -> travel = 121 => bound link 5 0
+name = "sa" .. sat = 500 -> sat = 0 => bound link 1 0
+name = "xb" .. sat = 500 -> sat = 5001 => bound link 5 0
+name = "sa" .. sat = 500 -> sat = -9223372036854775808 => bound link 1 0
+name = "sa" .. share = 1000 -> share = 1001 => bound turn 1 1
+name = "sa" .. share = 1000 -> share = -1 => bound turn 1 1
+exit = "xb", share = 500 -> exit = "xb", share = 4294967796 => bound turn 2 2"#;
+
+/// A name given twice, or one that stands for nothing.
+const NAMES: &str = r#"name = "b" -> name = "a" => twice node 2 0
+name = "ab" -> name = "sa" => twice link 2 0
+name = "xb" -> name = "sa" => twice link 5 0
+links = ["ba"] -> links = ["ba", "a"] => unknown phase 1 1
+links = ["sb"] -> links = ["zz", "sb"] => unknown phase 2 2
+name = "sa"|to = "a" -> name = "sa"|to = "c" => unknown link 1 0
+name = "sa"|to = "a" -> name = "sa"|to = "sb" => unknown link 1 0
+from = "a" -> from = "c" => unknown link 2 0
+name = "xb"|from = "b" -> name = "xb"|from = "" => unknown link 5 0
+name = "sa" .. exit = "ab" -> exit = "zz" => unknown turn 1 1
+exit = "xb", share = 500 -> exit = "b", share = 500 => unknown turn 2 2
+a = "ba" -> a = "zz" => unknown conflict 1 0
+b = "sa" -> b = "zz" => unknown conflict 1 0
+a = "ab" -> a = "a" => unknown conflict 2 0"#;
+
+/// Ends, shares, phases and conflicts that do not fit together.
+const JOINS: &str = r#"name = "xb"|from = "b" -> name = "xb" => ends 4
+name = "sa"|to = "a" -> name = "sa" => ends 0
+from = "a"|to = "b" -> from = "a"|to = "a" => ends 1
+exit = "ba", share = 500 -> exit = "ba", share = 499 => shares 1
+exit = "ba", share = 500 -> exit = "ba", share = 501 => shares 1
+exit = "ba", share = 500 -> exit = "sb", share = 500 => shares 1
+exit = "ba", share = 500 -> exit = "ab", share = 500 => shares 1
+exit = "ba", share = 500 -> exit = "xb", share = 500 => shares 1
+name = "sa" .. turn = [{ exit = "ab", share = 1000 }] -> turn = [] => shares 0
+name = "sb" .. turn = [{ exit = "xb", share = 1000 }] -> # => shares 3
+name = "xb" -> name = "xb"|turn = [{ exit = "ab", share = 1000 }] => shares 4
+name = "xb" -> name = "xb"|turn = [{ exit = "ab", share = 0 }] => shares 4
+links = ["sa"] -> links = [] => phaseless 0
+links = ["sa"] -> links = ["sa", "sa"] => phaseless 0
+links = ["ba"] -> links = ["ba", "sa"] => phaseless 0
+links = ["ab"] -> links = ["ab", "sa"] => phaseless 0
+links = ["sa"] -> links = [] & links = ["sb"] -> links = ["sb", "sa"] => phaseless 0
+links = ["sa"] -> links = ["sa", "xb"] => phaseless 4
+links = ["sb"] -> links = ["sb", "xb"] => phaseless 4
+b = "sa" -> b = "ba" => clash 2 2
+b = "sa" -> b = "ab" => clash 2 1
+b = "sa" -> b = "sb" => clash 2 3
+b = "sb" -> b = "xb" => clash 1 4
+a = "ba"|b = "sa" -> a = "xb"|b = "sa" => clash 4 0
+a = "ba"|b = "sa" -> a = "xb"|b = "xb" => clash 4 4
+name = "xb" -> name = "yb"|from = "b"|travel = 10|sat = 500|[[link]]|name = "xb" & a = "ba"|b = "sa" -> a = "yb"|b = "xb" => clash 4 5
+links = ["ba"] -> links = ["ba", "sa"] & links = ["sa"] -> links = [] => clash 2 0
+links = ["ab"] -> links = [] & links = ["sb"] -> links = ["ab", "sb"] => clash 1 3"#;
+
+/// The ends of the bounds, and what no rule forbids.
+const ACCEPTED: &str = r#"step = 5 -> step = 1 => ok
+step = 5 -> step = 30 => ok
+step = 5 -> step = 10 & look = 30 -> look = 10 => ok
+look = 30 -> look = 180 => ok
+gap = 1 -> gap = 0 => ok
+gap = 1 -> gap = 10 => ok
+rounds = 4 -> rounds = 1 => ok
+rounds = 4 -> rounds = 600 => ok
+name = "a" .. least = 5|greatest = 30|yellow = 3|clear = 2|loss = 2|wait = 120 -> least = 1|greatest = 1|yellow = 1|clear = 0|loss = 0|wait = 1 => ok
+name = "a" .. least = 5|greatest = 30|yellow = 3|clear = 2|loss = 2|wait = 120 -> least = 120|greatest = 240|yellow = 10|clear = 10|loss = 10|wait = 3600 => ok
+name = "a" .. least = 5|greatest = 30 -> least = 1|greatest = 3 => ok
+name = "sa" .. travel = 10|sat = 500 -> travel = 1|sat = 1 => ok
+name = "xb" .. travel = 10|sat = 500 -> travel = 120|sat = 5000 => ok
+exit = "ba", share = 500 -> exit = "ba", share = 0 & exit = "xb", share = 500 -> exit = "xb", share = 1000 => ok
+name = "xb" -> name = "az09_az09_az09_z"|from = "b"|travel = 10|sat = 500|[[link]]|name = "xb" => ok
+name = "xb" -> name = "a"|from = "b"|travel = 10|sat = 500|[[link]]|name = "xb" => ok
+name = "xb" -> name = "yb"|turn = []|from = "b"|travel = 10|sat = 500|[[link]]|name = "xb" => ok
+a = "ba"|b = "sa" -> a = "sa"|b = "ba" => ok
+a = "ba"|b = "sa" -> a = "ab"|b = "sb" => ok
+a = "ba"|b = "sa" -> a = "sb"|b = "ab" => ok
+[[conflict]]|a = "ba"|b = "sa" -> # & [[conflict]]|a = "ab"|b = "sb" -> # => ok
+name = "sa"|to = "a" -> to = "a"|name = "sa" => ok"#;
+
+/// Texts that are no TOML.
+const NO_TOML: &str = r#"[run] -> [run => toml
+look = 30 -> look = 030 => toml
+rounds = 4 -> rounds = 9223372036854775808 => toml
+[[conflict]]|a = "ba" -> [conflict]|a = "ba" => toml
+gap = 1 -> gap = 1|gap = 1 => toml
+name = "a" -> name = "a => toml
+gap = 1 -> gap = "1" & name = "b" -> name = b => toml"#;
+
+/// The texts that are changed, and the rows that change them.
+const TABLES: &[(&str, &str)] = &[
+    (WORKED, KEYS_ABSENT),
+    (WORKED, KEYS_FURTHER),
+    (WORKED, KINDS),
+    (BARE, ARRAYS),
+    (WORKED, BOUNDS),
+    (WORKED, NAMES),
+    (WORKED, JOINS),
+    (WORKED, ACCEPTED),
+    (WORKED, NO_TOML),
+];
 
 #[test]
-fn each_fault_names_its_place(rt: HostRuntime) -> Result<(), Fail> {
-    for row in REFUSALS.split("\n===\n") {
-        let (old, rest) = row.split_once("\n->\n").ok_or("a row has no arrow")?;
-        let (new, line) = rest.split_once("\n->\n").ok_or("a row has one arrow")?;
-        let text = edited(rt.alloc(), WORKED, old, new)?;
-        let found = outcome(rt.alloc(), text.as_str())?;
-        assert_eq!(rt; found.as_str(), line, "{old} -> {new}");
-    }
-    Ok(())
-}
-
-#[test]
-fn of_two_faults_the_earlier_stage_is_named(rt: HostRuntime) -> Result<(), Fail> {
-    let alloc = rt.alloc();
-    for (first, second, third, fourth, line) in [
-        (
-            "rounds = 4",
-            "rounds = 0",
-            "name = \"a\"\n",
-            "name = 5\n",
-            "shape node 1 0",
-        ),
-        (
-            "step = 5",
-            "step = 30",
-            "look = 30",
-            "look = 29",
-            "bound run 0 0",
-        ),
-        (
-            "name = \"b\"",
-            "name = \"a\"",
-            "name = \"xb\"",
-            "name = \"sb\"",
-            "twice node 2 0",
-        ),
-        (
-            "links = [\"sa\"]",
-            "links = []",
-            "links = [\"ab\"]",
-            "links = [\"ab\", \"sa\"]",
-            "phaseless 0",
-        ),
-        (
-            "links = [\"ba\"]",
-            "links = [\"ba\", \"sa\"]",
-            "links = [\"sa\"]",
-            "links = []",
-            "clash 2 0",
-        ),
-    ] {
-        let text = edited(alloc, WORKED, first, second)?;
-        let text = edited(alloc, text.as_str(), third, fourth)?;
-        let found = outcome(alloc, text.as_str())?;
-        assert_eq!(rt; found.as_str(), line, "{second} and {fourth}");
+fn each_text_is_judged_as_its_row_says(rt: HostRuntime) -> Result<(), Fail> {
+    for &(base, rows) in TABLES {
+        let wrong = misjudged(rt.alloc(), base, rows)?;
+        assert_eq!(rt; wrong.as_str(), "");
     }
     Ok(())
 }
@@ -504,16 +258,36 @@ fn of_two_faults_the_earlier_stage_is_named(rt: HostRuntime) -> Result<(), Fail>
 #[test]
 fn texts_that_are_no_network(rt: HostRuntime) -> Result<(), Fail> {
     let alloc = rt.alloc();
-    let empty = "node = []\nlink = []\n[run]\nstep = 5\nlook = 30\ngap = 1\nrounds = 4\n";
-    for (text, line) in [
-        (WORKED, "ok"),
-        ("", "shape top 0 0"),
-        ("\u{feff}", "shape top 0 0"),
-        ("no table", "toml"),
-        (empty, "bound top 0 0"),
-    ] {
-        let found = outcome(alloc, text)?;
-        assert_eq!(rt; found.as_str(), line);
+    let mut found = String::new(alloc);
+    for text in ["", "\u{feff}", "no table", WORKED, BARE] {
+        found.push_str(outcome(alloc, text)?.as_str())?;
+        found.push('\n')?;
     }
+    let wanted = "shape top 0 0\nshape top 0 0\ntoml\nok\nbound top 0 0\n";
+    assert_eq!(rt; found.as_str(), wanted);
+    Ok(())
+}
+
+/// What the worked network is judged with these bytes behind it.
+fn with_tail(alloc: Global, tail: &[u8]) -> Result<String, AllocError> {
+    let mut bytes = Vec::from_slice(alloc, WORKED.as_bytes())?;
+    bytes.extend_from_slice(tail)?;
+    outcome_of(alloc, bytes.as_slice())
+}
+
+#[test]
+fn bytes_that_are_no_text_are_no_toml(rt: HostRuntime) -> Result<(), Fail> {
+    let alloc = rt.alloc();
+    let whole = with_tail(alloc, b"# \xc3\xa9")?;
+    let stray = with_tail(alloc, b"# \xff\n")?;
+    let cut = with_tail(alloc, b"# \xe2\x82")?;
+    let named = with_tail(alloc, b"c = \"\xc3\xa9\"\n")?;
+    let stray_named = with_tail(alloc, b"c = \"\xff\"\n")?;
+    let cut_named = with_tail(alloc, b"c = \"\xc3\"\n")?;
+    let found = format!(in alloc; "{whole}, {stray}, {cut}; {named}, {stray_named}, {cut_named}")?;
+    assert_eq!(rt;
+        found.as_str(),
+        "ok, toml, toml; shape conflict 2 0, toml, toml"
+    );
     Ok(())
 }

@@ -61,7 +61,7 @@ pub(crate) fn shown(alloc: Global, network: &Network) -> Result<String, AllocErr
     Ok(text)
 }
 
-/// The parts of an amount that turn from a link into each link, and what the finds give for its name.
+/// The parts of an amount that turn from a link into each link.
 pub(crate) fn parts_shown(
     alloc: Global,
     network: &Network,
@@ -71,8 +71,7 @@ pub(crate) fn parts_shown(
     requires { l < length network.now.link_names }
 {
     let name = network.link_name(l);
-    let (node, link) = (network.find_node(name), network.find_link(name));
-    let mut text = format!(in alloc; "{name} {node:?} {link:?}")?;
+    let mut text = String::from_str(alloc, name)?;
     for exit in 0..network.links() {
         let part = network.split(l, amount, exit);
         text.push_str(format!(in alloc; " {part}")?.as_str())?;
@@ -106,4 +105,25 @@ pub(crate) fn all_parts(alloc: Global, text: &str, amount: u32) -> Result<String
         parts.push_str("\n")?;
     }
     Ok(parts)
+}
+
+/// What the finds give for each of the names, a line each: the node, then the link.
+fn finds_shown(alloc: Global, network: &Network, names: &str) -> Result<String, AllocError> {
+    let mut text = String::new(alloc);
+    for name in names.split(',') {
+        let (node, link) = (network.find_node(name), network.find_link(name));
+        text.push_str(format!(in alloc; "{name} {node:?} {link:?}\n")?.as_str())?;
+    }
+    Ok(text)
+}
+
+/// What a text's network finds for names between commas, or its fault in words.
+pub(crate) fn all_finds(alloc: Global, text: &str, names: &str) -> Result<String, AllocError> {
+    if text.len() > 1_000_000 {
+        return String::from_str(alloc, "too long");
+    }
+    match read_network(alloc, text.as_bytes()) {
+        Ok(network) => finds_shown(alloc, &network, names),
+        Err(fault) => fault_text(alloc, fault),
+    }
 }

@@ -92,18 +92,16 @@ a = \"ab\"
 b = \"sb\"
 ";
 
-/// The text with the first `old` in it replaced.
-pub(crate) fn edited(
-    alloc: Global,
-    text: &str,
-    old: &str,
-    new: &str,
-) -> Result<String, AllocError> {
-    match text.split_once(old) {
-        Some((before, after)) => format!(in alloc; "{before}{new}{after}"),
-        None => String::from_str(alloc, "the text has no such part"),
-    }
-}
+/// A text with all that the top needs, and nothing in its arrays.
+pub(crate) const BARE: &str = "node = []
+link = []
+conflict = []
+[run]
+step = 5
+look = 30
+gap = 1
+rounds = 4
+";
 
 fn part_name(part: Part) -> &'static str {
     match part {
@@ -142,10 +140,15 @@ pub(crate) fn fault_text(alloc: Global, fault: NetFault) -> Result<String, Alloc
 
 /// What the text is read as: `ok`, or its fault in words.
 pub(crate) fn outcome(alloc: Global, text: &str) -> Result<String, AllocError> {
-    if text.len() > 1_000_000 {
+    outcome_of(alloc, text.as_bytes())
+}
+
+/// What the bytes are read as.
+pub(crate) fn outcome_of(alloc: Global, bytes: &[u8]) -> Result<String, AllocError> {
+    if bytes.len() > 1_000_000 {
         return String::from_str(alloc, "too long");
     }
-    match read_network(alloc, text.as_bytes()) {
+    match read_network(alloc, bytes) {
         Ok(_) => String::from_str(alloc, "ok"),
         Err(fault) => fault_text(alloc, fault),
     }
