@@ -2,7 +2,6 @@
 use crate::rows::changed;
 use crate::shown::{all_finds, all_parts, network_shown};
 use crate::texts::WORKED;
-use road_net::Network;
 use std::test::Fail;
 
 #[test]
@@ -79,14 +78,4 @@ zz None None
         "a Some(0) Some(4)\nb Some(1) None\nxb None Some(5)\n"
     );
     Ok(())
-}
-
-/// A value of the type can be moved to another thread and seen by several.
-fn crosses_threads<T: Send + Sync>(_value: Option<&T>) -> bool {
-    true
-}
-
-#[test]
-fn a_network_crosses_threads(rt: HostRuntime) {
-    assert!(rt; crosses_threads::<Network>(None));
 }
