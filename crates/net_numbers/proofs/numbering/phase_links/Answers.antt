@@ -9,7 +9,7 @@ use Rattle.net_numbers.proofs.numbering.phase_links.Goals as goal
 pub links_of_phases-requires : goal.links_of_phases-requires
 links_of_phases-requires c =
     let node = All-at IsBoundedNode c.args.nodes.now c.loop-index.index c.index-nodes-index.result c.loop-index-test.true c.index-nodes-index.is c.requires.bounds in
-    rw c.as_slice.ensures node.count.1
+    rw c.as_slice.ensures node.own.count.1
 
 pub returns-in_err-phases : goal.returns-in_err-phases
 returns-in_err-phases c =
