@@ -42,7 +42,7 @@ module _ (links : List (List ℕ)) where
   pub phase-known : (p : DraftPhase) (numbers : List ℕ) → each (number_of links) p.links ≡ Some numbers → IsKnownPhase links p
   phase-known p numbers is = each-good (number_of links) (Contains links) (number_of-known links) p.links numbers is
 
-  pub node-known : (n : DraftNode) (lists : List (List ℕ)) → phases_of links n ≡ Some lists → IsKnownNode links n
+  node-known : (n : DraftNode) (lists : List (List ℕ)) → phases_of links n ≡ Some lists → IsKnownNode links n
   node-known n lists is = each-good (λ (p : DraftPhase). each (number_of links) p.links) (IsKnownPhase links) phase-known n.phases lists is
 
   pub nodes-known : (nodes : List DraftNode) (lists : List (List (List ℕ))) → each (phases_of links) nodes ≡ Some lists → All (IsKnownNode links) nodes
@@ -57,7 +57,7 @@ module _ (links : List (List ℕ)) where
   turns-known : (l : DraftLink) (turns : List Turn) → turns_of links l ≡ Some turns → All (IsKnownTurn links) l.turns
   turns-known l turns is = each-good (turn_of links) (IsKnownTurn links) turn-known l.turns turns is
 
-  pub conflict-known : (c : DraftConflict) (pair : ℕ × ℕ) → conflict_of links c ≡ Some pair → IsKnownConflict links c
+  conflict-known : (c : DraftConflict) (pair : ℕ × ℕ) → conflict_of links c ≡ Some pair → IsKnownConflict links c
   unfolding conflict_of
   conflict-known c pair is =
       let (a, first, rest) = bind-some (number_of links c.a) _ pair is in

@@ -64,7 +64,7 @@ IsTwiceFault d Node item sub = (sub ≡ 0) × IsFirstTwice (node_names d) item
 IsTwiceFault d Link item sub = (sub ≡ 0) × AreDistinct (node_names d) × IsFirstTwice (link_names d) item
 IsTwiceFault d _ item sub = ⊥
 
--- all names that a phase or a node uses are names of links
+-- all names that a phase uses, or all phases of a node, are names of links
 abbrev pub IsKnownPhase : List (List ℕ) → DraftPhase → Type 0
 IsKnownPhase links p = All (Contains links) p.links
 
@@ -76,18 +76,21 @@ pub record HasKnownEnds (nodes : List (List ℕ)) (l : DraftLink) : Type 0 where
   pub from : IfSome l.from (Contains nodes)
   pub to : IfSome l.to (Contains nodes)
 
+-- the turn leads into one of the links
 abbrev pub IsKnownTurn : List (List ℕ) → DraftTurn → Type 0
 IsKnownTurn links t = Contains links t.exit
 
+-- a link whose ends and turns name what is there
 pub record IsKnownLink (nodes links : List (List ℕ)) (l : DraftLink) : Type 0 where
   pub ends : HasKnownEnds nodes l
   pub turns : All (IsKnownTurn links) l.turns
 
+-- a conflict between two of the links
 pub record IsKnownConflict (links : List (List ℕ)) (c : DraftConflict) : Type 0 where
   pub a : Contains links c.a
   pub b : Contains links c.b
 
--- the first phase of a node that names no link
+-- the first phase of a node with a name that is no link's
 abbrev pub IsUnknownInNode : List (List ℕ) → DraftNode → ℕ → Type 0
 IsUnknownInNode links n sub = IsFirst (IsKnownPhase links) (λ p. ¬ IsKnownPhase links p) n.phases sub
 
@@ -100,9 +103,6 @@ IsUnknownInLink nodes links l _ sub = ⊥
 -- the first place of a draft that uses a name which stands for nothing: all phases come first, then each link with its
 -- turns, then conflicts
 abbrev pub IsUnknownFault : Draft → Part → ℕ → ℕ → Type 0
-IsUnknownFault d Top item sub = ⊥
-IsUnknownFault d Run item sub = ⊥
-IsUnknownFault d Node item sub = ⊥
 IsUnknownFault d Phase item sub = IsFirst (IsKnownNode (link_names d)) (λ n. IsUnknownInNode (link_names d) n sub) d.nodes item
 IsUnknownFault d Link item sub =
     All (IsKnownNode (link_names d)) d.nodes
@@ -113,6 +113,7 @@ IsUnknownFault d Turn item sub =
 IsUnknownFault d Conflict item sub =
     (sub ≡ 0) × All (IsKnownNode (link_names d)) d.nodes × All (IsKnownLink (node_names d) (link_names d)) d.links
     × IsFirst (IsKnownConflict (link_names d)) (λ c. ¬ IsKnownConflict (link_names d) c) d.conflicts item
+IsUnknownFault d _ item sub = ⊥
 
 -- why a draft has no numbers for its names, unless it is want of memory
 abbrev pub FailsNumbers : Draft → NetFault → Type 0
