@@ -1,13 +1,15 @@
 -- Names of which no two are the same.
-use Rattle.std.proofs.Common.{◌≡◌, ◌≢◌, ℕ, zero, suc, ◌+◌, ◌<◌, Bool, true, false, not, ◌||◌, List, [], ◌∷◌, ◌++◌, length, get_or, take, map, if◌then◌else◌, Option, Some, None, is_none, refl, ap, ◌∙◌, sym, arith, length-take, IsNone, IfSome, Contains, slice_get, ◌↔◌}
+use Rattle.std.proofs.Common.{◌≡◌, ◌≢◌, ℕ, zero, suc, ◌+◌, ◌-◌, ◌<◌, Bool, true, false, not, ◌||◌, List, [], ◌∷◌, ◌++◌, length, get_or, take, map, if◌then◌else◌, Option, Some, None, is_none, refl, ap, ◌∙◌, sym, arith, length-take, IsNone, IfSome, Contains, slice_get, ◌↔◌}
 use Rattle.std.proofs.lemmas.Bool.{true≢false}
 use Rattle.std.proofs.lemmas.List.{get_or-take, get_or-map, length-map, take-map, map_more}
 use Rattle.std.proofs.lemmas.List.Quantifiers.{all_pairs_push, position-Some}
 use Rattle.std.proofs.lemmas.Slice.Eq.{bytes_eq-Decides}
-use Rattle.std.proofs.lemmas.Option.{slice_get-get_or}
+use Rattle.std.proofs.lemmas.Option.{slice_get-get_or, slice_get_read, slice_get_within, get_or_from_slice_get}
 use Rattle.std.specs.List.{list_any}
 use Rattle.std.specs.Str.{bytes_eq}
+use Rattle.net_numbers.specs.FirstFaults.{IsFirstTwice}
 use Rattle.net_numbers.specs.Numbers.{AreDistinct, number_of}
+use Rattle.net_numbers.proofs.Known.{number_of-known}
 use Rattle.net_numbers.proofs.Places.{list_any-position}
 
 or_true : (b : Bool) → (b || true) ≡ true
@@ -28,27 +30,39 @@ AreDistinct-push names name differ new =
     let found = list_any-at (bytes_eq name) names k d h ((bytes_eq-Decides name (get_or names k d)).1 (sym same)) in
     true≢false (sym new ∙ ap not (sym (list_any-position (bytes_eq name) names) ∙ found)))
 
--- a name that has a number before its own place stands twice
-pub AreDistinct-not : (names : List (List ℕ)) (i : ℕ) (name : List ℕ) → i < length names → name ≡ get_or names i [] → is_none (number_of (take i names) name) ≡ false → AreDistinct names → ⊥
-AreDistinct-not names i name h at old differ = by (number_of (take i names) name) refl old
+-- a name that is not new is among the names
+Contains-old : (names : List (List ℕ)) (name : List ℕ) → is_none (number_of names name) ≡ false → Contains names name
+Contains-old names name old = by (number_of names name) refl old
   where
-    by : (o : Option ℕ) → number_of (take i names) name ≡ o → is_none o ≡ false → ⊥
-    by None e none = true≢false none
-    by (Some k) e none =
-        let (within, passes, _) = position-Some (bytes_eq name) (take i names) k [] e in
-        let below : k < i = omega (arith, length-take i names) in
-        let same = (bytes_eq-Decides name (get_or (take i names) k [])).0 passes in
-        differ k i [] below h (sym (get_or-take i names k [] below) ∙ sym same ∙ at)
+    by : (o : Option ℕ) → number_of names name ≡ o → is_none o ≡ false → Contains names name
+    by None e none = absurd (true≢false none)
+    by (Some k) e none = number_of-known names name k e
+
+-- where a name stands before its own place, not all names differ
+pub IsFirstTwice-not : (names : List (List ℕ)) (number : ℕ) → IsFirstTwice names number → AreDistinct names → ⊥
+IsFirstTwice-not names number first differ =
+    let (k, within, same) = first.again in
+    let below : k < number - 1 = omega (arith, length-take (number - 1) names) in
+    let there = get_or_from_slice_get names (number - 1) first.name first.name first.there in
+    differ k (number - 1) first.name below (slice_get_within names (number - 1) first.name first.there)
+    (sym (get_or-take (number - 1) names k first.name below) ∙ same ∙ sym there)
 
 -- a loop over elements with names: the element at i, after the names of those before it
 module _ {X : Type 0} (f : X → List ℕ) (xs : List X) (i : ℕ) (x : X) (h : i < length xs) (at : x ≡ get_or xs i x) (names : List (List ℕ)) (name : List ℕ) (added : Bool)
     (same : names ≡ map f (take i xs)) (its : name ≡ f x) (tells : added ≡ is_none (number_of names name)) where
-  pub names-twice : added ≡ false → AreDistinct (map f xs) → ⊥
-  names-twice old =
+  pub names-twice : (number : ℕ) → number ≡ i + 1 → added ≡ false → AreDistinct names → IsFirstTwice (map f xs) number
+  names-twice number is old differ =
+      let index : number - 1 ≡ i = omega arith in
       let inside : i < length (map f xs) = simp length-map h in
-      let here : name ≡ get_or (map f xs) i [] = its ∙ ap f at ∙ sym (get_or-map f xs i x [] h) in
-      let before : is_none (number_of (take i (map f xs)) name) ≡ false = rw (take-map f i xs, ← same) (sym tells ∙ old) in
-      AreDistinct-not (map f xs) i name inside here before
+      let here : name ≡ get_or (map f xs) i name = its ∙ ap f at ∙ sym (get_or-map f xs i x name h) in
+      let earlier : take (number - 1) (map f xs) ≡ names = rw (index, take-map f i xs, ← same) refl in
+      record {
+        name = name;
+        from_one = omega arith;
+        there = rw index (slice_get_read (map f xs) (length (map f xs)) i name refl inside here);
+        before = rw earlier differ;
+        again = rw earlier (Contains-old names name (sym tells ∙ old));
+      }
 
   pub names-more : (new : List (List ℕ)) → added ≡ true → new ≡ (if added then names ++ name ∷ [] else names) → AreDistinct names → (new ≡ map f (take (i + 1) xs)) × AreDistinct new
   names-more new fresh is differ =
@@ -79,3 +93,6 @@ number_of-none names name = (none, by (number_of names name) refl)
     by (Some n) is absent =
         let (within, passes, _) = position-Some (bytes_eq name) names n name is in
         absurd (absent (n, within, sym ((bytes_eq-Decides name (get_or names n name)).0 passes)))
+
+pub number_of-unknown : (names : List (List ℕ)) (name : List ℕ) → number_of names name ≡ None → Contains names name → ⊥
+number_of-unknown names name none = (number_of-none names name).0 (rw none refl)

@@ -27,7 +27,8 @@ pub record IsNumbered (d : Draft) (net : Net) : Type 0 where
 abbrev made : Draft → List (List (List ℕ)) → List Link × List (List Turn) → List (ℕ × ℕ) → Net
 made d phase_links roads conflicts = record { run = d.run; node_names = node_names d; plans = map plan_of d.nodes; phase_links = phase_links; link_names = link_names d; links = roads.0; turns = roads.1; conflicts = conflicts }
 
-roads_parts : (nodes links : List (List ℕ)) (phase_links : List (List (List ℕ))) (ls : List DraftLink) (roads : List Link × List (List Turn)) → roads_of nodes links phase_links ls ≡ Some roads
+-- links with their turns
+pub roads_parts : (nodes links : List (List ℕ)) (phase_links : List (List (List ℕ))) (ls : List DraftLink) (roads : List Link × List (List Turn)) → roads_of nodes links phase_links ls ≡ Some roads
     → (each (link_of nodes links phase_links) ls ≡ Some roads.0) × (each (turns_of links) ls ≡ Some roads.1)
 unfolding roads_of
 roads_parts nodes links phase_links ls roads h =

@@ -39,7 +39,7 @@ phases-count links n lists is = each-length (λ (p : DraftPhase). each (number_o
 
 -- the phases of a node are at most 4
 pub phases-few : (links : List (List ℕ)) (nodes : List DraftNode) (lists : List (List (List ℕ))) → All IsBoundedNode nodes → each (phases_of links) nodes ≡ Some lists → All (λ phases. length phases ≤ 4) lists
-phases-few links nodes lists bounds is = each-All (phases_of links) IsBoundedNode (λ phases. length phases ≤ 4) (λ n phases ok h. rw (phases-count links n phases h) ok.count.1) nodes lists bounds is
+phases-few links nodes lists bounds is = each-All (phases_of links) IsBoundedNode (λ phases. length phases ≤ 4) (λ n phases ok h. rw (phases-count links n phases h) ok.own.count.1) nodes lists bounds is
 
 module _ (nodes links : List (List ℕ)) (phase_links : List (List (List ℕ))) where
   -- a link by numbers
@@ -49,7 +49,7 @@ module _ (nodes links : List (List ℕ)) (phase_links : List (List (List ℕ))) 
       let (from, comes, rest) = bind-some (number_if nodes x.from) _ l is in
       let (to, ends, more) = bind-some (number_if nodes x.to) _ l rest in
       let (link, its, last) = bind-some (number_of links x.name) _ l more in
-      rw (← same_Some _ _ last) (record { from = number_if-within nodes x.from from comes; to = number_if-within nodes x.to to ends; travel = bounds.travel; sat = bounds.sat })
+      rw (← same_Some _ _ last) (record { from = number_if-within nodes x.from from comes; to = number_if-within nodes x.to to ends; travel = bounds.own.travel; sat = bounds.own.sat })
 
   -- its phase
   road-phase : (x : DraftLink) (l : Link) (k : ℕ) → number_of links x.name ≡ Some k → link_of nodes links phase_links x ≡ Some l → l.phase ≡ phase_of phase_links k l.to
@@ -69,7 +69,7 @@ turn-exit links x t is =
 
 turns-bounds : (links : List (List ℕ)) (x : DraftLink) (ts : List Turn) → IsBoundedLink x → turns_of links x ≡ Some ts → AreTurns (length links) ts
 turns-bounds links x ts bounds is = record {
-  count = rw (each-length (turn_of links) x.turns ts is) bounds.count;
+  count = rw (each-length (turn_of links) x.turns ts is) bounds.own.count;
   exits = each-All (turn_of links) IsBoundedTurn (λ t. t.exit < length links) (λ d t _ h. (turn-exit links d t h).0) x.turns ts bounds.turns is;
   shares = each-All (turn_of links) IsBoundedTurn (λ t. t.share ≤ 1000) (λ d t ok h. rw (turn-exit links d t h).1 ok) x.turns ts bounds.turns is;
 }
@@ -112,14 +112,14 @@ module _ (d : Draft) (net : Net) (bounds : IsBounded d) (nodes_differ : AreDisti
   outline-from : IsOutline net
   outline-from = record {
     run = rw is.run bounds.run;
-    node_count = rw node_total bounds.node_count;
-    link_count = rw link_total bounds.link_count;
-    node_names = rw is.nodes (All-map IsName (λ n. n.name) d.nodes (All-weaker IsBoundedNode (λ n. IsName n.name) (λ n ok. ok.name) d.nodes bounds.nodes));
+    node_count = rw node_total bounds.counts.nodes;
+    link_count = rw link_total bounds.counts.links;
+    node_names = rw is.nodes (All-map IsName (λ n. n.name) d.nodes (All-weaker IsBoundedNode (λ n. IsName n.name) (λ n ok. ok.own.name) d.nodes bounds.nodes));
     nodes_differ = rw is.nodes nodes_differ;
-    link_names = rw is.names (All-map IsName (λ l. l.name) d.links (All-weaker IsBoundedLink (λ l. IsName l.name) (λ l ok. ok.name) d.links bounds.links));
+    link_names = rw is.names (All-map IsName (λ l. l.name) d.links (All-weaker IsBoundedLink (λ l. IsName l.name) (λ l ok. ok.own.name) d.links bounds.links));
     links_differ = rw is.names links_differ;
     plan_count = rw (is.plans, length-map) (sym node_total);
-    plans = rw is.plans (All-map IsPlan plan_of d.nodes (All-weaker IsBoundedNode (λ n. IsPlan (plan_of n)) (λ n ok. IsPlan-from_bounds n.phases ok.count.0 ok.count.1 ok.phases) d.nodes bounds.nodes));
+    plans = rw is.plans (All-map IsPlan plan_of d.nodes (All-weaker IsBoundedNode (λ n. IsPlan (plan_of n)) (λ n ok. IsPlan-from_bounds n.phases ok.own.count.0 ok.own.count.1 ok.phases) d.nodes bounds.nodes));
     phases_count = each-length (phases_of (link_names d)) d.nodes net.phase_links is.phase_links ∙ sym node_total;
     phase_counts = outline-phases;
     phase_links = rw is.names (each-All (phases_of (link_names d)) IsBoundedNode (All (ArePhaseLinks (length (link_names d)))) (phases-bounds (link_names d)) d.nodes net.phase_links bounds.nodes is.phase_links);
@@ -128,7 +128,7 @@ module _ (d : Draft) (net : Net) (bounds : IsBounded d) (nodes_differ : AreDisti
     phases = outline-own;
     turn_count = each-length (turns_of (link_names d)) d.links net.turns is.turns ∙ sym link_total;
     turns = rw is.names (each-All (turns_of (link_names d)) IsBoundedLink (AreTurns (length (link_names d))) (turns-bounds (link_names d)) d.links net.turns bounds.links is.turns);
-    conflict_count = rw (each-length (conflict_of (link_names d)) d.conflicts net.conflicts is.conflicts) bounds.conflict_count;
+    conflict_count = rw (each-length (conflict_of (link_names d)) d.conflicts net.conflicts is.conflicts) bounds.counts.conflicts;
     conflicts = rw is.names (each-All (conflict_of (link_names d)) (λ _. ⊤) (λ c. (c.0 < length (link_names d)) × (c.1 < length (link_names d))) (λ x c _ h. conflict-bounds (link_names d) x c h) d.conflicts net.conflicts (anything d.conflicts) is.conflicts);
   }
 

@@ -28,25 +28,37 @@ pub record IsBoundedPhase (p : DraftPhase) : Type 0 where
   pub phase : IsPhase p.phase
   pub links : length p.links ≤ 16
 
-pub record IsBoundedNode (n : DraftNode) : Type 0 where
+-- the bounds of a node itself, its phases apart
+pub record HasNodeBounds (n : DraftNode) : Type 0 where
   pub name : IsName n.name
   pub count : (2 ≤ length n.phases) × (length n.phases ≤ 4)
+
+pub record IsBoundedNode (n : DraftNode) : Type 0 where
+  pub own : HasNodeBounds n
   pub phases : All IsBoundedPhase n.phases
 
 abbrev pub IsBoundedTurn : DraftTurn → Type 0
 IsBoundedTurn t = t.share ≤ 1000
 
-pub record IsBoundedLink (l : DraftLink) : Type 0 where
+-- the bounds of a link itself, its turns apart
+pub record HasLinkBounds (l : DraftLink) : Type 0 where
   pub name : IsName l.name
   pub travel : (1 ≤ l.travel) × (l.travel ≤ 120)
   pub sat : (1 ≤ l.sat) × (l.sat ≤ 5000)
   pub count : length l.turns ≤ 16
+
+pub record IsBoundedLink (l : DraftLink) : Type 0 where
+  pub own : HasLinkBounds l
   pub turns : All IsBoundedTurn l.turns
 
+-- how many nodes, links and conflicts there are
+pub record HasCounts (d : Draft) : Type 0 where
+  pub nodes : (1 ≤ length d.nodes) × (length d.nodes ≤ 64)
+  pub links : (1 ≤ length d.links) × (length d.links ≤ 320)
+  pub conflicts : length d.conflicts ≤ 1024
+
 pub record IsBounded (d : Draft) : Type 0 where
-  pub node_count : (1 ≤ length d.nodes) × (length d.nodes ≤ 64)
-  pub link_count : (1 ≤ length d.links) × (length d.links ≤ 320)
-  pub conflict_count : length d.conflicts ≤ 1024
+  pub counts : HasCounts d
   pub run : IsRun d.run
   pub nodes : All IsBoundedNode d.nodes
   pub links : All IsBoundedLink d.links

@@ -1,4 +1,5 @@
 pub mod Bounds
+pub mod FirstFaults
 pub mod Numbers
 pub mod Outcome
 pub mod Outline

@@ -1,7 +1,10 @@
 -- What the steps from a draft to a network answer.
-use Rattle.std.specs.Prelude.{◌≡◌, ℕ, List, Option, Some, None, Result, Ok, Err}
+use Rattle.std.specs.Prelude.{◌≡◌, ℕ, List, Option, Some, Result, Ok, Err}
+use Rattle.net_draft.specs.declared.faults.Part.{Part}
+use Rattle.net_draft.specs.declared.faults.Place.{Place}
 use Rattle.net_draft.specs.declared.faults.NetFault.{NetFault}
-use Rattle.net_draft.specs.declared.faults.NetFault.TheVariants.{NoMemory, NotToml, Shape}
+use Rattle.net_draft.specs.declared.faults.NetFault.TheVariants.{NoMemory, NotToml, Shape, Bound, Twice, Unknown}
+use Rattle.net_numbers.specs.FirstFaults.{IsFirstTwice}
 use Rattle.net_numbers.specs.Numbers.{AreDistinct}
 
 -- A draft can be refused with the fault. Unless it is want of memory, the fact holds.
@@ -16,12 +19,34 @@ abbrev pub Tests : Type 0 → Result (Unit {0}) NetFault → Type 0
 Tests fact (Ok _) = fact
 Tests fact (Err fault) = Refuses fault (¬ fact)
 
--- what was made, seen by `view`, is what the names stand for; a fault comes only where one of them stands for nothing
-abbrev pub Makes : {X Y : Type 0} → (X → Y) → Result X NetFault → Option Y → Type 0
-Makes view (Ok x) meaning = meaning ≡ Some (view x)
-Makes view (Err fault) meaning = Refuses fault (meaning ≡ None)
+-- the fault is `Bound`, at a place where `why` holds
+abbrev pub IsBoundAt : (Place → Type 0) → NetFault → Type 0
+IsBoundAt why (Bound place) = why place
+IsBoundAt why _ = ⊥
 
--- names were numbered in order, where no two are the same; a fault comes only where two are
-abbrev pub Lists : List (List ℕ) → Result (List (List ℕ)) NetFault → Type 0
-Lists names (Ok made) = (made ≡ names) × AreDistinct names
-Lists names (Err fault) = Refuses fault (¬ AreDistinct names)
+-- the fault is `Twice`, at a place where `why` holds, or want of memory
+abbrev pub IsTwiceAt : (Place → Type 0) → NetFault → Type 0
+IsTwiceAt why NoMemory = Unit {0}
+IsTwiceAt why (Twice place) = why place
+IsTwiceAt why _ = ⊥
+
+-- the fault is `Unknown`, at a place where `why` holds, or want of memory
+abbrev pub IsUnknownAt : (Place → Type 0) → NetFault → Type 0
+IsUnknownAt why NoMemory = Unit {0}
+IsUnknownAt why (Unknown place) = why place
+IsUnknownAt why _ = ⊥
+
+-- a test of bounds answers Ok where the fact holds, and otherwise names a place where `why` holds
+abbrev pub Checks : Type 0 → (Place → Type 0) → Result (Unit {0}) NetFault → Type 0
+Checks fact why (Ok _) = fact
+Checks fact why (Err fault) = IsBoundAt why fault
+
+-- names were numbered in order, where no two are the same; otherwise the first that comes again is named, at its place
+abbrev pub Lists : Part → List (List ℕ) → Result (List (List ℕ)) NetFault → Type 0
+Lists part names (Ok made) = (made ≡ names) × AreDistinct names
+Lists part names (Err fault) = IsTwiceAt (λ place. (place.part ≡ part) × (place.sub ≡ 0) × IsFirstTwice names place.item) fault
+
+-- what was made, seen by `view`, is what the names stand for; otherwise a place is named where `why` holds
+abbrev pub Makes : {X Y : Type 0} → (X → Y) → Result X NetFault → Option Y → (Place → Type 0) → Type 0
+Makes view (Ok x) meaning why = meaning ≡ Some (view x)
+Makes view (Err fault) meaning why = IsUnknownAt why fault

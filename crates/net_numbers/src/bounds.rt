@@ -1,34 +1,39 @@
-ghost use Rattle.std.specs.Prelude.{◌≡◌, ◌≤◌, ◌↔◌, IsTrue, All, length};
-ghost use Rattle.net_numbers.specs.Outcome.{Tests};
-ghost use Rattle.net_numbers.specs.Bounds.{IsNameByte, IsName, IsRun, IsBoundedPhase, IsBoundedNode, IsBoundedLink, IsBoundedTurn, IsBounded};
+ghost use Rattle.std.specs.Prelude.{◌≡◌, ◌≤◌, ◌↔◌, IfErr, IsTrue, All, length};
+ghost use Rattle.net_numbers.specs.Outcome.{Tests, Checks};
+ghost use Rattle.net_numbers.specs.FirstFaults.{IsFirst, IsNodeFault, IsLinkFault, FailsBounds};
+ghost use Rattle.net_numbers.specs.Bounds.{IsNameByte, IsName, IsRun, HasCounts, HasNodeBounds, HasLinkBounds, IsBoundedPhase, IsBoundedNode, IsBoundedTurn, IsBoundedLink, IsBounded};
 
-use net_draft::{Draft, DraftLink, DraftNode, DraftPhase, NetFault, Part, Place, Run};
+use net_draft::{Draft, DraftLink, DraftNode, DraftPhase, DraftTurn, NetFault, Part, Place, Run};
 
-/// Tests the bounds of a draft, and names the first place where one does not hold.
+/// Tests the bounds of a draft. The fault is `Bound` at the first place where one does not hold.
 ///
-/// docs/RULES.md, "Road network".
+/// docs/FORMATS.md, "Places and faults".
 pub fn check_bounds(draft: &Draft) -> Result<(), NetFault>
-    ensures { Tests (IsBounded draft.now) result }
+    ensures fact { Tests (IsBounded draft.now) result }
+    ensures first { IfErr result (FailsBounds draft.now) }
 {
-    let nodes = draft.nodes.as_slice();
-    let links = draft.links.as_slice();
-    if !(1..=64).contains(&nodes.len())
-        || !(1..=320).contains(&links.len())
-        || draft.conflicts.len() > 1024
-    {
+    if !has_counts(draft) {
         return Err(bound(Part::Top, 0, 0));
     }
     if !is_run(&draft.run) {
         return Err(bound(Part::Run, 0, 0));
     }
-    check_nodes(nodes)?;
-    check_links(links)
+    check_nodes(draft.nodes.as_slice())?;
+    check_links(draft.links.as_slice())
 }
 
 fn bound(part: Part, item: u32, sub: u32) -> NetFault
-    ensures { (place : Place) × (result ≡ NetFault.Bound place) }
+    ensures { result ≡ NetFault.Bound (record { part = part; item = item; sub = sub }) }
 {
     NetFault::Bound(Place { part, item, sub })
+}
+
+fn has_counts(draft: &Draft) -> bool
+    ensures { IsTrue result ↔ HasCounts draft.now }
+{
+    (1..=64).contains(&draft.nodes.len())
+        && (1..=320).contains(&draft.links.len())
+        && draft.conflicts.len() <= 1024
 }
 
 fn is_run(run: &Run) -> bool
@@ -43,7 +48,8 @@ fn is_run(run: &Run) -> bool
 
 fn check_nodes(nodes: &[DraftNode]) -> Result<(), NetFault>
     requires { length nodes.now ≤ 64 }
-    ensures { Tests (All IsBoundedNode nodes.now) result }
+    ensures { Checks (All IsBoundedNode nodes.now)
+        (λ place. IsFirst IsBoundedNode (λ n. IsNodeFault n place.part place.sub) nodes.now place.item) result }
 {
     for (index, node) in nodes.iter().enumerate() {
         check_node(node, index as u32 + 1)?;
@@ -52,30 +58,45 @@ fn check_nodes(nodes: &[DraftNode]) -> Result<(), NetFault>
 }
 
 fn check_node(node: &DraftNode, item: u32) -> Result<(), NetFault>
-    ensures { Tests (IsBoundedNode node.now) result }
+    ensures { Checks (IsBoundedNode node.now)
+        (λ place. (place.item ≡ item) × IsNodeFault node.now place.part place.sub) result }
 {
-    let phases = node.phases.as_slice();
-    if !is_name(node.name.as_str()) || !(2..=4).contains(&phases.len()) {
+    if !has_node_bounds(node) {
         return Err(bound(Part::Node, item, 0));
     }
-    check_phases(phases, item)
+    check_phases(node.phases.as_slice(), item)
+}
+
+fn has_node_bounds(node: &DraftNode) -> bool
+    ensures { IsTrue result ↔ HasNodeBounds node.now }
+{
+    is_name(node.name.as_str()) && (2..=4).contains(&node.phases.len())
 }
 
 fn check_phases(phases: &[DraftPhase], item: u32) -> Result<(), NetFault>
     requires { length phases.now ≤ 4 }
-    ensures { Tests (All IsBoundedPhase phases.now) result }
+    ensures { Checks (All IsBoundedPhase phases.now)
+        (λ place. (place.part ≡ Part.Phase) × (place.item ≡ item)
+        × IsFirst IsBoundedPhase (λ p. ¬ IsBoundedPhase p) phases.now place.sub) result }
 {
     for (index, phase) in phases.iter().enumerate() {
-        if !phase.phase.is_within_bounds() || phase.links.len() > 16 {
+        if !is_bounded_phase(phase) {
             return Err(bound(Part::Phase, item, index as u32 + 1));
         }
     }
     Ok(())
 }
 
+fn is_bounded_phase(phase: &DraftPhase) -> bool
+    ensures { IsTrue result ↔ IsBoundedPhase phase.now }
+{
+    phase.phase.is_within_bounds() && phase.links.len() <= 16
+}
+
 fn check_links(links: &[DraftLink]) -> Result<(), NetFault>
     requires { length links.now ≤ 320 }
-    ensures { Tests (All IsBoundedLink links.now) result }
+    ensures { Checks (All IsBoundedLink links.now)
+        (λ place. IsFirst IsBoundedLink (λ l. IsLinkFault l place.part place.sub) links.now place.item) result }
 {
     for (index, link) in links.iter().enumerate() {
         check_link(link, index as u32 + 1)?;
@@ -84,16 +105,30 @@ fn check_links(links: &[DraftLink]) -> Result<(), NetFault>
 }
 
 fn check_link(link: &DraftLink, item: u32) -> Result<(), NetFault>
-    ensures { Tests (IsBoundedLink link.now) result }
+    ensures { Checks (IsBoundedLink link.now)
+        (λ place. (place.item ≡ item) × IsLinkFault link.now place.part place.sub) result }
 {
-    let turns = link.turns.as_slice();
-    if !is_name(link.name.as_str())
-        || !(1..=120).contains(&link.travel)
-        || !(1..=5000).contains(&link.sat)
-        || turns.len() > 16
-    {
+    if !has_link_bounds(link) {
         return Err(bound(Part::Link, item, 0));
     }
+    check_turns(link.turns.as_slice(), item)
+}
+
+fn has_link_bounds(link: &DraftLink) -> bool
+    ensures { IsTrue result ↔ HasLinkBounds link.now }
+{
+    is_name(link.name.as_str())
+        && (1..=120).contains(&link.travel)
+        && (1..=5000).contains(&link.sat)
+        && link.turns.len() <= 16
+}
+
+fn check_turns(turns: &[DraftTurn], item: u32) -> Result<(), NetFault>
+    requires { length turns.now ≤ 16 }
+    ensures { Checks (All IsBoundedTurn turns.now)
+        (λ place. (place.part ≡ Part.Turn) × (place.item ≡ item)
+        × IsFirst IsBoundedTurn (λ t. ¬ IsBoundedTurn t) turns.now place.sub) result }
+{
     for (index, turn) in turns.iter().enumerate() {
         if turn.share > 1000 {
             return Err(bound(Part::Turn, item, index as u32 + 1));

@@ -1,6 +1,7 @@
-ghost use Rattle.std.specs.Prelude.{◌≡◌, ◌≤◌, ◌<◌, IfOk, IfSome, All, length, map, position};
+ghost use Rattle.std.specs.Prelude.{◌≡◌, ◌≤◌, ◌<◌, IfOk, IfErr, IfSome, All, Contains, length, map, position};
 ghost use Rattle.net_draft.specs.Faults.{each};
 ghost use Rattle.net_numbers.specs.Bounds.{IsBoundedNode, IsBoundedPhase, IsBounded};
+ghost use Rattle.net_numbers.specs.FirstFaults.{IsFirst, IsKnownPhase, IsKnownNode, HasKnownEnds, IsKnownTurn, IsKnownLink, IsKnownConflict, IsUnknownInNode, IsUnknownInLink, FailsNumbers};
 ghost use Rattle.net_numbers.specs.Outcome.{Makes, Lists};
 ghost use Rattle.net_numbers.specs.Numbers as spec;
 ghost use Rattle.net_numbers.specs.Numbers.{number_of, number_if, has_link};
@@ -31,14 +32,15 @@ pub struct Parts {
     pub conflicts: Vec<(u32, u32)>,
 }
 
-/// The draft with numbers for names. The fault is `Twice` or `Unknown` at the first place that repeats a
-/// name, or else that uses one which stands for nothing.
+/// The draft with numbers for names. The fault is want of memory, or `Twice` or `Unknown` at the first place
+/// that repeats a name, or else that uses one which stands for nothing.
 ///
-/// docs/RULES.md, "Road network".
+/// docs/RULES.md, "Road network"; docs/FORMATS.md, "Places and faults".
 #[tactic(auto, unfolding(crate::specs::Numbers::numbered))]
 pub fn numbered(alloc: Global, draft: &Draft) -> Result<Parts, NetFault>
     requires { IsBounded draft.now }
-    ensures { Numbers draft.now result }
+    ensures numbers { Numbers draft.now result }
+    ensures first { IfErr result (FailsNumbers draft.now) }
 {
     let node_names = node_names(alloc, draft.nodes.as_slice())?;
     let link_names = link_names(alloc, draft.links.as_slice())?;
@@ -65,7 +67,7 @@ pub fn numbered(alloc: Global, draft: &Draft) -> Result<Parts, NetFault>
 
 fn node_names(alloc: Global, nodes: &[DraftNode]) -> Result<Names, NetFault>
     requires { length nodes.now ≤ 64 }
-    ensures { Lists (map (λ n. n.name) nodes.now) result }
+    ensures { Lists Part.Node (map (λ n. n.name) nodes.now) result }
 {
     let mut names = Names::new(alloc);
     for (index, node) in nodes.iter().enumerate() {
@@ -78,7 +80,7 @@ fn node_names(alloc: Global, nodes: &[DraftNode]) -> Result<Names, NetFault>
 
 fn link_names(alloc: Global, links: &[DraftLink]) -> Result<Names, NetFault>
     requires { length links.now ≤ 320 }
-    ensures { Lists (map (λ l. l.name) links.now) result }
+    ensures { Lists Part.Link (map (λ l. l.name) links.now) result }
 {
     let mut names = Names::new(alloc);
     for (index, link) in links.iter().enumerate() {
@@ -97,7 +99,8 @@ fn place(part: Part, item: u32, sub: u32) -> Place
 
 /// The number of a name.
 fn number(names: &Names, name: &Text, place: Place) -> Result<u32, NetFault>
-    ensures { Makes (λ number. number) result (number_of names.now name.now) }
+    ensures { Makes (λ number. number) result (number_of names.now name.now)
+        (λ at_fault. (at_fault ≡ place) × ¬ Contains names.now name.now) }
 {
     match names.find(name.as_str()) {
         Some(number) => Ok(number),
@@ -107,7 +110,8 @@ fn number(names: &Names, name: &Text, place: Place) -> Result<u32, NetFault>
 
 /// The number of a name that may be absent.
 fn number_if(names: &Names, name: &Option<Text>, place: Place) -> Result<Option<u32>, NetFault>
-    ensures { Makes (λ number. number) result (number_if names.now name.now) }
+    ensures { Makes (λ number. number) result (number_if names.now name.now)
+        (λ at_fault. (at_fault ≡ place) × ¬ IfSome name.now (Contains names.now)) }
 {
     match name {
         Some(name) => Ok(Some(number(names, name, place)?)),
@@ -116,7 +120,8 @@ fn number_if(names: &Names, name: &Option<Text>, place: Place) -> Result<Option<
 }
 
 fn numbers(alloc: Global, names: &Names, texts: &[Text], place: Place) -> Result<Vec<u32>, NetFault>
-    ensures { Makes (λ numbers. numbers.items) result (each (number_of names.now) texts.now) }
+    ensures { Makes (λ numbers. numbers.items) result (each (number_of names.now) texts.now)
+        (λ at_fault. (at_fault ≡ place) × ¬ All (Contains names.now) texts.now) }
 {
     let mut numbers = Vec::new(alloc);
     for text in texts {
@@ -134,7 +139,9 @@ fn phase_links(
 ) -> Result<Vec<Items<Items<u32>>>, NetFault>
     requires few { length nodes.now ≤ 64 }
     requires bounds { All IsBoundedNode nodes.now }
-    ensures { Makes (λ lists. lists.items) result (each (spec.phases_of names.now) nodes.now) }
+    ensures { Makes (λ lists. lists.items) result (each (spec.phases_of names.now) nodes.now)
+        (λ place. (place.part ≡ Part.Phase)
+        × IsFirst (IsKnownNode names.now) (λ n. IsUnknownInNode names.now n place.sub) nodes.now place.item) }
 {
     let mut lists = Vec::new(alloc);
     for (index, node) in nodes.iter().enumerate() {
@@ -151,7 +158,9 @@ fn links_of_phases(
     item: u32,
 ) -> Result<Vec<Items<u32>>, NetFault>
     requires { length phases.now ≤ 4 }
-    ensures { Makes (λ lists. lists.items) result (each (λ p. each (number_of names.now) p.links) phases.now) }
+    ensures { Makes (λ lists. lists.items) result (each (λ p. each (number_of names.now) p.links) phases.now)
+        (λ place. (place.part ≡ Part.Phase) × (place.item ≡ item)
+        × IsFirst (IsKnownPhase names.now) (λ p. ¬ IsKnownPhase names.now p) phases.now place.sub) }
 {
     let mut lists = Vec::new(alloc);
     for (index, phase) in phases.iter().enumerate() {
@@ -181,8 +190,11 @@ fn roads(
     requires turns { All (λ l. length l.turns ≤ 16) links.now }
     requires nodes { length names.now.nodes.now ≤ length names.now.phase_links.now }
     requires phases { All (λ phases. length phases ≤ 4) names.now.phase_links.now }
+    requires own { All (λ l. Contains names.now.links.now l.name) links.now }
     ensures { Makes (λ roads. (roads.0.items, roads.1.items)) result
-        (spec.roads_of names.now.nodes.now names.now.links.now names.now.phase_links.now links.now) }
+        (spec.roads_of names.now.nodes.now names.now.links.now names.now.phase_links.now links.now)
+        (λ place. IsFirst (IsKnownLink names.now.nodes.now names.now.links.now)
+        (λ l. IsUnknownInLink names.now.nodes.now names.now.links.now l place.part place.sub) links.now place.item) }
 {
     let mut roads = Vec::new(alloc);
     let mut lists = Vec::new(alloc);
@@ -200,8 +212,10 @@ fn roads(
 fn road(names: &Tables, link: &DraftLink, place: Place) -> Result<Link, NetFault>
     requires nodes { length names.now.nodes.now ≤ length names.now.phase_links.now }
     requires phases { All (λ phases. length phases ≤ 4) names.now.phase_links.now }
+    requires own { Contains names.now.links.now link.now.name }
     ensures { Makes (λ link. link) result
-        (spec.link_of names.now.nodes.now names.now.links.now names.now.phase_links.now link.now) }
+        (spec.link_of names.now.nodes.now names.now.links.now names.now.phase_links.now link.now)
+        (λ at_fault. (at_fault ≡ place) × ¬ HasKnownEnds names.now.nodes.now link.now) }
 {
     let from = number_if(names.nodes, &link.from, place)?;
     let to = number_if(names.nodes, &link.to, place)?;
@@ -252,7 +266,9 @@ fn turns(
     item: u32,
 ) -> Result<Vec<Turn>, NetFault>
     requires { length turns.now ≤ 16 }
-    ensures { Makes (λ turns. turns.items) result (each (spec.turn_of names.now) turns.now) }
+    ensures { Makes (λ turns. turns.items) result (each (spec.turn_of names.now) turns.now)
+        (λ place. (place.part ≡ Part.Turn) × (place.item ≡ item)
+        × IsFirst (IsKnownTurn names.now) (λ t. ¬ IsKnownTurn names.now t) turns.now place.sub) }
 {
     let mut numbered = Vec::new(alloc);
     for (index, turn) in turns.iter().enumerate() {
@@ -264,7 +280,8 @@ fn turns(
 
 #[tactic(auto, unfolding(crate::specs::Numbers::turn_of))]
 fn turn_of(names: &Names, turn: &DraftTurn, place: Place) -> Result<Turn, NetFault>
-    ensures { Makes (λ turn. turn) result (spec.turn_of names.now turn.now) }
+    ensures { Makes (λ turn. turn) result (spec.turn_of names.now turn.now)
+        (λ at_fault. (at_fault ≡ place) × ¬ IsKnownTurn names.now turn.now) }
 {
     let exit = number(names, &turn.exit, place)?;
     Ok(Turn {
@@ -279,7 +296,9 @@ fn conflicts(
     conflicts: &[DraftConflict],
 ) -> Result<Vec<(u32, u32)>, NetFault>
     requires { length conflicts.now ≤ 1024 }
-    ensures { Makes (λ pairs. pairs.items) result (each (spec.conflict_of names.now) conflicts.now) }
+    ensures { Makes (λ pairs. pairs.items) result (each (spec.conflict_of names.now) conflicts.now)
+        (λ place. (place.part ≡ Part.Conflict) × (place.sub ≡ 0)
+        × IsFirst (IsKnownConflict names.now) (λ c. ¬ IsKnownConflict names.now c) conflicts.now place.item) }
 {
     let mut pairs = Vec::new(alloc);
     for (index, conflict) in conflicts.iter().enumerate() {
@@ -296,7 +315,8 @@ fn conflict_of(
     conflict: &DraftConflict,
     place: Place,
 ) -> Result<(u32, u32), NetFault>
-    ensures { Makes (λ pair. pair) result (spec.conflict_of names.now conflict.now) }
+    ensures { Makes (λ pair. pair) result (spec.conflict_of names.now conflict.now)
+        (λ at_fault. (at_fault ≡ place) × ¬ IsKnownConflict names.now conflict.now) }
 {
     let a = number(names, &conflict.a, place)?;
     let b = number(names, &conflict.b, place)?;

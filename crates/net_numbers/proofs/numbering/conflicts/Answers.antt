@@ -2,13 +2,25 @@ use Rattle.std.proofs.Common.{◌∙◌, ap, Err}
 use Rattle.std.proofs.lemmas.Result.{err_from_is_err_and}
 use Rattle.net_numbers.specs.Numbers.{conflict_of}
 use Rattle.net_draft.proofs.Each.{each-more}
-use Rattle.net_numbers.proofs.Loops.{Makes-each}
+use Rattle.net_numbers.proofs.FirstFaults.{IsUnknownAt-weaker, IsFirst-at}
+use Rattle.net_draft.specs.declared.faults.Place.{Place}
+use Rattle.net_numbers.specs.FirstFaults.{IsKnownConflict}
+use Rattle.net_numbers.proofs.Known.{conflicts-known}
 use Rattle.net_numbers.proofs.numbering.conflicts.Goals as goal
 
 pub returns-in_err-pair : goal.returns-in_err-pair
 returns-in_err-pair c =
     let p = err_from_is_err_and c.from_residual.result c.from_residual.ensures.1 in
-    Makes-each (conflict_of c.args.names.now) _ c.args.conflicts.now c.loop-index.index c.index-conflicts-index.result _ _ c.loop-index-test.true c.index-conflicts-index.is c.in_err-pair.ensures (p.1 ∙ ap Err p.2)
+    let names = c.args.names.now in
+    let earlier = conflicts-known names _ c.loop-index.pairs.items c.loop-index.invariant in
+    rw (p.1 ∙ ap Err p.2) (IsUnknownAt-weaker _ _ c.in_err-pair.field-0.0
+    (λ place why.
+    let same = why.0 ∙ c.place-place.ensures in (
+      ap (λ (q : Place). q.part) same,
+      ap (λ (q : Place). q.sub) same,
+      IsFirst-at (IsKnownConflict names) (λ x. IsKnownConflict names x → ⊥) c.args.conflicts.now c.loop-index.index c.index-conflicts-index.result place.item (ap (λ (q : Place). q.item) same) c.loop-index-test.true c.index-conflicts-index.is earlier why.1,
+    ))
+    c.in_err-pair.ensures)
 
 pub loop-index-preserved : goal.loop-index-preserved
 loop-index-preserved c =

@@ -4,13 +4,25 @@ use Rattle.net_draft.specs.Faults.{each}
 use Rattle.net_draft.specs.declared.drafts.DraftPhase.{DraftPhase}
 use Rattle.net_numbers.specs.Numbers.{number_of}
 use Rattle.net_draft.proofs.Each.{each-more}
-use Rattle.net_numbers.proofs.Loops.{Makes-each}
+use Rattle.net_numbers.proofs.FirstFaults.{IsUnknownAt-weaker, IsFirst-at}
+use Rattle.net_draft.specs.declared.faults.Place.{Place}
+use Rattle.net_numbers.specs.FirstFaults.{IsKnownPhase}
+use Rattle.net_numbers.proofs.Known.{each-good, phase-known}
 use Rattle.net_numbers.proofs.numbering.links_of_phases.Goals as goal
 
 pub returns-in_err-links : goal.returns-in_err-links
 returns-in_err-links c =
     let p = err_from_is_err_and c.from_residual.result c.from_residual.ensures.1 in
-    Makes-each (λ (p : DraftPhase). each (number_of c.args.names.now) p.links) _ c.args.phases.now c.loop-index.index c.index-phases-index.result _ _ c.loop-index-test.true c.index-phases-index.is (rw c.as_slice.ensures at c.in_err-links.ensures) (p.1 ∙ ap Err p.2)
+    let names = c.args.names.now in
+    let earlier = each-good (λ (p : DraftPhase). each (number_of names) p.links) (IsKnownPhase names) (phase-known names) _ c.loop-index.lists.items c.loop-index.invariant in
+    rw (p.1 ∙ ap Err p.2) (IsUnknownAt-weaker _ _ c.in_err-links.field-0.0
+    (λ place why.
+    let same = why.0 ∙ c.place-place.ensures in (
+      ap (λ (q : Place). q.part) same,
+      ap (λ (q : Place). q.item) same,
+      IsFirst-at (IsKnownPhase names) (λ p. IsKnownPhase names p → ⊥) c.args.phases.now c.loop-index.index c.index-phases-index.result place.sub (ap (λ (q : Place). q.sub) same) c.loop-index-test.true c.index-phases-index.is earlier (rw c.as_slice.ensures at why.1),
+    ))
+    c.in_err-links.ensures)
 
 pub loop-index-preserved : goal.loop-index-preserved
 loop-index-preserved c =

@@ -1,6 +1,6 @@
 use Rattle.std.proofs.Common.{All, take}
 use Rattle.net_numbers.specs.Bounds.{IsBoundedTurn}
-use Rattle.net_numbers.proofs.bounds.check_link.Given as goal
+use Rattle.net_numbers.proofs.bounds.check_turns.Given as goal
 
 -- the turns so far are within their bounds
 abbrev pub invariant-loop-index : goal.invariant-loop-index
