@@ -1,5 +1,5 @@
 -- The first fault of a network, from the tests of its joins.
-use Rattle.std.proofs.Common.{◌≡◌, ℕ, ◌<◌, ◌≤◌, length, Result, Err, IfErr, IsErrAnd, List, [], All, get_or, ap, subst, sym}
+use Rattle.std.proofs.Common.{◌≡◌, ℕ, ◌<◌, length, Result, Err, IfErr, IsErrAnd, List, All, ap, subst, sym}
 use Rattle.std.proofs.lemmas.Result.{err_from_is_err_and}
 use Rattle.net_draft.specs.declared.faults.NetFault.{NetFault}
 use Rattle.net_draft.specs.declared.faults.NetFault.TheVariants.{NoMemory, NotToml, Shape, Bound, Twice, Unknown, Ends, Crowd, Shares, Phaseless, Clash}
@@ -7,8 +7,8 @@ use Rattle.net_numbers.specs.declared.roads.Link.{Link}
 use Rattle.net_numbers.specs.declared.roads.Turn.{Turn}
 use Rattle.net_numbers.specs.Numbers.{Net, no_link}
 use Rattle.net_numbers.specs.Outcome.{Refuses}
-use Rattle.road_net.specs.FirstFaults.{IsFirstWithout, TestsEach, IsJoinFault}
-use Rattle.road_net.specs.Joins.{HasEnds, HasEndsAt, AreRoomy, AreByNode, HasSharesAt, AreShared, IsPhasedAt, ArePhased, conflict_at, IsConflict, IsConflictAt}
+use Rattle.road_net.specs.FirstFaults.{IsFirstWithout, TestsEach, clash_at, IsJoinFault}
+use Rattle.road_net.specs.Joins.{HasEnds, HasEndsAt, AreRoomy, HasRoomAt, AreByNode, HasSharesAt, AreShared, IsPhasedAt, ArePhased, conflict_at, IsConflict, IsConflictAt}
 use Rattle.road_net.specs.Network.{IsJoined}
 use Rattle.road_net.specs.Stored.{Joins}
 use Rattle.road_net.specs.declared.joins.Side.TheVariants.{To}
@@ -59,11 +59,11 @@ module _ (net : Net) (lists : List (List ℕ)) (by_node : AreByNode To net.links
   have_ends : All HasEnds net.links
   have_ends = All-each HasEnds net.links no_link ends
 
-  pub room-fault : (seen : List (List ℕ)) → seen ≡ lists → (fault : NetFault) → TestsEach Crowd (λ k. length (get_or seen k []) ≤ 16) (length seen) (Err fault) → IsJoinFault net fault
+  pub room-fault : (seen : List (List ℕ)) → seen ≡ lists → (fault : NetFault) → TestsEach Crowd (HasRoomAt seen) (length seen) (Err fault) → IsJoinFault net fault
   room-fault seen are fault h =
-      fault-from net Crowd (λ k. length (get_or seen k []) ≤ 16) (length seen) (λ k first. (have_ends, crowded net.links (length net.node_names) k lists by_node (rw are at first))) fault h
+      fault-from net Crowd (HasRoomAt seen) (length seen) (λ k first. (have_ends, crowded net.links (length net.node_names) k lists by_node (rw are at first))) fault h
 
-  module _ (short : (k : ℕ) → k < length lists → length (get_or lists k []) ≤ 16) where
+  module _ (short : (k : ℕ) → k < length lists → HasRoomAt lists k) where
     have_room : AreRoomy net.links (length net.node_names)
     have_room = roomy net.links (length net.node_names) lists by_node short
 
@@ -77,9 +77,9 @@ module _ (net : Net) (lists : List (List ℕ)) (by_node : AreByNode To net.links
           fault-from net Phaseless (IsPhasedAt links phase_links) (length links) (λ k first. (have_ends, have_room, shares, rw (links_are, phases_are) at first)) fault h
 
       module _ (phases : ArePhased net.links net.phase_links) where
-        pub conflicts-fault : (links : List Link) (conflicts : List (ℕ × ℕ)) → links ≡ net.links → conflicts ≡ net.conflicts → (fault : NetFault) → TestsEach (λ k. Clash (conflict_at conflicts k).0 (conflict_at conflicts k).1) (IsConflictAt links conflicts) (length conflicts) (Err fault) → IsJoinFault net fault
+        pub conflicts-fault : (links : List Link) (conflicts : List (ℕ × ℕ)) → links ≡ net.links → conflicts ≡ net.conflicts → (fault : NetFault) → TestsEach (clash_at conflicts) (IsConflictAt links conflicts) (length conflicts) (Err fault) → IsJoinFault net fault
         conflicts-fault links conflicts links_are conflicts_are fault h =
-            fault-from net (λ k. Clash (conflict_at conflicts k).0 (conflict_at conflicts k).1) (IsConflictAt links conflicts) (length conflicts) (λ k first. (have_ends, have_room, shares, phases, record { place = k; there = ap (λ cs. conflict_at cs k) (sym conflicts_are); first = rw (links_are, conflicts_are) at first })) fault h
+            fault-from net (clash_at conflicts) (IsConflictAt links conflicts) (length conflicts) (λ k first. (have_ends, have_room, shares, phases, record { place = k; there = ap (λ cs. conflict_at cs k) (sym conflicts_are); first = rw (links_are, conflicts_are) at first })) fault h
 
         -- a network that passes all of them
         pub passed : ((k : ℕ) → k < length net.conflicts → IsConflictAt net.links net.conflicts k) → IsJoined net

@@ -1,5 +1,5 @@
 -- What testing the joins of a network stands on.
-use Rattle.std.proofs.Common.{ℕ, ◌<◌, ◌≤◌, ◌^◌, List, [], length, get_or, sum_by, All, arith}
+use Rattle.std.proofs.Common.{ℕ, ◌<◌, ◌^◌, List, length, get_or, sum_by, All, arith}
 use Rattle.std.proofs.Math.Nat.{mul-le-mul_right}
 use Rattle.std.proofs.lemmas.List.{get_or_default}
 use Rattle.std.proofs.lemmas.List.Sums.{sum_by-le}
@@ -8,7 +8,7 @@ use Rattle.net_numbers.specs.declared.roads.Turn.{Turn}
 use Rattle.net_numbers.specs.Outline.{AreTurns}
 use Rattle.road_net.specs.declared.joins.Side.TheVariants.{To}
 use Rattle.road_net.specs.FirstFaults.{IsFirstWithout}
-use Rattle.road_net.specs.Joins.{share_of, AreByNode, IsRoomy, AreRoomy}
+use Rattle.road_net.specs.Joins.{share_of, AreByNode, IsRoomy, AreRoomy, HasRoomAt}
 
 -- the sum of the shares of a link fits
 pub shares-small : (links : ℕ) (ts : List Turn) → AreTurns links ts → sum_by share_of ts < 2 ^ 32
@@ -19,11 +19,11 @@ pub All-each : {X : Type 0} (P : X → Type 0) (xs : List X) (d : X) → ((k : �
 All-each P xs d each k e h = rw (get_or_default xs k e d h) (each k h)
 
 -- lists of the links of each node, of which none is too long
-pub roomy : (links : List Link) (nodes : ℕ) (lists : List (List ℕ)) → AreByNode To links nodes lists → ((k : ℕ) → k < length lists → length (get_or lists k []) ≤ 16) → AreRoomy links nodes
+pub roomy : (links : List Link) (nodes : ℕ) (lists : List (List ℕ)) → AreByNode To links nodes lists → ((k : ℕ) → k < length lists → HasRoomAt lists k) → AreRoomy links nodes
 roomy links nodes lists by_node short n h = rw (← by_node.each n h) (short n (omega (arith, by_node.count)))
 
 -- the first list that is too long is that of the first node with no room
-pub crowded : (links : List Link) (nodes n : ℕ) (lists : List (List ℕ)) → AreByNode To links nodes lists → IsFirstWithout (λ k. length (get_or lists k []) ≤ 16) (length lists) n → IsFirstWithout (IsRoomy links) nodes n
+pub crowded : (links : List Link) (nodes n : ℕ) (lists : List (List ℕ)) → AreByNode To links nodes lists → IsFirstWithout (HasRoomAt lists) (length lists) n → IsFirstWithout (IsRoomy links) nodes n
 crowded links nodes n lists by_node long =
     let inside : n < nodes = omega (arith, by_node.count, long.below) in
     record {

@@ -83,11 +83,14 @@ pub record IsConflict (links : List Link) (c : ℕ × ℕ) : Type 0 where
 
 -- the conflict at this place
 abbrev pub conflict_at : List (ℕ × ℕ) → ℕ → ℕ × ℕ
-conflict_at conflicts k = slice_index_or conflicts k (0, 0)
+conflict_at conflicts place = slice_index_or conflicts place (0, 0)
 
--- what has to hold of the link with this number, and of the conflict at this place
+-- what has to hold of the link with this number, of a node's list of links, and of the conflict at this place
 abbrev pub HasEndsAt : List Link → ℕ → Type 0
 HasEndsAt links l = HasEnds (link_at links l)
+
+abbrev pub HasRoomAt : List (List ℕ) → ℕ → Type 0
+HasRoomAt lists node = length (slice_index_or lists node []) ≤ 16
 
 abbrev pub HasSharesAt : List Link → List (List Turn) → ℕ → Type 0
 HasSharesAt links turns l = HasShares links (slice_index_or turns l []) (link_at links l).to
@@ -96,7 +99,7 @@ abbrev pub IsPhasedAt : List Link → List (List (List ℕ)) → ℕ → Type 0
 IsPhasedAt links phase_links l = IsPhased phase_links l (link_at links l).to
 
 abbrev pub IsConflictAt : List Link → List (ℕ × ℕ) → ℕ → Type 0
-IsConflictAt links conflicts k = IsConflict links (conflict_at conflicts k)
+IsConflictAt links conflicts place = IsConflict links (conflict_at conflicts place)
 
 -- each link has turns as it must, and is named as it must
 abbrev pub AreShared : List Link → List (List Turn) → Type 0

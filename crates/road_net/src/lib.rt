@@ -230,7 +230,8 @@ pub fn build(alloc: Global, draft: Draft) -> Result<Network, NetFault>
     joined(alloc, parts)
 }
 
-/// The network of these parts, where they are joined as they must be.
+/// The network of these parts, where they are joined as they must be. The fault is want of memory, or the first that is
+/// found when all are tested for the ends of links, then for crowded nodes, for shares, for phases and for conflicts.
 fn joined(alloc: Global, parts: Parts) -> Result<Network, NetFault>
     requires { IsOutline (net_of parts) }
     ensures joins { Joins (net_of parts) result }
