@@ -2,7 +2,7 @@
 use Rattle.std.proofs.Common.{◌≡◌, ℕ, ◌<◌, length, Result, Err, IfErr, IsErrAnd, List, All, ap, subst, sym}
 use Rattle.std.proofs.lemmas.Result.{err_from_is_err_and}
 use Rattle.net_draft.specs.declared.faults.NetFault.{NetFault}
-use Rattle.net_draft.specs.declared.faults.NetFault.TheVariants.{NoMemory, NotToml, Shape, Bound, Twice, Unknown, Ends, Crowd, Shares, Phaseless, Clash}
+use Rattle.net_draft.specs.declared.faults.NetFault.TheVariants.{NoMemory, Ends, Crowd, Shares, Phaseless, Clash}
 use Rattle.net_numbers.specs.declared.roads.Link.{Link}
 use Rattle.net_numbers.specs.declared.roads.Turn.{Turn}
 use Rattle.net_numbers.specs.Numbers.{Net, no_link}
@@ -18,30 +18,17 @@ module _ (net : Net) where
   -- the fault of a test, where each of its faults is one of the joins
   pub fault-from : (fault_at : ℕ → NetFault) (fact : ℕ → Type 0) (count : ℕ) → ((k : ℕ) → IsFirstWithout fact count k → IsJoinFault net (fault_at k)) → (fault : NetFault) → TestsEach fault_at fact count (Err fault) → IsJoinFault net fault
   fault-from fault_at fact count joins NoMemory h = tt
-  fault-from fault_at fact count joins NotToml h = subst (IsJoinFault net) (sym h.1) (joins h.0 h.2)
-  fault-from fault_at fact count joins (Shape place) h = subst (IsJoinFault net) (sym h.1) (joins h.0 h.2)
-  fault-from fault_at fact count joins (Bound place) h = subst (IsJoinFault net) (sym h.1) (joins h.0 h.2)
-  fault-from fault_at fact count joins (Twice place) h = subst (IsJoinFault net) (sym h.1) (joins h.0 h.2)
-  fault-from fault_at fact count joins (Unknown place) h = subst (IsJoinFault net) (sym h.1) (joins h.0 h.2)
-  fault-from fault_at fact count joins (Ends link) h = subst (IsJoinFault net) (sym h.1) (joins h.0 h.2)
-  fault-from fault_at fact count joins (Crowd node) h = subst (IsJoinFault net) (sym h.1) (joins h.0 h.2)
-  fault-from fault_at fact count joins (Shares link) h = subst (IsJoinFault net) (sym h.1) (joins h.0 h.2)
-  fault-from fault_at fact count joins (Phaseless link) h = subst (IsJoinFault net) (sym h.1) (joins h.0 h.2)
-  fault-from fault_at fact count joins (Clash a b) h = subst (IsJoinFault net) (sym h.1) (joins h.0 h.2)
+  fault-from fault_at fact count joins _ h = subst (IsJoinFault net) (sym h.1) (joins h.0 h.2)
 
   -- a network with a fault of its joins is not joined
   pub fault-refuses : (fault : NetFault) → IsJoinFault net fault → Refuses fault (IsJoined net → ⊥)
   fault-refuses NoMemory h = tt
-  fault-refuses NotToml h = h
-  fault-refuses (Shape place) h = h
-  fault-refuses (Bound place) h = absurd h
-  fault-refuses (Twice place) h = absurd h
-  fault-refuses (Unknown place) h = absurd h
   fault-refuses (Ends link) h = λ joined. h.here (joined.ends link no_link h.below)
   fault-refuses (Crowd node) h = λ joined. h.1.here (joined.room node h.1.below)
   fault-refuses (Shares link) h = λ joined. h.2.here (joined.shares link h.2.below)
   fault-refuses (Phaseless link) h = λ joined. h.3.here (joined.phases link h.3.below)
   fault-refuses (Clash a b) h = λ joined. h.4.first.here (joined.conflicts h.4.place (0, 0) h.4.first.below)
+  fault-refuses _ h = absurd h
 
   -- what is answered at a fault of the joins
   pub refused : (fault : NetFault) (result : Result Net NetFault) → IsJoinFault net fault → IsErrAnd result (λ named. named ≡ fault) → Joins net result × IfErr result (IsJoinFault net)
