@@ -1,10 +1,11 @@
 -- Why a text is refused.
-use Rattle.std.proofs.Common.{ℕ, List, Err}
+use Rattle.std.proofs.Common.{ℕ, List, Result, Ok, Err, IfErr}
 use Rattle.net_draft.specs.declared.drafts.Draft.{Draft}
 use Rattle.net_draft.specs.declared.faults.NetFault.{NetFault}
-use Rattle.net_draft.specs.declared.faults.NetFault.TheVariants.{NoMemory, NotToml, Shape, Bound, Twice, Unknown, Ends, Crowd, Shares, Phaseless, Clash}
+use Rattle.net_draft.specs.declared.faults.NetFault.TheVariants.{NoMemory, NotToml, Shape}
 use Rattle.net_numbers.specs.Numbers.{Net}
 use Rattle.net_numbers.specs.Outcome.{Refuses}
+use Rattle.road_net.specs.FirstFaults.{IsDraftFault}
 use Rattle.road_net.specs.Network.{IsNetworkOf, IsDraftText, IsCause}
 use Rattle.road_net.specs.Stored.{Drafts}
 
@@ -14,25 +15,16 @@ module _ (bytes : List ℕ) where
   IsCause-drafts NoMemory h = tt
   IsCause-drafts NotToml h = h
   IsCause-drafts (Shape place) h = h
-  IsCause-drafts (Bound place) h = absurd h
-  IsCause-drafts (Twice place) h = absurd h
-  IsCause-drafts (Unknown place) h = absurd h
-  IsCause-drafts (Ends link) h = absurd h
-  IsCause-drafts (Crowd node) h = absurd h
-  IsCause-drafts (Shares link) h = absurd h
-  IsCause-drafts (Phaseless link) h = absurd h
-  IsCause-drafts (Clash a b) h = absurd h
+  IsCause-drafts _ h = absurd h
 
   -- a text with a draft that stands for no network
-  pub IsCause-draft : (draft : Draft) (fault : NetFault) → IsDraftText bytes draft → Refuses fault ((net : Net) → IsNetworkOf draft net → ⊥) → IsCause bytes fault
-  IsCause-draft draft NoMemory its h = tt
-  IsCause-draft draft NotToml its h = absurd h
-  IsCause-draft draft (Shape place) its h = absurd h
-  IsCause-draft draft (Bound place) its h = record { draft = draft; text = its; network = h }
-  IsCause-draft draft (Twice place) its h = record { draft = draft; text = its; network = h }
-  IsCause-draft draft (Unknown place) its h = record { draft = draft; text = its; network = h }
-  IsCause-draft draft (Ends link) its h = record { draft = draft; text = its; network = h }
-  IsCause-draft draft (Crowd node) its h = record { draft = draft; text = its; network = h }
-  IsCause-draft draft (Shares link) its h = record { draft = draft; text = its; network = h }
-  IsCause-draft draft (Phaseless link) its h = record { draft = draft; text = its; network = h }
-  IsCause-draft draft (Clash a b) its h = record { draft = draft; text = its; network = h }
+  pub IsCause-draft : (draft : Draft) (fault : NetFault) → IsDraftText bytes draft → Refuses fault ((net : Net) → IsNetworkOf draft net → ⊥) → IsDraftFault draft fault → IsCause bytes fault
+  IsCause-draft draft NoMemory its h first = tt
+  IsCause-draft draft NotToml its h first = absurd h
+  IsCause-draft draft (Shape place) its h first = absurd h
+  IsCause-draft draft _ its h first = record { draft = draft; text = its; network = h; first = first }
+
+  -- what building the draft's network answers
+  pub IsCause-built : {T : Type 0} (draft : Draft) (result : Result T NetFault) → IsDraftText bytes draft → IfErr result (λ fault. Refuses fault ((net : Net) → IsNetworkOf draft net → ⊥)) → IfErr result (IsDraftFault draft) → IfErr result (IsCause bytes)
+  IsCause-built draft (Ok x) its h first = tt
+  IsCause-built draft (Err fault) its h first = IsCause-draft draft fault its h first

@@ -45,6 +45,10 @@ pub record AreLinksAt (side : Side) (links : List Link) (node : ℕ) (numbers : 
 abbrev pub IsRoomy : List Link → ℕ → Type 0
 IsRoomy links node = length (links_of_node To links node) ≤ 16
 
+-- and at each of so many nodes
+abbrev pub AreRoomy : List Link → ℕ → Type 0
+AreRoomy links nodes = (node : ℕ) → node < nodes → IsRoomy links node
+
 abbrev pub share_of : Turn → ℕ
 share_of t = t.share
 
@@ -77,12 +81,32 @@ pub record IsConflict (links : List Link) (c : ℕ × ℕ) : Type 0 where
   pub node : (link_at links c.0).to ≡ (link_at links c.1).to
   pub phases : (link_at links c.0).phase ≢ (link_at links c.1).phase
 
+-- the conflict at this place
+abbrev pub conflict_at : List (ℕ × ℕ) → ℕ → ℕ × ℕ
+conflict_at conflicts place = slice_index_or conflicts place (0, 0)
+
+-- what has to hold of the link with this number, of a node's list of links, and of the conflict at this place
+abbrev pub HasEndsAt : List Link → ℕ → Type 0
+HasEndsAt links l = HasEnds (link_at links l)
+
+abbrev pub HasRoomAt : List (List ℕ) → ℕ → Type 0
+HasRoomAt lists node = length (slice_index_or lists node []) ≤ 16
+
+abbrev pub HasSharesAt : List Link → List (List Turn) → ℕ → Type 0
+HasSharesAt links turns l = HasShares links (slice_index_or turns l []) (link_at links l).to
+
+abbrev pub IsPhasedAt : List Link → List (List (List ℕ)) → ℕ → Type 0
+IsPhasedAt links phase_links l = IsPhased phase_links l (link_at links l).to
+
+abbrev pub IsConflictAt : List Link → List (ℕ × ℕ) → ℕ → Type 0
+IsConflictAt links conflicts place = IsConflict links (conflict_at conflicts place)
+
 -- each link has turns as it must, and is named as it must
 abbrev pub AreShared : List Link → List (List Turn) → Type 0
-AreShared links turns = EachIndex links (λ l. HasShares links (slice_index_or turns l []) (link_at links l).to)
+AreShared links turns = EachIndex links (HasSharesAt links turns)
 
 abbrev pub ArePhased : List Link → List (List (List ℕ)) → Type 0
-ArePhased links phase_links = EachIndex links (λ l. IsPhased phase_links l (link_at links l).to)
+ArePhased links phase_links = EachIndex links (IsPhasedAt links phase_links)
 
 -- the lists are those of the links that have each node at this side
 pub record AreByNode (side : Side) (links : List Link) (nodes : ℕ) (lists : List (List ℕ)) : Type 0 where

@@ -10,13 +10,14 @@ use Rattle.road_net.specs.declared.joins.Side.TheVariants.{From, To}
 use Rattle.net_numbers.specs.Bounds.{IsBounded}
 use Rattle.net_numbers.specs.Numbers.{Net, AreDistinct, numbered, node_names, link_names}
 use Rattle.net_numbers.specs.Outline.{IsOutline, link_at, plan_at, phase_links_at}
+use Rattle.road_net.specs.FirstFaults.{IsDraftFault}
 use Rattle.road_net.specs.Joins as joins
-use Rattle.road_net.specs.Joins.{HasEnds, IsRoomy, AreShared, ArePhased, IsConflict}
+use Rattle.road_net.specs.Joins.{HasEnds, AreRoomy, AreShared, ArePhased, IsConflict}
 
 -- How the parts of a network by numbers have to be joined, in the order in which it is tested.
 pub record IsJoined (net : Net) : Type 0 where
   pub ends : All HasEnds net.links
-  pub room : (n : ℕ) → n < length net.node_names → IsRoomy net.links n
+  pub room : AreRoomy net.links (length net.node_names)
   pub shares : AreShared net.links net.turns
   pub phases : ArePhased net.links net.phase_links
   pub conflicts : All (IsConflict net.links) net.conflicts
@@ -50,18 +51,19 @@ pub record HasNoDraft (bytes : List ℕ) : Type 0 where
   pub toml : parse_document bytes ≡ Some table
   pub form : draft_of table ≡ None
 
--- a text that has a draft, which stands for no network
-pub record HasNoNetwork (bytes : List ℕ) : Type 0 where
+-- a text that has a draft, which stands for no network and has this fault
+pub record HasNoNetwork (bytes : List ℕ) (fault : NetFault) : Type 0 where
   pub draft : Draft
   pub text : IsDraftText bytes draft
   pub network : (net : Net) → ¬ IsNetworkOf draft net
+  pub first : IsDraftFault draft fault
 
 -- Why a text is refused: it is no UTF-8 or no TOML, or its table stands for no draft, or its draft for no network.
 abbrev pub IsCause : List ℕ → NetFault → Type 0
 IsCause bytes NoMemory = Unit {0}
 IsCause bytes NotToml = IsUtf8 bytes → parse_document bytes ≡ None
 IsCause bytes (Shape place) = HasNoDraft bytes
-IsCause bytes _ = HasNoNetwork bytes
+IsCause bytes fault = HasNoNetwork bytes fault
 
 -- the links that end at a node and those that leave it, rising
 abbrev pub entry_links : Net → ℕ → List ℕ

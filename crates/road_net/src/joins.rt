@@ -1,7 +1,7 @@
-ghost use Rattle.std.specs.Prelude.{◌≡◌, ◌≢◌, ◌≤◌, ◌<◌, ◌^◌, ◌↔◌, IsTrue, IfOk, OnOk, IfSome, ◌++◌, Some, All, AllPairs, length, sum_by};
+ghost use Rattle.std.specs.Prelude.{◌≡◌, ◌≢◌, ◌≤◌, ◌<◌, ◌^◌, ◌↔◌, IsTrue, IfOk, OnOk, IfSome, ◌++◌, Some, [], All, AllPairs, length, slice_index_or, sum_by};
 ghost use Rattle.std.specs.List.{concat};
-ghost use Rattle.net_numbers.specs.Outcome.{Tests};
-ghost use Rattle.road_net.specs.Joins.{HasEnds, link_at, node_at, is_node, links_of_node, AreByNode, HasShares, AreShared, share_of, named_links, IsPhased, ArePhased, IsConflict};
+ghost use Rattle.road_net.specs.FirstFaults.{TestsEach, clash_at};
+ghost use Rattle.road_net.specs.Joins.{HasEndsAt, HasRoomAt, link_at, node_at, is_node, links_of_node, AreByNode, HasShares, HasSharesAt, share_of, named_links, IsPhased, IsPhasedAt, IsConflict, IsConflictAt};
 
 use foundation::items::Items;
 use net_draft::NetFault;
@@ -15,10 +15,10 @@ pub(crate) enum Side {
     To,
 }
 
-/// Tests that each link comes from a node or ends at one, and not both at the same.
+/// Tests that each link comes from a node or ends at one, and not both at the same. The first that does not is named.
 pub(crate) fn check_ends(links: &[Link]) -> Result<(), NetFault>
     requires { length links.now ≤ 320 }
-    ensures { Tests (All HasEnds links.now) result }
+    ensures { TestsEach NetFault.Ends (HasEndsAt links.now) (length links.now) result }
 {
     for (index, link) in links.iter().enumerate() {
         if link.from == link.to {
@@ -78,10 +78,10 @@ fn has_node(link: &Link, side: Side, node: u32) -> bool
     }
 }
 
-/// Tests that no list has more than 16 links.
+/// Tests that no list has more than 16 links. The node of the first that has is named.
 pub(crate) fn check_room(entry_links: &[Items<u32>]) -> Result<(), NetFault>
     requires { length entry_links.now ≤ 64 }
-    ensures { Tests (All (λ links. length links ≤ 16) entry_links.now) result }
+    ensures { TestsEach NetFault.Crowd (HasRoomAt entry_links.now) (length entry_links.now) result }
 {
     for (index, links) in entry_links.iter().enumerate() {
         if links.len() > 16 {
@@ -91,13 +91,13 @@ pub(crate) fn check_room(entry_links: &[Items<u32>]) -> Result<(), NetFault>
     Ok(())
 }
 
-/// Tests the turns of each link.
+/// Tests the turns of each link. The first whose turns are not as they must be is named.
 pub(crate) fn check_shares(links: &[Link], turns: &[Items<Turn>]) -> Result<(), NetFault>
     requires few { length links.now ≤ 320 }
     requires same { length turns.now ≡ length links.now }
     requires exits { All (λ list. All (λ t. t.exit < length links.now) list) turns.now }
     requires sums { All (λ list. sum_by share_of list < 2 ^ 32) turns.now }
-    ensures { Tests (AreShared links.now turns.now) result }
+    ensures { TestsEach NetFault.Shares (HasSharesAt links.now turns.now) (length links.now) result }
 {
     for (index, link) in links.iter().enumerate() {
         if !has_shares(links, turns[index].as_slice(), link.to) {
@@ -151,7 +151,8 @@ fn lacks_exit(turns: &[Turn], exit: u32) -> bool
     turns.iter().all(|turn| turn.exit != exit)
 }
 
-/// Tests that phases name each link that ends at a node once, in a phase of that node, and no other link.
+/// Tests that phases name each link that ends at a node once, in a phase of that node, and no other link. The first
+/// that they do not name so is named.
 pub(crate) fn check_phases(
     alloc: Global,
     links: &[Link],
@@ -160,7 +161,7 @@ pub(crate) fn check_phases(
     requires few { length links.now ≤ 320 }
     requires nodes { All (λ l. IfSome l.to (λ node. node < length phase_links.now)) links.now }
     requires phases { All (λ phases. length phases ≤ 4) phase_links.now }
-    ensures { Tests (ArePhased links.now phase_links.now) result }
+    ensures { TestsEach NetFault.Phaseless (IsPhasedAt links.now phase_links.now) (length links.now) result }
 {
     let named = named_links(alloc, phase_links)?;
     for (index, link) in links.iter().enumerate() {
@@ -206,10 +207,10 @@ fn push_links(named: &mut Vec<u32>, phases: &[Items<u32>]) -> Result<(), AllocEr
     Ok(())
 }
 
-/// Tests that the links of each conflict end at one node, in two phases.
+/// Tests that the links of each conflict end at one node, in two phases. The first conflict whose links do not is named.
 pub(crate) fn check_conflicts(links: &[Link], conflicts: &[(u32, u32)]) -> Result<(), NetFault>
     requires { All (λ c. (c.0 < length links.now) × (c.1 < length links.now)) conflicts.now }
-    ensures { Tests (All (IsConflict links.now) conflicts.now) result }
+    ensures { TestsEach (clash_at conflicts.now) (IsConflictAt links.now conflicts.now) (length conflicts.now) result }
 {
     for (a, b) in conflicts {
         if !can_conflict(links, *a, *b) {

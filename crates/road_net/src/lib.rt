@@ -7,6 +7,7 @@ ghost use Rattle.net_numbers.specs.Numbers.{Net};
 ghost use Rattle.net_numbers.specs.Outcome.{Refuses};
 ghost use Rattle.net_numbers.specs.Outline.{IsOutline};
 ghost use Rattle.net_numbers.specs.Parts.{net_of};
+ghost use Rattle.road_net.specs.FirstFaults.{IsJoinFault, IsDraftFault};
 ghost use Rattle.road_net.specs.Network.{IsNetworkOf, IsNetworkText, IsCause};
 ghost use Rattle.road_net.specs.Stored.{Drafts, Joins};
 
@@ -222,25 +223,29 @@ impl Network {
 pub fn build(alloc: Global, draft: Draft) -> Result<Network, NetFault>
     ensures ok { IfOk result (IsNetworkOf draft) }
     ensures refused { IfErr result (λ fault. Refuses fault ((net : Net) → ¬ IsNetworkOf draft net)) }
+    ensures first { IfErr result (IsDraftFault draft) }
 {
     check_bounds(&draft)?;
     let parts = numbered(alloc, &draft)?;
     joined(alloc, parts)
 }
 
-/// The network of these parts, where they are joined as they must be.
+/// The network of these parts, where they are joined as they must be. The fault is want of memory, or the first that is
+/// found when all are tested for the ends of links, then for crowded nodes, for shares, for phases and for conflicts.
 fn joined(alloc: Global, parts: Parts) -> Result<Network, NetFault>
     requires { IsOutline (net_of parts) }
-    ensures { Joins (net_of parts) result }
+    ensures joins { Joins (net_of parts) result }
+    ensures first { IfErr result (IsJoinFault (net_of parts)) }
 {
+    let links = parts.links.as_slice();
     let nodes = parts.node_names.len();
-    joins::check_ends(parts.links.as_slice())?;
-    let entry_links = joins::links_by_node(alloc, parts.links.as_slice(), nodes, Side::To)?;
+    joins::check_ends(links)?;
+    let entry_links = joins::links_by_node(alloc, links, nodes, Side::To)?;
     joins::check_room(entry_links.as_slice())?;
-    joins::check_shares(parts.links.as_slice(), parts.turns.as_slice())?;
-    joins::check_phases(alloc, parts.links.as_slice(), parts.phase_links.as_slice())?;
-    joins::check_conflicts(parts.links.as_slice(), parts.conflicts.as_slice())?;
-    let exit_links = joins::links_by_node(alloc, parts.links.as_slice(), nodes, Side::From)?;
+    joins::check_shares(links, parts.turns.as_slice())?;
+    joins::check_phases(alloc, links, parts.phase_links.as_slice())?;
+    joins::check_conflicts(links, parts.conflicts.as_slice())?;
+    let exit_links = joins::links_by_node(alloc, links, nodes, Side::From)?;
     Ok(Network {
         parts,
         entry_links,

@@ -1,36 +1,89 @@
-use Rattle.std.proofs.Common.{◌<◌, ◌^◌, Err, length, sum_by, ap, ◌∙◌, arith, rules}
+use Rattle.std.proofs.Common.{◌<◌, ◌^◌, length, sum_by, refl}
 use Rattle.std.proofs.lemmas.List.Elements.{All-weaker}
-use Rattle.std.proofs.lemmas.Result.{err_from_is_err_and}
-use Rattle.road_net.specs.Joins.{share_of}
 use Rattle.net_numbers.specs.Outline.{AreTurns}
-use Rattle.road_net.specs.Network.{IsJoined}
-use Rattle.road_net.proofs.Served.{served}
 use Rattle.net_numbers.specs.Parts.{net_of}
 use Rattle.net_numbers.proofs.Outline.{outline-few}
-use Rattle.road_net.proofs.Joining.{Joins-none, shares-small, roomy-lists, lists-roomy}
+use Rattle.road_net.specs.Joins.{share_of}
+use Rattle.road_net.specs.Network.{IsJoined}
+use Rattle.road_net.proofs.FirstFaults.{refused, ends-fault, room-fault, shares-fault, phases-fault, conflicts-fault, passed}
+use Rattle.road_net.proofs.Joining.{shares-small}
+use Rattle.road_net.proofs.Served.{served}
 use Rattle.road_net.proofs.joined.Goals as goal
+
+pub returns-in_err-check_ends : goal.returns-in_err-check_ends
+returns-in_err-check_ends c =
+    let net = net_of c.args.parts in
+    let first = ends-fault net _ c.as_slice-links.ensures.value _ c.in_err-check_ends.ensures in
+    let both = refused net _ c.from_residual.result first c.from_residual.ensures.1 in
+    record { joins = both.0; first = both.1 }
 
 pub returns-in_err-check_room : goal.returns-in_err-check_room
 returns-in_err-check_room c =
-    let p = err_from_is_err_and c.from_residual-in_err-check_room.result c.from_residual-in_err-check_room.ensures.1 in
-    Joins-none (net_of c.args.parts) _ _ (λ crowd joined. crowd (rw c.as_slice-3.ensures.value (roomy-lists c.args.parts.links.items c.len-nodes.result c.in_ok-entry_links.entry_links.items (rw c.as_slice-2.ensures.value at c.in_ok-entry_links.ensures) (λ n h. joined.room n (omega (arith, c.len-nodes.ensures)))))) c.in_err-check_room.ensures (p.1 ∙ ap Err p.2)
+    let net = net_of c.args.parts in
+    let by_node = (rw (c.as_slice-links.ensures.value, c.len-nodes.ensures) at c.in_ok-entry_links.ensures) in
+    let ends = (rw c.as_slice-links.ensures.value at c.in_ok-check_ends.ensures) in
+    let first = room-fault net c.in_ok-entry_links.entry_links.items by_node ends _ c.as_slice.ensures.value _ c.in_err-check_room.ensures in
+    let both = refused net _ c.from_residual-in_err-check_room.result first c.from_residual-in_err-check_room.ensures.1 in
+    record { joins = both.0; first = both.1 }
 
 pub check_shares-requires-clause-sums : goal.check_shares-requires-clause-sums
 check_shares-requires-clause-sums c =
     let links = length c.args.parts.link_names in
-    rw c.as_slice-5.ensures.value (All-weaker (AreTurns links) (λ ts. sum_by share_of ts < 2 ^ 32) (shares-small links) c.args.parts.turns.items c.requires.turns)
+    rw c.as_slice-2.ensures.value (All-weaker (AreTurns links) (λ ts. sum_by share_of ts < 2 ^ 32) (shares-small links) c.args.parts.turns.items c.requires.turns)
+
+pub returns-in_err-check_shares : goal.returns-in_err-check_shares
+returns-in_err-check_shares c =
+    let net = net_of c.args.parts in
+    let by_node = (rw (c.as_slice-links.ensures.value, c.len-nodes.ensures) at c.in_ok-entry_links.ensures) in
+    let ends = (rw c.as_slice-links.ensures.value at c.in_ok-check_ends.ensures) in
+    let short = (rw c.as_slice.ensures.value at c.in_ok-check_room.ensures) in
+    let first = shares-fault net c.in_ok-entry_links.entry_links.items by_node ends short _ _ c.as_slice-links.ensures.value c.as_slice-2.ensures.value _ c.in_err-check_shares.ensures in
+    let both = refused net _ c.from_residual-in_err-check_shares.result first c.from_residual-in_err-check_shares.ensures.1 in
+    record { joins = both.0; first = both.1 }
 
 pub check_phases-requires-clause-phases : goal.check_phases-requires-clause-phases
-check_phases-requires-clause-phases c = rw c.as_slice-7.ensures.value (outline-few (net_of c.args.parts) c.requires)
+check_phases-requires-clause-phases c = rw c.as_slice-3.ensures.value (outline-few (net_of c.args.parts) c.requires)
+
+pub returns-in_err-check_phases : goal.returns-in_err-check_phases
+returns-in_err-check_phases c =
+    let net = net_of c.args.parts in
+    let by_node = (rw (c.as_slice-links.ensures.value, c.len-nodes.ensures) at c.in_ok-entry_links.ensures) in
+    let ends = (rw c.as_slice-links.ensures.value at c.in_ok-check_ends.ensures) in
+    let short = (rw c.as_slice.ensures.value at c.in_ok-check_room.ensures) in
+    let shares = (rw (c.as_slice-links.ensures.value, c.as_slice-2.ensures.value) at c.in_ok-check_shares.ensures) in
+    let first = phases-fault net c.in_ok-entry_links.entry_links.items by_node ends short shares _ _ c.as_slice-links.ensures.value c.as_slice-3.ensures.value _ c.in_err-check_phases.ensures in
+    let both = refused net _ c.from_residual-in_err-check_phases.result first c.from_residual-in_err-check_phases.ensures.1 in
+    record { joins = both.0; first = both.1 }
+
+pub returns-in_err-check_conflicts : goal.returns-in_err-check_conflicts
+returns-in_err-check_conflicts c =
+    let net = net_of c.args.parts in
+    let by_node = (rw (c.as_slice-links.ensures.value, c.len-nodes.ensures) at c.in_ok-entry_links.ensures) in
+    let ends = (rw c.as_slice-links.ensures.value at c.in_ok-check_ends.ensures) in
+    let short = (rw c.as_slice.ensures.value at c.in_ok-check_room.ensures) in
+    let shares = (rw (c.as_slice-links.ensures.value, c.as_slice-2.ensures.value) at c.in_ok-check_shares.ensures) in
+    let phases = (rw (c.as_slice-links.ensures.value, c.as_slice-3.ensures.value) at c.in_ok-check_phases.ensures) in
+    let first = conflicts-fault net c.in_ok-entry_links.entry_links.items by_node ends short shares phases _ _ c.as_slice-links.ensures.value c.as_slice-4.ensures.value _ c.in_err-check_conflicts.ensures in
+    let both = refused net _ c.from_residual-in_err-check_conflicts.result first c.from_residual-in_err-check_conflicts.ensures.1 in
+    record { joins = both.0; first = both.1 }
+
+-- all tests are passed
+joined : (c : goal.In_ok-exit_links) → IsJoined (net_of c.args.parts)
+joined c =
+    let by_node = (rw (c.as_slice-links.ensures.value, c.len-nodes.ensures) at c.in_ok-entry_links.ensures) in
+    let ends = (rw c.as_slice-links.ensures.value at c.in_ok-check_ends.ensures) in
+    let short = (rw c.as_slice.ensures.value at c.in_ok-check_room.ensures) in
+    let shares = (rw (c.as_slice-links.ensures.value, c.as_slice-2.ensures.value) at c.in_ok-check_shares.ensures) in
+    let phases = (rw (c.as_slice-links.ensures.value, c.as_slice-3.ensures.value) at c.in_ok-check_phases.ensures) in
+    let conflicts = (rw (c.as_slice-links.ensures.value, c.as_slice-4.ensures.value) at c.in_ok-check_conflicts.ensures) in
+    passed (net_of c.args.parts) c.in_ok-entry_links.entry_links.items by_node ends short shares phases conflicts
 
 pub invariant_of-result : goal.invariant_of-result
-invariant_of-result c =
-    let entries = (rw c.as_slice-2.ensures.value at c.in_ok-entry_links.ensures) in
-    let exits = (rw c.as_slice-10.ensures.value at c.in_ok-exit_links.ensures) in
-    let room = lists-roomy c.args.parts.links.items c.len-nodes.result c.in_ok-entry_links.entry_links.items entries (rw c.as_slice-3.ensures.value at c.in_ok-check_room.ensures) in
-    let joined : IsJoined (net_of c.args.parts) = record { ends = search rules; room = λ n h. room n (omega (arith, c.len-nodes.ensures)); shares = search rules; phases = search rules; conflicts = rw (c.as_slice-8.ensures.value, c.as_slice-9.ensures.value) at c.in_ok-check_conflicts.ensures } in
-    record {
-      network = record { outline = c.requires; joins = joined; served = served (net_of c.args.parts) c.requires joined };
-      entries = rw c.len-nodes.ensures at entries;
-      exits = rw c.len-nodes.ensures at exits;
-    }
+invariant_of-result c = record {
+  network = record { outline = c.requires; joins = joined c; served = served (net_of c.args.parts) c.requires (joined c) };
+  entries = (rw (c.as_slice-links.ensures.value, c.len-nodes.ensures) at c.in_ok-entry_links.ensures);
+  exits = (rw (c.as_slice-links.ensures.value, c.len-nodes.ensures) at c.in_ok-exit_links.ensures);
+}
+
+pub returns-clause-joins : goal.returns-clause-joins
+returns-clause-joins c = (refl, joined c)

@@ -1,6 +1,5 @@
-use Rattle.std.proofs.lemmas.Result.{err_from_is_err_and, IfErr-weaker}
-use Rattle.road_net.specs.Network.{IsCause}
-use Rattle.road_net.proofs.Causes.{IsCause-drafts, IsCause-draft}
+use Rattle.std.proofs.lemmas.Result.{err_from_is_err_and}
+use Rattle.road_net.proofs.Causes.{IsCause-drafts, IsCause-built}
 use Rattle.road_net.proofs.read_network.Goals as goal
 
 pub returns-in_err-draft-clause-cause : goal.returns-in_err-draft-clause-cause
@@ -10,4 +9,4 @@ returns-in_err-draft-clause-cause c =
 
 pub returns-clause-cause : goal.returns-clause-cause
 returns-clause-cause c =
-    IfErr-weaker c.build.result _ (IsCause c.args.bytes.now) (λ fault h. IsCause-draft c.args.bytes.now c.in_ok-draft.draft fault c.in_ok-draft.ensures h) c.build.ensures.refused
+    IsCause-built c.args.bytes.now c.in_ok-draft.draft c.build.result c.in_ok-draft.ensures c.build.ensures.refused c.build.ensures.first

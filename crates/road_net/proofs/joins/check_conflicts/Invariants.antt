@@ -1,7 +1,7 @@
-use Rattle.std.proofs.Common.{All, take}
-use Rattle.road_net.specs.Joins.{IsConflict}
+use Rattle.std.proofs.Common.{ℕ, ◌<◌}
+use Rattle.road_net.specs.Joins.{IsConflictAt}
 use Rattle.road_net.proofs.joins.check_conflicts.Given as goal
 
 -- the conflicts so far are conflicts
 abbrev pub invariant-loop-a : goal.invariant-loop-a
-invariant-loop-a l = All (IsConflict l.links) (take l.a-index l.conflicts)
+invariant-loop-a l = (k : ℕ) → k < l.a-index → IsConflictAt l.links l.conflicts k

@@ -1,6 +1,7 @@
-use Rattle.std.proofs.Common.{ℕ, ◌≤◌, List, length, All, take}
+use Rattle.std.proofs.Common.{ℕ, ◌<◌}
+use Rattle.road_net.specs.Joins.{HasRoomAt}
 use Rattle.road_net.proofs.joins.check_room.Given as goal
 
 -- the lists so far have at most 16 links
 abbrev pub invariant-loop-index : goal.invariant-loop-index
-invariant-loop-index l = All (λ (links : List ℕ). length links ≤ 16) (take l.index l.entry_links)
+invariant-loop-index l = (k : ℕ) → k < l.index → HasRoomAt l.entry_links k

@@ -1,0 +1,73 @@
+-- The first fault of a network, from the tests of its joins.
+use Rattle.std.proofs.Common.{◌≡◌, ℕ, ◌<◌, length, Result, Err, IfErr, IsErrAnd, List, All, ap, subst, sym}
+use Rattle.std.proofs.lemmas.Result.{err_from_is_err_and}
+use Rattle.net_draft.specs.declared.faults.NetFault.{NetFault}
+use Rattle.net_draft.specs.declared.faults.NetFault.TheVariants.{NoMemory, Ends, Crowd, Shares, Phaseless, Clash}
+use Rattle.net_numbers.specs.declared.roads.Link.{Link}
+use Rattle.net_numbers.specs.declared.roads.Turn.{Turn}
+use Rattle.net_numbers.specs.Numbers.{Net, no_link}
+use Rattle.net_numbers.specs.Outcome.{Refuses}
+use Rattle.road_net.specs.FirstFaults.{IsFirstWithout, TestsEach, clash_at, IsJoinFault}
+use Rattle.road_net.specs.Joins.{HasEnds, HasEndsAt, AreRoomy, HasRoomAt, AreByNode, HasSharesAt, AreShared, IsPhasedAt, ArePhased, conflict_at, IsConflict, IsConflictAt}
+use Rattle.road_net.specs.Network.{IsJoined}
+use Rattle.road_net.specs.Stored.{Joins}
+use Rattle.road_net.specs.declared.joins.Side.TheVariants.{To}
+use Rattle.road_net.proofs.Joining.{All-each, roomy, crowded}
+
+module _ (net : Net) where
+  -- the fault of a test, where each of its faults is one of the joins
+  pub fault-from : (fault_at : ℕ → NetFault) (fact : ℕ → Type 0) (count : ℕ) → ((k : ℕ) → IsFirstWithout fact count k → IsJoinFault net (fault_at k)) → (fault : NetFault) → TestsEach fault_at fact count (Err fault) → IsJoinFault net fault
+  fault-from fault_at fact count joins NoMemory h = tt
+  fault-from fault_at fact count joins _ h = subst (IsJoinFault net) (sym h.1) (joins h.0 h.2)
+
+  -- a network with a fault of its joins is not joined
+  pub fault-refuses : (fault : NetFault) → IsJoinFault net fault → Refuses fault (IsJoined net → ⊥)
+  fault-refuses NoMemory h = tt
+  fault-refuses (Ends link) h = λ joined. h.here (joined.ends link no_link h.below)
+  fault-refuses (Crowd node) h = λ joined. h.1.here (joined.room node h.1.below)
+  fault-refuses (Shares link) h = λ joined. h.2.here (joined.shares link h.2.below)
+  fault-refuses (Phaseless link) h = λ joined. h.3.here (joined.phases link h.3.below)
+  fault-refuses (Clash a b) h = λ joined. h.4.first.here (joined.conflicts h.4.place (0, 0) h.4.first.below)
+  fault-refuses _ h = absurd h
+
+  -- what is answered at a fault of the joins
+  pub refused : (fault : NetFault) (result : Result Net NetFault) → IsJoinFault net fault → IsErrAnd result (λ named. named ≡ fault) → Joins net result × IfErr result (IsJoinFault net)
+  refused fault result h is =
+      let p = err_from_is_err_and result is in
+      rw (p.1, p.2) (fault-refuses fault h, h)
+
+-- The tests one after another. What each was given is that of the network, and `lists` are those of the links that end
+-- at each node.
+module _ (net : Net) (links : List Link) (links_are : links ≡ net.links) where
+  pub ends-fault : (fault : NetFault) → TestsEach Ends (HasEndsAt links) (length links) (Err fault) → IsJoinFault net fault
+  ends-fault fault h = fault-from net Ends (HasEndsAt links) (length links) (λ k first. rw links_are at first) fault h
+
+module _ (net : Net) (lists : List (List ℕ)) (by_node : AreByNode To net.links (length net.node_names) lists) (ends : (k : ℕ) → k < length net.links → HasEndsAt net.links k) where
+  have_ends : All HasEnds net.links
+  have_ends = All-each HasEnds net.links no_link ends
+
+  pub room-fault : (seen : List (List ℕ)) → seen ≡ lists → (fault : NetFault) → TestsEach Crowd (HasRoomAt seen) (length seen) (Err fault) → IsJoinFault net fault
+  room-fault seen are fault h =
+      fault-from net Crowd (HasRoomAt seen) (length seen) (λ k first. (have_ends, crowded net.links (length net.node_names) k lists by_node (rw are at first))) fault h
+
+  module _ (short : (k : ℕ) → k < length lists → HasRoomAt lists k) where
+    have_room : AreRoomy net.links (length net.node_names)
+    have_room = roomy net.links (length net.node_names) lists by_node short
+
+    pub shares-fault : (links : List Link) (turns : List (List Turn)) → links ≡ net.links → turns ≡ net.turns → (fault : NetFault) → TestsEach Shares (HasSharesAt links turns) (length links) (Err fault) → IsJoinFault net fault
+    shares-fault links turns links_are turns_are fault h =
+        fault-from net Shares (HasSharesAt links turns) (length links) (λ k first. (have_ends, have_room, rw (links_are, turns_are) at first)) fault h
+
+    module _ (shares : AreShared net.links net.turns) where
+      pub phases-fault : (links : List Link) (phase_links : List (List (List ℕ))) → links ≡ net.links → phase_links ≡ net.phase_links → (fault : NetFault) → TestsEach Phaseless (IsPhasedAt links phase_links) (length links) (Err fault) → IsJoinFault net fault
+      phases-fault links phase_links links_are phases_are fault h =
+          fault-from net Phaseless (IsPhasedAt links phase_links) (length links) (λ k first. (have_ends, have_room, shares, rw (links_are, phases_are) at first)) fault h
+
+      module _ (phases : ArePhased net.links net.phase_links) where
+        pub conflicts-fault : (links : List Link) (conflicts : List (ℕ × ℕ)) → links ≡ net.links → conflicts ≡ net.conflicts → (fault : NetFault) → TestsEach (clash_at conflicts) (IsConflictAt links conflicts) (length conflicts) (Err fault) → IsJoinFault net fault
+        conflicts-fault links conflicts links_are conflicts_are fault h =
+            fault-from net (clash_at conflicts) (IsConflictAt links conflicts) (length conflicts) (λ k first. (have_ends, have_room, shares, phases, record { place = k; there = ap (λ cs. conflict_at cs k) (sym conflicts_are); first = rw (links_are, conflicts_are) at first })) fault h
+
+        -- a network that passes all of them
+        pub passed : ((k : ℕ) → k < length net.conflicts → IsConflictAt net.links net.conflicts k) → IsJoined net
+        passed conflicts = record { ends = have_ends; room = have_room; shares = shares; phases = phases; conflicts = All-each (IsConflict net.links) net.conflicts (0, 0) conflicts }

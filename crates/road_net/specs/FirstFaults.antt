@@ -1,0 +1,62 @@
+-- Which fault of a network is named. The tests go over the whole network one after another, each in the order of the file,
+-- and the first link, node or conflict that fails one is named: docs/FORMATS.md, "Places and faults".
+use Rattle.std.specs.Prelude.{◌≡◌, ℕ, ◌<◌, List, Some, Result, Ok, Err, length, All}
+use Rattle.net_draft.specs.declared.drafts.Draft.{Draft}
+use Rattle.net_draft.specs.declared.faults.NetFault.{NetFault}
+use Rattle.net_draft.specs.declared.faults.NetFault.TheVariants.{NoMemory, Ends, Crowd, Shares, Phaseless, Clash}
+use Rattle.net_numbers.specs.Bounds.{IsBounded}
+use Rattle.net_numbers.specs.Numbers.{Net, AreDistinct, numbered, node_names, link_names}
+use Rattle.road_net.specs.Joins.{HasEnds, HasEndsAt, IsRoomy, AreRoomy, HasSharesAt, AreShared, IsPhasedAt, ArePhased, conflict_at, IsConflictAt}
+
+-- the fact holds of each number before this one, and not of this one, which is below the count
+pub record IsFirstWithout (fact : ℕ → Type 0) (count number : ℕ) : Type 0 where
+  pub below : number < count
+  pub before : (k : ℕ) → k < number → fact k
+  pub here : ¬ fact number
+
+-- A test of all numbers below the count answers Ok where the fact holds of each. A fault is want of memory, or the one that
+-- names the first number of which the fact does not hold.
+abbrev pub TestsEach : (ℕ → NetFault) → (ℕ → Type 0) → ℕ → Result (Unit {0}) NetFault → Type 0
+TestsEach fault_at fact count (Ok _) = (k : ℕ) → k < count → fact k
+TestsEach fault_at fact count (Err NoMemory) = Unit {0}
+TestsEach fault_at fact count (Err fault) = (number : ℕ) × (fault ≡ fault_at number) × IsFirstWithout fact count number
+
+-- the fault that names the conflict at this place
+abbrev pub clash_at : List (ℕ × ℕ) → ℕ → NetFault
+clash_at conflicts place = Clash (conflict_at conflicts place).0 (conflict_at conflicts place).1
+
+-- the pair of links is the first conflict of the file that can be none
+pub record IsFirstClash (net : Net) (pair : ℕ × ℕ) : Type 0 where
+  pub place : ℕ
+  pub there : conflict_at net.conflicts place ≡ pair
+  pub first : IsFirstWithout (IsConflictAt net.links net.conflicts) (length net.conflicts) place
+
+-- Why the parts of a network are not joined as they have to be: the first link without its ends; where all have them, the
+-- first node with no room; else the first link whose turns are not as they must; else the first that phases do not name as
+-- they must; else the first conflict that can be none.
+abbrev pub IsJoinFault : Net → NetFault → Type 0
+IsJoinFault net NoMemory = Unit {0}
+IsJoinFault net (Ends l) = IsFirstWithout (HasEndsAt net.links) (length net.links) l
+IsJoinFault net (Crowd n) = All HasEnds net.links × IsFirstWithout (IsRoomy net.links) (length net.node_names) n
+IsJoinFault net (Shares l) =
+    All HasEnds net.links × AreRoomy net.links (length net.node_names)
+    × IsFirstWithout (HasSharesAt net.links net.turns) (length net.links) l
+IsJoinFault net (Phaseless l) =
+    All HasEnds net.links × AreRoomy net.links (length net.node_names) × AreShared net.links net.turns
+    × IsFirstWithout (IsPhasedAt net.links net.phase_links) (length net.links) l
+IsJoinFault net (Clash a b) =
+    All HasEnds net.links × AreRoomy net.links (length net.node_names) × AreShared net.links net.turns × ArePhased net.links net.phase_links
+    × IsFirstClash net (a, b)
+IsJoinFault net _ = ⊥
+
+-- the network is the draft with numbers for names, where the draft is within its bounds and no two names are the same
+pub record IsNumbersOf (d : Draft) (net : Net) : Type 0 where
+  pub bounds : IsBounded d
+  pub node_names : AreDistinct (node_names d)
+  pub link_names : AreDistinct (link_names d)
+  pub numbers : numbered d ≡ Some net
+
+-- Why a draft stands for no network: with numbers for its names it is a network with this fault of its joins, where it is
+-- one at all.
+abbrev pub IsDraftFault : Draft → NetFault → Type 0
+IsDraftFault d fault = (net : Net) → IsNumbersOf d net → IsJoinFault net fault
