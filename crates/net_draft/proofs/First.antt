@@ -11,14 +11,6 @@ use Rattle.net_draft.specs.declared.faults.NetFault.TheVariants.{NoMemory, NotTo
 use Rattle.net_draft.specs.declared.faults.Place.{Place}
 use Rattle.net_draft.proofs.Each.{bind-some, each-map, each-none}
 
--- what is given of all is given of each
-pub each-read : {X Y : Type 0} (f : X → Option Y) (xs : List X) (ys : List Y) → each f xs ≡ Some ys → All (λ x. IsSome (f x)) xs
-each-read f [] ys all = All-nil (λ x. IsSome (f x))
-each-read f (x ∷ xs) ys all =
-    let (y, here, rest) = bind-some (f x) (λ v. each f xs >>= λ vs. Some (v ∷ vs)) ys all in
-    let (zs, more, last) = bind-some (each f xs) (λ vs. Some (y ∷ vs)) ys rest in
-    All-cons (λ x. IsSome (f x)) x xs (rw here) (each-read f xs zs more)
-
 -- what a fault says of its place
 pub Blames-weaker : {P Q : Place → Type 0} (fault : NetFault) → ((place : Place) → P place → Q place) → Blames fault P → Blames fault Q
 Blames-weaker NoMemory f h = tt
@@ -39,7 +31,7 @@ module _ {W X Y : Type 0} (f : X → Option Y) (g : W → X) where
   first-at ws i w ys P number h at before is here =
       ( i
       , is
-      , rw (take-map g i ws) (each-read f (map g (take i ws)) ys (each-map f g (take i ws) ∙ before))
+      , rw (take-map g i ws, each-map f g (take i ws), before)
       , rw (slice_get-map g ws i, slice_get_read ws (length ws) i w refl h at) here
       )
 

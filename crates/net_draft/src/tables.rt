@@ -1,9 +1,9 @@
-ghost use Rattle.std.specs.Prelude.{◌≡◌, option_map, option_copied, IfOk, map};
+ghost use Rattle.std.specs.Prelude.{◌≡◌, option_map, option_copied, IfOk, IfErr, map};
 ghost use Rattle.std.specs.List.{list_any};
 ghost use Rattle.std.specs.Str.{bytes_eq};
 ghost use Rattle.toml.specs.Data.{get_member, as_str, as_array, as_table};
 ghost use Rattle.toml.specs.View.{view, table_view};
-ghost use Rattle.net_draft.specs.Faults.{Gives, GivesAt, GivesOr, each};
+ghost use Rattle.net_draft.specs.Faults.{Blames, Gives, GivesAt, GivesOr, each};
 ghost use Rattle.net_draft.specs.FirstShape as shape;
 ghost use Rattle.net_draft.specs.Table as spec;
 
@@ -23,6 +23,7 @@ use toml::{Table, Value};
 #[tactic(auto, unfolding(crate::specs::Table::draft_of, crate::specs::Table::top_form))]
 pub fn read_draft(alloc: Global, table: &Table) -> Result<Draft, NetFault>
     ensures draft { Gives (λ draft. draft) result (spec.draft_of (table_view table.now)) }
+    ensures first { IfErr result (λ fault. Blames fault (λ place. shape.IsShapeFault (table_view table.now) place.part place.item place.sub)) }
 {
     let place = Place {
         part: Part::Top,
