@@ -23,7 +23,8 @@ use toml::{Table, Value};
 #[tactic(auto, unfolding(crate::specs::Table::draft_of, crate::specs::Table::top_form))]
 pub fn read_draft(alloc: Global, table: &Table) -> Result<Draft, NetFault>
     ensures draft { Gives (λ draft. draft) result (spec.draft_of (table_view table.now)) }
-    ensures first { IfErr result (λ fault. Blames fault (λ place. shape.IsShapeFault (table_view table.now) place.part place.item place.sub)) }
+    ensures first { IfErr result (λ fault. Blames fault (λ place.
+        shape.IsShapeFault (table_view table.now) place.part place.item place.sub)) }
 {
     let place = Place {
         part: Part::Top,

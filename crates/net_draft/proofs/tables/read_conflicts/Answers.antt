@@ -11,8 +11,8 @@ pub returns-in_err-conflict : goal.returns-in_err-conflict
 returns-in_err-conflict c =
     let p = err_from_is_err_and c.from_residual.result c.from_residual.ensures.1 in
     Gives-first spec.conflict_of view _ _ _ c.args.values.now c.loop-index.index c.index-values-index.result _ _ c.loop-index-test.true c.index-values-index.is
-        (λ named is unread. (ap (λ n. n.part) is, ap (λ n. n.sub) is, first-at spec.conflict_of view c.args.values.now c.loop-index.index c.index-values-index.result c.loop-index.conflicts.items _ named.item c.loop-index-test.true c.index-values-index.is c.loop-index.invariant (ap (λ n. n.item) is ∙ c.ordinal.ensures) unread))
-        c.in_err-conflict.ensures (p.1 ∙ ap Err p.2)
+    (λ named is unread. (ap (λ n. n.part) is, ap (λ n. n.sub) is, first-at spec.conflict_of view c.args.values.now c.loop-index.index c.index-values-index.result c.loop-index.conflicts.items _ named.item c.loop-index-test.true c.index-values-index.is c.loop-index.invariant (ap (λ n. n.item) is ∙ c.ordinal.ensures) unread))
+    c.in_err-conflict.ensures (p.1 ∙ ap Err p.2)
 
 pub loop-index-preserved : goal.loop-index-preserved
 loop-index-preserved c =
