@@ -1,11 +1,9 @@
 -- A reading of each element of a list, one element after another.
-use Rattle.std.proofs.Common.{◌≡◌, ℕ, zero, suc, ◌+◌, ◌<◌, List, [], ◌∷◌, ◌++◌, length, get_or, take, map, Option, Some, None, refl, ap, arith, All, option_map, Result, Err}
+use Rattle.std.proofs.Common.{◌≡◌, ℕ, zero, suc, ◌+◌, ◌<◌, List, [], ◌∷◌, ◌++◌, length, get_or, take, map, Option, Some, None, refl, ap, arith, All, option_map}
 use Rattle.std.proofs.lemmas.List.{take_more}
 use Rattle.std.proofs.lemmas.List.Elements.{All-nil, All-cons, All-head, All-tail}
 use Rattle.std.proofs.lemmas.Option.{same_Some}
-use Rattle.net_draft.specs.Faults.{each, ◌>>=◌, Misses, Gives}
-use Rattle.net_draft.specs.declared.faults.NetFault.{NetFault}
-use Rattle.net_draft.specs.declared.faults.NetFault.TheVariants.{NoMemory, NotToml, Shape, Bound, Twice, Unknown, Ends, Crowd, Shares, Phaseless, Clash}
+use Rattle.net_draft.specs.Faults.{each, ◌>>=◌}
 
 pub bind-some : {X Y : Type 0} (o : Option X) (f : X → Option Y) (y : Y) → (o >>= f) ≡ Some y → (x : X) × (o ≡ Some x) × (f x ≡ Some y)
 bind-some None f y h = absurd (cc)
@@ -38,24 +36,6 @@ module _ {X Y : Type 0} (f : X → Option Y) where
 pub each-map : {W X Y : Type 0} (f : X → Option Y) (g : W → X) (ws : List W) → each f (map g ws) ≡ each (λ w. f (g w)) ws
 each-map f g [] = refl
 each-map f g (w ∷ ws) = rw (each-map f g ws)
-
--- what a fault of one element says of all of them
-pub Misses-weaker : {P Q : Type 0} (fault : NetFault) → (P → Q) → Misses fault P → Misses fault Q
-Misses-weaker NoMemory f h = tt
-Misses-weaker NotToml f h = h
-Misses-weaker (Shape place) f h = f h
-Misses-weaker (Bound place) f h = h
-Misses-weaker (Twice place) f h = h
-Misses-weaker (Unknown place) f h = h
-Misses-weaker (Ends link) f h = h
-Misses-weaker (Crowd node) f h = h
-Misses-weaker (Shares link) f h = h
-Misses-weaker (Phaseless link) f h = h
-Misses-weaker (Clash a b) f h = h
-
--- a fault of one element, at the exit of a loop
-pub Gives-each : {X Y Z : Type 0} (f : X → Option Y) (view : Z → List Y) (xs : List X) (i : ℕ) (x : X) (fault : NetFault) (result : Result Z NetFault) → i < length xs → x ≡ get_or xs i x → Misses fault (f x ≡ None) → result ≡ Err fault → Gives view result (each f xs)
-Gives-each f view xs i x fault result h at none is = rw is (Misses-weaker fault (λ e. each-none f xs i x h (rw (← at) e)) none)
 
 module _ {X Y : Type 0} (f : X → Option Y) where
   -- as many are given as were read

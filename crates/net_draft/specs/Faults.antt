@@ -1,6 +1,7 @@
 use Rattle.std.specs.Prelude.{◌≡◌, Option, Some, None, Result, Ok, Err, List, [], ◌∷◌}
 use Rattle.net_draft.specs.declared.faults.NetFault.{NetFault}
 use Rattle.net_draft.specs.declared.faults.NetFault.TheVariants.{NoMemory, Shape}
+use Rattle.net_draft.specs.declared.faults.Place.{Place}
 
 -- the fact holds, unless the fault is want of memory
 abbrev pub Unless : NetFault → Type 0 → Type 0
@@ -18,6 +19,21 @@ Misses _ fact = ⊥
 abbrev pub Gives : {X Y : Type 0} → (X → Y) → Result X NetFault → Option Y → Type 0
 Gives view (Ok x) reading = reading ≡ Some (view x)
 Gives view (Err fault) reading = Misses fault (reading ≡ None)
+
+-- The fault is `Shape` of a place of which this holds, or want of memory.
+abbrev pub Blames : NetFault → (Place → Type 0) → Type 0
+Blames NoMemory P = Unit {0}
+Blames (Shape place) P = P place
+Blames _ P = ⊥
+
+-- what `Gives` says, and P of the place that a fault names
+abbrev pub GivesOr : {X Y : Type 0} → (Place → Type 0) → (X → Y) → Result X NetFault → Option Y → Type 0
+GivesOr P view (Ok x) reading = reading ≡ Some (view x)
+GivesOr P view (Err fault) reading = Blames fault (λ place. P place × (reading ≡ None))
+
+-- what `Gives` says, and that a fault names this place
+abbrev pub GivesAt : {X Y : Type 0} → Place → (X → Y) → Result X NetFault → Option Y → Type 0
+GivesAt place = GivesOr (λ named. named ≡ place)
 
 -- one reading after another
 infixl 10 ◌>>=◌

@@ -101,14 +101,24 @@ phase_of d = do
   links ← each as_str links
   Some (record { phase = record { least = least; greatest = greatest; yellow = yellow; clear = clear; loss = loss; wait = wait }; links = links })
 
-unfoldable pub node_of : Data → Option DraftNode
-node_of d = do
+-- a node as it stands in the file, its phases not yet read
+pub record NodeForm : Type 0 where
+  pub name : List ℕ
+  pub phases : List Data
+
+unfoldable pub node_form : Data → Option NodeForm
+node_form d = do
   ms ← as_table d
   ms ← only (codes "name" ∷ codes "phase" ∷ []) ms
   name ← text_at (codes "name") ms
   phases ← list_at (codes "phase") ms
-  phases ← each phase_of phases
   Some (record { name = name; phases = phases })
+
+unfoldable pub node_of : Data → Option DraftNode
+node_of d = do
+  node ← node_form d
+  phases ← each phase_of node.phases
+  Some (record { name = node.name; phases = phases })
 
 unfoldable pub turn_of : Data → Option DraftTurn
 turn_of d = do
@@ -118,8 +128,17 @@ turn_of d = do
   share ← number_at (codes "share") ms
   Some (record { exit = exit; share = share })
 
-unfoldable pub link_of : Data → Option DraftLink
-link_of d = do
+-- a link as it stands in the file, its turns not yet read
+pub record LinkForm : Type 0 where
+  pub name : List ℕ
+  pub from : Option (List ℕ)
+  pub to : Option (List ℕ)
+  pub travel : ℕ
+  pub sat : ℕ
+  pub turns : List Data
+
+unfoldable pub link_form : Data → Option LinkForm
+link_form d = do
   ms ← as_table d
   ms ← only (codes "name" ∷ codes "from" ∷ codes "to" ∷ codes "travel" ∷ codes "sat" ∷ codes "turn" ∷ []) ms
   name ← text_at (codes "name") ms
@@ -128,8 +147,13 @@ link_of d = do
   from ← optional_text_at (codes "from") ms
   to ← optional_text_at (codes "to") ms
   turns ← optional_list_at (codes "turn") ms
-  turns ← each turn_of turns
   Some (record { name = name; from = from; to = to; travel = travel; sat = sat; turns = turns })
+
+unfoldable pub link_of : Data → Option DraftLink
+link_of d = do
+  link ← link_form d
+  turns ← each turn_of link.turns
+  Some (record { name = link.name; from = link.from; to = link.to; travel = link.travel; sat = link.sat; turns = turns })
 
 unfoldable pub conflict_of : Data → Option DraftConflict
 conflict_of d = do
@@ -139,16 +163,28 @@ conflict_of d = do
   b ← text_at (codes "b") ms
   Some (record { a = a; b = b })
 
--- the draft that the file's table stands for
-unfoldable pub draft_of : Members → Option Draft
-draft_of ms = do
+-- the table of the whole file, the tables in it not yet read
+pub record TopForm : Type 0 where
+  pub run : Members
+  pub nodes : List Data
+  pub links : List Data
+  pub conflicts : List Data
+
+unfoldable pub top_form : Members → Option TopForm
+top_form ms = do
   ms ← only (codes "run" ∷ codes "node" ∷ codes "link" ∷ codes "conflict" ∷ []) ms
   run ← table_at (codes "run") ms
   nodes ← list_at (codes "node") ms
   links ← list_at (codes "link") ms
   conflicts ← optional_list_at (codes "conflict") ms
-  run ← run_of run
-  nodes ← each node_of nodes
-  links ← each link_of links
-  conflicts ← each conflict_of conflicts
+  Some (record { run = run; nodes = nodes; links = links; conflicts = conflicts })
+
+-- the draft that the file's table stands for
+unfoldable pub draft_of : Members → Option Draft
+draft_of ms = do
+  top ← top_form ms
+  run ← run_of top.run
+  nodes ← each node_of top.nodes
+  links ← each link_of top.links
+  conflicts ← each conflict_of top.conflicts
   Some (record { run = run; nodes = nodes; links = links; conflicts = conflicts })

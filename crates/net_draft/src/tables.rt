@@ -1,9 +1,10 @@
-ghost use Rattle.std.specs.Prelude.{◌≡◌, option_map, option_copied, IfOk, map};
+ghost use Rattle.std.specs.Prelude.{◌≡◌, option_map, option_copied, IfOk, IfErr, map};
 ghost use Rattle.std.specs.List.{list_any};
 ghost use Rattle.std.specs.Str.{bytes_eq};
 ghost use Rattle.toml.specs.Data.{get_member, as_str, as_array, as_table};
 ghost use Rattle.toml.specs.View.{view, table_view};
-ghost use Rattle.net_draft.specs.Faults.{Gives, each};
+ghost use Rattle.net_draft.specs.Faults.{Blames, Gives, GivesAt, GivesOr, each};
+ghost use Rattle.net_draft.specs.FirstShape as shape;
 ghost use Rattle.net_draft.specs.Table as spec;
 
 use crate::drafts::{Draft, DraftConflict, DraftLink, DraftNode, DraftPhase, DraftTurn, Run};
@@ -19,9 +20,11 @@ use toml::{Table, Value};
 /// The fault is `NoMemory`, or `Shape` of the first table, in the order of "Places and faults" there, that
 /// lacks a key, has a further key or one of the wrong kind, or is no table. The bounds of the draft are not
 /// tested here: a whole number that is no u32 is read as the greatest u32, which is out of every bound.
-#[tactic(auto, unfolding(crate::specs::Table::draft_of))]
+#[tactic(auto, unfolding(crate::specs::Table::draft_of, crate::specs::Table::top_form))]
 pub fn read_draft(alloc: Global, table: &Table) -> Result<Draft, NetFault>
     ensures draft { Gives (λ draft. draft) result (spec.draft_of (table_view table.now)) }
+    ensures first { IfErr result (λ fault. Blames fault (λ place.
+        shape.IsShapeFault (table_view table.now) place.part place.item place.sub)) }
 {
     let place = Place {
         part: Part::Top,
@@ -47,7 +50,7 @@ pub fn read_draft(alloc: Global, table: &Table) -> Result<Draft, NetFault>
 
 #[tactic(auto, unfolding(crate::specs::Table::run_of))]
 fn read_run(table: &Table) -> Result<Run, NetFault>
-    ensures { Gives (λ run. run) result (spec.run_of (table_view table.now)) }
+    ensures { GivesAt (record { part = Part.Run; item = 0; sub = 0 }) (λ run. run) result (spec.run_of (table_view table.now)) }
 {
     let place = Place {
         part: Part::Run,
@@ -68,7 +71,8 @@ fn read_run(table: &Table) -> Result<Run, NetFault>
 }
 
 fn read_nodes(alloc: Global, values: &[Value]) -> Result<Vec<DraftNode>, NetFault>
-    ensures { Gives (λ nodes. nodes.items) result (each spec.node_of (map view values.now)) }
+    ensures { GivesOr (λ named. shape.IsFirst spec.node_of (shape.IsNodeFault named.part named.sub) (map view values.now) named.item)
+        (λ nodes. nodes.items) result (each spec.node_of (map view values.now)) }
 {
     let mut nodes = Vec::new(alloc);
     for (index, value) in values.iter().enumerate() {
@@ -78,9 +82,9 @@ fn read_nodes(alloc: Global, values: &[Value]) -> Result<Vec<DraftNode>, NetFaul
     Ok(nodes)
 }
 
-#[tactic(auto, unfolding(crate::specs::Table::node_of))]
+#[tactic(auto, unfolding(crate::specs::Table::node_of, crate::specs::Table::node_form))]
 fn read_node(alloc: Global, value: &Value, item: u32) -> Result<DraftNode, NetFault>
-    ensures { Gives (λ node. node) result (spec.node_of (view value.now)) }
+    ensures { GivesOr (λ named. (named.item ≡ item) × shape.IsNodeFault named.part named.sub (view value.now)) (λ node. node) result (spec.node_of (view value.now)) }
 {
     let place = Place {
         part: Part::Node,
@@ -100,7 +104,8 @@ fn read_node(alloc: Global, value: &Value, item: u32) -> Result<DraftNode, NetFa
 }
 
 fn read_phases(alloc: Global, values: &[Value], item: u32) -> Result<Vec<DraftPhase>, NetFault>
-    ensures { Gives (λ phases. phases.items) result (each spec.phase_of (map view values.now)) }
+    ensures { GivesOr (λ named. (named.part ≡ Part.Phase) × (named.item ≡ item) × shape.IsFirstUnread spec.phase_of (map view values.now) named.sub)
+        (λ phases. phases.items) result (each spec.phase_of (map view values.now)) }
 {
     let mut phases = Vec::new(alloc);
     for (index, value) in values.iter().enumerate() {
@@ -117,7 +122,7 @@ fn read_phases(alloc: Global, values: &[Value], item: u32) -> Result<Vec<DraftPh
 
 #[tactic(auto, unfolding(crate::specs::Table::phase_of))]
 fn read_phase(alloc: Global, value: &Value, place: Place) -> Result<DraftPhase, NetFault>
-    ensures { Gives (λ phase. phase) result (spec.phase_of (view value.now)) }
+    ensures { GivesAt place (λ phase. phase) result (spec.phase_of (view value.now)) }
 {
     let table = table_of(value, place)?;
     let table = only_phase_keys(table, place)?;
@@ -145,7 +150,7 @@ fn read_phase(alloc: Global, value: &Value, place: Place) -> Result<DraftPhase, 
 /// The table, which must have no key beside those of a phase.
 #[tactic(auto, unfolding(crate::specs::Table::phase_keys))]
 fn only_phase_keys(table: &Table, place: Place) -> Result<&Table, NetFault>
-    ensures { Gives (λ table. table_view table.now) result (spec.only spec.phase_keys (table_view table.now)) }
+    ensures { GivesAt place (λ table. table_view table.now) result (spec.only spec.phase_keys (table_view table.now)) }
 {
     let keys = [
         "least", "greatest", "yellow", "clear", "loss", "wait", "links",
@@ -154,7 +159,8 @@ fn only_phase_keys(table: &Table, place: Place) -> Result<&Table, NetFault>
 }
 
 fn read_links(alloc: Global, values: &[Value]) -> Result<Vec<DraftLink>, NetFault>
-    ensures { Gives (λ links. links.items) result (each spec.link_of (map view values.now)) }
+    ensures { GivesOr (λ named. shape.IsFirst spec.link_of (shape.IsLinkFault named.part named.sub) (map view values.now) named.item)
+        (λ links. links.items) result (each spec.link_of (map view values.now)) }
 {
     let mut links = Vec::new(alloc);
     for (index, value) in values.iter().enumerate() {
@@ -164,9 +170,9 @@ fn read_links(alloc: Global, values: &[Value]) -> Result<Vec<DraftLink>, NetFaul
     Ok(links)
 }
 
-#[tactic(auto, unfolding(crate::specs::Table::link_of))]
+#[tactic(auto, unfolding(crate::specs::Table::link_of, crate::specs::Table::link_form))]
 fn read_link(alloc: Global, value: &Value, item: u32) -> Result<DraftLink, NetFault>
-    ensures { Gives (λ link. link) result (spec.link_of (view value.now)) }
+    ensures { GivesOr (λ named. (named.item ≡ item) × shape.IsLinkFault named.part named.sub (view value.now)) (λ link. link) result (spec.link_of (view value.now)) }
 {
     let place = Place {
         part: Part::Link,
@@ -197,7 +203,8 @@ fn read_link(alloc: Global, value: &Value, item: u32) -> Result<DraftLink, NetFa
 }
 
 fn read_turns(alloc: Global, values: &[Value], item: u32) -> Result<Vec<DraftTurn>, NetFault>
-    ensures { Gives (λ turns. turns.items) result (each spec.turn_of (map view values.now)) }
+    ensures { GivesOr (λ named. (named.part ≡ Part.Turn) × (named.item ≡ item) × shape.IsFirstUnread spec.turn_of (map view values.now) named.sub)
+        (λ turns. turns.items) result (each spec.turn_of (map view values.now)) }
 {
     let mut turns = Vec::new(alloc);
     for (index, value) in values.iter().enumerate() {
@@ -214,7 +221,7 @@ fn read_turns(alloc: Global, values: &[Value], item: u32) -> Result<Vec<DraftTur
 
 #[tactic(auto, unfolding(crate::specs::Table::turn_of))]
 fn read_turn(alloc: Global, value: &Value, place: Place) -> Result<DraftTurn, NetFault>
-    ensures { Gives (λ turn. turn) result (spec.turn_of (view value.now)) }
+    ensures { GivesAt place (λ turn. turn) result (spec.turn_of (view value.now)) }
 {
     let table = table_of(value, place)?;
     let table = only(table, &["exit", "share"], place)?;
@@ -225,7 +232,8 @@ fn read_turn(alloc: Global, value: &Value, place: Place) -> Result<DraftTurn, Ne
 }
 
 fn read_conflicts(alloc: Global, values: &[Value]) -> Result<Vec<DraftConflict>, NetFault>
-    ensures { Gives (λ conflicts. conflicts.items) result (each spec.conflict_of (map view values.now)) }
+    ensures { GivesOr (λ named. (named.part ≡ Part.Conflict) × (named.sub ≡ 0) × shape.IsFirstUnread spec.conflict_of (map view values.now) named.item)
+        (λ conflicts. conflicts.items) result (each spec.conflict_of (map view values.now)) }
 {
     let mut conflicts = Vec::new(alloc);
     for (index, value) in values.iter().enumerate() {
@@ -242,7 +250,7 @@ fn read_conflicts(alloc: Global, values: &[Value]) -> Result<Vec<DraftConflict>,
 
 #[tactic(auto, unfolding(crate::specs::Table::conflict_of))]
 fn read_conflict(alloc: Global, value: &Value, place: Place) -> Result<DraftConflict, NetFault>
-    ensures { Gives (λ conflict. conflict) result (spec.conflict_of (view value.now)) }
+    ensures { GivesAt place (λ conflict. conflict) result (spec.conflict_of (view value.now)) }
 {
     let table = table_of(value, place)?;
     let table = only(table, &["a", "b"], place)?;
@@ -254,7 +262,7 @@ fn read_conflict(alloc: Global, value: &Value, place: Place) -> Result<DraftConf
 }
 
 fn read_texts(alloc: Global, values: &[Value], place: Place) -> Result<Vec<Text>, NetFault>
-    ensures { Gives (λ texts. texts.items) result (each as_str (map view values.now)) }
+    ensures { GivesAt place (λ texts. texts.items) result (each as_str (map view values.now)) }
 {
     let mut texts = Vec::new(alloc);
     for value in values {
@@ -265,7 +273,7 @@ fn read_texts(alloc: Global, values: &[Value], place: Place) -> Result<Vec<Text>
 }
 
 fn read_text(alloc: Global, value: &Value, place: Place) -> Result<Text, NetFault>
-    ensures { Gives (λ text. text) result (as_str (view value.now)) }
+    ensures { GivesAt place (λ text. text) result (as_str (view value.now)) }
 {
     match value.as_str() {
         Some(text) => Ok(copied(alloc, text)?),
@@ -290,7 +298,9 @@ fn copied_if(alloc: Global, text: Option<&str>) -> Result<Option<Text>, AllocErr
 }
 
 /// The number of the element at this index, counted from 1.
-fn ordinal(index: usize) -> u32 {
+fn ordinal(index: usize) -> u32
+    ensures { result ≡ shape.ordinal index }
+{
     u32::try_from(index).unwrap_or(u32::MAX).saturating_add(1)
 }
 
@@ -303,7 +313,7 @@ fn member<'a>(table: &'a Table, key: &str) -> Option<&'a Value>
 
 #[tactic(auto, unfolding(crate::specs::Table::number_at))]
 fn number_at(table: &Table, key: &str, place: Place) -> Result<u32, NetFault>
-    ensures { Gives (λ number. number) result (spec.number_at key.now (table_view table.now)) }
+    ensures { GivesAt place (λ number. number) result (spec.number_at key.now (table_view table.now)) }
 {
     match member(table, key) {
         Some(value) => match value.as_integer() {
@@ -327,7 +337,7 @@ fn field_of(number: i64) -> u32
 
 #[tactic(auto, unfolding(crate::specs::Table::text_at))]
 fn text_at<'a>(table: &'a Table, key: &str, place: Place) -> Result<&'a str, NetFault>
-    ensures { Gives (λ text. text.now) result (spec.text_at key.now (table_view table.now)) }
+    ensures { GivesAt place (λ text. text.now) result (spec.text_at key.now (table_view table.now)) }
 {
     match member(table, key) {
         Some(value) => value.as_str().ok_or(NetFault::Shape(place)),
@@ -341,7 +351,7 @@ fn optional_text_at<'a>(
     key: &str,
     place: Place,
 ) -> Result<Option<&'a str>, NetFault>
-    ensures { Gives (λ text. option_copied text) result (spec.optional_text_at key.now (table_view table.now)) }
+    ensures { GivesAt place (λ text. option_copied text) result (spec.optional_text_at key.now (table_view table.now)) }
 {
     match member(table, key) {
         Some(value) => match value.as_str() {
@@ -353,7 +363,7 @@ fn optional_text_at<'a>(
 }
 
 fn table_of(value: &Value, place: Place) -> Result<&Table, NetFault>
-    ensures { Gives (λ table. table_view table.now) result (as_table (view value.now)) }
+    ensures { GivesAt place (λ table. table_view table.now) result (as_table (view value.now)) }
 {
     match value.as_table() {
         Some(table) => Ok(table),
@@ -363,7 +373,7 @@ fn table_of(value: &Value, place: Place) -> Result<&Table, NetFault>
 
 #[tactic(auto, unfolding(crate::specs::Table::table_at))]
 fn table_at<'a>(table: &'a Table, key: &str, place: Place) -> Result<&'a Table, NetFault>
-    ensures { Gives (λ found. table_view found.now) result (spec.table_at key.now (table_view table.now)) }
+    ensures { GivesAt place (λ found. table_view found.now) result (spec.table_at key.now (table_view table.now)) }
 {
     match member(table, key) {
         Some(value) => table_of(value, place),
@@ -372,7 +382,7 @@ fn table_at<'a>(table: &'a Table, key: &str, place: Place) -> Result<&'a Table, 
 }
 
 fn list_of(value: &Value, place: Place) -> Result<&[Value], NetFault>
-    ensures { Gives (λ values. map view values.now) result (option_map spec.list_of (as_array (view value.now))) }
+    ensures { GivesAt place (λ values. map view values.now) result (option_map spec.list_of (as_array (view value.now))) }
 {
     match value.as_array() {
         Some(values) => Ok(values.as_slice()),
@@ -382,7 +392,7 @@ fn list_of(value: &Value, place: Place) -> Result<&[Value], NetFault>
 
 #[tactic(auto, unfolding(crate::specs::Table::list_at))]
 fn list_at<'a>(table: &'a Table, key: &str, place: Place) -> Result<&'a [Value], NetFault>
-    ensures { Gives (λ values. map view values.now) result (spec.list_at key.now (table_view table.now)) }
+    ensures { GivesAt place (λ values. map view values.now) result (spec.list_at key.now (table_view table.now)) }
 {
     match member(table, key) {
         Some(value) => list_of(value, place),
@@ -393,7 +403,7 @@ fn list_at<'a>(table: &'a Table, key: &str, place: Place) -> Result<&'a [Value],
 /// The array at a key; an absent one is empty.
 #[tactic(auto, unfolding(crate::specs::Table::optional_list_at))]
 fn optional_list_at<'a>(table: &'a Table, key: &str, place: Place) -> Result<&'a [Value], NetFault>
-    ensures { Gives (λ values. map view values.now) result (spec.optional_list_at key.now (table_view table.now)) }
+    ensures { GivesAt place (λ values. map view values.now) result (spec.optional_list_at key.now (table_view table.now)) }
 {
     match member(table, key) {
         Some(value) => list_of(value, place),
@@ -404,7 +414,7 @@ fn optional_list_at<'a>(table: &'a Table, key: &str, place: Place) -> Result<&'a
 /// The table, which must have no key beside these.
 #[tactic(auto, unfolding(crate::specs::Table::only))]
 fn only<'a>(table: &'a Table, keys: &[&str], place: Place) -> Result<&'a Table, NetFault>
-    ensures { Gives (λ table. table_view table.now) result (spec.only (map (λ key. key.now) keys.now) (table_view table.now)) }
+    ensures { GivesAt place (λ table. table_view table.now) result (spec.only (map (λ key. key.now) keys.now) (table_view table.now)) }
 {
     if has_only(table, keys) {
         Ok(table)

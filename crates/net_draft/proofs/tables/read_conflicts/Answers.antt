@@ -3,13 +3,16 @@ use Rattle.std.proofs.lemmas.List.{take_all}
 use Rattle.std.proofs.lemmas.Result.{err_from_is_err_and}
 use Rattle.toml.specs.View.{view}
 use Rattle.net_draft.specs.Table as spec
-use Rattle.net_draft.proofs.Each.{each-map, each-more, Gives-each}
+use Rattle.net_draft.proofs.Each.{each-map, each-more}
+use Rattle.net_draft.proofs.First.{first-at, Gives-first}
 use Rattle.net_draft.proofs.tables.read_conflicts.Goals as goal
 
 pub returns-in_err-conflict : goal.returns-in_err-conflict
 returns-in_err-conflict c =
     let p = err_from_is_err_and c.from_residual.result c.from_residual.ensures.1 in
-    rw (each-map spec.conflict_of view c.args.values.now) (Gives-each (λ v. spec.conflict_of (view v)) _ c.args.values.now c.loop-index.index c.index-values-index.result _ _ c.loop-index-test.true c.index-values-index.is c.in_err-conflict.ensures (p.1 ∙ ap Err p.2))
+    Gives-first spec.conflict_of view _ _ _ c.args.values.now c.loop-index.index c.index-values-index.result _ _ c.loop-index-test.true c.index-values-index.is
+    (λ named is unread. (ap (λ n. n.part) is, ap (λ n. n.sub) is, first-at spec.conflict_of view c.args.values.now c.loop-index.index c.index-values-index.result c.loop-index.conflicts.items _ named.item c.loop-index-test.true c.index-values-index.is c.loop-index.invariant (ap (λ n. n.item) is ∙ c.ordinal.ensures) unread))
+    c.in_err-conflict.ensures (p.1 ∙ ap Err p.2)
 
 pub loop-index-preserved : goal.loop-index-preserved
 loop-index-preserved c =

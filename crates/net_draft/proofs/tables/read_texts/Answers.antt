@@ -3,13 +3,14 @@ use Rattle.std.proofs.lemmas.List.{take_all}
 use Rattle.std.proofs.lemmas.Result.{err_from_is_err_and}
 use Rattle.toml.specs.Data.{as_str}
 use Rattle.toml.specs.View.{view}
-use Rattle.net_draft.proofs.Each.{each-map, each-more, Gives-each}
+use Rattle.net_draft.proofs.Each.{each-map, each-more}
+use Rattle.net_draft.proofs.First.{Gives-first}
 use Rattle.net_draft.proofs.tables.read_texts.Goals as goal
 
 pub returns-in_err-text : goal.returns-in_err-text
 returns-in_err-text c =
     let p = err_from_is_err_and c.from_residual.result c.from_residual.ensures.1 in
-    rw (each-map as_str view c.args.values.now) (Gives-each (λ v. as_str (view v)) _ c.args.values.now c.loop-value.value-index c.value-item.result _ _ c.loop-value-test.true c.value-item.is c.in_err-text.ensures (p.1 ∙ ap Err p.2))
+    Gives-first as_str view _ _ _ c.args.values.now c.loop-value.value-index c.value-item.result _ _ c.loop-value-test.true c.value-item.is (λ named is unread. is) c.in_err-text.ensures (p.1 ∙ ap Err p.2)
 
 pub loop-value-preserved : goal.loop-value-preserved
 loop-value-preserved c =

@@ -1,0 +1,53 @@
+-- Why a table stands for no draft: the first table at fault, in the order of docs/FORMATS.md, "Places and faults". Of each
+-- table its own form comes before the tables within it.
+use Rattle.std.specs.Prelude.{◌≡◌, ℕ, ◌+◌, ◌-◌, ◌^◌, min, List, take, slice_get, Option, None, IsSome, IsSomeAnd}
+use Rattle.toml.specs.Data.{Data, Members}
+use Rattle.net_draft.specs.Faults.{each}
+use Rattle.net_draft.specs.Table.{TopForm, top_form, run_of, node_form, node_of, phase_of, link_form, link_of, turn_of, conflict_of}
+use Rattle.net_draft.specs.declared.faults.Part.{Part}
+use Rattle.net_draft.specs.declared.faults.Part.TheVariants.{Top, Run, Node, Phase, Link, Turn, Conflict}
+
+-- the number of the element at an index, counted from 1; a number past the greatest u32 stands as that one
+abbrev pub ordinal : ℕ → ℕ
+ordinal index = min (index + 1) (2 ^ 32 - 1)
+
+-- P holds of the element with this number, and f reads all before it
+abbrev pub IsFirst : {X Y : Type 0} → (X → Option Y) → (X → Type 0) → List X → ℕ → Type 0
+IsFirst f P xs number =
+    (index : ℕ) × (number ≡ ordinal index) × IsSome (each f (take index xs)) × IsSomeAnd (slice_get xs index) P
+
+-- f does not read the element with this number, and reads all before it
+abbrev pub IsFirstUnread : {X Y : Type 0} → (X → Option Y) → List X → ℕ → Type 0
+IsFirstUnread f = IsFirst f (λ x. f x ≡ None)
+
+-- why a node is not read: its own form, or the first of its phases that is not read
+abbrev pub IsNodeFault : Part → ℕ → Data → Type 0
+IsNodeFault Node sub d = (sub ≡ 0) × (node_form d ≡ None)
+IsNodeFault Phase sub d = IsSomeAnd (node_form d) (λ node. IsFirstUnread phase_of node.phases sub)
+IsNodeFault _ sub d = ⊥
+
+-- why a link is not read: its own form, or the first of its turns that is not read
+abbrev pub IsLinkFault : Part → ℕ → Data → Type 0
+IsLinkFault Link sub d = (sub ≡ 0) × (link_form d ≡ None)
+IsLinkFault Turn sub d = IsSomeAnd (link_form d) (λ link. IsFirstUnread turn_of link.turns sub)
+IsLinkFault _ sub d = ⊥
+
+-- why the tables within that of the whole file are not all read: the run, or else the first node, link or conflict
+abbrev pub IsFaultWithin : TopForm → Part → ℕ → ℕ → Type 0
+IsFaultWithin top Top item sub = ⊥
+IsFaultWithin top Run item sub = (item ≡ 0) × (sub ≡ 0) × (run_of top.run ≡ None)
+IsFaultWithin top Node item sub = IsSome (run_of top.run) × IsFirst node_of (IsNodeFault Node sub) top.nodes item
+IsFaultWithin top Phase item sub = IsSome (run_of top.run) × IsFirst node_of (IsNodeFault Phase sub) top.nodes item
+IsFaultWithin top Link item sub =
+    IsSome (run_of top.run) × IsSome (each node_of top.nodes) × IsFirst link_of (IsLinkFault Link sub) top.links item
+IsFaultWithin top Turn item sub =
+    IsSome (run_of top.run) × IsSome (each node_of top.nodes) × IsFirst link_of (IsLinkFault Turn sub) top.links item
+IsFaultWithin top Conflict item sub =
+    IsSome (run_of top.run) × IsSome (each node_of top.nodes) × IsSome (each link_of top.links)
+    × (sub ≡ 0) × IsFirstUnread conflict_of top.conflicts item
+
+-- Why the table of the whole file stands for no draft, said of the place with this part, item and sub: its own form, or
+-- the first table within it that is not read.
+abbrev pub IsShapeFault : Members → Part → ℕ → ℕ → Type 0
+IsShapeFault ms Top item sub = (item ≡ 0) × (sub ≡ 0) × (top_form ms ≡ None)
+IsShapeFault ms part item sub = IsSomeAnd (top_form ms) (λ top. IsFaultWithin top part item sub)
