@@ -1,12 +1,15 @@
 -- Why a text is refused.
-use Rattle.std.proofs.Common.{ℕ, List, Result, Ok, Err, IfErr}
+use Rattle.std.proofs.Common.{◌≡◌, ℕ, List, Result, Ok, Err, IfErr, ap, ◌∙◌, sym, subst}
+use Rattle.std.proofs.lemmas.Option.{same_Some, none-some}
+use Rattle.net_draft.specs.Faults.{Unless}
+use Rattle.net_draft.specs.Table.{draft_of}
 use Rattle.net_draft.specs.declared.drafts.Draft.{Draft}
 use Rattle.net_draft.specs.declared.faults.NetFault.{NetFault}
 use Rattle.net_draft.specs.declared.faults.NetFault.TheVariants.{NoMemory, NotToml, Shape}
 use Rattle.net_numbers.specs.Numbers.{Net}
 use Rattle.net_numbers.specs.Outcome.{Refuses}
 use Rattle.road_net.specs.FirstFaults.{IsDraftFault}
-use Rattle.road_net.specs.Network.{IsNetworkOf, IsDraftText, IsCause}
+use Rattle.road_net.specs.Network.{IsNetworkOf, IsDraftText, IsNetworkText, IsCause}
 use Rattle.road_net.specs.Stored.{Drafts}
 
 module _ (bytes : List ℕ) where
@@ -28,3 +31,14 @@ module _ (bytes : List ℕ) where
   pub IsCause-built : {T : Type 0} (draft : Draft) (result : Result T NetFault) → IsDraftText bytes draft → IfErr result (λ fault. Refuses fault ((net : Net) → IsNetworkOf draft net → ⊥)) → IfErr result (IsDraftFault draft) → IfErr result (IsCause bytes)
   IsCause-built draft (Ok x) its h first = tt
   IsCause-built draft (Err fault) its h first = IsCause-draft draft fault its h first
+
+  -- a text has at most one draft
+  one_draft : (a b : Draft) → IsDraftText bytes a → IsDraftText bytes b → a ≡ b
+  one_draft a b first second = same_Some a b (sym first.form ∙ ap draft_of (same_Some first.table second.table (sym first.toml ∙ second.toml)) ∙ second.form)
+
+  -- a text that is refused with a cause has no network
+  pub IsCause-none : (fault : NetFault) → IsCause bytes fault → Unless fault ((net : Net) → IsNetworkText bytes net → ⊥)
+  IsCause-none NoMemory h = tt
+  IsCause-none NotToml h = λ net it. none-some _ (sym (h it.text.utf8) ∙ it.text.toml)
+  IsCause-none (Shape place) h = λ net it. none-some _ (sym h.form ∙ ap draft_of (same_Some h.table it.text.table (sym h.toml ∙ it.text.toml)) ∙ it.text.form)
+  IsCause-none _ h = λ net it. h.network net (subst (λ d. IsNetworkOf d net) (one_draft it.draft h.draft it.text h.text) it.network)

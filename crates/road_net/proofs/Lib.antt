@@ -1,4 +1,5 @@
 pub mod AtSide
+pub mod Building
 pub mod Causes
 pub mod Ends
 pub mod FirstFaults

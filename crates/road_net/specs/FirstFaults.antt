@@ -3,8 +3,9 @@
 use Rattle.std.specs.Prelude.{◌≡◌, ℕ, ◌<◌, List, Some, Result, Ok, Err, length, All}
 use Rattle.net_draft.specs.declared.drafts.Draft.{Draft}
 use Rattle.net_draft.specs.declared.faults.NetFault.{NetFault}
-use Rattle.net_draft.specs.declared.faults.NetFault.TheVariants.{NoMemory, Ends, Crowd, Shares, Phaseless, Clash}
+use Rattle.net_draft.specs.declared.faults.NetFault.TheVariants.{NoMemory, Bound, Twice, Unknown, Ends, Crowd, Shares, Phaseless, Clash}
 use Rattle.net_numbers.specs.Bounds.{IsBounded}
+use Rattle.net_numbers.specs.FirstFaults.{IsBoundFault, IsTwiceFault, IsUnknownFault}
 use Rattle.net_numbers.specs.Numbers.{Net, AreDistinct, numbered, node_names, link_names}
 use Rattle.road_net.specs.Joins.{HasEnds, HasEndsAt, IsRoomy, AreRoomy, HasSharesAt, AreShared, IsPhasedAt, ArePhased, conflict_at, IsConflictAt}
 
@@ -56,7 +57,18 @@ pub record IsNumbersOf (d : Draft) (net : Net) : Type 0 where
   pub link_names : AreDistinct (link_names d)
   pub numbers : numbered d ≡ Some net
 
--- Why a draft stands for no network: with numbers for its names it is a network with this fault of its joins, where it is
--- one at all.
+-- with numbers for its names, the draft is this network, of which the fact holds
+pub record HasNumbers (d : Draft) (fact : Net → Type 0) : Type 0 where
+  pub net : Net
+  pub numbers : IsNumbersOf d net
+  pub holds : fact net
+
+-- Why a draft stands for no network: its first place out of bounds; within its bounds, the first name that comes twice; else
+-- the first place that uses a name which stands for nothing; else, with numbers for its names, the first fault of its joins.
 abbrev pub IsDraftFault : Draft → NetFault → Type 0
-IsDraftFault d fault = (net : Net) → IsNumbersOf d net → IsJoinFault net fault
+IsDraftFault d NoMemory = Unit {0}
+IsDraftFault d (Bound place) = IsBoundFault d place.part place.item place.sub
+IsDraftFault d (Twice place) = IsBounded d × IsTwiceFault d place.part place.item place.sub
+IsDraftFault d (Unknown place) =
+    IsBounded d × AreDistinct (node_names d) × AreDistinct (link_names d) × IsUnknownFault d place.part place.item place.sub
+IsDraftFault d fault = HasNumbers d (λ net. IsJoinFault net fault)

@@ -3,6 +3,8 @@ use Rattle.std.specs.Prelude.{◌≡◌, ◌≢◌, ℕ, ◌<◌, List, Some, Is
 use Rattle.toml.specs.Data.{Members}
 use Rattle.toml.specs.Parse.{parse_document}
 use Rattle.net_draft.specs.Table.{draft_of}
+use Rattle.net_draft.specs.FirstShape.{IsShapeFault}
+use Rattle.net_draft.specs.declared.faults.Place.{Place}
 use Rattle.net_draft.specs.declared.drafts.Draft.{Draft}
 use Rattle.net_draft.specs.declared.faults.NetFault.{NetFault}
 use Rattle.net_draft.specs.declared.faults.NetFault.TheVariants.{NoMemory, NotToml, Shape}
@@ -44,12 +46,13 @@ pub record IsNetworkText (bytes : List ℕ) (net : Net) : Type 0 where
   pub text : IsDraftText bytes draft
   pub network : IsNetworkOf draft net
 
--- a text that is TOML, and whose table stands for no draft
-pub record HasNoDraft (bytes : List ℕ) : Type 0 where
+-- a text that is TOML, and whose table stands for no draft: the table at this place is the first at fault
+pub record HasNoDraft (bytes : List ℕ) (place : Place) : Type 0 where
   pub utf8 : IsUtf8 bytes
   pub table : Members
   pub toml : parse_document bytes ≡ Some table
   pub form : draft_of table ≡ None
+  pub first : IsShapeFault table place.part place.item place.sub
 
 -- a text that has a draft, which stands for no network and has this fault
 pub record HasNoNetwork (bytes : List ℕ) (fault : NetFault) : Type 0 where
@@ -62,7 +65,7 @@ pub record HasNoNetwork (bytes : List ℕ) (fault : NetFault) : Type 0 where
 abbrev pub IsCause : List ℕ → NetFault → Type 0
 IsCause bytes NoMemory = Unit {0}
 IsCause bytes NotToml = IsUtf8 bytes → parse_document bytes ≡ None
-IsCause bytes (Shape place) = HasNoDraft bytes
+IsCause bytes (Shape place) = HasNoDraft bytes place
 IsCause bytes fault = HasNoNetwork bytes fault
 
 -- the links that end at a node and those that leave it, rising

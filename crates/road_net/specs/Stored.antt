@@ -28,5 +28,5 @@ abbrev pub Drafts : List ℕ → Result Draft NetFault → Type 0
 Drafts bytes (Ok draft) = IsDraftText bytes draft
 Drafts bytes (Err NoMemory) = Unit {0}
 Drafts bytes (Err NotToml) = IsUtf8 bytes → parse_document bytes ≡ None
-Drafts bytes (Err (Shape place)) = HasNoDraft bytes
+Drafts bytes (Err (Shape place)) = HasNoDraft bytes place
 Drafts bytes (Err _) = ⊥

@@ -1,5 +1,24 @@
+use Rattle.std.proofs.lemmas.Result.{err_from_is_err_and, IfErr-weaker}
+use Rattle.net_numbers.specs.Parts.{net_of}
 use Rattle.net_numbers.proofs.Outline.{outline}
+use Rattle.road_net.specs.FirstFaults.{IsDraftFault, IsNumbersOf}
+use Rattle.road_net.proofs.Building.{IsDraftFault-bounds, IsDraftFault-numbers, IsDraftFault-joins}
 use Rattle.road_net.proofs.build.Goals as goal
 
 pub joined-requires : goal.joined-requires
 joined-requires c = outline c.args.draft _ c.in_ok-check_bounds.ensures.fact c.in_ok-parts.ensures.numbers.0 c.in_ok-parts.ensures.numbers.1 c.in_ok-parts.ensures.numbers.2
+
+pub returns-in_err-check_bounds-clause-first : goal.returns-in_err-check_bounds-clause-first
+returns-in_err-check_bounds-clause-first c =
+    let p = err_from_is_err_and c.from_residual.result c.from_residual.ensures.1 in
+    rw (p.1, p.2) (IsDraftFault-bounds c.args.draft _ c.in_err-check_bounds.ensures.first)
+
+pub returns-in_err-parts-clause-first : goal.returns-in_err-parts-clause-first
+returns-in_err-parts-clause-first c =
+    let p = err_from_is_err_and c.from_residual-in_err-parts.result c.from_residual-in_err-parts.ensures.1 in
+    rw (p.1, p.2) (IsDraftFault-numbers c.args.draft _ c.in_ok-check_bounds.ensures.fact c.in_err-parts.ensures.first)
+
+pub returns-clause-first : goal.returns-clause-first
+returns-clause-first c =
+    let is : IsNumbersOf c.args.draft (net_of c.in_ok-parts.parts) = record { bounds = c.in_ok-check_bounds.ensures.fact; node_names = c.in_ok-parts.ensures.numbers.0; link_names = c.in_ok-parts.ensures.numbers.1; numbers = c.in_ok-parts.ensures.numbers.2 } in
+    IfErr-weaker c.joined.result _ (IsDraftFault c.args.draft) (IsDraftFault-joins c.args.draft (net_of c.in_ok-parts.parts) is) c.joined.ensures.first

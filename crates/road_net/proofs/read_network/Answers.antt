@@ -1,5 +1,6 @@
-use Rattle.std.proofs.lemmas.Result.{err_from_is_err_and}
-use Rattle.road_net.proofs.Causes.{IsCause-drafts, IsCause-built}
+use Rattle.std.proofs.lemmas.Result.{err_from_is_err_and, IfErr-weaker}
+use Rattle.road_net.specs.Network.{IsCause}
+use Rattle.road_net.proofs.Causes.{IsCause-drafts, IsCause-built, IsCause-none}
 use Rattle.road_net.proofs.read_network.Goals as goal
 
 pub returns-in_err-draft-clause-cause : goal.returns-in_err-draft-clause-cause
@@ -10,3 +11,6 @@ returns-in_err-draft-clause-cause c =
 pub returns-clause-cause : goal.returns-clause-cause
 returns-clause-cause c =
     IsCause-built c.args.bytes.now c.in_ok-draft.draft c.build.result c.in_ok-draft.ensures c.build.ensures.refused c.build.ensures.first
+
+pub returns-clause-refused : goal.returns-clause-refused
+returns-clause-refused c = IfErr-weaker c.build.result (IsCause c.args.bytes.now) _ (IsCause-none c.args.bytes.now) (returns-clause-cause c)

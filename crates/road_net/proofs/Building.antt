@@ -1,0 +1,48 @@
+-- The faults of a text and of a draft, from those of the steps that read them.
+use Rattle.std.proofs.Common.{◌≡◌, ℕ, List, None, Some, Result, Ok, Err, IfErr}
+use Rattle.std.specs.Prelude.{IsUtf8}
+use Rattle.toml.specs.Data.{Members}
+use Rattle.toml.specs.Parse.{parse_document}
+use Rattle.net_draft.specs.Faults.{Gives, Misses, Blames}
+use Rattle.net_draft.specs.FirstShape.{IsShapeFault}
+use Rattle.net_draft.specs.Table.{draft_of}
+use Rattle.net_draft.specs.declared.drafts.Draft.{Draft}
+use Rattle.net_draft.specs.declared.faults.Place.{Place}
+use Rattle.net_draft.specs.declared.faults.NetFault.{NetFault}
+use Rattle.net_draft.specs.declared.faults.NetFault.TheVariants.{NoMemory, Shape, Bound, Twice, Unknown, Ends, Crowd, Shares, Phaseless, Clash}
+use Rattle.net_numbers.specs.Bounds.{IsBounded}
+use Rattle.net_numbers.specs.FirstFaults.{FailsBounds, FailsNumbers}
+use Rattle.net_numbers.specs.Numbers.{Net}
+use Rattle.road_net.specs.FirstFaults.{IsJoinFault, IsNumbersOf, IsDraftFault}
+use Rattle.road_net.specs.Stored.{Drafts}
+
+module _ (d : Draft) where
+  pub IsDraftFault-bounds : (fault : NetFault) → FailsBounds d fault → IsDraftFault d fault
+  IsDraftFault-bounds (Bound place) h = h
+  IsDraftFault-bounds _ h = absurd h
+
+  pub IsDraftFault-numbers : (fault : NetFault) → IsBounded d → FailsNumbers d fault → IsDraftFault d fault
+  IsDraftFault-numbers NoMemory bounds h = tt
+  IsDraftFault-numbers (Twice place) bounds h = (bounds, h)
+  IsDraftFault-numbers (Unknown place) bounds h = (bounds, h.0, h.1, h.2)
+  IsDraftFault-numbers _ bounds h = absurd h
+
+  pub IsDraftFault-joins : (net : Net) → IsNumbersOf d net → (fault : NetFault) → IsJoinFault net fault → IsDraftFault d fault
+  IsDraftFault-joins net is NoMemory h = tt
+  IsDraftFault-joins net is (Ends link) h = record { net = net; numbers = is; holds = h }
+  IsDraftFault-joins net is (Crowd node) h = record { net = net; numbers = is; holds = h }
+  IsDraftFault-joins net is (Shares link) h = record { net = net; numbers = is; holds = h }
+  IsDraftFault-joins net is (Phaseless link) h = record { net = net; numbers = is; holds = h }
+  IsDraftFault-joins net is (Clash a b) h = record { net = net; numbers = is; holds = h }
+  IsDraftFault-joins net is _ h = absurd h
+
+module _ (bytes : List ℕ) (table : Members) (utf8 : IsUtf8 bytes) (toml : parse_document bytes ≡ Some table) where
+  Drafts-fault : (fault : NetFault) → Misses fault (draft_of table ≡ None) → Blames fault (λ place. IsShapeFault table place.part place.item place.sub) → Drafts bytes (Err fault)
+  Drafts-fault NoMemory none first = tt
+  Drafts-fault (Shape place) none first = record { utf8 = utf8; table = table; toml = toml; form = none; first = first }
+  Drafts-fault _ none first = absurd first
+
+  -- what reading the text's table answers
+  pub Drafts-read : (result : Result Draft NetFault) → Gives (λ draft. draft) result (draft_of table) → IfErr result (λ fault. Blames fault (λ place. IsShapeFault table place.part place.item place.sub)) → Drafts bytes result
+  Drafts-read (Ok draft) is first = record { utf8 = utf8; table = table; toml = toml; form = is }
+  Drafts-read (Err fault) is first = Drafts-fault fault is first
