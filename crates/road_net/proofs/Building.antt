@@ -7,7 +7,6 @@ use Rattle.net_draft.specs.Faults.{Gives, Misses, Blames}
 use Rattle.net_draft.specs.FirstShape.{IsShapeFault}
 use Rattle.net_draft.specs.Table.{draft_of}
 use Rattle.net_draft.specs.declared.drafts.Draft.{Draft}
-use Rattle.net_draft.specs.declared.faults.Place.{Place}
 use Rattle.net_draft.specs.declared.faults.NetFault.{NetFault}
 use Rattle.net_draft.specs.declared.faults.NetFault.TheVariants.{NoMemory, Shape, Bound, Twice, Unknown, Ends, Crowd, Shares, Phaseless, Clash}
 use Rattle.net_numbers.specs.Bounds.{IsBounded}
