@@ -20,34 +20,36 @@ IsFirst f P xs number =
 abbrev pub IsFirstUnread : {X Y : Type 0} → (X → Option Y) → List X → ℕ → Type 0
 IsFirstUnread f = IsFirst f (λ x. f x ≡ None)
 
--- why a node is not read: its own form, or the first of its phases that is not read
-abbrev pub IsNodeFault : Part → ℕ → Data → Type 0
-IsNodeFault Node sub d = (sub ≡ 0) × (node_form d ≡ None)
-IsNodeFault Phase sub d = IsSomeAnd (node_form d) (λ node. IsFirstUnread phase_of node.phases sub)
-IsNodeFault _ sub d = ⊥
+-- the first fault within a node: of its own form, or else of its first phase that is not read
+abbrev pub IsNodeFault : Data → Part → ℕ → Type 0
+IsNodeFault d Node sub = (sub ≡ 0) × (node_form d ≡ None)
+IsNodeFault d Phase sub = IsSomeAnd (node_form d) (λ node. IsFirstUnread phase_of node.phases sub)
+IsNodeFault d _ sub = ⊥
 
--- why a link is not read: its own form, or the first of its turns that is not read
-abbrev pub IsLinkFault : Part → ℕ → Data → Type 0
-IsLinkFault Link sub d = (sub ≡ 0) × (link_form d ≡ None)
-IsLinkFault Turn sub d = IsSomeAnd (link_form d) (λ link. IsFirstUnread turn_of link.turns sub)
-IsLinkFault _ sub d = ⊥
+-- the first fault within a link: of its own form, or else of its first turn that is not read
+abbrev pub IsLinkFault : Data → Part → ℕ → Type 0
+IsLinkFault d Link sub = (sub ≡ 0) × (link_form d ≡ None)
+IsLinkFault d Turn sub = IsSomeAnd (link_form d) (λ link. IsFirstUnread turn_of link.turns sub)
+IsLinkFault d _ sub = ⊥
 
--- why the tables within that of the whole file are not all read: the run, or else the first node, link or conflict
+-- the first fault of the tables within that of the whole file: the run, then the nodes, the links and the conflicts
 abbrev pub IsFaultWithin : TopForm → Part → ℕ → ℕ → Type 0
 IsFaultWithin top Top item sub = ⊥
 IsFaultWithin top Run item sub = (item ≡ 0) × (sub ≡ 0) × (run_of top.run ≡ None)
-IsFaultWithin top Node item sub = IsSome (run_of top.run) × IsFirst node_of (IsNodeFault Node sub) top.nodes item
-IsFaultWithin top Phase item sub = IsSome (run_of top.run) × IsFirst node_of (IsNodeFault Phase sub) top.nodes item
+IsFaultWithin top Node item sub = IsSome (run_of top.run) × IsFirst node_of (λ d. IsNodeFault d Node sub) top.nodes item
+IsFaultWithin top Phase item sub = IsSome (run_of top.run) × IsFirst node_of (λ d. IsNodeFault d Phase sub) top.nodes item
 IsFaultWithin top Link item sub =
-    IsSome (run_of top.run) × IsSome (each node_of top.nodes) × IsFirst link_of (IsLinkFault Link sub) top.links item
+    IsSome (run_of top.run) × IsSome (each node_of top.nodes)
+    × IsFirst link_of (λ d. IsLinkFault d Link sub) top.links item
 IsFaultWithin top Turn item sub =
-    IsSome (run_of top.run) × IsSome (each node_of top.nodes) × IsFirst link_of (IsLinkFault Turn sub) top.links item
+    IsSome (run_of top.run) × IsSome (each node_of top.nodes)
+    × IsFirst link_of (λ d. IsLinkFault d Turn sub) top.links item
 IsFaultWithin top Conflict item sub =
     IsSome (run_of top.run) × IsSome (each node_of top.nodes) × IsSome (each link_of top.links)
     × (sub ≡ 0) × IsFirstUnread conflict_of top.conflicts item
 
--- Why the table of the whole file stands for no draft, said of the place with this part, item and sub: its own form, or
--- the first table within it that is not read.
+-- The first fault of the table of the whole file, at the place with this part, item and sub: of its own form, or else of
+-- the tables within it.
 abbrev pub IsShapeFault : Members → Part → ℕ → ℕ → Type 0
 IsShapeFault ms Top item sub = (item ≡ 0) × (sub ≡ 0) × (top_form ms ≡ None)
 IsShapeFault ms part item sub = IsSomeAnd (top_form ms) (λ top. IsFaultWithin top part item sub)

@@ -71,7 +71,7 @@ fn read_run(table: &Table) -> Result<Run, NetFault>
 }
 
 fn read_nodes(alloc: Global, values: &[Value]) -> Result<Vec<DraftNode>, NetFault>
-    ensures { GivesOr (λ named. shape.IsFirst spec.node_of (shape.IsNodeFault named.part named.sub) (map view values.now) named.item)
+    ensures { GivesOr (λ named. shape.IsFirst spec.node_of (λ node. shape.IsNodeFault node named.part named.sub) (map view values.now) named.item)
         (λ nodes. nodes.items) result (each spec.node_of (map view values.now)) }
 {
     let mut nodes = Vec::new(alloc);
@@ -84,7 +84,8 @@ fn read_nodes(alloc: Global, values: &[Value]) -> Result<Vec<DraftNode>, NetFaul
 
 #[tactic(auto, unfolding(crate::specs::Table::node_of, crate::specs::Table::node_form))]
 fn read_node(alloc: Global, value: &Value, item: u32) -> Result<DraftNode, NetFault>
-    ensures { GivesOr (λ named. (named.item ≡ item) × shape.IsNodeFault named.part named.sub (view value.now)) (λ node. node) result (spec.node_of (view value.now)) }
+    ensures { GivesOr (λ named. (named.item ≡ item) × shape.IsNodeFault (view value.now) named.part named.sub)
+        (λ node. node) result (spec.node_of (view value.now)) }
 {
     let place = Place {
         part: Part::Node,
@@ -159,7 +160,7 @@ fn only_phase_keys(table: &Table, place: Place) -> Result<&Table, NetFault>
 }
 
 fn read_links(alloc: Global, values: &[Value]) -> Result<Vec<DraftLink>, NetFault>
-    ensures { GivesOr (λ named. shape.IsFirst spec.link_of (shape.IsLinkFault named.part named.sub) (map view values.now) named.item)
+    ensures { GivesOr (λ named. shape.IsFirst spec.link_of (λ link. shape.IsLinkFault link named.part named.sub) (map view values.now) named.item)
         (λ links. links.items) result (each spec.link_of (map view values.now)) }
 {
     let mut links = Vec::new(alloc);
@@ -172,7 +173,8 @@ fn read_links(alloc: Global, values: &[Value]) -> Result<Vec<DraftLink>, NetFaul
 
 #[tactic(auto, unfolding(crate::specs::Table::link_of, crate::specs::Table::link_form))]
 fn read_link(alloc: Global, value: &Value, item: u32) -> Result<DraftLink, NetFault>
-    ensures { GivesOr (λ named. (named.item ≡ item) × shape.IsLinkFault named.part named.sub (view value.now)) (λ link. link) result (spec.link_of (view value.now)) }
+    ensures { GivesOr (λ named. (named.item ≡ item) × shape.IsLinkFault (view value.now) named.part named.sub)
+        (λ link. link) result (spec.link_of (view value.now)) }
 {
     let place = Place {
         part: Part::Link,
@@ -297,7 +299,7 @@ fn copied_if(alloc: Global, text: Option<&str>) -> Result<Option<Text>, AllocErr
     }
 }
 
-/// The number of the element at this index, counted from 1.
+/// The number of the element at this index, counted from 1; one past the greatest u32 stands as that one.
 fn ordinal(index: usize) -> u32
     ensures { result ≡ shape.ordinal index }
 {
