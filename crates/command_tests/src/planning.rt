@@ -9,8 +9,7 @@ const IMPATIENT: &str = "instance 1\nphases 2\nphase 5 30 3 2 2 20\nphase 5 30 3
 const WIDE: &str =
     "instance 1\nphases 2\nphase 120 240 10 10 10 3600\nphase 120 240 10 10 10 3600\n";
 
-const NO_LOSS: &str =
-    "instance 1\nphases 2\nphase 5 240 3 2 0 3600\nphase 5 240 3 2 0 3600\n";
+const NO_LOSS: &str = "instance 1\nphases 2\nphase 5 240 3 2 0 3600\nphase 5 240 3 2 0 3600\n";
 
 const NARROW: &str = "instance 1\nphases 2\nphase 1 1 1 0 0 1\nphase 1 1 1 0 0 1\n";
 

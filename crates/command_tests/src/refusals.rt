@@ -20,12 +20,7 @@ const TEN_AND_NINE: &str =
 const REFUSED: &[(&[&str], &str, Status, &str)] = &[
     (&[], TWO_CLUSTERS, Status::Usage, "signal: usage\n"),
     (&["plan"], TWO_CLUSTERS, Status::Usage, "signal: usage\n"),
-    (
-        &["--help"],
-        TWO_CLUSTERS,
-        Status::Usage,
-        "signal: usage\n",
-    ),
+    (&["--help"], TWO_CLUSTERS, Status::Usage, "signal: usage\n"),
     (
         &["--version"],
         TWO_CLUSTERS,

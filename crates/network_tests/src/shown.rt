@@ -9,10 +9,19 @@ use std::alloc::{AllocError, Global};
 fn node_shown(alloc: Global, network: &Network, node: u32) -> Result<String, AllocError>
     requires { node < length network.now.node_names }
 {
-    let name = network.node_name(node);
-    let entries = network.entry_links(node);
-    let exits = network.exit_links(node);
+    let (name, entries, exits) = node_of(network, node);
     format!(in alloc; "node {name} {entries:?} {exits:?}\n")
+}
+
+/// The name, the entry links and the exit links of a node.
+fn node_of(network: &Network, node: u32) -> (&str, &[u32], &[u32])
+    requires { node < length network.now.node_names }
+{
+    (
+        network.node_name(node),
+        network.entry_links(node),
+        network.exit_links(node),
+    )
 }
 
 fn phase_shown(alloc: Global, network: &Network, node: u32, phase: u8) -> Result<String, AllocError>
@@ -70,13 +79,22 @@ pub(crate) fn parts_shown(
 ) -> Result<String, AllocError>
     requires { l < length network.now.link_names }
 {
-    let name = network.link_name(l);
-    let mut text = String::from_str(alloc, name)?;
-    for exit in 0..network.links() {
-        let part = network.split(l, amount, exit);
+    let parts = parts_of(alloc, network, l, amount)?;
+    let mut text = String::from_str(alloc, network.link_name(l))?;
+    for part in &parts {
         text.push_str(format!(in alloc; " {part}")?.as_str())?;
     }
     Ok(text)
+}
+
+fn parts_of(alloc: Global, network: &Network, l: u32, amount: u32) -> Result<Vec<u32>, AllocError>
+    requires { l < length network.now.link_names }
+{
+    let mut parts = Vec::new(alloc);
+    for exit in 0..network.links() {
+        parts.push(network.split(l, amount, exit))?;
+    }
+    Ok(parts)
 }
 
 /// A text's network as a text, or its fault in words.
@@ -111,10 +129,15 @@ pub(crate) fn all_parts(alloc: Global, text: &str, amount: u32) -> Result<String
 fn finds_shown(alloc: Global, network: &Network, names: &str) -> Result<String, AllocError> {
     let mut text = String::new(alloc);
     for name in names.split(',') {
-        let (node, link) = (network.find_node(name), network.find_link(name));
+        let (node, link) = found(network, name);
         text.push_str(format!(in alloc; "{name} {node:?} {link:?}\n")?.as_str())?;
     }
     Ok(text)
+}
+
+/// The node and the link with a name.
+fn found(network: &Network, name: &str) -> (Option<u32>, Option<u32>) {
+    (network.find_node(name), network.find_link(name))
 }
 
 /// What a text's network finds for names between commas, or its fault in words.
