@@ -1,5 +1,5 @@
 //! The values of the worked network, and splits.
-use crate::rows::changed;
+use crate::rows::worked_with;
 use crate::shown::{all_finds, all_parts, network_shown};
 use crate::texts::WORKED;
 use std::test::Fail;
@@ -24,29 +24,46 @@ link xb Some(1) None 10 500 0
     Ok(())
 }
 
+/// A change that changes nothing.
+const NONE: &str = "step = 5 -> step = 5";
+
 /// Three turns of the link `ab`, one of them into a further link.
 const SEVEN: &str =
     r#"exit = "ba", share = 500 -> exit = "xb", share = 333 }, { exit = "yb", share = 333 & exit = "xb", share = 500 -> exit = "ba", share = 334 & name = "xb" -> name = "xb"|from = "b"|travel = 10|sat = 500|[[link]]|name = "yb""#;
 
-#[test]
-fn seven_by_three_shares(rt: HostRuntime) -> Result<(), Fail> {
-    let alloc = rt.alloc();
-    let three = changed(alloc, WORKED, SEVEN)?.ok_or("an edit does not fit")?;
-    let found = all_parts(alloc, three.as_str(), 7)?;
-    let line = "sa 0 7 0 0 0 0
+/// Edits of the worked network, an amount, and for each link the parts of it that turn into each link.
+const PARTS: &[(&str, u32, &str)] = &[
+    (
+        SEVEN,
+        7,
+        "sa 0 7 0 0 0 0
 ab 0 0 3 0 2 2
 ba 0 7 0 0 0 0
 sb 0 0 0 0 7 0
 xb 0 0 0 0 0 0
 yb 0 0 0 0 0 0
-";
-    assert_eq!(rt; found.as_str(), line);
-    let greatest = all_parts(alloc, WORKED, u32::MAX)?;
-    assert!(rt;
-        greatest
-            .as_str()
-            .contains("ab 0 0 2147483647 0 2147483648\n")
-    );
+",
+    ),
+    (
+        NONE,
+        u32::MAX,
+        "sa 0 4294967295 0 0 0
+ab 0 0 2147483647 0 2147483648
+ba 0 4294967295 0 0 0
+sb 0 0 0 0 4294967295
+xb 0 0 0 0 0
+",
+    ),
+];
+
+#[test]
+fn parts_of_amounts(rt: HostRuntime) -> Result<(), Fail> {
+    let alloc = rt.alloc();
+    for &(edits, amount, wanted) in PARTS {
+        let text = worked_with(alloc, edits)?;
+        let found = all_parts(alloc, text.as_str(), amount)?;
+        assert_eq!(rt; found.as_str(), wanted);
+    }
     Ok(())
 }
 
@@ -54,11 +71,12 @@ yb 0 0 0 0 0 0
 const SHARED: &str =
     r#"name = "xb" -> name = "a"|from = "b"|travel = 10|sat = 500|[[link]]|name = "xb""#;
 
-#[test]
-fn names_are_found_by_kind(rt: HostRuntime) -> Result<(), Fail> {
-    let alloc = rt.alloc();
-    let found = all_finds(alloc, WORKED, "a,b,sa,ab,ba,sb,xb,s,abx,zz,")?;
-    let line = "a Some(0) None
+/// Edits of the worked network, names, and the node and the link that each of them is found as.
+const FINDS: &[(&str, &str, &str)] = &[
+    (
+        NONE,
+        "a,b,sa,ab,ba,sb,xb,s,abx,zz,",
+        "a Some(0) None
 b Some(1) None
 sa None Some(0)
 ab None Some(1)
@@ -69,13 +87,25 @@ s None None
 abx None None
 zz None None
  None None
-";
-    assert_eq!(rt; found.as_str(), line);
-    let shared = changed(alloc, WORKED, SHARED)?.ok_or("an edit does not fit")?;
-    let found = all_finds(alloc, shared.as_str(), "a,b,xb")?;
-    assert_eq!(rt;
-        found.as_str(),
-        "a Some(0) Some(4)\nb Some(1) None\nxb None Some(5)\n"
-    );
+",
+    ),
+    (
+        SHARED,
+        "a,b,xb",
+        "a Some(0) Some(4)
+b Some(1) None
+xb None Some(5)
+",
+    ),
+];
+
+#[test]
+fn names_are_found_by_kind(rt: HostRuntime) -> Result<(), Fail> {
+    let alloc = rt.alloc();
+    for &(edits, names, wanted) in FINDS {
+        let text = worked_with(alloc, edits)?;
+        let found = all_finds(alloc, text.as_str(), names)?;
+        assert_eq!(rt; found.as_str(), wanted);
+    }
     Ok(())
 }

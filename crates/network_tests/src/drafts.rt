@@ -93,25 +93,33 @@ fn crossing(alloc: Global, entries: u32, further: u32) -> Result<Draft, AllocErr
     })
 }
 
+/// How many entry links and further nodes a crossing has, and what it is as a network: its nodes and links, or its fault.
+const CROSSINGS: &[(u32, u32, &str)] = &[
+    (1, 0, "1 2"),
+    (16, 63, "64 17"),
+    (17, 0, "crowd 0"),
+    (1, 64, "bound top 0 0"),
+    (320, 0, "bound top 0 0"),
+    (34, 0, "bound phase 1 1"),
+];
+
+/// How many nodes and links the draft's network has, or its fault.
+fn counted(alloc: Global, draft: Draft) -> Result<String, AllocError> {
+    match build(alloc, draft) {
+        Ok(network) => counts(alloc, network.nodes(), network.links()),
+        Err(fault) => fault_text(alloc, fault),
+    }
+}
+
+fn counts(alloc: Global, nodes: u32, links: u32) -> Result<String, AllocError> {
+    format!(in alloc; "{nodes} {links}")
+}
+
 #[test]
 fn counts_of_nodes_and_entry_links(rt: HostRuntime) -> Result<(), Fail> {
     let alloc = rt.alloc();
-    for (entries, further, line) in [
-        (1, 0, "1 2"),
-        (16, 63, "64 17"),
-        (17, 0, "crowd 0"),
-        (1, 64, "bound top 0 0"),
-        (320, 0, "bound top 0 0"),
-        (34, 0, "bound phase 1 1"),
-    ] {
-        let found = match build(alloc, crossing(alloc, entries, further)?) {
-            Ok(network) => {
-                let nodes = network.nodes();
-                let links = network.links();
-                format!(in alloc; "{nodes} {links}")?
-            }
-            Err(fault) => fault_text(alloc, fault)?,
-        };
+    for &(entries, further, line) in CROSSINGS {
+        let found = counted(alloc, crossing(alloc, entries, further)?)?;
         assert_eq!(rt; found.as_str(), line);
     }
     Ok(())

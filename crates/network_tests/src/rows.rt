@@ -50,6 +50,14 @@ pub(crate) fn changed(
     Ok(Some(text))
 }
 
+/// The worked network after all edits of a row.
+pub(crate) fn worked_with(alloc: Global, edits: &str) -> Result<String, Fail> {
+    match changed(alloc, WORKED, edits)? {
+        Some(text) => Ok(text),
+        None => Err(Fail::from("an edit does not fit")),
+    }
+}
+
 fn judged(alloc: Global, base: &str, edits: &str) -> Result<String, AllocError> {
     match changed(alloc, base, edits)? {
         Some(text) => outcome(alloc, text.as_str()),
