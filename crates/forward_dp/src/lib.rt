@@ -2,4 +2,5 @@
 //! prefixes of one length reach.
 #![tactic(auto)]
 
+mod keys;
 mod layers;
