@@ -41,3 +41,12 @@ pub(crate) fn unpack(key: u64, fresh: bool) -> ([u32; 4], Head)
     };
     (counts, head)
 }
+
+/// Keys with one number are one key.
+fn number_law()
+    ensures {
+        (counts others : List ℕ) (head another : Head) → FitsNumber counts head → FitsNumber others another
+            → key_number counts head ≡ key_number others another → counts ≡ others
+    }
+{
+}
