@@ -1,5 +1,5 @@
 use Rattle.forward_dp.proofs.KeyDigits.{same-number}
-use Rattle.forward_dp.proofs.Servings.{serving-keeps}
+use Rattle.forward_dp.proofs.Stages.{stage-few}
 use Rattle.forward_dp.proofs.keys.number_law.Goals as goal
 
 pub returns : goal.returns
