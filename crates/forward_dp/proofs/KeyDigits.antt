@@ -1,21 +1,12 @@
 -- The digits of a key's number.
-use Rattle.std.proofs.Common.{◌≡◌, ℕ, ◌+◌, ◌*◌, ◌<◌, List, [], ◌∷◌, length, get_or, arith}
+use Rattle.std.proofs.Common.{◌≡◌, ℕ, List, length, get_or, arith}
+use Rattle.std.proofs.lemmas.Grind.{common_steps}
 use Rattle.switch_rules.specs.declared.Head.{Head}
 use Rattle.forward_dp.specs.Numbers.{FitsNumber, key_number}
 
 -- two lists of four with the same numbers
 same-four : (xs ys : List ℕ) → length xs ≡ 4 → length ys ≡ 4 → get_or xs 0 0 ≡ get_or ys 0 0 → get_or xs 1 0 ≡ get_or ys 1 0 → get_or xs 2 0 ≡ get_or ys 2 0 → get_or xs 3 0 ≡ get_or ys 3 0 → xs ≡ ys
-same-four [] ys l m a b c d = absurd (omega arith)
-same-four (x ∷ []) ys l m a b c d = absurd (omega arith)
-same-four (x ∷ y ∷ []) ys l m a b c d = absurd (omega arith)
-same-four (x ∷ y ∷ z ∷ []) ys l m a b c d = absurd (omega arith)
-same-four (x ∷ y ∷ z ∷ w ∷ v ∷ xs) ys l m a b c d = absurd (omega arith)
-same-four (x ∷ y ∷ z ∷ w ∷ []) [] l m a b c d = absurd (omega arith)
-same-four (x ∷ y ∷ z ∷ w ∷ []) (x' ∷ []) l m a b c d = absurd (omega arith)
-same-four (x ∷ y ∷ z ∷ w ∷ []) (x' ∷ y' ∷ []) l m a b c d = absurd (omega arith)
-same-four (x ∷ y ∷ z ∷ w ∷ []) (x' ∷ y' ∷ z' ∷ []) l m a b c d = absurd (omega arith)
-same-four (x ∷ y ∷ z ∷ w ∷ []) (x' ∷ y' ∷ z' ∷ w' ∷ v' ∷ ys) l m a b c d = absurd (omega arith)
-same-four (x ∷ y ∷ z ∷ w ∷ []) (x' ∷ y' ∷ z' ∷ w' ∷ []) l m a b c d = cc
+same-four xs ys l m a b c d = grind (arith, common_steps)
 
 -- keys with one number are one key
 pub same-number : {counts counts' : List ℕ} {head head' : Head} → FitsNumber counts head → FitsNumber counts' head' → key_number counts head ≡ key_number counts' head' → (counts ≡ counts') × (head.phase ≡ head'.phase) × (head.since ≡ head'.since) × (head.at ≡ head'.at)

@@ -1,6 +1,6 @@
 -- Where prefixes lead: step by step, within bounds, and whole sequences to their delay.
 use Rattle.std.specs.Prelude.{unwrap_or}
-use Rattle.std.proofs.Common.{◌≡◌, ℕ, zero, suc, ◌+◌, ◌-◌, ◌*◌, ◌<◌, ◌≤◌, ◌==◌, ◌&&◌, Bool, true, false, cond, List, [], ◌∷◌, ◌++◌, length, sum, get_or, set, All, Option, Some, None, Result, Ok, Err, refl, sym, ap, subst, ◌∙◌, inl, inr, add-one, length-set, arith}
+use Rattle.std.proofs.Common.{◌≡◌, ℕ, zero, suc, ◌+◌, ◌-◌, ◌<◌, ◌≤◌, ◌==◌, ◌&&◌, cond, List, [], ◌∷◌, ◌++◌, length, sum, get_or, All, Option, Some, None, Ok, Err, refl, sym, ap, subst, ◌∙◌, inl, inr, length-set, arith}
 use Rattle.std.specs.Option.{option_map, option_and_then}
 use Rattle.std.specs.List.{slice_get}
 use Rattle.std.proofs.lemmas.Bool.{cases_eq, cases_lt, eqb-true, eq-eqb, ne_eqb}
@@ -8,14 +8,14 @@ use Rattle.std.proofs.lemmas.List.{get_or-set_same, get_or-set_other, get_or_pas
 use Rattle.std.proofs.lemmas.List.Elements.{All-nil, All-cons}
 use Rattle.std.proofs.lemmas.List.Sums.{sum_by-cons, sum_by-set, get_or-le-sum_by}
 use Rattle.std.proofs.lemmas.Option.{slice_get_within, get_or_from_slice_get, cond_some}
-use Rattle.phase_plan.specs.Phases.{IsPhase, IsPlan, phase_at, no_phase}
-use Rattle.switch_rules.specs.Serving.{serving, IsHead, IsCluster, IsServing}
+use Rattle.phase_plan.specs.Phases.{no_phase}
+use Rattle.switch_rules.specs.Serving.{serving, IsCluster}
 use Rattle.switch_rules.specs.Orders.{one_less}
 use Rattle.switch_rules.specs.declared.Head.{Head}
 use Rattle.switch_rules.specs.declared.Served.{Served}
 use Rattle.switch_rules.specs.declared.Cluster.{Cluster}
 use Rattle.switch_rules.specs.declared.Unfit.{Unfit}
-use Rattle.switch_rules.proofs.Counting.{count-le-sum, sum-one_less, length-one_less}
+use Rattle.switch_rules.proofs.Counting.{sum-one_less, length-one_less}
 use Rattle.schedule_meaning.specs.Instances.{Problem, IsInstance, list_at, counts_of}
 use Rattle.schedule_meaning.specs.Timing.{next_cluster, timed_from, timed, delay_of, total_cost}
 use Rattle.schedule_meaning.proofs.Sequences.{get_or-counts, option-cases, result-cases, timed-begins, timed-fit, next-left, left-phase, under-way-start}
@@ -233,18 +233,23 @@ split-step p lawful left counts k split some =
 same-next : (p : Problem) (left counts : List ℕ) (k : ℕ) → IsSplit p left counts → next_cluster p.lists left k ≡ slice_get (list_at p.lists k) (get_or counts k 0)
 same-next p left counts k split = ap (slice_get (list_at p.lists k)) (omega (arith, split.both k))
 
-cost-fit : (t : List Served × Head) (s : Served) (rest : List Served) (h : Head) → Some (s ∷ rest, h) ≡ Some t → total_cost t.0 ≡ s.cost + total_cost rest
-cost-fit t s rest h e = sym (ap (λ (o : Option (List Served × Head)). total_cost (unwrap_or o t).0) e) ∙ sum_by-cons (λ (x : Served). x.cost) s rest
+-- what is timed goes on with a fit serving
+timed-more : (p : Problem) (left : List ℕ) (head : Head) (k : ℕ) (ks : List ℕ) (c : Cluster) (r : Served × Head) (rest : List Served × Head) → next_cluster p.lists left k ≡ Some c → serving p.plan head k c ≡ Ok r → timed_from p (one_less left k) r.1 ks ≡ Some rest
+    → timed_from p left head (k ∷ ks) ≡ Some (r.0 ∷ rest.0, rest.1)
+timed-more p left head k ks c r rest ec er ek = timed-fit p left head k ks c r ec er ∙ ap (option_map (λ (x : List Served × Head). (r.0 ∷ x.0, x.1))) ek
 
--- the delay of a stage, where the rest of a sequence costs so much, and nothing is left behind it
-pub record EndsAt (p : Problem) (s : Stage) (u : List ℕ) (left : List ℕ) (t : List Served × Head) : Type 0 where
+cost-more : (t : List Served × Head) (s : Served) (rest : List Served) (h : Head) → Some (s ∷ rest, h) ≡ Some t → total_cost t.0 ≡ s.cost + total_cost rest
+cost-more t s rest h e = sym (ap (λ (o : Option (List Served × Head)). total_cost (unwrap_or o t).0) e) ∙ sum_by-cons (λ (x : Served). x.cost) s rest
+
+-- a sequence leads from a stage to one with so much more delay, and has as many phases as clusters are left
+pub record EndsWith (p : Problem) (s : Stage) (u left : List ℕ) (cost : ℕ) : Type 0 where
   pub end : Stage
   pub leads : stage_from p s u ≡ Some end
-  pub delay : end.delay ≡ s.delay + total_cost t.0
+  pub delay : end.delay ≡ s.delay + cost
   pub whole : length u ≡ sum left
 
--- a sequence that is timed leads to a stage with its delay
-ends-timed : (p : Problem) → IsInstance p → (u : List ℕ) (left : List ℕ) (s : Stage) (t : List Served × Head) → IsSplit p left s.counts → timed_from p left s.head u ≡ Some t → EndsAt p s u left t
+-- what is timed leads to a stage
+ends-timed : (p : Problem) → IsInstance p → (u left : List ℕ) (s : Stage) (t : List Served × Head) → IsSplit p left s.counts → timed_from p left s.head u ≡ Some t → EndsWith p s u left (total_cost t.0)
 ends-timed p lawful [] left s t split e =
     let over = cond_some (sum left == 0) ([], s.head) t e in
     record {
@@ -255,30 +260,41 @@ ends-timed p lawful [] left s t split e =
     }
 ends-timed p lawful (k ∷ u) left s t split e = timed-begins p left s.head k u t e (λ c r rest ec er ek.
     let some : 0 < get_or left k 0 = next-left p.lists left k c ec in
-    let behind_it = ends-timed p lawful u (one_less left k) (behind s k r) rest (split-step p lawful left s.counts k split some) ek in
-    let whole = sym (timed-fit p left s.head k u c r ec er ∙ ap (option_map (λ (x : List Served × Head). (r.0 ∷ x.0, x.1))) ek) ∙ e in
+    let later = ends-timed p lawful u (one_less left k) (behind s k r) rest (split-step p lawful left s.counts k split some) ek in
     record {
-      end = behind_it.end;
-      leads = from-some p s (behind s k r) k u (step-fit p s k c r (sym (same-next p left s.counts k split) ∙ ec) er) ∙ behind_it.leads;
-      delay = omega (arith, behind_it.delay, cost-fit t r.0 rest.0 rest.1 whole);
-      whole = omega (arith, behind_it.whole, sum-one_less left k some);
+      end = later.end;
+      leads = from-some p s (behind s k r) k u (step-fit p s k c r (sym (same-next p left s.counts k split) ∙ ec) er) ∙ later.leads;
+      delay = omega (arith, later.delay, cost-more t r.0 rest.0 rest.1 (sym (timed-more p left s.head k u c r rest ec er ek) ∙ e));
+      whole = omega (arith, later.whole, sum-one_less left k some);
     })
 
--- a sequence that leads to a stage and leaves nothing is timed, with the stage's delay
-timed-ends : (p : Problem) → IsInstance p → (u : List ℕ) (left : List ℕ) (s end : Stage) → IsSplit p left s.counts → stage_from p s u ≡ Some end → length u ≡ sum left
-    → (t : List Served × Head) × (timed_from p left s.head u ≡ Some t) × (end.delay ≡ s.delay + total_cost t.0)
+-- a sequence is timed from a head, and costs what the delay rises from one number to another
+pub record TimesTo (p : Problem) (left : List ℕ) (head : Head) (u : List ℕ) (from to : ℕ) : Type 0 where
+  pub what : List Served × Head
+  pub timed : timed_from p left head u ≡ Some what
+  pub delay : to ≡ from + total_cost what.0
+
+times-more : (p : Problem) (left : List ℕ) (head : Head) (k : ℕ) (u : List ℕ) (c : Cluster) (r : Served × Head) (from to : ℕ) → next_cluster p.lists left k ≡ Some c → serving p.plan head k c ≡ Ok r → TimesTo p (one_less left k) r.1 u (from + r.0.cost) to → TimesTo p left head (k ∷ u) from to
+times-more p left head k u c r from to ec er later = record {
+  what = (r.0 ∷ later.what.0, later.what.1);
+  timed = timed-more p left head k u c r later.what ec er later.timed;
+  delay = omega (arith, later.delay, sum_by-cons (λ (x : Served). x.cost) r.0 later.what.0);
+}
+
+-- what leads to a stage and leaves nothing is timed
+timed-ends : (p : Problem) → IsInstance p → (u left : List ℕ) (s end : Stage) → IsSplit p left s.counts → stage_from p s u ≡ Some end → length u ≡ sum left → TimesTo p left s.head u s.delay end.delay
 timed-ends p lawful [] left s end split e whole =
     let t : List Served × Head = ([], s.head) in
-    let over : (sum left == 0) ≡ true = eq-eqb (sum left) 0 (omega arith) in
-    (t, ap (λ b. cond b (Some t) None) over, omega (arith, ap (λ (x : Stage). x.delay) (some-same s end e)))
+    record {
+      what = t;
+      timed = ap (λ b. cond b (Some t) None) (eq-eqb (sum left) 0 (omega arith));
+      delay = omega (arith, ap (λ (x : Stage). x.delay) (some-same s end e));
+    }
 timed-ends p lawful (k ∷ u) left s end split e whole = from-begins p s end k u e (λ next en rest. step-begins p s next k en (λ c r ec er same.
     let some : 0 < get_or left k 0 = omega (arith, split.both k, slice_get_within (list_at p.lists k) (get_or s.counts k 0) c ec) in
-    let on : stage_from p (behind s k r) u ≡ Some end = ap (λ (x : Stage). stage_from p x u) same ∙ rest in
-    let later = timed-ends p lawful u (one_less left k) (behind s k r) end (split-step p lawful left s.counts k split some) on (omega (arith, sum-one_less left k some)) in
-    let t : List Served × Head = (r.0 ∷ later.0.0, later.0.1) in
-    (t,
-     timed-fit p left s.head k u c r (same-next p left s.counts k split ∙ ec) er ∙ ap (option_map (λ (x : List Served × Head). (r.0 ∷ x.0, x.1))) later.1,
-     omega (arith, later.2, sum_by-cons (λ (x : Served). x.cost) r.0 later.0.0))))
+    let leads : stage_from p (behind s k r) u ≡ Some end = ap (λ (x : Stage). stage_from p x u) same ∙ rest in
+    times-more p left s.head k u c r s.delay end.delay (same-next p left s.counts k split ∙ ec) er
+    (timed-ends p lawful u (one_less left k) (behind s k r) end (split-step p lawful left s.counts k split some) leads (omega (arith, sum-one_less left k some)))))
 
 -- a sequence with a delay serves all clusters, and leads to a stage with that delay
 pub stage-of-delay : (p : Problem) → IsInstance p → (u : List ℕ) (d : ℕ) → delay_of p u ≡ Some d → (s : Stage) × (stage_of p u ≡ Some s) × (s.delay ≡ d) × (length u ≡ sum (counts_of p.lists))
@@ -294,4 +310,4 @@ stage-of-delay p lawful u d e =
 pub delay-of-stage : (p : Problem) → IsInstance p → (u : List ℕ) (s : Stage) → stage_of p u ≡ Some s → length u ≡ sum (counts_of p.lists) → delay_of p u ≡ Some s.delay
 delay-of-stage p lawful u s e whole =
     let there = timed-ends p lawful u (counts_of p.lists) (first_stage p) s (split-start p) e whole in
-    ap (option_map (λ (t : List Served × Head). total_cost t.0)) there.1 ∙ ap (λ (n : ℕ). Some n) (omega (arith, there.2))
+    ap (option_map (λ (t : List Served × Head). total_cost t.0)) there.timed ∙ ap (λ (n : ℕ). Some n) (omega (arith, there.delay))
