@@ -160,11 +160,15 @@ from-bounds p lawful (k ∷ u) n m s t count stage e = from-begins p s t k u e (
 pub stage-bounds : (p : Problem) → IsInstance p → (u : List ℕ) (s : Stage) → stage_of p u ≡ Some s → IsStage p (length u) s
 stage-bounds p lawful u s e = from-bounds p lawful u 0 (length u) (first_stage p) s (omega arith) (first-bounds p lawful) e
 
--- a prefix that leads somewhere names phases of the plan alone
+-- a step that leads somewhere serves a phase of the plan
+pub stage-after-phase : (p : Problem) → IsInstance p → (s t : Stage) (k : ℕ) → stage_after p s k ≡ Some t → k < length p.plan
+stage-after-phase p lawful s t k e = step-begins p s t k e (λ c r ec er same. omega (arith, listed-phase p k (get_or s.counts k 0) c ec, lawful.lists))
+
+-- and a prefix names phases of the plan alone
 from-phases : (p : Problem) → IsInstance p → (u : List ℕ) (s t : Stage) → stage_from p s u ≡ Some t → All (λ k. k < length p.plan) u
 from-phases p lawful [] s t e = All-nil (λ k. k < length p.plan)
-from-phases p lawful (k ∷ u) s t e = from-begins p s t k u e (λ next en rest. step-begins p s next k en (λ c r ec er same.
-    All-cons (λ k. k < length p.plan) k u (omega (arith, listed-phase p k (get_or s.counts k 0) c ec, lawful.lists)) (from-phases p lawful u next t rest)))
+from-phases p lawful (k ∷ u) s t e = from-begins p s t k u e (λ next en rest.
+    All-cons (λ k. k < length p.plan) k u (stage-after-phase p lawful s next k en) (from-phases p lawful u next t rest))
 
 pub stage-phases : (p : Problem) → IsInstance p → (u : List ℕ) (s : Stage) → stage_of p u ≡ Some s → All (λ k. k < length p.plan) u
 stage-phases p lawful u s e = from-phases p lawful u (first_stage p) s e
