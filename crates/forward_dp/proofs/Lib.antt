@@ -1,0 +1,3 @@
+pub mod KeyDigits
+pub mod Servings
+pub mod Stages
