@@ -2,4 +2,5 @@
 //! prefixes of one length reach.
 #![tactic(auto)]
 
+mod answers;
 mod layers;
