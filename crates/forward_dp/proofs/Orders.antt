@@ -35,6 +35,10 @@ order-behind n (k ∷ s) =
     ∙ ap (λ m. m + ((0 * 4 + k) * 4 ^ length s + order_number s)) (ap (λ u. n * u) (sym (pow-suc 4 (length s))))
     ∙ ap (λ m. n * 4 ^ length (k ∷ s) + m) (sym (order-behind (0 * 4 + k) s))
 
+-- one sequence behind another
+pub order-append : (s t : List ℕ) → order_number (s ++ t) ≡ order_number s * 4 ^ length t + order_number t
+order-append s t = fold-append (λ n k. n * 4 + k) 0 s t ∙ order-behind (order_number s) t
+
 -- one more phase at the front
 pub order-cons : (k : ℕ) (s : List ℕ) → order_number (k ∷ s) ≡ k * 4 ^ length s + order_number s
 order-cons k s = order-behind (0 * 4 + k) s ∙ ap (λ n. n * 4 ^ length s + order_number s) (omega arith)
