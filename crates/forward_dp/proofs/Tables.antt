@@ -150,7 +150,7 @@ arrival-reached p counts head way k next i l e =
       prefix = l.prefix ++ k ∷ [];
       stage = next;
       servings = length-append l.prefix (k ∷ []) ∙ ap (λ n. n + 1) (sym b.total);
-      leads = stage-push p l.prefix k ∙ ap (option_and_then (λ s. stage_after p s k)) l.leads ∙ e;
+      leads = stage-push p (first_stage p) l.prefix k ∙ ap (option_and_then (λ s. stage_after p s k)) l.leads ∙ e;
       key = refl;
       delay = refl;
       order = ap (λ n. n * 4 + k) l.order ∙ sym (order-push l.prefix k);
@@ -191,14 +191,14 @@ pub layer-next : (p : Problem) (served : ℕ) (ways next : ℕ → Option Way) �
 layer-next p served ways next i layer reached carried = record {
   reached = reached;
   all = λ prefix servings.
-      let parts : (u : List ℕ) × (k : ℕ) × (prefix ≡ u ++ k ∷ []) × (length u ≡ served) = last-of served prefix servings in
+      let parts : (u : List ℕ) × (k : ℕ) × (prefix ≡ u ++ k ∷ []) × (length u ≡ served) = last-of prefix served servings in
       let u = parts.0 in
       let k = parts.1 in
       subst (λ xs. IfSome (stage_of p xs) (λ s. HasWay next s (order_number xs))) (sym parts.2)
       (if-each (λ s. HasWay next s (order_number (u ++ k ∷ []))) (stage_of p (u ++ k ∷ [])) (λ t e.
       option-cases (stage_of p u)
-      (λ none. absurd (none-some t (sym (stage-push p u k ∙ ap (option_and_then (λ s. stage_after p s k)) none) ∙ e)))
-      (λ s es. next-way p served ways next u k s t i layer carried parts.3 es (sym (stage-push p u k ∙ ap (option_and_then (λ s. stage_after p s k)) es) ∙ e))));
+      (λ none. absurd (none-some t (sym (stage-push p (first_stage p) u k ∙ ap (option_and_then (λ s. stage_after p s k)) none) ∙ e)))
+      (λ s es. next-way p served ways next u k s t i layer carried parts.3 es (sym (stage-push p (first_stage p) u k ∙ ap (option_and_then (λ s. stage_after p s k)) es) ∙ e))));
 }
 
 -- the layer of no servings
