@@ -1,32 +1,37 @@
 -- How one layer follows from another, and what the last one says.
-use Rattle.std.proofs.Common.{◌≡◌, ℕ, zero, suc, ◌+◌, ◌*◌, ◌^◌, ◌<◌, ◌≤◌, ◌⊎◌, List, [], ◌∷◌, ◌++◌, length, sum, All, Option, Some, None, IfSome, IsSomeAnd, Bool, true, false, cond, ◌-◌, ◌==◌, ◌||◌, nat_lt, count_by, Contains, is_some, get_or, eq-eqb, refl, sym, ap, subst, ◌∙◌, inl, inr, length-append, arith}
+use Rattle.std.proofs.Common.{◌≡◌, ℕ, zero, suc, ◌+◌, ◌*◌, ◌^◌, ◌<◌, ◌≤◌, ◌⊎◌, List, [], ◌∷◌, ◌++◌, length, sum, All, Option, Some, None, IfOk, IfSome, IsSomeAnd, Bool, true, false, cond, ◌-◌, ◌==◌, ◌||◌, nat_lt, count_by, Contains, is_some, get_or, Result, Ok, Err, ◌&&◌, eq-eqb, refl, sym, ap, subst, ◌∙◌, inl, inr, length-append, arith}
 use Rattle.std.specs.Prelude.{option_and_then, nat_eq, slice_get}
 use Rattle.std.specs.Set.{is_member}
 use Rattle.std.proofs.Math.Nat.{pow-zero, pow-suc, mul-le-mul_left}
 use Rattle.std.proofs.lemmas.Nat.{pow-add}
 use Rattle.std.proofs.lemmas.Cmp.{nat_eq_equiv}
 use Rattle.std.proofs.lemmas.Option.{none-some, same_Some, some_pair_parts, slice_get_within}
-use Rattle.std.specs.Map.{keys_of}
+use Rattle.std.specs.Map.{keys_of, lookup}
 use Rattle.std.proofs.lemmas.Bool.Decides.{nat_tests}
-use Rattle.std.proofs.lemmas.List.Sums.{sum_by-cons}
+use Rattle.std.proofs.lemmas.List.Sums.{sum_by-cons, count_by-le-length}
 use Rattle.std.proofs.lemmas.Map.Entries.{length-keys_of, place_from_lookup, hash_map_get_place}
 use Rattle.std.proofs.lemmas.Map.Made.{is_some-lookup, length-le_from_is_member}
 use Rattle.indexmap.specs.IndexMap.{IndexMap, IsUnique}
 use Rattle.std.specs.Option.{option_map}
-use Rattle.std.proofs.lemmas.Bool.{cases_Bool, cases_lt, cases_eq, or_right}
+use Rattle.std.specs.Result.{result_ok}
+use Rattle.std.proofs.lemmas.Bool.{cases_Bool, cases_lt, cases_eq, eqb-true, or_right}
+use Rattle.switch_rules.specs.Serving.{serving}
 use Rattle.switch_rules.specs.declared.Head.{Head}
+use Rattle.switch_rules.specs.declared.Served.{Served}
+use Rattle.switch_rules.specs.declared.Cluster.{Cluster}
+use Rattle.switch_rules.specs.declared.Unfit.{Unfit}
 use Rattle.schedule_meaning.specs.Instances.{Problem, IsInstance, counts_of, list_at}
 use Rattle.schedule_meaning.specs.Timing.{delay_of}
 use Rattle.schedule_meaning.specs.Best.{IsBest}
 use Rattle.schedule_meaning.specs.declared.planners.Answer.{Answer}
 use Rattle.schedule_meaning.specs.declared.planners.Answer.TheVariants.{Plan, NoPlan}
-use Rattle.schedule_meaning.proofs.Sequences.{option-cases, none-unless}
-use Rattle.dp_certificate.specs.Prefixes.{HasAllKeys, Key, Stage, stage_of, stage_after, first_stage, key_of}
+use Rattle.schedule_meaning.proofs.Sequences.{option-cases, none-mapped, none-unless}
+use Rattle.dp_certificate.specs.Prefixes.{HasAllKeys, Key, Stage, stage_of, stage_after, first_stage, key_of, one_more}
 use Rattle.forward_dp.specs.declared.layers.Way.{Way}
 use Rattle.forward_dp.specs.Numbers.{key_number, order_number, FitsNumber}
 use Rattle.forward_dp.specs.Layers.{AreReached, HasWay, Improves, IsAnswerOf, IsBestWay, IsCarried, IsExtended, IsLayer, IsNoWorse, IsReached, IsStage, LeadsTo, TakesIn, arrival, stage_at, ways_of}
 use Rattle.forward_dp.proofs.Orders.{order-push, order-below, best-plan, best-none}
-use Rattle.forward_dp.proofs.Stages.{stage-push, last-of, stage-bounds, stage-phases, stage-few, fits-number, stage-alike, stage-of-delay, delay-of-stage}
+use Rattle.forward_dp.proofs.Stages.{behind, step-fit, stage-push, stage-after-bounds, stage-after-phase, last-of, stage-bounds, stage-phases, stage-few, fits-number, stage-alike, stage-of-delay, delay-of-stage}
 
 -- what is known of an option's value
 pub some-and : {X : Type 0} (P : X → Type 0) (o : Option X) → IsSomeAnd o P → (x : X) × (o ≡ Some x) × P x
@@ -140,6 +145,15 @@ leads-within p counts head way i l =
       order = omega (arith, l.order, order-below l.prefix below, pow-four (length l.prefix) few);
     }
 
+-- what is served next where there is no further cluster, or its serving is unfit, or fit
+pub after-unfit : (p : Problem) (s : Stage) (k : ℕ) (way : Way) (c : Cluster) (why : Unfit) → slice_get (list_at p.lists k) (get_or s.counts k 0) ≡ Some c → serving p.plan s.head k c ≡ Err why
+    → option_map (arrival way k) (stage_after p s k) ≡ None
+after-unfit p s k way c why e f = rw e (rw f refl)
+
+pub after-fit : (p : Problem) (s : Stage) (k : ℕ) (way : Way) (c : Cluster) (r : Served × Head) → slice_get (list_at p.lists k) (get_or s.counts k 0) ≡ Some c → serving p.plan s.head k c ≡ Ok r
+    → option_map (arrival way k) (stage_after p s k) ≡ Some (arrival way k (behind s k r))
+after-fit p s k way c r e f = ap (option_map (arrival way k)) (step-fit p s k c r e f)
+
 -- what is served next behind a way that leads somewhere is reached
 pub arrival-reached : (p : Problem) (counts : List ℕ) (head : Head) (way : Way) (k : ℕ) (next : Stage) → IsInstance p → LeadsTo p counts head way → stage_after p (stage_at counts head way.delay) k ≡ Some next
     → IsReached p (sum counts + 1) (key_number next.counts next.head) (arrival way k next).1
@@ -185,6 +199,128 @@ next-way p served ways next u k s t i layer carried servings es et =
     (subst (λ n. IsNoWorse found.0 n (order_number (u ++ k ∷ []))) (sym alike.1)
     (subst (λ n. IsNoWorse found.0 (s.delay + alike.0) n) (sym (order-push u k)) better))
 
+-- a served cluster within its bounds
+pub record IsServedWithin (p : Problem) (counts : List ℕ) (way : Way) (k : ℕ) (r : Served × Head) : Type 0 where
+  pub fits : FitsNumber (one_more counts k) r.1
+  pub delay : way.delay + r.0.cost ≤ 2880000000000
+
+pub served-within : (p : Problem) (counts : List ℕ) (head : Head) (way : Way) (k : ℕ) (c : Cluster) (r : Served × Head) → IsInstance p → LeadsTo p counts head way
+    → slice_get (list_at p.lists k) (get_or counts k 0) ≡ Some c → serving p.plan head k c ≡ Ok r → IsServedWithin p counts way k r
+served-within p counts head way k c r i l ec es =
+    let s = stage_at counts head way.delay in
+    let w : IsWithin p counts head way = leads-within p counts head way i l in
+    let b : IsStage p (sum counts + 1) (behind s k r) = stage-after-bounds p i (sum counts) s (behind s k r) k w.stage (step-fit p s k c r ec es) in
+    record { fits = fits-number p i (sum counts + 1) (behind s k r) b; delay = omega (arith, b.delay, stage-few p i (sum counts + 1) (behind s k r) b, i.few) }
+
+pub ok-from : {X E : Type 0} (r : Result X E) (x : X) → Some x ≡ result_ok r → r ≡ Ok x
+ok-from {X} {E} (Ok y) x e = ap (λ (z : X). let o : Result X E = Ok z in o) (sym (same_Some x y e))
+ok-from {X} {E} (Err y) x e = absurd (none-some x (sym e))
+
+pub err-from : {X E : Type 0} (r : Result X E) → None ≡ result_ok r → (y : E) × (r ≡ Err y)
+err-from (Ok x) e = absurd (none-some x e)
+err-from (Err y) e = (y, refl)
+
+-- what the phases so far have made of some ways
+pub record IsSoFar (p : Problem) (counts : List ℕ) (head : Head) (way : Way) (initial ways : ℕ → Option Way) (phase : ℕ) : Type 0 where
+  pub reached : AreReached p (sum counts + 1) ways
+  pub improves : Improves initial ways
+  pub extended : (k : ℕ) → k < phase → IfSome (stage_after p (stage_at counts head way.delay) k) (λ next. HasWay ways next (way.order * 4 + k))
+
+pub so-far-start : (p : Problem) (counts : List ℕ) (head : Head) (way : Way) (ways : ℕ → Option Way) → AreReached p (sum counts + 1) ways → IsSoFar p counts head way ways ways 0
+so-far-start p counts head way ways reached = record { reached = reached; improves = improves-self ways; extended = λ k h. absurd (omega arith) }
+
+pub so-far-none : (p : Problem) (counts : List ℕ) (head : Head) (way : Way) (initial ways : ℕ → Option Way) (phase : ℕ) → IsSoFar p counts head way initial ways phase
+    → option_map (arrival way phase) (stage_after p (stage_at counts head way.delay) phase) ≡ None → IsSoFar p counts head way initial ways (phase + 1)
+so-far-none p counts head way initial ways phase h none = record {
+  reached = h.reached;
+  improves = h.improves;
+  extended = λ k below. elim (cases_lt k phase) [
+    | inl before ↦ h.extended k before
+    | inr last ↦
+        let s = stage_at counts head way.delay in
+        let same : phase ≡ k = omega arith in
+        let gone : stage_after p s k ≡ None = ap (stage_after p s) (sym same) ∙ none-mapped (arrival way phase) (stage_after p s phase) none in
+        if-each (λ next. HasWay ways next (way.order * 4 + k)) (stage_after p s k) (λ t e. absurd (none-some t (sym gone ∙ e)))
+  ];
+}
+
+pub so-far-taken : (p : Problem) (counts : List ℕ) (head : Head) (way : Way) (initial old new : ℕ → Option Way) (phase number : ℕ) (arrived : Way) → IsInstance p → LeadsTo p counts head way
+    → IsSoFar p counts head way initial old phase → option_map (arrival way phase) (stage_after p (stage_at counts head way.delay) phase) ≡ Some (number, arrived) → TakesIn old new number arrived
+    → IsSoFar p counts head way initial new (phase + 1)
+so-far-taken p counts head way initial old new phase number arrived i l h some takes =
+    let s = stage_at counts head way.delay in
+    option-cases (stage_after p s phase)
+    (λ none. absurd (none-some (number, arrived) (sym (ap (option_map (arrival way phase)) none) ∙ some)))
+    (λ t et.
+    let both : (key_number t.counts t.head ≡ number) × ((arrival way phase t).1 ≡ arrived) =
+    some_pair_parts (key_number t.counts t.head) number (arrival way phase t).1 arrived (sym (ap (option_map (arrival way phase)) et) ∙ some) in
+    let taken : TakesIn old new (key_number t.counts t.head) (arrival way phase t).1 =
+    subst (λ n. TakesIn old new n (arrival way phase t).1) (sym both.0) (subst (λ w. TakesIn old new number w) (sym both.1) takes) in
+    record {
+      reached = takes-reached p (sum counts + 1) old new (key_number t.counts t.head) (arrival way phase t).1 taken h.reached (arrival-reached p counts head way phase t i l et);
+      improves = improves-trans initial old new h.improves taken.improves;
+      extended = λ k below. elim (cases_lt k phase) [
+        | inl before ↦ if-each (λ next. HasWay new next (way.order * 4 + k)) (stage_after p s k)
+            (λ next e. improves-way old new next (way.order * 4 + k) taken.improves (if-some (λ next. HasWay old next (way.order * 4 + k)) (stage_after p s k) next e (h.extended k before)))
+        | inr last ↦
+            let same : phase ≡ k = omega arith in
+            subst (λ k. IfSome (stage_after p s k) (λ next. HasWay new next (way.order * 4 + k))) same
+            (subst (λ o. IfSome o (λ next. HasWay new next (way.order * 4 + phase))) (sym et) taken.there)
+      ];
+    })
+
+pub so-far-all : (p : Problem) (counts : List ℕ) (head : Head) (way : Way) (initial ways : ℕ → Option Way) (phase : ℕ) → IsInstance p → IsSoFar p counts head way initial ways phase → length p.plan ≤ phase → IsExtended p ways counts head way
+so-far-all p counts head way initial ways phase i h over k =
+    let s = stage_at counts head way.delay in
+    if-each (λ next. HasWay ways next (way.order * 4 + k)) (stage_after p s k)
+    (λ next e. if-some (λ next. HasWay ways next (way.order * 4 + k)) (stage_after p s k) next e (h.extended k (omega (arith, stage-after-phase p i s next k e))))
+
+-- a key's number taken apart leads where its way does
+pub entry-leads : (p : Problem) (served number : ℕ) (way : Way) (ways : ℕ → Option Way) (fresh : Bool) (counts : List ℕ) (head : Head) → IsInstance p → IsLayer p served ways → ways number ≡ Some way
+    → fresh ≡ ((served == 0) && p.head.fresh)
+    → ((cs : List ℕ) (h : Head) → FitsNumber cs h → key_number cs h ≡ number → counts ≡ cs)
+    → ((cs : List ℕ) (h : Head) → FitsNumber cs h → key_number cs h ≡ number → h.fresh ≡ fresh → head ≡ h)
+    → LeadsTo p counts head way × (sum counts ≡ served)
+entry-leads p served number way ways fresh counts head i layer e young same_counts same_head =
+    let r : IsReached p served number way = if-some (λ way. IsReached p served number way) (ways number) way e (layer.reached number) in
+    let b : IsStage p served r.stage = subst (λ n. IsStage p n r.stage) r.servings (stage-bounds p i r.prefix r.stage r.leads) in
+    let fits : FitsNumber r.stage.counts r.stage.head = fits-number p i served r.stage b in
+    let is_counts : counts ≡ r.stage.counts = same_counts r.stage.counts r.stage.head fits r.key in
+    let is_head : head ≡ r.stage.head = same_head r.stage.counts r.stage.head fits r.key (b.fresh ∙ sym young) in (
+      subst (λ cs. LeadsTo p cs head way) (sym is_counts) (subst (λ h. LeadsTo p r.stage.counts h way) (sym is_head) (reached-leads p served number way r)),
+      ap sum is_counts ∙ b.total,
+    )
+
+-- what the entries so far have made of the next layer
+pub record AreCarried (p : Problem) (served : ℕ) (entries : List (ℕ × Way)) (next : ℕ → Option Way) (index : ℕ) : Type 0 where
+  pub reached : AreReached p (served + 1) next
+  pub carried : (k number : ℕ) (way : Way) → k < index → slice_get entries k ≡ Some (number, way) → IsCarried p served next number way
+
+pub carried-start : {S : Type 0} (p : Problem) (served : ℕ) (entries : List (ℕ × Way)) (next : IndexMap ℕ Way S) → next.entries ≡ [] → AreCarried p served entries (ways_of next) 0
+carried-start p served entries next empty = record {
+  reached = λ number. subst (λ o. IfSome o (λ way. IsReached p (served + 1) number way)) (sym (ap (lookup (nat_eq number)) empty)) tt;
+  carried = λ k number way h e. absurd (omega arith);
+}
+
+pub carried-more : (p : Problem) (served index number : ℕ) (way : Way) (entries : List (ℕ × Way)) (old new : ℕ → Option Way) (fresh : Bool) (counts : List ℕ) (head : Head) → IsInstance p
+    → AreCarried p served entries old index → slice_get entries index ≡ Some (number, way) → fresh ≡ ((served == 0) && p.head.fresh)
+    → ((cs : List ℕ) (h : Head) → FitsNumber cs h → key_number cs h ≡ number → counts ≡ cs)
+    → ((cs : List ℕ) (h : Head) → FitsNumber cs h → key_number cs h ≡ number → h.fresh ≡ fresh → head ≡ h)
+    → sum counts ≡ served → AreReached p (sum counts + 1) new → Improves old new → IsExtended p new counts head way → AreCarried p served entries new (index + 1)
+carried-more p served index number way entries old new fresh counts head i h e young same_counts same_head total reached better extended = record {
+  reached = subst (λ n. AreReached p (n + 1) new) total reached;
+  carried = λ k other w below ew. elim (cases_lt k index) [
+    | inl before ↦ improves-carried p served old new other w better (h.carried k other w before ew)
+    | inr last ↦
+        let same : index ≡ k = omega arith in
+        let both : (number ≡ other) × (way ≡ w) = some_pair_parts number other way w (sym e ∙ ap (slice_get entries) same ∙ ew) in
+        subst (λ n. IsCarried p served new n w) both.0 (subst (λ w. IsCarried p served new number w) both.1 (λ s b key.
+        let fits : FitsNumber s.counts s.head = fits-number p i served s b in
+        subst (λ h. IsExtended p new s.counts h way) (same_head s.counts s.head fits key (b.fresh ∙ sym young))
+        (subst (λ cs. IsExtended p new cs head way) (same_counts s.counts s.head fits key) extended)))
+  ];
+}
+
 -- a layer whose ways are all extended makes the next
 pub layer-next : (p : Problem) (served : ℕ) (ways next : ℕ → Option Way) → IsInstance p → IsLayer p served ways → AreReached p (served + 1) next
     → ((number : ℕ) (way : Way) → ways number ≡ Some way → IsCarried p served next number way) → IsLayer p (served + 1) next
@@ -200,6 +336,13 @@ layer-next p served ways next i layer reached carried = record {
       (λ none. absurd (none-some t (sym (stage-push p (first_stage p) u k ∙ ap (option_and_then (λ s. stage_after p s k)) none) ∙ e)))
       (λ s es. next-way p served ways next u k s t i layer carried parts.3 es (sym (stage-push p (first_stage p) u k ∙ ap (option_and_then (λ s. stage_after p s k)) es) ∙ e))));
 }
+
+pub carried-layer : {S : Type 0} (p : Problem) (served index : ℕ) (layer : IndexMap ℕ Way S) (next : ℕ → Option Way) → IsInstance p → IsLayer p served (ways_of layer) → AreCarried p served layer.entries next index → length layer.entries ≤ index
+    → IsLayer p (served + 1) next
+carried-layer p served index layer next i is_layer h over = layer-next p served (ways_of layer) next i is_layer h.reached (λ number way e.
+    let at : (i : ℕ) × (k : ℕ) × (slice_get layer.entries i ≡ Some (k, way)) × (nat_eq number k ≡ true) = place_from_lookup (nat_eq number) layer.entries way e in
+    let same : at.1 ≡ number = sym (eqb-true number at.1 at.3) in
+    subst (λ n. IsCarried p served next n way) same (h.carried at.0 at.1 way (omega (arith, slice_get_within layer.entries at.0 (at.1, way) at.2)) at.2))
 
 -- the layer of no servings
 no-prefix : (prefix : List ℕ) → length prefix ≡ 0 → prefix ≡ []
@@ -222,6 +365,16 @@ layer-first p ways number way key delay order takes = record {
       (let there : IsSomeAnd (ways number) (λ now. IsNoWorse now 0 0) =
       subst (λ o. IsSomeAnd (ways number) (λ now. IsNoWorse now 0 o)) order (subst (λ d. IsSomeAnd (ways number) (λ now. IsNoWorse now d way.order)) delay takes.there) in
       subst (λ n. IsSomeAnd (ways n) (λ now. IsNoWorse now 0 0)) key there);
+}
+
+-- what an empty map takes in
+pub takes-first : {S : Type 0} (old : IndexMap ℕ Way S) (new : ℕ → Option Way) (number : ℕ) (way : Way) → old.entries ≡ [] → TakesIn (ways_of old) new number way → TakesIn (λ _. None) new number way
+takes-first old new number way empty takes = record {
+  there = takes.there;
+  only = λ n. if-each (λ now. (None ≡ Some now) ⊎ ((n ≡ number) × (now ≡ way))) (new n)
+      (λ now e. subst (λ o. (o ≡ Some now) ⊎ ((n ≡ number) × (now ≡ way))) (ap (lookup (nat_eq n)) empty)
+      (if-some (λ now. (ways_of old n ≡ Some now) ⊎ ((n ≡ number) × (now ≡ way))) (new n) now e (takes.only n)));
+  improves = λ n. tt;
 }
 
 -- the answer by the best way of the last layer
@@ -339,6 +492,10 @@ few-entries p served layer keys i unique reached all =
         subst (λ q. is_member nat_eq (numbers_of served keys) q ≡ true) r.key (numbered served keys (key_of r.stage) among.0 among.1 among.2 (b.total ∙ r.servings))) in
     omega (arith, length-keys_of layer.entries, length-numbers served keys, length-le_from_is_member nat_eq_equiv (keys_of layer.entries) (numbers_of served keys) unique each)
 
+-- steps within a bound
+pub cost-within : (start steps phases index entries : ℕ) → steps ≤ start + phases * index → index ≤ entries → steps ≤ start + phases * entries
+cost-within start steps phases index entries h below = omega (arith, mul-le-mul_left phases below)
+
 -- the keys with fewer servings, and with one more
 one-below : (a n : ℕ) → cond (nat_lt a n) 1 0 + cond (a == n) 1 0 ≡ cond (nat_lt a (n + 1)) 1 0
 one-below a n = grind (arith, nat_tests)
@@ -350,3 +507,21 @@ count-below n (key ∷ keys) =
     let here = sum_by-cons (λ key. cond (sum key.counts == n) 1 0) key keys in
     let after = sum_by-cons (λ key. cond (nat_lt (sum key.counts) (n + 1)) 1 0) key keys in
     omega (arith, before, here, after, one-below (sum key.counts) n, count-below n keys)
+
+pub cost-more : (start before after phases n : ℕ) (keys : List Key) → before ≤ start + phases * count_by (λ key. nat_lt (sum key.counts) n) keys → after ≤ before + phases * count_by (λ key. sum key.counts == n) keys
+    → after ≤ start + phases * count_by (λ key. nat_lt (sum key.counts) (n + 1)) keys
+cost-more start before after phases n keys first then_more =
+    let a = count_by (λ key. nat_lt (sum key.counts) n) keys in
+    let b = count_by (λ key. sum key.counts == n) keys in
+    let c = count_by (λ key. nat_lt (sum key.counts) (n + 1)) keys in
+    plain a b c (count-below n keys) first then_more
+  where
+    plain : (a b c : ℕ) → a + b ≡ c → before ≤ start + phases * a → after ≤ before + phases * b → after ≤ start + phases * c
+    plain a b c e h k = subst (λ c. after ≤ start + phases * c) e (omega arith)
+
+pub count-few : (n : ℕ) (keys : List Key) → count_by (λ key. nat_lt (sum key.counts) n) keys ≤ length keys
+count-few n keys = count_by-le-length (λ key. nat_lt (sum key.counts) n) keys
+
+pub if-ok-then : {X E : Type 0} {P Q : X → Type 0} (r : Result X E) → IfOk r P → ((x : X) → P x → Q x) → IfOk r Q
+if-ok-then (Ok x) h f = f x h
+if-ok-then (Err e) h f = tt

@@ -1,6 +1,7 @@
 //! The layers of the table: which way each key is reached, and how one layer follows from the one before it.
-ghost use Rattle.std.specs.Prelude.{◌≡◌, ◌+◌, ◌*◌, ◌<◌, ◌≤◌, ◌⊎◌, ◌↔◌, List, length, sum, count_by, ◌==◌, IfOk, IfSome, OnOk, IsTrue, IsSomeAnd, Some};
+ghost use Rattle.std.specs.Prelude.{◌≡◌, ◌+◌, ◌*◌, ◌<◌, ◌≤◌, ◌⊎◌, ◌↔◌, List, length, sum, count_by, ◌==◌, ◌&&◌, IfOk, IfSome, OnOk, IsTrue, IsSomeAnd, Some};
 ghost use Rattle.std.specs.Option.{option_map};
+ghost use Rattle.schedule_meaning.specs.Instances.{IsInstance};
 ghost use Rattle.dp_certificate.specs.Prefixes.{HasAllKeys, Key, stage_after};
 ghost use Rattle.forward_dp.specs.Layers.{AreReached, Improves, IsBestWay, IsExtended, IsLayer, IsNoWorse, LeadsTo, TakesIn, arrival, stage_at, ways_of};
 
@@ -116,6 +117,14 @@ fn extend_from<L: Ledger>(
     Ok(())
 }
 
+/// Whether the green behind so many servings is fresh.
+fn is_fresh(i: &Instance, served: u32) -> bool
+    ensures value { result ≡ ((served == 0) && i.now.head.fresh) }
+    ensures instance { IsInstance i.now }
+{
+    i.head().fresh && served == 0
+}
+
 /// Makes the layer of one serving more, in place of what `next` held.
 pub fn extend<L: Ledger>(
     i: &Instance,
@@ -128,7 +137,7 @@ pub fn extend<L: Ledger>(
     ensures layer { OnOk result (IsLayer i.now (served + 1) (ways_of next.new)) }
     ensures cost { (keys : List Key) → HasAllKeys i.now keys → steps.new ≤ steps.old + length i.now.plan * count_by (λ key. sum key.counts == served) keys }
 {
-    let fresh = served == 0 && i.head().fresh;
+    let fresh = is_fresh(i, served);
     next.clear();
     for index in 0..layer.len() {
         let (key, way) = layer.get_index(index).unwrap();

@@ -1,0 +1,32 @@
+use Rattle.std.proofs.Common.{◌≡◌, ◌+◌, ◌*◌, ◌≤◌, length, sum, count_by, nat_lt, sym, subst, ap, arith}
+use Rattle.schedule_meaning.proofs.Choosing.{best-least}
+use Rattle.dp_certificate.specs.Prefixes.{Key}
+use Rattle.forward_dp.specs.Layers.{IsLayer, ways_of}
+use Rattle.forward_dp.proofs.Tables.{best-answer, cost-within, cost-more, count-below, count-few, if-ok-then}
+use Rattle.forward_dp.proofs.layered.Goals as goal
+
+pub returns-in_err-extend-clause-servings : goal.returns-in_err-extend-clause-servings
+returns-in_err-extend-clause-servings g c keys all =
+    let n = c.loop-served.served in
+    let more = cost-more c.args.steps.now c.loop-served.steps c.extend.new.steps (length c.args.i.now.plan) n keys (c.loop-served.invariant.cost keys all) (c.extend.ensures.cost keys all) in
+    cost-within c.args.steps.now c.extend.new.steps (length c.args.i.now.plan) (count_by (λ key. nat_lt (sum key.counts) (n + 1)) keys) (length keys) more (count-few (n + 1) keys)
+
+pub loop-served-preserved : goal.loop-served-preserved
+loop-served-preserved g c = record {
+  layer = subst (λ m. IsLayer c.args.i.now (c.loop-served.served + 1) (ways_of m)) (sym c.swap.ensures.x_after) c.in_ok-extend.ensures.layer;
+  cost = λ keys all.
+      cost-more c.args.steps.now c.loop-served.steps c.extend.new.steps (length c.args.i.now.plan) c.loop-served.served keys (c.loop-served.invariant.cost keys all) (c.extend.ensures.cost keys all);
+}
+
+pub returns-clause-best : goal.returns-clause-best
+returns-clause-best g c =
+    if-ok-then c.answer_of.result c.answer_of.ensures (λ answer is.
+    best-answer c.args.i.now c.count_places-places.result (ways_of c.loop-served.layer) c.best_of.result answer c.count_places-places.ensures.instance c.count_places-places.ensures.value
+    (subst (λ n. IsLayer c.args.i.now n (ways_of c.loop-served.layer)) (omega arith) c.loop-served.invariant.layer) c.best_of.ensures is)
+
+pub returns-clause-least : goal.returns-clause-least
+returns-clause-least g c = if-ok-then c.answer_of.result (returns-clause-best g c) (best-least c.args.i.now)
+
+pub returns-clause-servings : goal.returns-clause-servings
+returns-clause-servings g c keys all =
+    cost-within c.args.steps.now c.loop-served.steps (length c.args.i.now.plan) (count_by (λ key. nat_lt (sum key.counts) c.loop-served.served) keys) (length keys) (c.loop-served.invariant.cost keys all) (count-few c.loop-served.served keys)
