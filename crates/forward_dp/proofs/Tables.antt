@@ -1,5 +1,5 @@
 -- How one layer follows from another, and what the last one says.
-use Rattle.std.proofs.Common.{◌≡◌, ℕ, zero, suc, ◌+◌, ◌*◌, ◌^◌, ◌<◌, ◌≤◌, ◌⊎◌, List, [], ◌∷◌, ◌++◌, length, sum, All, Option, Some, None, IfOk, IfSome, IsSomeAnd, Bool, true, false, cond, ◌-◌, ◌==◌, ◌||◌, nat_lt, count_by, Contains, is_some, get_or, Result, Ok, Err, ◌&&◌, eq-eqb, refl, sym, ap, subst, ◌∙◌, inl, inr, length-append, arith}
+use Rattle.std.proofs.Common.{◌≡◌, ℕ, zero, suc, ◌+◌, ◌*◌, ◌^◌, ◌<◌, ◌≤◌, ◌⊎◌, List, [], ◌∷◌, ◌++◌, length, sum, All, Option, Some, None, IfSome, IsSomeAnd, Bool, true, false, cond, ◌-◌, ◌==◌, ◌||◌, nat_lt, count_by, Contains, is_some, get_or, Result, Ok, Err, ◌&&◌, eq-eqb, refl, sym, ap, subst, ◌∙◌, inl, inr, length-append, arith}
 use Rattle.std.specs.Prelude.{option_and_then, nat_eq, slice_get}
 use Rattle.std.specs.Set.{is_member}
 use Rattle.std.proofs.Math.Nat.{pow-zero, pow-suc, mul-le-mul_left}
@@ -521,7 +521,3 @@ cost-more start before after phases n keys first then_more =
 
 pub count-few : (n : ℕ) (keys : List Key) → count_by (λ key. nat_lt (sum key.counts) n) keys ≤ length keys
 count-few n keys = count_by-le-length (λ key. nat_lt (sum key.counts) n) keys
-
-pub if-ok-then : {X E : Type 0} {P Q : X → Type 0} (r : Result X E) → IfOk r P → ((x : X) → P x → Q x) → IfOk r Q
-if-ok-then (Ok x) h f = f x h
-if-ok-then (Err e) h f = tt

@@ -1,8 +1,10 @@
 use Rattle.std.proofs.Common.{◌≡◌, ◌+◌, ◌*◌, ◌≤◌, length, sum, count_by, nat_lt, sym, subst, ap, arith}
+use Rattle.std.proofs.lemmas.Result.{IfOk-weaker}
+use Rattle.schedule_meaning.specs.Best.{IsBest, IsLeast}
 use Rattle.schedule_meaning.proofs.Choosing.{best-least}
 use Rattle.dp_certificate.specs.Prefixes.{Key}
-use Rattle.forward_dp.specs.Layers.{IsLayer, ways_of}
-use Rattle.forward_dp.proofs.Tables.{best-answer, cost-within, cost-more, count-below, count-few, if-ok-then}
+use Rattle.forward_dp.specs.Layers.{IsAnswerOf, IsLayer, ways_of}
+use Rattle.forward_dp.proofs.Tables.{best-answer, cost-within, cost-more, count-below, count-few}
 use Rattle.forward_dp.proofs.layered.Goals as goal
 
 pub returns-in_err-extend-clause-servings : goal.returns-in_err-extend-clause-servings
@@ -20,12 +22,12 @@ loop-served-preserved g c = record {
 
 pub returns-clause-best : goal.returns-clause-best
 returns-clause-best g c =
-    if-ok-then c.answer_of.result c.answer_of.ensures (λ answer is.
+    IfOk-weaker c.answer_of.result (IsAnswerOf c.best_of.result c.count_places-places.result) (IsBest c.args.i.now) (λ answer is.
     best-answer c.args.i.now c.count_places-places.result (ways_of c.loop-served.layer) c.best_of.result answer c.count_places-places.ensures.instance c.count_places-places.ensures.value
-    (subst (λ n. IsLayer c.args.i.now n (ways_of c.loop-served.layer)) (omega arith) c.loop-served.invariant.layer) c.best_of.ensures is)
+    (subst (λ n. IsLayer c.args.i.now n (ways_of c.loop-served.layer)) (omega arith) c.loop-served.invariant.layer) c.best_of.ensures is) c.answer_of.ensures
 
 pub returns-clause-least : goal.returns-clause-least
-returns-clause-least g c = if-ok-then c.answer_of.result (returns-clause-best g c) (best-least c.args.i.now)
+returns-clause-least g c = IfOk-weaker c.answer_of.result (IsBest c.args.i.now) (IsLeast c.args.i.now) (best-least c.args.i.now) (returns-clause-best g c)
 
 pub returns-clause-servings : goal.returns-clause-servings
 returns-clause-servings g c keys all =

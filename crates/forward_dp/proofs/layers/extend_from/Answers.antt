@@ -1,4 +1,5 @@
 use Rattle.std.proofs.Common.{◌+◌, length, sym, ap, subst, ◌∙◌, arith}
+use Rattle.schedule_meaning.proofs.Sequences.{none-unless}
 use Rattle.forward_dp.specs.Layers.{ways_of}
 use Rattle.forward_dp.proofs.Tables.{IsSoFar, so-far-start, so-far-none, so-far-taken, so-far-all}
 use Rattle.forward_dp.proofs.layers.extend_from.Goals as goal
@@ -24,7 +25,7 @@ loop-phase-preserved g c =
       }
       | in_default w ↦ record {
         so_far = subst (λ m. IsSoFar c.args.i.now c.args.counts.now c.args.head.now c.args.way.now initial (ways_of m) (k + 1)) (sym w.next-is)
-            (so-far-none c.args.i.now c.args.counts.now c.args.head.now c.args.way.now initial old k c.loop-phase.invariant.so_far (sym c.serve_next.ensures.value ∙ ?));
+            (so-far-none c.args.i.now c.args.counts.now c.args.head.now c.args.way.now initial old k c.loop-phase.invariant.so_far (sym c.serve_next.ensures.value ∙ none-unless c.serve_next.result (λ x e. w.in_default.not-Some x e)));
         cost = omega (arith, c.loop-phase.invariant.cost, c.serve_next.ensures.cost);
       }
     ]
