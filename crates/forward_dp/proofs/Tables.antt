@@ -24,7 +24,7 @@ use Rattle.schedule_meaning.specs.Instances.{Problem, IsInstance, counts_of, lis
 use Rattle.schedule_meaning.specs.Timing.{delay_of}
 use Rattle.schedule_meaning.specs.Best.{IsBest}
 use Rattle.schedule_meaning.specs.declared.planners.Answer.{Answer}
-use Rattle.schedule_meaning.specs.declared.planners.Answer.TheVariants.{Plan, NoPlan}
+use Rattle.schedule_meaning.specs.declared.planners.Answer.TheVariants.{Plan}
 use Rattle.schedule_meaning.proofs.Sequences.{option-cases, none-mapped, none-unless}
 use Rattle.dp_certificate.specs.Prefixes.{HasAllKeys, Key, Stage, stage_of, stage_after, first_stage, key_of, one_more}
 use Rattle.forward_dp.specs.declared.layers.Way.{Way}
@@ -414,12 +414,15 @@ IsBestSoFar entries n (Some best) =
 
 pub best-more : (entries : List (ℕ × Way)) (n number : ℕ) (way now : Way) (best : Option Way) → IsBestSoFar entries n best → slice_get entries n ≡ Some (number, way)
     → (now ≡ way) ⊎ (best ≡ Some now) → IsNoWorse now way.delay way.order → IfSome best (λ b. IsNoWorse now b.delay b.order) → IsBestSoFar entries (n + 1) (Some now)
-best-more entries n number way now best h e from here before = (place best h from, λ k other w inside ew. elim (cases_eq k n) [
-  | inl same ↦
-      let both : (number ≡ other) × (way ≡ w) = some_pair_parts number other way w (sym e ∙ ap (slice_get entries) (sym same) ∙ ew) in
-      subst (λ w. IsNoWorse now w.delay w.order) both.1 here
-  | inr differs ↦ old best h before k other w (omega arith) ew
-])
+best-more entries n number way now best h e from here before = (
+  place best h from,
+  λ k other w inside ew. elim (cases_eq k n) [
+    | inl same ↦
+        let both : (number ≡ other) × (way ≡ w) = some_pair_parts number other way w (sym e ∙ ap (slice_get entries) (sym same) ∙ ew) in
+        subst (λ w. IsNoWorse now w.delay w.order) both.1 here
+    | inr differs ↦ old best h before k other w (omega arith) ew
+  ],
+)
   where
     place : (best : Option Way) → IsBestSoFar entries n best → (now ≡ way) ⊎ (best ≡ Some now) → (k : ℕ) × (number : ℕ) × (slice_get entries k ≡ Some (number, now))
     place best h (inl x) = (n, number, e ∙ ap (λ w. let o : Option (ℕ × Way) = Some (number, w) in o) (sym x))
@@ -483,13 +486,13 @@ pub few-entries : {S : Type 0} (p : Problem) (served : ℕ) (layer : IndexMap �
     → length layer.entries ≤ count_by (λ key. sum key.counts == served) keys
 few-entries p served layer keys i unique reached all =
     let each : (q : ℕ) → is_member nat_eq (keys_of layer.entries) q ≡ true → is_member nat_eq (numbers_of served keys) q ≡ true = λ q h.
-        option-cases (ways_of layer q)
-        (λ none. let gone = sym (ap is_some none) ∙ is_some-lookup (nat_eq q) layer.entries ∙ h in absurd (cc))
-        (λ way e.
-        let r : IsReached p served q way = if-some (λ way. IsReached p served q way) (ways_of layer q) way e (reached q) in
-        let among : Contains keys (key_of r.stage) = if-some (λ s. Contains keys (key_of s)) (stage_of p r.prefix) r.stage r.leads (all r.prefix) in
-        let b : IsStage p (length r.prefix) r.stage = stage-bounds p i r.prefix r.stage r.leads in
-        subst (λ q. is_member nat_eq (numbers_of served keys) q ≡ true) r.key (numbered served keys (key_of r.stage) among.0 among.1 among.2 (b.total ∙ r.servings))) in
+    option-cases (ways_of layer q)
+    (λ none. let gone = sym (ap is_some none) ∙ is_some-lookup (nat_eq q) layer.entries ∙ h in absurd (cc))
+    (λ way e.
+    let r : IsReached p served q way = if-some (λ way. IsReached p served q way) (ways_of layer q) way e (reached q) in
+    let among : Contains keys (key_of r.stage) = if-some (λ s. Contains keys (key_of s)) (stage_of p r.prefix) r.stage r.leads (all r.prefix) in
+    let b : IsStage p (length r.prefix) r.stage = stage-bounds p i r.prefix r.stage r.leads in
+    subst (λ q. is_member nat_eq (numbers_of served keys) q ≡ true) r.key (numbered served keys (key_of r.stage) among.0 among.1 among.2 (b.total ∙ r.servings))) in
     omega (arith, length-keys_of layer.entries, length-numbers served keys, length-le_from_is_member nat_eq_equiv (keys_of layer.entries) (numbers_of served keys) unique each)
 
 -- steps within a bound

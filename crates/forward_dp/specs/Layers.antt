@@ -1,5 +1,5 @@
 -- What the layers of the table keep: a layer has one way for each key that fit prefixes of one length reach.
-use Rattle.std.specs.Prelude.{◌≡◌, ℕ, ◌+◌, ◌*◌, ◌<◌, ◌≤◌, ◌⊎◌, Bool, ◌&&◌, ◌==◌, nat_eq, List, length, sum, slice_index, All, Option, Some, None, IfSome, IsSomeAnd}
+use Rattle.std.specs.Prelude.{◌≡◌, ℕ, ◌+◌, ◌*◌, ◌<◌, ◌≤◌, ◌⊎◌, ◌&&◌, ◌==◌, nat_eq, List, length, sum, slice_index, All, Option, Some, None, IfSome, IsSomeAnd}
 use Rattle.switch_rules.specs.Serving.{IsHead}
 use Rattle.switch_rules.specs.declared.Head.{Head}
 use Rattle.schedule_meaning.specs.Instances.{Problem, list_at}

@@ -59,10 +59,7 @@ pub fn first_layer(alloc: Global, i: &Instance) -> Result<Layer, AllocError>
 {
     let mut layer = IndexMap::new(alloc);
     let head = i.head();
-    let way = Way {
-        delay: 0,
-        order: 0,
-    };
+    let way = Way { delay: 0, order: 0 };
     keep(&mut layer, pack(&[0; 4], &head), way)?;
     Ok(layer)
 }

@@ -1,10 +1,9 @@
-use Rattle.std.proofs.Common.{◌≡◌, ◌+◌, ◌*◌, ◌≤◌, length, sum, count_by, nat_lt, sym, subst, ap, arith}
+use Rattle.std.proofs.Common.{◌+◌, length, sum, count_by, nat_lt, sym, subst, arith}
 use Rattle.std.proofs.lemmas.Result.{IfOk-weaker}
 use Rattle.schedule_meaning.specs.Best.{IsBest, IsLeast}
 use Rattle.schedule_meaning.proofs.Choosing.{best-least}
-use Rattle.dp_certificate.specs.Prefixes.{Key}
 use Rattle.forward_dp.specs.Layers.{IsAnswerOf, IsLayer, ways_of}
-use Rattle.forward_dp.proofs.Tables.{best-answer, cost-within, cost-more, count-below, count-few}
+use Rattle.forward_dp.proofs.Tables.{best-answer, cost-within, cost-more, count-few}
 use Rattle.forward_dp.proofs.layered.Goals as goal
 
 pub returns-in_err-extend-clause-servings : goal.returns-in_err-extend-clause-servings

@@ -1,4 +1,4 @@
-use Rattle.std.proofs.Common.{ℕ, ◌+◌, ◌*◌, ◌≤◌, List, length, sum, count_by, nat_lt}
+use Rattle.std.proofs.Common.{◌+◌, ◌*◌, ◌≤◌, List, length, sum, count_by, nat_lt}
 use Rattle.dp_certificate.specs.Prefixes.{HasAllKeys, Key}
 use Rattle.forward_dp.specs.Layers.{IsLayer, ways_of}
 use Rattle.forward_dp.proofs.layered.Given as goal

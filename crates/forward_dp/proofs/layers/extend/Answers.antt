@@ -1,8 +1,7 @@
-use Rattle.std.proofs.Common.{◌≡◌, ◌+◌, ◌*◌, ◌<◌, ◌≤◌, Some, length, sum, sym, ap, subst, ◌∙◌, arith}
-use Rattle.std.specs.Prelude.{slice_get, nat_eq}
+use Rattle.std.proofs.Common.{◌≡◌, ◌+◌, Some, length, sum, sym, ap, subst, ◌∙◌, arith}
 use Rattle.std.specs.Option.{option_map}
 use Rattle.std.specs.Map.Iter.{deref_pair}
-use Rattle.forward_dp.specs.Layers.{AreReached, LeadsTo, ways_of}
+use Rattle.forward_dp.specs.Layers.{AreReached, ways_of}
 use Rattle.forward_dp.proofs.Tables.{if-some, entry-leads, carried-start, carried-more, carried-layer, few-entries, cost-within}
 use Rattle.forward_dp.proofs.layers.extend.Goals as goal
 

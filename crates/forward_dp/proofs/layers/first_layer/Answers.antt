@@ -1,7 +1,5 @@
 use Rattle.std.proofs.Common.{[], ◌∷◌, ap, refl, ◌∙◌}
-use Rattle.std.specs.Prelude.{nat_eq}
-use Rattle.std.specs.Map.{lookup}
-use Rattle.forward_dp.specs.Layers.{TakesIn, ways_of}
+use Rattle.forward_dp.specs.Layers.{ways_of}
 use Rattle.forward_dp.specs.Numbers.{key_number}
 use Rattle.forward_dp.proofs.Tables.{layer-first, takes-first}
 use Rattle.forward_dp.proofs.layers.first_layer.Goals as goal
