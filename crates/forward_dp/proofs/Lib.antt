@@ -1,5 +1,4 @@
 pub mod Digits
-pub mod KeyDigits
 pub mod Orders
 pub mod Servings
 pub mod Stages

@@ -3,7 +3,6 @@ use Rattle.std.proofs.Common.{◌≡◌, ℕ, zero, suc, ◌+◌, ◌*◌, ◌^�
 use Rattle.std.specs.List.{Contains, flat_map, range_with_len}
 use Rattle.std.specs.Option.{option_map}
 use Rattle.std.proofs.Math.Nat.{pow-suc, mul-le-mul_right}
-use Rattle.std.proofs.lemmas.Nat.{same_from_place}
 use Rattle.std.proofs.lemmas.Bool.{cases_lt, cond_below, cond_above}
 use Rattle.std.proofs.lemmas.List.{length-map, take-append-drop, drop_more}
 use Rattle.std.proofs.lemmas.List.Elements.{All-nil, All-cons, All-head, All-tail, All-append, All-map, All-weaker, All-contains_itself}
@@ -49,21 +48,6 @@ order-below [] all = omega arith
 order-below (k ∷ s) all =
     let first : k ≤ 3 = omega (arith, All-head (λ k. k < 4) k s all) in
     omega (arith, order-cons k s, order-below s (All-tail (λ k. k < 4) k s all), pow-suc 4 (length s), mul-le-mul_right (4 ^ length s) first)
-
--- sequences of one length with one number are the same
-pub order-unique : (s t : List ℕ) → length s ≡ length t → All (λ k. k < 4) s → All (λ k. k < 4) t → order_number s ≡ order_number t → s ≡ t
-order-unique [] [] same below_s below_t e = refl
-order-unique [] (j ∷ t) same below_s below_t e = absurd (omega arith)
-order-unique (k ∷ s) [] same below_s below_t e = absurd (omega arith)
-order-unique (k ∷ s) (j ∷ t) same below_s below_t e =
-    let long : length s ≡ length t = omega arith in
-    let rest_s = All-tail (λ k. k < 4) k s below_s in
-    let rest_t = All-tail (λ k. k < 4) j t below_t in
-    let second : order_number t < 4 ^ length s = subst (λ n. order_number t < 4 ^ n) (sym long) (order-below t rest_t) in
-    let equal : k * 4 ^ length s + order_number s ≡ j * 4 ^ length s + order_number t =
-    sym (order-cons k s) ∙ e ∙ order-cons j t ∙ ap (λ n. j * 4 ^ n + order_number t) (sym long) in
-    let both : (k ≡ j) × (order_number s ≡ order_number t) = same_from_place k (order_number s) j (order_number t) (4 ^ length s) (order-below s rest_s) second equal in
-    ap (λ k. k ∷ s) both.0 ∙ ap (λ s. j ∷ s) (order-unique s t long rest_s rest_t both.1)
 
 -- the numbers of sequences rise, from low on and below high
 abbrev AreRising : ℕ → ℕ → List (List ℕ) → Type 0

@@ -34,41 +34,29 @@ use Rattle.forward_dp.proofs.Orders.{order-push, order-below, best-plan, best-no
 use Rattle.forward_dp.proofs.Stages.{behind, step-fit, stage-push, stage-after-bounds, stage-after-phase, last-of, stage-bounds, stage-phases, stage-few, fits-number, stage-alike, stage-of-delay, delay-of-stage}
 
 -- what is known of an option's value
-pub some-and : {X : Type 0} (P : X → Type 0) (o : Option X) → IsSomeAnd o P → (x : X) × (o ≡ Some x) × P x
+some-and : {X : Type 0} (P : X → Type 0) (o : Option X) → IsSomeAnd o P → (x : X) × (o ≡ Some x) × P x
 some-and P None h = absurd h
 some-and P (Some x) h = (x, refl, h)
 
-pub and-some : {X : Type 0} (P : X → Type 0) (o : Option X) (x : X) → o ≡ Some x → P x → IsSomeAnd o P
+and-some : {X : Type 0} (P : X → Type 0) (o : Option X) (x : X) → o ≡ Some x → P x → IsSomeAnd o P
 and-some P o x e h = subst (λ o. IsSomeAnd o P) (sym e) h
 
 pub if-some : {X : Type 0} (P : X → Type 0) (o : Option X) (x : X) → o ≡ Some x → IfSome o P → P x
 if-some P o x e h = subst (λ o. IfSome o P) e h
 
-pub if-each : {X : Type 0} (P : X → Type 0) (o : Option X) → ((x : X) → o ≡ Some x → P x) → IfSome o P
+if-each : {X : Type 0} (P : X → Type 0) (o : Option X) → ((x : X) → o ≡ Some x → P x) → IfSome o P
 if-each P None h = tt
 if-each P (Some x) h = h x refl
 
 -- ways compare like pairs of numbers
-pub no-worse-self : (w : Way) → IsNoWorse w w.delay w.order
+no-worse-self : (w : Way) → IsNoWorse w w.delay w.order
 no-worse-self w = inr (refl, omega arith)
 
-pub no-worse-trans : (a b : Way) (d o : ℕ) → IsNoWorse a b.delay b.order → IsNoWorse b d o → IsNoWorse a d o
+no-worse-trans : (a b : Way) (d o : ℕ) → IsNoWorse a b.delay b.order → IsNoWorse b d o → IsNoWorse a d o
 no-worse-trans a b d o (inl x) (inl y) = inl (omega arith)
 no-worse-trans a b d o (inl x) (inr y) = inl (omega arith)
 no-worse-trans a b d o (inr x) (inl y) = inl (omega arith)
 no-worse-trans a b d o (inr x) (inr y) = inr (x.0 ∙ y.0, omega arith)
-
-pub no-worse-total : (a b : Way) → (IsNoWorse a b.delay b.order → ⊥) → IsNoWorse b a.delay a.order
-no-worse-total a b h = elim (cases_lt b.delay a.delay) [
-  | inl less ↦ inl less
-  | inr more ↦ elim (cases_eq a.delay b.delay) [
-    | inl same ↦ elim (cases_lt b.order a.order) [
-      | inl less ↦ inr (sym same, omega arith)
-      | inr late ↦ absurd (h (inr (same, late)))
-    ]
-    | inr other ↦ absurd (h (inl (omega arith)))
-  ]
-]
 
 -- what follows a way that is no worse is no worse than what follows the other
 no-worse-next : (w v : Way) (d o c k : ℕ) → IsNoWorse w d o → IsNoWorse v (w.delay + c) (w.order * 4 + k) → IsNoWorse v (d + c) (o * 4 + k)
@@ -78,11 +66,11 @@ no-worse-next w v d o c k (inr x) (inl y) = inl (omega arith)
 no-worse-next w v d o c k (inr x) (inr y) = inr (y.0 ∙ ap (λ n. n + c) x.0, omega arith)
 
 -- improving goes on, and keeps what was there
-pub improves-self : (ways : ℕ → Option Way) → Improves ways ways
+improves-self : (ways : ℕ → Option Way) → Improves ways ways
 improves-self ways number = if-each (λ way. IsSomeAnd (ways number) (λ now. IsNoWorse now way.delay way.order)) (ways number)
     (λ way e. and-some (λ now. IsNoWorse now way.delay way.order) (ways number) way e (no-worse-self way))
 
-pub improves-way : (old new : ℕ → Option Way) (s : Stage) (order : ℕ) → Improves old new → HasWay old s order → HasWay new s order
+improves-way : (old new : ℕ → Option Way) (s : Stage) (order : ℕ) → Improves old new → HasWay old s order → HasWay new s order
 improves-way old new s order better has =
     let number = key_number s.counts s.head in
     let was : (x : Way) × (old number ≡ Some x) × IsNoWorse x s.delay order = some-and (λ way. IsNoWorse way s.delay order) (old number) has in
@@ -91,7 +79,7 @@ improves-way old new s order better has =
     (if-some (λ way. IsSomeAnd (new number) (λ now. IsNoWorse now way.delay way.order)) (old number) was.0 was.1 (better number)) in
     and-some (λ way. IsNoWorse way s.delay order) (new number) found.0 found.1 (no-worse-trans found.0 was.0 s.delay order found.2 was.2)
 
-pub improves-trans : (a b c : ℕ → Option Way) → Improves a b → Improves b c → Improves a c
+improves-trans : (a b c : ℕ → Option Way) → Improves a b → Improves b c → Improves a c
 improves-trans a b c first second number = if-each (λ way. IsSomeAnd (c number) (λ now. IsNoWorse now way.delay way.order)) (a number) (λ way e.
     let was : (x : Way) × (b number ≡ Some x) × IsNoWorse x way.delay way.order =
     some-and (λ now. IsNoWorse now way.delay way.order) (b number)
@@ -101,16 +89,16 @@ improves-trans a b c first second number = if-each (λ way. IsSomeAnd (c number)
     (if-some (λ way. IsSomeAnd (c number) (λ now. IsNoWorse now way.delay way.order)) (b number) was.0 was.1 (second number)) in
     and-some (λ now. IsNoWorse now way.delay way.order) (c number) found.0 found.1 (no-worse-trans found.0 was.0 way.delay way.order found.2 was.2))
 
-pub improves-extended : (p : Problem) (old new : ℕ → Option Way) (counts : List ℕ) (head : Head) (way : Way) → Improves old new → IsExtended p old counts head way → IsExtended p new counts head way
+improves-extended : (p : Problem) (old new : ℕ → Option Way) (counts : List ℕ) (head : Head) (way : Way) → Improves old new → IsExtended p old counts head way → IsExtended p new counts head way
 improves-extended p old new counts head way better extended k =
     if-each (λ next. HasWay new next (way.order * 4 + k)) (stage_after p (stage_at counts head way.delay) k)
     (λ next e. improves-way old new next (way.order * 4 + k) better (if-some (λ next. HasWay old next (way.order * 4 + k)) (stage_after p (stage_at counts head way.delay) k) next e (extended k)))
 
-pub improves-carried : (p : Problem) (served : ℕ) (old new : ℕ → Option Way) (number : ℕ) (way : Way) → Improves old new → IsCarried p served old number way → IsCarried p served new number way
+improves-carried : (p : Problem) (served : ℕ) (old new : ℕ → Option Way) (number : ℕ) (way : Way) → Improves old new → IsCarried p served old number way → IsCarried p served new number way
 improves-carried p served old new number way better carried s bounds key = improves-extended p old new s.counts s.head way better (carried s bounds key)
 
 -- the way of a reached key leads to the key's counts and head
-pub reached-leads : (p : Problem) (served number : ℕ) (way : Way) (r : IsReached p served number way) → LeadsTo p r.stage.counts r.stage.head way
+reached-leads : (p : Problem) (served number : ℕ) (way : Way) (r : IsReached p served number way) → LeadsTo p r.stage.counts r.stage.head way
 reached-leads p served number way r = record {
   prefix = r.prefix;
   leads = r.leads ∙ ap (λ d. let o : Option Stage = Some (stage_at r.stage.counts r.stage.head d) in o) (sym r.delay);
@@ -155,7 +143,7 @@ pub after-fit : (p : Problem) (s : Stage) (k : ℕ) (way : Way) (c : Cluster) (r
 after-fit p s k way c r e f = ap (option_map (arrival way k)) (step-fit p s k c r e f)
 
 -- what is served next behind a way that leads somewhere is reached
-pub arrival-reached : (p : Problem) (counts : List ℕ) (head : Head) (way : Way) (k : ℕ) (next : Stage) → IsInstance p → LeadsTo p counts head way → stage_after p (stage_at counts head way.delay) k ≡ Some next
+arrival-reached : (p : Problem) (counts : List ℕ) (head : Head) (way : Way) (k : ℕ) (next : Stage) → IsInstance p → LeadsTo p counts head way → stage_after p (stage_at counts head way.delay) k ≡ Some next
     → IsReached p (sum counts + 1) (key_number next.counts next.head) (arrival way k next).1
 arrival-reached p counts head way k next i l e =
     let s = stage_at counts head way.delay in
@@ -170,7 +158,7 @@ arrival-reached p counts head way k next i l e =
       order = ap (λ n. n * 4 + k) l.order ∙ sym (order-push l.prefix k);
     }
 
-pub takes-reached : (p : Problem) (served : ℕ) (old new : ℕ → Option Way) (offered : ℕ) (way : Way) → TakesIn old new offered way → AreReached p served old → IsReached p served offered way → AreReached p served new
+takes-reached : (p : Problem) (served : ℕ) (old new : ℕ → Option Way) (offered : ℕ) (way : Way) → TakesIn old new offered way → AreReached p served old → IsReached p served offered way → AreReached p served new
 takes-reached p served old new offered way takes reached r number = if-each (λ way. IsReached p served number way) (new number) (λ now e.
     elim (if-some (λ now. (old number ≡ Some now) ⊎ ((number ≡ offered) × (now ≡ way))) (new number) now e (takes.only number)) [
       | inl was ↦ if-some (λ way. IsReached p served number way) (old number) now was (reached number)
@@ -322,7 +310,7 @@ carried-more p served index number way entries old new fresh counts head i h e y
 }
 
 -- a layer whose ways are all extended makes the next
-pub layer-next : (p : Problem) (served : ℕ) (ways next : ℕ → Option Way) → IsInstance p → IsLayer p served ways → AreReached p (served + 1) next
+layer-next : (p : Problem) (served : ℕ) (ways next : ℕ → Option Way) → IsInstance p → IsLayer p served ways → AreReached p (served + 1) next
     → ((number : ℕ) (way : Way) → ways number ≡ Some way → IsCarried p served next number way) → IsLayer p (served + 1) next
 layer-next p served ways next i layer reached carried = record {
   reached = reached;
@@ -503,7 +491,7 @@ cost-within start steps phases index entries h below = omega (arith, mul-le-mul_
 one-below : (a n : ℕ) → cond (nat_lt a n) 1 0 + cond (a == n) 1 0 ≡ cond (nat_lt a (n + 1)) 1 0
 one-below a n = grind (arith, nat_tests)
 
-pub count-below : (n : ℕ) (keys : List Key) → count_by (λ key. nat_lt (sum key.counts) n) keys + count_by (λ key. sum key.counts == n) keys ≡ count_by (λ key. nat_lt (sum key.counts) (n + 1)) keys
+count-below : (n : ℕ) (keys : List Key) → count_by (λ key. nat_lt (sum key.counts) n) keys + count_by (λ key. sum key.counts == n) keys ≡ count_by (λ key. nat_lt (sum key.counts) (n + 1)) keys
 count-below n [] = refl
 count-below n (key ∷ keys) =
     let before = sum_by-cons (λ key. cond (nat_lt (sum key.counts) n) 1 0) key keys in

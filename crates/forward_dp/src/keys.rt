@@ -1,9 +1,6 @@
 //! Keys as numbers: counts and head in one number, and back.
 
-ghost use Rattle.std.specs.Prelude.{◌≡◌, ℕ, List, length, sum, Some};
-ghost use Rattle.dp_certificate.specs.Prefixes.{Stage, stage_of};
-ghost use Rattle.schedule_meaning.specs.Instances.{Problem, IsInstance, counts_of};
-ghost use Rattle.schedule_meaning.specs.Timing.{delay_of};
+ghost use Rattle.std.specs.Prelude.{◌≡◌, ℕ, List};
 ghost use Rattle.switch_rules.specs.declared.Head.{Head};
 ghost use Rattle.forward_dp.specs.Numbers.{FitsNumber, key_number};
 
@@ -44,12 +41,3 @@ pub(crate) fn unpack(key: u64, fresh: bool) -> ([u32; 4], Head)
     };
     (counts, head)
 }
-
-/// Keys with one number are one key; a sequence with a delay leads to a stage with it, and back.
-fn key_laws()
-    ensures number { (counts others : List ℕ) (head another : Head) → FitsNumber counts head → FitsNumber others another
-        → key_number counts head ≡ key_number others another → (counts ≡ others) × (head.phase ≡ another.phase)
-        × (head.since ≡ another.since) × (head.at ≡ another.at) }
-    ensures delay { (p : Problem) → IsInstance p → (u : List ℕ) (s : Stage) → stage_of p u ≡ Some s
-        → length u ≡ sum (counts_of p.lists) → delay_of p u ≡ Some s.delay }
-{}
