@@ -1,0 +1,5 @@
+pub mod Layers
+pub mod Numbers
+pub use Rattle.schedule_meaning.specs.Best
+pub use Rattle.schedule_meaning.specs.Instances
+pub use Rattle.dp_certificate.specs.Prefixes
