@@ -8,6 +8,7 @@ ghost use Rattle.forward_dp.specs.Layers.{AreReached, Improves, IsBestWay, IsExt
 use crate::keys::{pack, unpack};
 use foundation::steps::Steps;
 use indexmap::IndexMap;
+use indexmap::map::Entry;
 use schedule_meaning::Instance;
 use std::alloc::{AllocError, Global};
 use std::sync::ledger::Ledger;
@@ -32,24 +33,20 @@ fn is_no_worse(way: &Way, other: &Way) -> bool
     way.delay < other.delay || way.delay == other.delay && way.order <= other.order
 }
 
-/// Whether a layer has a way to the key that is no worse than this one.
-fn has_no_worse(layer: &Layer, key: u64, way: &Way) -> bool
-    ensures { IsTrue result ↔ IsSomeAnd (ways_of layer.now key) (λ old. IsNoWorse old way.now.delay way.now.order) }
-{
-    match layer.get(&key) {
-        Some(old) => is_no_worse(old, way),
-        None => false,
-    }
-}
-
 /// Keeps the better of a way to a key and the one that is there.
 fn keep(layer: &mut Layer, key: u64, way: Way) -> Result<(), AllocError>
     ensures { OnOk result (TakesIn (ways_of layer.old) (ways_of layer.new) key way) }
 {
-    if has_no_worse(layer, key, &way) {
-        return Ok(());
+    match layer.entry(key)? {
+        Entry::Occupied(mut entry) => {
+            if !is_no_worse(entry.get(), &way) {
+                entry.insert(way);
+            }
+        }
+        Entry::Vacant(entry) => {
+            entry.insert(way);
+        }
     }
-    layer.insert(key, way)?;
     Ok(())
 }
 
