@@ -217,9 +217,9 @@ pub record IsSoFar (p : Problem) (counts : List ℕ) (head : Head) (way : Way) (
 pub so-far-start : (p : Problem) (counts : List ℕ) (head : Head) (way : Way) (ways : ℕ → Option Way) → AreReached p (sum counts + 1) ways → IsSoFar p counts head way ways ways 0
 so-far-start p counts head way ways reached = record { reached = reached; improves = improves-self ways; extended = λ k h. absurd (omega arith) }
 
-pub so-far-none : (p : Problem) (counts : List ℕ) (head : Head) (way : Way) (initial ways : ℕ → Option Way) (phase : ℕ) → IsSoFar p counts head way initial ways phase
-    → option_map (arrival way phase) (stage_after p (stage_at counts head way.delay) phase) ≡ None → IsSoFar p counts head way initial ways (phase + 1)
-so-far-none p counts head way initial ways phase h none = record {
+pub so-far-none : (p : Problem) (counts : List ℕ) (head : Head) (way : Way) (initial ways : ℕ → Option Way) (phase : ℕ) (o : Option (ℕ × Way)) → IsSoFar p counts head way initial ways phase
+    → o ≡ option_map (arrival way phase) (stage_after p (stage_at counts head way.delay) phase) → o ≡ None → IsSoFar p counts head way initial ways (phase + 1)
+so-far-none p counts head way initial ways phase o h served none = record {
   reached = h.reached;
   improves = h.improves;
   extended = λ k below. elim (cases_lt k phase) [
@@ -227,21 +227,21 @@ so-far-none p counts head way initial ways phase h none = record {
     | inr last ↦
         let s = stage_at counts head way.delay in
         let same : phase ≡ k = omega arith in
-        let gone : stage_after p s k ≡ None = ap (stage_after p s) (sym same) ∙ none-mapped (arrival way phase) (stage_after p s phase) none in
+        let gone : stage_after p s k ≡ None = ap (stage_after p s) (sym same) ∙ none-mapped (arrival way phase) (stage_after p s phase) (sym served ∙ none) in
         if-each (λ next. HasWay ways next (way.order * 4 + k)) (stage_after p s k) (λ t e. absurd (none-some t (sym gone ∙ e)))
   ];
 }
 
 pub so-far-taken : (p : Problem) (counts : List ℕ) (head : Head) (way : Way) (initial old new : ℕ → Option Way) (phase number : ℕ) (arrived : Way) → IsInstance p → LeadsTo p counts head way
-    → IsSoFar p counts head way initial old phase → option_map (arrival way phase) (stage_after p (stage_at counts head way.delay) phase) ≡ Some (number, arrived) → TakesIn old new number arrived
+    → IsSoFar p counts head way initial old phase → Some (number, arrived) ≡ option_map (arrival way phase) (stage_after p (stage_at counts head way.delay) phase) → TakesIn old new number arrived
     → IsSoFar p counts head way initial new (phase + 1)
 so-far-taken p counts head way initial old new phase number arrived i l h some takes =
     let s = stage_at counts head way.delay in
     option-cases (stage_after p s phase)
-    (λ none. absurd (none-some (number, arrived) (sym (ap (option_map (arrival way phase)) none) ∙ some)))
+    (λ none. absurd (none-some (number, arrived) (sym (some ∙ ap (option_map (arrival way phase)) none))))
     (λ t et.
     let both : (key_number t.counts t.head ≡ number) × ((arrival way phase t).1 ≡ arrived) =
-    some_pair_parts (key_number t.counts t.head) number (arrival way phase t).1 arrived (sym (ap (option_map (arrival way phase)) et) ∙ some) in
+    some_pair_parts (key_number t.counts t.head) number (arrival way phase t).1 arrived (sym (some ∙ ap (option_map (arrival way phase)) et)) in
     let taken : TakesIn old new (key_number t.counts t.head) (arrival way phase t).1 =
     subst (λ n. TakesIn old new n (arrival way phase t).1) (sym both.0) (subst (λ w. TakesIn old new number w) (sym both.1) takes) in
     record {

@@ -1,4 +1,4 @@
-use Rattle.std.proofs.Common.{◌+◌, length, sym, ap, subst, ◌∙◌, arith}
+use Rattle.std.proofs.Common.{◌+◌, length, sym, ap, subst, arith}
 use Rattle.schedule_meaning.proofs.Sequences.{none-unless}
 use Rattle.forward_dp.specs.Layers.{ways_of}
 use Rattle.forward_dp.proofs.Tables.{IsSoFar, so-far-start, so-far-none, so-far-taken, so-far-all}
@@ -20,12 +20,13 @@ loop-phase-preserved g c =
       | in-Some+in_ok-keep w ↦ record {
         so_far = subst (λ m. IsSoFar c.args.i.now c.args.counts.now c.args.head.now c.args.way.now initial (ways_of m) (k + 1)) (sym w.next-is)
             (so-far-taken c.args.i.now c.args.counts.now c.args.head.now c.args.way.now initial old (ways_of w.keep.new.layer) k w.in-Some.key w.in-Some.arrived c.plan.ensures.instance c.requires.leads
-            c.loop-phase.invariant.so_far (sym w.in-Some.ensures.value) w.in_ok-keep.ensures);
+            c.loop-phase.invariant.so_far w.in-Some.ensures.value w.in_ok-keep.ensures);
         cost = omega (arith, c.loop-phase.invariant.cost, c.serve_next.ensures.cost);
       }
       | in_default w ↦ record {
         so_far = subst (λ m. IsSoFar c.args.i.now c.args.counts.now c.args.head.now c.args.way.now initial (ways_of m) (k + 1)) (sym w.next-is)
-            (so-far-none c.args.i.now c.args.counts.now c.args.head.now c.args.way.now initial old k c.loop-phase.invariant.so_far (sym c.serve_next.ensures.value ∙ none-unless c.serve_next.result (λ x e. w.in_default.not-Some x e)));
+            (so-far-none c.args.i.now c.args.counts.now c.args.head.now c.args.way.now initial old k c.serve_next.result c.loop-phase.invariant.so_far c.serve_next.ensures.value
+            (none-unless c.serve_next.result w.in_default.not-Some));
         cost = omega (arith, c.loop-phase.invariant.cost, c.serve_next.ensures.cost);
       }
     ]
