@@ -134,6 +134,15 @@ impl PhasePlan {
         })
     }
 
+    /// The phases, in order.
+    ///
+    /// docs/RULES.md, "Phases".
+    pub fn phases(&self) -> &[Phase]
+        ensures { result.now ≡ self.now }
+    {
+        self.phases.as_slice()
+    }
+
     /// How many phases there are, 2 to 4.
     ///
     /// docs/RULES.md, "Phases".
