@@ -11,4 +11,4 @@ pub use faults::{InstanceFault, SeqFault};
 pub use instances::Instance;
 pub use planners::{Answer, PlainPlanner, Planner, best_answer};
 pub use replays::{Timed, replay};
-pub use texts::{TextFault, read_instance};
+pub use texts::{TextFault, read_instance, write_instance};
