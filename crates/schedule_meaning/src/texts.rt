@@ -63,13 +63,15 @@ pub fn read_instance(alloc: Global, bytes: &[u8]) -> Result<Instance, TextFault>
     }
 }
 
-/// The one spelling of an instance, which `read_instance` reads as that instance. An `Err` comes where memory runs out.
+/// The one spelling of an instance, in fewer than 2^32 bytes, which `read_instance` reads as that instance. An `Err`
+/// comes where memory runs out.
 ///
 /// docs/FORMATS.md, "Instance text".
 pub fn write_instance(alloc: Global, i: &Instance) -> Result<Vec<u8>, AllocError>
     ensures text { IfOk result (λ text. text.items ≡ instance_text i.now.plan i.now.head i.now.lists) }
     ensures lawful { IsInstance i.now }
     ensures spells { IfOk result (λ text. Spells text.items i.now) }
+    ensures short { IfOk result (λ text. length text.items < 2 ^ 32) }
 {
     write_form(alloc, i.plan().phases(), &i.head(), i.lists())
 }
