@@ -1,0 +1,1 @@
+pub use Rattle.schedule_meaning.specs.Best

@@ -1,0 +1,2 @@
+/// A stub.
+pub fn nothing() {}
