@@ -1,2 +1,4 @@
-pub mod Rests
 pub mod Law
+pub mod Nexts
+pub mod Places
+pub mod Rests

@@ -1,8 +1,9 @@
 -- A completion of a stage costs at least what its clusters that are not yet served cost when each waits until the stage's time.
-use Rattle.std.proofs.Common.{◌≡◌, ℕ, zero, suc, ◌+◌, ◌-◌, ◌*◌, ◌<◌, ◌≤◌, ◌&&◌, nat_lt, nat_le, max, Bool, true, false, cond, List, [], ◌∷◌, length, length-set, sum, get_or, drop, Option, Some, None, Result, Ok, Err, refl, sym, ap, subst, ◌∙◌, inl, inr, add-one, drop-cons, arith}
+use Rattle.std.proofs.Common.{◌≡◌, ℕ, zero, suc, ◌+◌, ◌-◌, ◌*◌, ◌<◌, ◌≤◌, ◌&&◌, nat_lt, nat_le, max, Bool, true, false, cond, List, [], ◌∷◌, length, length-set, sum, get_or, drop, take, Option, Some, None, Result, Ok, Err, refl, sym, ap, subst, ◌∙◌, inl, inr, add-one, drop-cons, arith}
 use Rattle.std.specs.List.{range_with_len, slice_get, sum_by}
 use Rattle.std.proofs.Math.Nat.{mul-le-mul_left}
 use Rattle.std.proofs.Math.Seq.{drop-length}
+use Rattle.std.proofs.lemmas.List.{take_all, length-drop}
 use Rattle.std.proofs.lemmas.Bool.{cases_eq, cond_both}
 use Rattle.std.proofs.lemmas.Bool.Decides.{nat_tests}
 use Rattle.std.proofs.lemmas.List.Sums.{sum_by-cons}
@@ -18,6 +19,7 @@ use Rattle.switch_rules.specs.declared.Unfit.TheVariants.{TooLong, TooLate}
 use Rattle.schedule_meaning.specs.Instances.{Problem, IsInstance, list_at}
 use Rattle.dp_certificate.specs.Prefixes.{Stage, one_more, stage_after, stage_from}
 use Rattle.dp_certificate.specs.Proves.{rest_of}
+use Rattle.cert_checker.specs.Steps.{wait_until}
 use Rattle.dp_certificate.proofs.Servings.{cond-ok, ok-same}
 use Rattle.dp_certificate.proofs.Stages.{behind, some-same, step-begins, from-begins, more-same, more-other, sum-one_more, stage-after-phase}
 
@@ -51,10 +53,6 @@ serving-leads plan head k c =
     (λ _. cond_both (nat_le c.arr earliest) (served_from p k c earliest (earliest + p.loss) false) (served_from p k c c.arr c.arr false) (Leading head.at c)
     (λ _. served-from-leads p k c earliest (earliest + p.loss) false head.at (omega arith))
     (λ late. let arrives : earliest < c.arr = grind (arith, nat_tests, late) in served-from-leads p k c c.arr c.arr false head.at (omega arith)))
-
--- what one cluster costs that waits until t
-abbrev pub wait_until : ℕ → Cluster → ℕ
-wait_until t c = c.size * (t - c.arr)
 
 -- what is left of phase k, and what it costs until t
 abbrev pub left_of : Problem → List ℕ → ℕ → List Cluster
@@ -157,3 +155,26 @@ rest-below p lawful [] s end places e all =
     subst (λ (x : Stage). x.delay + rest_of p x.counts x.head.at ≤ end.delay) (sym same) (omega (arith, no-rest p end.counts end.head.at all))
 rest-below p lawful (k ∷ u) s end places e all = from-begins p s end k u e (λ next en rest.
     omega (arith, step-rest p lawful s next k places en, rest-below p lawful u next end (step-places p s next k en ∙ places) rest all))
+
+-- the rest of a list, cut out of it
+rest-whole : (n : ℕ) (cs : List Cluster) → take (length cs - n) (drop n cs) ≡ drop n cs
+rest-whole n cs = take_all (length cs - n) (drop n cs) (omega (arith, length-drop n cs))
+
+pub few-rest : (cs : List Cluster) (n : ℕ) → length cs ≤ 40 → length (take (length cs - n) (drop n cs)) ≤ 40
+few-rest cs n few = omega (arith, ap length (rest-whole n cs), length-drop n cs)
+
+pub whole-rest : (t n : ℕ) (cs : List Cluster) → sum_by (wait_until t) (take (length cs - n) (drop n cs)) ≡ sum_by (wait_until t) (drop n cs)
+whole-rest t n cs = ap (sum_by (wait_until t)) (rest-whole n cs)
+
+-- a sum over the numbers below one more
+ranges-more : (f : ℕ → ℕ) (a n : ℕ) → sum_by f (range_with_len a (n + 1)) ≡ sum_by f (range_with_len a n) + f (a + n)
+ranges-more f a n = rw add-one (more n a)
+  where
+    more : (n a : ℕ) → sum_by f (range_with_len a (suc n)) ≡ sum_by f (range_with_len a n) + f (a + n)
+    more zero a = sum_by-cons f a [] ∙ omega (arith, ap f (let e : a ≡ a + 0 = omega arith in e))
+    more (suc n) a =
+        sum_by-cons f a (range_with_len (a + 1) (suc n))
+        ∙ omega (arith, more n (a + 1), sum_by-cons f a (range_with_len (a + 1) n), ap f (let e : a + 1 + n ≡ a + suc n = omega arith in e))
+
+pub range-more : (f : ℕ → ℕ) (n sofar next : ℕ) → sofar ≡ sum_by f (range_with_len 0 n) → next ≡ f n → sofar + next ≡ sum_by f (range_with_len 0 (n + 1))
+range-more f n sofar next e h = omega (arith, ranges-more f 0 n, ap f (let e : 0 + n ≡ n = omega arith in e))

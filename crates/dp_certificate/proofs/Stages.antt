@@ -26,10 +26,10 @@ abbrev pub behind : Stage → ℕ → Served × Head → Stage
 behind s k r = record { counts = one_more s.counts k; head = r.1; delay = s.delay + r.0.cost }
 
 -- a step in its three outcomes: there is no cluster, or its serving is unfit, or fit
-step-missing : (p : Problem) (s : Stage) (k : ℕ) → slice_get (list_at p.lists k) (get_or s.counts k 0) ≡ None → stage_after p s k ≡ None
+pub step-missing : (p : Problem) (s : Stage) (k : ℕ) → slice_get (list_at p.lists k) (get_or s.counts k 0) ≡ None → stage_after p s k ≡ None
 step-missing p s k e = rw e refl
 
-step-unfit : (p : Problem) (s : Stage) (k : ℕ) (c : Cluster) (why : Unfit) → slice_get (list_at p.lists k) (get_or s.counts k 0) ≡ Some c → serving p.plan s.head k c ≡ Err why → stage_after p s k ≡ None
+pub step-unfit : (p : Problem) (s : Stage) (k : ℕ) (c : Cluster) (why : Unfit) → slice_get (list_at p.lists k) (get_or s.counts k 0) ≡ Some c → serving p.plan s.head k c ≡ Err why → stage_after p s k ≡ None
 step-unfit p s k c why e f = rw e (rw f refl)
 
 pub step-fit : (p : Problem) (s : Stage) (k : ℕ) (c : Cluster) (r : Served × Head) → slice_get (list_at p.lists k) (get_or s.counts k 0) ≡ Some c → serving p.plan s.head k c ≡ Ok r → stage_after p s k ≡ Some (behind s k r)

@@ -1,2 +1,0 @@
-/// A stub.
-pub fn nothing() {}
