@@ -1,18 +1,17 @@
 -- An accepted certificate proves the least delay.
-use Rattle.std.specs.Prelude.{unwrap_or}
-use Rattle.std.proofs.Common.{◌≡◌, ℕ, ◌+◌, ◌<◌, ◌≤◌, ◌==◌, ◌&&◌, Bool, true, false, cond, List, [], ◌∷◌, length, sum, get_or, All, ◌⊎◌, Option, Some, None, IfSome, refl, sym, ap, subst, ◌∙◌, inl, inr, arith}
+use Rattle.std.proofs.Common.{◌≡◌, ℕ, ◌+◌, ◌≤◌, ◌==◌, Bool, true, false, List, [], ◌∷◌, length, sum, get_or, ◌⊎◌, Option, Some, None, IfSome, refl, sym, ap, subst, ◌∙◌, inl, inr, arith}
 use Rattle.std.specs.List.{Contains}
 use Rattle.std.proofs.lemmas.Bool.{ne_eqb, eq-eqb}
 use Rattle.std.proofs.lemmas.List.Elements.{All-contains}
 use Rattle.switch_rules.specs.declared.Head.{Head}
-use Rattle.schedule_meaning.specs.Instances.{Problem, IsInstance, list_at, counts_of}
+use Rattle.schedule_meaning.specs.Instances.{Problem, IsInstance, list_at}
 use Rattle.schedule_meaning.specs.Timing.{delay_of}
 use Rattle.schedule_meaning.specs.Best.{IsLeast}
 use Rattle.schedule_meaning.specs.declared.planners.Answer.{Answer}
 use Rattle.schedule_meaning.specs.declared.planners.Answer.TheVariants.{Plan, NoPlan}
-use Rattle.schedule_meaning.proofs.Sequences.{option-cases, none-unless}
+use Rattle.schedule_meaning.proofs.Sequences.{none-unless}
 use Rattle.dp_certificate.specs.Prefixes.{Stage, Key, key_of, first_stage, stage_after, stage_from}
-use Rattle.dp_certificate.specs.Certificates.{Claim, IsCertificate, head_of}
+use Rattle.dp_certificate.specs.Certificates.{Claim, IsCertificate}
 use Rattle.dp_certificate.specs.Proves.{HasEntry, HasRoot, IsClosed, IsClosedAt, IsEnded, IsNoCheaper, IsPlanned, IsTooDear, Proves, key_of_entry, rest_of, stage_of_entry}
 use Rattle.dp_certificate.specs.declared.Entry.{Entry}
 use Rattle.dp_certificate.proofs.Stages.{ends-delay, from-begins, some-same, stage-alike}

@@ -16,7 +16,7 @@ use Rattle.dp_certificate.specs.Certificates.{Claim, IsEntry}
 use Rattle.dp_certificate.specs.Proves.{HasEntry, IsClosed, IsClosedAt, IsTooDear, stage_of_entry}
 use Rattle.dp_certificate.specs.declared.Entry.{Entry}
 use Rattle.dp_certificate.proofs.Stages.{more-within, stage-after-phase, step-fit}
-use Rattle.cert_checker.specs.Steps.{IsMet, IsNext, stage_behind}
+use Rattle.cert_checker.specs.Nexts.{IsMet, IsNext, stage_behind}
 use Rattle.cert_checker.proofs.Rests.{serving-leads}
 
 -- a phase has few clusters

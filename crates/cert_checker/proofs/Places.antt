@@ -1,5 +1,5 @@
 -- Among entries that rise, a key has one place.
-use Rattle.std.proofs.Common.{All, take, IsTrue, Bool, ◌↔◌, ◌≡◌, ℕ, zero, suc, ◌+◌, ◌-◌, ◌<◌, ◌≤◌, List, [], ◌∷◌, ◌++◌, length, get_or, ◌⊎◌, refl, sym, ap, subst, ◌∙◌, inl, inr, add-one, arith}
+use Rattle.std.proofs.Common.{All, take, IsTrue, Bool, ◌↔◌, ◌≡◌, ℕ, zero, suc, ◌+◌, ◌-◌, ◌<◌, ◌≤◌, List, [], ◌∷◌, ◌++◌, length, get_or, sym, ap, subst, ◌∙◌, inl, inr, add-one, arith}
 use Rattle.std.proofs.lemmas.Bool.{cases_eq, cases_lt}
 use Rattle.std.proofs.lemmas.List.{get_or_default, take_all}
 use Rattle.std.proofs.lemmas.List.Elements.{All-more}
@@ -7,7 +7,7 @@ use Rattle.dp_certificate.specs.Prefixes.{Key}
 use Rattle.dp_certificate.specs.Certificates.{AreRising, IsBefore, digits_of, entry_at, no_entry}
 use Rattle.dp_certificate.specs.Proves.{HasEntry, key_of_entry}
 use Rattle.dp_certificate.specs.declared.Entry.{Entry}
-use Rattle.cert_checker.specs.Steps.{IsPlace}
+use Rattle.cert_checker.specs.Nexts.{IsPlace}
 use Rattle.cert_checker.specs.Verdicts.{IsFirstNot}
 
 -- no list of numbers is before itself, and to be before is transitive
@@ -87,12 +87,11 @@ has-entry entries key place n e inside at same less = record {
 pub place-decides : (entries : List Entry) (key : Entry) (place : ℕ) (d : Entry) (b : Bool) → AreRising entries → IsPlace entries key place → place < length entries
     → (IsTrue b ↔ (key_of_entry (get_or entries place d) ≡ key_of_entry key) × ((get_or entries place d).delay ≤ key.delay)) → IsTrue b ↔ HasEntry entries (key_of_entry key) key.delay
 place-decides entries key place d b rising at inside tests =
-    let same : entry_at entries place ≡ get_or entries place d = get_or_default entries place no_entry d inside in
-    (
+    let same : entry_at entries place ≡ get_or entries place d = get_or_default entries place no_entry d inside in (
       λ h. has-entry entries (key_of_entry key) place key.delay (get_or entries place d) inside same (tests.0 h).0 (tests.0 h).1,
       λ has.
-        let there = entry-there entries key place key.delay rising at has in
-        tests.1 (ap key_of_entry (sym same) ∙ there.1, omega (arith, there.2, ap (λ (e : Entry). e.delay) same)),
+          let there = entry-there entries key place key.delay rising at has in
+          tests.1 (ap key_of_entry (sym same) ∙ there.1, omega (arith, there.2, ap (λ (e : Entry). e.delay) same)),
     )
 
 -- behind the last place there is none
@@ -111,8 +110,7 @@ holds-all P entries now i same past before = subst (All P) (take_all i entries (
 pub first-not : (P : Entry → Type 0) (entries now : List Entry) (i : ℕ) (d : Entry) → now ≡ entries → i < length now → All P (take i entries) → (P (get_or now i d) → ⊥) → IsFirstNot P entries (i + 1)
 first-not P entries now i d same inside before here =
     let there : i < length entries = subst (λ xs. i < length xs) same inside in
-    let index : i ≡ i + 1 - 1 = omega arith in
-    (
+    let index : i ≡ i + 1 - 1 = omega arith in (
       omega arith,
       omega arith,
       subst (λ n. All P (take n entries)) index before,

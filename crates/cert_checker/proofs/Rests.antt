@@ -1,5 +1,5 @@
 -- A completion of a stage costs at least what its clusters that are not yet served cost when each waits until the stage's time.
-use Rattle.std.proofs.Common.{◌≡◌, ℕ, zero, suc, ◌+◌, ◌-◌, ◌*◌, ◌<◌, ◌≤◌, ◌&&◌, nat_lt, nat_le, max, Bool, true, false, cond, List, [], ◌∷◌, length, length-set, sum, get_or, drop, take, Option, Some, None, Result, Ok, Err, refl, sym, ap, subst, ◌∙◌, inl, inr, add-one, drop-cons, arith}
+use Rattle.std.proofs.Common.{◌≡◌, ℕ, zero, suc, ◌+◌, ◌-◌, ◌*◌, ◌<◌, ◌≤◌, ◌&&◌, nat_lt, nat_le, max, Bool, true, false, cond, List, [], ◌∷◌, length, length-set, sum, get_or, drop, take, Some, Result, Ok, Err, refl, sym, ap, subst, ◌∙◌, inl, inr, add-one, drop-cons, arith}
 use Rattle.std.specs.List.{range_with_len, slice_get, sum_by}
 use Rattle.std.proofs.Math.Nat.{mul-le-mul_left}
 use Rattle.std.proofs.Math.Seq.{drop-length}
@@ -19,7 +19,7 @@ use Rattle.switch_rules.specs.declared.Unfit.TheVariants.{TooLong, TooLate}
 use Rattle.schedule_meaning.specs.Instances.{Problem, IsInstance, list_at}
 use Rattle.dp_certificate.specs.Prefixes.{Stage, one_more, stage_after, stage_from}
 use Rattle.dp_certificate.specs.Proves.{rest_of}
-use Rattle.cert_checker.specs.Steps.{wait_until}
+use Rattle.cert_checker.specs.Nexts.{wait_until}
 use Rattle.dp_certificate.proofs.Servings.{cond-ok, ok-same}
 use Rattle.dp_certificate.proofs.Stages.{behind, some-same, step-begins, from-begins, more-same, more-other, sum-one_more, stage-after-phase}
 
@@ -108,12 +108,12 @@ more-at f g j more here others a (suc n) = elim (cases_eq a j) [
 rest-step : (p : Problem) (counts : List ℕ) (k t u : ℕ) (c : Cluster) → k < length counts → slice_get (list_at p.lists k) (get_or counts k 0) ≡ Some c → t ≤ u → rest_of p counts t ≤ wait_until t c + rest_of p (one_more counts k) u
 rest-step p counts k t u c place e h =
     let more : left_cost p counts t k ≤ wait_until t c + left_cost p (one_more counts k) u k =
-      omega (
-        arith,
-        first-waits t (get_or counts k 0) (list_at p.lists k) c e,
-        waits-longer t u h (drop (get_or counts k 0 + 1) (list_at p.lists k)),
-        ap (λ i. sum_by (wait_until u) (drop i (list_at p.lists k))) (more-same counts k place),
-      )
+    omega (
+      arith,
+      first-waits t (get_or counts k 0) (list_at p.lists k) c e,
+      waits-longer t u h (drop (get_or counts k 0 + 1) (list_at p.lists k)),
+      ap (λ i. sum_by (wait_until u) (drop i (list_at p.lists k))) (more-same counts k place),
+    )
     in
     more-at (left_cost p counts t) (left_cost p (one_more counts k) u) k (wait_until t c) more
     (λ j other. omega (arith, waits-longer t u h (left_of p counts j), ap (λ i. sum_by (wait_until u) (drop i (list_at p.lists j))) (more-other counts k j other)))
@@ -133,7 +133,7 @@ step-rest p lawful s t k places e = step-begins p s t k e (λ c r ec er same.
     let place : k < length s.counts = omega (arith, stage-after-phase p lawful s t k e, lawful.plan.count.1) in
     let leads = serving-leads p.plan s.head k c r er in
     let less : s.delay + rest_of p s.counts s.head.at ≤ (behind s k r).delay + rest_of p (behind s k r).counts (behind s k r).head.at =
-      omega (arith, rest-step p s.counts k s.head.at r.1.at c place ec leads.later, leads.cost)
+    omega (arith, rest-step p s.counts k s.head.at r.1.at c place ec leads.later, leads.cost)
     in
     subst (λ (x : Stage). s.delay + rest_of p s.counts s.head.at ≤ x.delay + rest_of p x.counts x.head.at) same less)
 

@@ -3,7 +3,7 @@
 ghost use Rattle.std.specs.Prelude.{◌≡◌, ◌≤◌, ◌↔◌, IsTrue};
 ghost use Rattle.dp_certificate.specs.Certificates.{AreRising, IsBefore, digits_of};
 ghost use Rattle.dp_certificate.specs.Proves.{HasEntry, key_of_entry};
-ghost use Rattle.cert_checker.specs.Steps.{IsPlace};
+ghost use Rattle.cert_checker.specs.Nexts.{IsPlace};
 
 use dp_certificate::Entry;
 

@@ -7,7 +7,7 @@ ghost use Rattle.schedule_meaning.specs.Instances.{list_at};
 ghost use Rattle.dp_certificate.specs.Prefixes.{stage_after};
 ghost use Rattle.dp_certificate.specs.Certificates.{IsCertificate, IsEntry, entry_at};
 ghost use Rattle.dp_certificate.specs.Proves.{IsClosed, IsEnded, IsNoCheaper, IsTooDear, rest_of, stage_of_entry};
-ghost use Rattle.cert_checker.specs.Steps.{IsMet, IsNext, stage_behind, wait_until};
+ghost use Rattle.cert_checker.specs.Nexts.{IsMet, IsNext, stage_behind, wait_until};
 ghost use Rattle.cert_checker.specs.Verdicts.{IsFirstNot, IsOpenAt};
 
 use super::search::has_entry;

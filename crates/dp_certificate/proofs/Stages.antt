@@ -1,14 +1,13 @@
 -- Where prefixes lead: step by step, and whole sequences to their delay.
 use Rattle.std.specs.Prelude.{unwrap_or}
-use Rattle.std.proofs.Common.{◌≡◌, ℕ, zero, suc, ◌+◌, ◌-◌, ◌<◌, ◌≤◌, ◌==◌, ◌&&◌, cond, List, [], ◌∷◌, ◌++◌, length, sum, get_or, All, Option, Some, None, Ok, Err, refl, sym, ap, subst, ◌∙◌, inl, inr, length-set, arith}
+use Rattle.std.proofs.Common.{◌≡◌, ℕ, zero, suc, ◌+◌, ◌-◌, ◌<◌, ◌≤◌, ◌==◌, cond, List, [], ◌∷◌, ◌++◌, length, sum, get_or, All, Option, Some, None, Ok, Err, refl, sym, ap, subst, ◌∙◌, inl, inr, length-set, arith}
 use Rattle.std.specs.Option.{option_map, option_and_then}
 use Rattle.std.specs.List.{slice_get}
-use Rattle.std.proofs.lemmas.Bool.{cases_eq, cases_lt, eqb-true, eq-eqb, ne_eqb}
+use Rattle.std.proofs.lemmas.Bool.{cases_eq, cases_lt, eqb-true, eq-eqb}
 use Rattle.std.proofs.lemmas.List.{get_or-set_same, get_or-set_other, get_or_past, length-map}
 use Rattle.std.proofs.lemmas.List.Elements.{All-nil, All-cons}
-use Rattle.std.proofs.lemmas.List.Sums.{sum_by-cons, sum_by-set, get_or-le-sum_by}
+use Rattle.std.proofs.lemmas.List.Sums.{sum_by-cons, sum_by-set}
 use Rattle.std.proofs.lemmas.Option.{slice_get_within, get_or_from_slice_get, cond_some}
-use Rattle.phase_plan.specs.Phases.{no_phase}
 use Rattle.switch_rules.specs.Serving.{serving, IsCluster}
 use Rattle.switch_rules.specs.Orders.{one_less}
 use Rattle.switch_rules.specs.declared.Head.{Head}
@@ -18,7 +17,7 @@ use Rattle.switch_rules.specs.declared.Unfit.{Unfit}
 use Rattle.switch_rules.proofs.Counting.{count-le-sum, sum-one_less, length-one_less}
 use Rattle.schedule_meaning.specs.Instances.{Problem, IsInstance, list_at, counts_of}
 use Rattle.schedule_meaning.specs.Timing.{next_cluster, timed_from, timed, delay_of, total_cost}
-use Rattle.schedule_meaning.proofs.Sequences.{get_or-counts, option-cases, result-cases, timed-begins, timed-fit, next-left, left-phase, under-way-start}
+use Rattle.schedule_meaning.proofs.Sequences.{get_or-counts, option-cases, result-cases, timed-begins, timed-fit, next-left, left-phase}
 use Rattle.dp_certificate.specs.Prefixes.{Stage, one_more, stage_after, stage_from, first_stage, stage_of}
 
 -- the stage behind a fit serving of phase k

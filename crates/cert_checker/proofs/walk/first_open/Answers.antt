@@ -6,8 +6,8 @@ use Rattle.cert_checker.proofs.walk.first_open.Goals as goal
 pub loop-index-preserved : goal.loop-index-preserved
 loop-index-preserved g c = record {
   closed =
-    holds-more (IsClosed c.args.c.now) c.args.c.now.entries c.entries-entry-items.result.now c.loop-index.index _ c.entries-entry-items.ensures.value c.loop-index-test.true c.loop-index.invariant.closed
-    c.in_default.ensures.none;
+      holds-more (IsClosed c.args.c.now) c.args.c.now.entries c.entries-entry-items.result.now c.loop-index.index _ c.entries-entry-items.ensures.value c.loop-index-test.true c.loop-index.invariant.closed
+      c.in_default.ensures.none;
   cost = omega (arith, c.loop-index.invariant.cost, c.open_phase.ensures.cost);
 }
 

@@ -1,9 +1,7 @@
-use Rattle.std.proofs.Common.{◌≡◌, ◌<◌, length, get_or, Some, Ok, ap, subst, sym, ◌∙◌, arith}
-use Rattle.std.specs.List.{slice_get}
+use Rattle.std.proofs.Common.{get_or, ap, subst, sym, ◌∙◌, arith}
 use Rattle.std.proofs.lemmas.Option.{slice_get_within}
 use Rattle.switch_rules.specs.Serving.{IsServing, serving}
 use Rattle.schedule_meaning.specs.Instances.{list_at}
-use Rattle.dp_certificate.specs.Proves.{stage_of_entry}
 use Rattle.cert_checker.proofs.Nexts.{few-listed, next-fit, next-bounds}
 use Rattle.cert_checker.proofs.walk.next_behind.Goals as goal
 

@@ -1,5 +1,5 @@
 use Rattle.std.proofs.Common.{◌≡◌, ◌*◌, ◌≤◌, take, sum_by}
-use Rattle.cert_checker.specs.Steps.{wait_until}
+use Rattle.cert_checker.specs.Nexts.{wait_until}
 use Rattle.cert_checker.proofs.walk.waiting.Given as goal
 
 -- what the clusters so far cost

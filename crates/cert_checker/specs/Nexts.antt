@@ -1,4 +1,4 @@
--- What the checker keeps on its way.
+-- What is next behind an entry, and where a key stands among entries.
 use Rattle.std.specs.Prelude.{ℕ, ◌-◌, ◌*◌, ◌<◌, ◌≤◌, false, ◌⊎◌, List, length, slice_index}
 use Rattle.switch_rules.specs.declared.Cluster.{Cluster}
 use Rattle.schedule_meaning.specs.Instances.{Problem, list_at}
