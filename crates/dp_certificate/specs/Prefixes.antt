@@ -1,5 +1,5 @@
 -- Fit prefixes of sequences, where each leads, and the keys that they reach.
-use Rattle.std.specs.Prelude.{◌≡◌, ℕ, ◌+◌, List, [], ◌∷◌, slice_index, slice_set, slice_get, Contains, Option, Some, None, IfSome}
+use Rattle.std.specs.Prelude.{ℕ, ◌+◌, List, [], ◌∷◌, slice_index, slice_set, slice_get, Contains, Option, Some, IfSome}
 use Rattle.std.specs.Result.{result_ok}
 use Rattle.switch_rules.specs.Serving.{serving}
 use Rattle.switch_rules.specs.declared.Head.{Head}

@@ -1,6 +1,9 @@
-//! The entries of a table of least delays, and what its keys are.
+//! The entries of a table of least delays, and certificates: an answer with the entries that are to prove it.
 #![tactic(auto)]
 
+mod certificates;
+
+pub use certificates::{CertFault, Certificate};
 use foundation::threads::CrossesThreads;
 
 /// One entry of a table of least delays: a key, which is what decides how a plan can go on, with a delay.
