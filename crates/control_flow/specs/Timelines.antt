@@ -7,22 +7,26 @@ use Rattle.switch_rules.specs.Serving.{IsCluster, serving}
 use Rattle.switch_rules.specs.declared.Head.{Head}
 use Rattle.switch_rules.specs.declared.Cluster.{Cluster}
 use Rattle.switch_rules.specs.declared.Served.{Served}
-use Rattle.control_flow.specs.Greens.{next_phase, rows_before}
-use Rattle.control_flow.specs.declared.Green.{Green}
+use Rattle.control_flow.specs.Greens.{next_phase}
+use Rattle.control_flow.specs.declared.greens.Green.{Green}
 
--- the next serving of a run: a cluster within its bounds, fit from this head
-pub record IsServing1 (plan : List Phase) (head next : Head) (k : ℕ) (s : Served) : Type 0 where
+-- the head behind a serving of phase k
+abbrev pub head_behind : ℕ → Served → Head
+head_behind k s = record { phase = k; since = s.green; at = s.finish; fresh = false }
+
+-- a serving of phase k from a head: that of a cluster within its bounds, which is fit
+pub record IsServingOf (plan : List Phase) (head : Head) (k : ℕ) (s : Served) : Type 0 where
   pub phase : k < length plan
   pub cluster : Cluster
   pub bounds : IsCluster cluster
-  pub fit : serving plan head k cluster ≡ Ok (s, next)
+  pub fit : serving plan head k cluster ≡ Ok (s, head_behind k s)
 
--- these are the servings of these phases, one after another from a head
+-- these are servings of these phases, each from the head behind the one before it
 abbrev pub AreServings : List Phase → Head → List ℕ → List Served → Type 0
 AreServings plan head [] [] = Unit {0}
 AreServings plan head [] (s ∷ ss) = ⊥
 AreServings plan head (k ∷ ks) [] = ⊥
-AreServings plan head (k ∷ ks) (s ∷ ss) = (next : Head) × IsServing1 plan head next k s × AreServings plan next ks ss
+AreServings plan head (k ∷ ks) (s ∷ ss) = IsServingOf plan head k s × AreServings plan (head_behind k s) ks ss
 
 -- the phases that the ring passes from phase s to a wanted green of phase j, all others where j is s
 abbrev pub passed_numbers : List Phase → ℕ → ℕ → List ℕ
@@ -62,10 +66,6 @@ turning plan (suc most) until s to =
 abbrev pub turned : List Phase → Head → ℕ → ℕ → List Green
 turned plan head to until = record { phase = head.phase; from = head.since; to = to } ∷ turning plan (until + 1) until head.phase to
 
--- the head behind a serving of phase k
-abbrev pub head_behind : ℕ → Served → Head
-head_behind k s = record { phase = k; since = s.green; at = s.finish; fresh = false }
-
 -- the timeline of servings from a head: a green that goes on is one row; a green that is left for a new one ends as late
 -- as it may, and the ring passes to the new one; the last green is held as long as it may, and then the ring turns
 abbrev pub line_of : List Phase → Head → List ℕ → List Served → ℕ → List Green
@@ -78,8 +78,3 @@ line_of plan head (k ∷ ks) (s ∷ ss) until =
 -- the timeline with no plan: the green of the head ends as soon as it may, and then the ring turns
 abbrev pub rotation_of : List Phase → Head → ℕ → List Green
 rotation_of plan head until = turned plan head (earliest_end plan head) until
-
--- a timeline whose rows from the begin of another one's first row on are replaced by that one
-abbrev pub spliced : List Green → List Green → List Green
-spliced old [] = old
-spliced old (row ∷ rows) = rows_before old row.from ++ row ∷ rows
