@@ -1,2 +1,3 @@
--- What the crate's proofs share.
+pub mod RingLaws
+pub mod RowLaws
 mod WorkedRows

@@ -55,6 +55,10 @@ pub record GoesOn (head : Head) (rows : List Green) : Type 0 where
 abbrev pub covers : Green → ℕ → Bool
 covers row second = nat_le row.from second && nat_lt second row.to
 
+-- whether the yellow behind a row, of so many seconds, covers a second
+abbrev pub covers_yellow : Green → ℕ → ℕ → Bool
+covers_yellow row yellow second = nat_le row.to second && nat_lt second (row.to + yellow)
+
 -- the first row that covers a second
 abbrev pub green_at : List Green → ℕ → Option Green
 green_at rows second = find (λ row. covers row second) rows
@@ -69,7 +73,7 @@ is_green rows k second = list_any (λ row. (row.phase == k) && covers row second
 
 -- whether the yellow behind a row of the phase covers a second
 abbrev pub is_yellow : List Phase → List Green → ℕ → ℕ → Bool
-is_yellow plan rows k second = list_any (λ row. (row.phase == k) && nat_le row.to second && nat_lt second (row.to + (phase_at plan k).yellow)) rows
+is_yellow plan rows k second = list_any (λ row. (row.phase == k) && covers_yellow row (phase_at plan k).yellow second) rows
 
 -- what phase k shows at a second
 abbrev pub colour_at : List Phase → List Green → ℕ → ℕ → Colour

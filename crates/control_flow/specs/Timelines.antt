@@ -1,7 +1,7 @@
 -- The timeline of a plan of servings, and that of no plan.
 use Rattle.std.specs.Prelude.{◌≡◌, ℕ, zero, suc, false, ◌+◌, ◌-◌, ◌<◌, max, min, nat_lt, if◌then◌else◌, List, [], ◌∷◌, ◌++◌, length, Ok}
 use Rattle.std.specs.List.{range_with_len}
-use Rattle.phase_plan.specs.Phases.{phase_at, switch_time}
+use Rattle.phase_plan.specs.Phases.{phase_at, passing, switch_time}
 use Rattle.phase_plan.specs.declared.Phase.{Phase}
 use Rattle.switch_rules.specs.Serving.{IsCluster, serving}
 use Rattle.switch_rules.specs.declared.Head.{Head}
@@ -36,8 +36,12 @@ passed_numbers plan s j = if nat_lt s j then range_with_len (s + 1) (j - (s + 1)
 abbrev pub shortest_greens : List Phase → ℕ → List ℕ → List Green
 shortest_greens plan from [] = []
 shortest_greens plan from (k ∷ ks) =
-    let p = phase_at plan k in
-    record { phase = k; from = from; to = from + p.least } ∷ shortest_greens plan (from + p.least + p.yellow + p.clear) ks
+    record { phase = k; from = from; to = from + (phase_at plan k).least } ∷ shortest_greens plan (from + passing (phase_at plan k)) ks
+
+-- when the next green can begin behind greens of these phases, each of its least length, the first from this second
+abbrev pub begin_behind : List Phase → ℕ → List ℕ → ℕ
+begin_behind plan from [] = from
+begin_behind plan from (k ∷ ks) = begin_behind plan (from + passing (phase_at plan k)) ks
 
 -- when the green of a head ends, if nothing more is served in it: it lasts its least time and until its time is spent
 abbrev pub earliest_end : List Phase → Head → ℕ
@@ -52,15 +56,20 @@ abbrev pub left_for : List Phase → Head → ℕ → List ℕ → List Green
 left_for plan head to ks =
     record { phase = head.phase; from = head.since; to = to } ∷ shortest_greens plan (to + (phase_at plan head.phase).yellow + (phase_at plan head.phase).clear) ks
 
--- the ring turns behind a green up to this second, each green of its least length, until one ends behind `until`;
--- at most so many greens
+-- the green behind one of phase s up to this second: of the next phase of the ring, as early as it may be, of its least
+-- length
+abbrev pub green_behind : List Phase → ℕ → ℕ → Green
+green_behind plan s to =
+    let k = next_phase plan s in
+    let from = to + (phase_at plan s).yellow + (phase_at plan s).clear in
+    record { phase = k; from = from; to = from + (phase_at plan k).least }
+
+-- the ring turns behind a green of phase s up to this second, until a green ends behind `until`; at most so many greens
 abbrev pub turning : List Phase → ℕ → ℕ → ℕ → ℕ → List Green
 turning plan zero until s to = []
 turning plan (suc most) until s to =
     if nat_lt until to then []
-    else (let k = next_phase plan s in
-    let from = to + (phase_at plan s).yellow + (phase_at plan s).clear in
-    record { phase = k; from = from; to = from + (phase_at plan k).least } ∷ turning plan most until k (from + (phase_at plan k).least))
+    else green_behind plan s to ∷ turning plan most until (green_behind plan s to).phase (green_behind plan s to).to
 
 -- the green of a head up to this second, and then the ring turns until a green ends behind `until`
 abbrev pub turned : List Phase → Head → ℕ → ℕ → List Green

@@ -6,4 +6,4 @@ mod making;
 mod seconds;
 
 pub use making::{rotation, timeline};
-pub use seconds::colour;
+pub use seconds::{colour, green_at, head_at};
