@@ -1,3 +1,5 @@
+pub mod LineLaws
 pub mod RingLaws
 pub mod RowLaws
+pub mod ServingLaws
 mod WorkedRows

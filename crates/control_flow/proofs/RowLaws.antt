@@ -44,6 +44,10 @@ end_of-append [] y ys = refl
 end_of-append (x ∷ []) y ys = refl
 end_of-append (x ∷ next ∷ xs) y ys = end_of-append (next ∷ xs) y ys
 
+pub end_of-last : (xs rows : List Green) → 0 < length rows → end_of (xs ++ rows) ≡ end_of rows
+end_of-last xs [] h = absurd (omega arith)
+end_of-last xs (y ∷ ys) h = end_of-append xs y ys
+
 -- where no row ends behind a second, the timeline does not
 pub row_after-none : (rows : List Green) (now : ℕ) → row_after rows now ≡ None → end_of rows ≤ now
 row_after-none [] now e = omega arith

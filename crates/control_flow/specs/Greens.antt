@@ -51,6 +51,10 @@ pub record GoesOn (head : Head) (rows : List Green) : Type 0 where
   pub begin : (row_at rows 0).from ≡ head.since
   pub spent : head.at ≤ (row_at rows 0).to
 
+-- each row begins at this second or before it
+abbrev pub BeginBy : ℕ → List Green → Type 0
+BeginBy second rows = All (λ row. row.from ≤ second) rows
+
 -- whether a row covers a second
 abbrev pub covers : Green → ℕ → Bool
 covers row second = nat_le row.from second && nat_lt second row.to
