@@ -30,18 +30,18 @@ served_from-fit p j c green start kept s next =
     (λ short. cond_both (ltb p.wait (start - c.arr)) _ _ (λ r. r ≡ Ok (s, next) → StartsAt p c green start kept s × (next ≡ head_behind j s))
     (λ late e. let impossible : StartsAt p c green start kept s × (next ≡ head_behind j s) = cc in impossible)
     (λ early e.
-        let both : (served, head_behind j served) ≡ (s, next) = cc in
-        let one : served ≡ s = ap (λ (q : Served × Head). q.0) both in
-        let facts : StartsAt p c green start kept served = record {
-          green_is = refl;
-          finish_is = refl;
-          kept_is = refl;
-          within = ltb-false (green + p.greatest) (start + c.len) short;
-          waited = ltb-false p.wait (start - c.arr) early;
-        } in (
-          subst (StartsAt p c green start kept) one facts,
-          sym (ap (λ (q : Served × Head). q.1) both) ∙ ap (head_behind j) one,
-        )))
+    let both : (served, head_behind j served) ≡ (s, next) = cc in
+    let one : served ≡ s = ap (λ (q : Served × Head). q.0) both in
+    let facts : StartsAt p c green start kept served = record {
+      green_is = refl;
+      finish_is = refl;
+      kept_is = refl;
+      within = ltb-false (green + p.greatest) (start + c.len) short;
+      waited = ltb-false p.wait (start - c.arr) early;
+    } in (
+      subst (StartsAt p c green start kept) one facts,
+      sym (ap (λ (q : Served × Head). q.1) both) ∙ ap (head_behind j) one,
+    )))
 
 -- what a fit serving of phase k keeps
 pub record Keeps (plan : List Phase) (head : Head) (k : ℕ) (s : Served) : Type 0 where
@@ -87,16 +87,16 @@ serving-keeps plan head k c s next plan_is h below bounds =
     let earliest = earliest_green plan head k in
     cond_both (goes_on p head k c) _ _ (λ r. r ≡ Ok (s, next) → Keeps plan head k s × (next ≡ head_behind k s))
     (λ on e.
-        let fit = served_from-fit p k c head.since (start_in_green p head c) true s next e in
-        (kept-keeps plan head k c s h bounds times (eqb-true k head.phase (and_parts (eqb k head.phase) (leb (start_in_green p head c + c.len) (head.since + p.greatest)) on).0) fit.0, fit.1))
+    let fit = served_from-fit p k c head.since (start_in_green p head c) true s next e in
+    (kept-keeps plan head k c s h bounds times (eqb-true k head.phase (and_parts (eqb k head.phase) (leb (start_in_green p head c + c.len) (head.since + p.greatest)) on).0) fit.0, fit.1))
     (λ off. cond_both (leb c.arr earliest) _ _ (λ r. r ≡ Ok (s, next) → Keeps plan head k s × (next ≡ head_behind k s))
     (λ waits e.
-        let fit = served_from-fit p k c earliest (earliest + p.loss) false s next e in
-        (anew-keeps plan head k c s earliest (earliest + p.loss) bounds times (omega arith) (omega arith) fit.0, fit.1))
+    let fit = served_from-fit p k c earliest (earliest + p.loss) false s next e in
+    (anew-keeps plan head k c s earliest (earliest + p.loss) bounds times (omega arith) (omega arith) fit.0, fit.1))
     (λ comes e.
-        let fit = served_from-fit p k c c.arr c.arr false s next e in
-        let behind = leb-false c.arr earliest comes in
-        (anew-keeps plan head k c s c.arr c.arr bounds times (omega (arith, behind)) (omega arith) fit.0, fit.1)))
+    let fit = served_from-fit p k c c.arr c.arr false s next e in
+    let behind = leb-false c.arr earliest comes in
+    (anew-keeps plan head k c s c.arr c.arr bounds times (omega (arith, behind)) (omega arith) fit.0, fit.1)))
 
 -- the head behind a fit serving is the one that its definition gives
 pub serving-behind : (plan : List Phase) (head : Head) (k : ℕ) (c : Cluster) (s : Served) (next : Head) → IsPlan plan → IsHead plan head → k < length plan → IsCluster c

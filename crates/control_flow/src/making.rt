@@ -1,10 +1,11 @@
 //! The timeline of a plan of servings, and that of no plan.
 
-ghost use Rattle.std.specs.Prelude.{◌≡◌, ℕ, ◌+◌, ◌-◌, ◌<◌, ◌≤◌, ◌++◌, length, OnOk, IfOk};
+ghost use Rattle.std.specs.Prelude.{◌≡◌, ◌+◌, ◌-◌, ◌<◌, ◌≤◌, ◌++◌, length, max, OnOk, IfOk};
 ghost use Rattle.std.specs.List.{range_with_len};
+ghost use Rattle.phase_plan.specs.Phases.{IsPlan};
 ghost use Rattle.switch_rules.specs.Serving.{IsHead, earliest_green};
 ghost use Rattle.control_flow.specs.Greens as spec;
-ghost use Rattle.control_flow.specs.Greens.{GoesOn, IsLawful, end_of};
+ghost use Rattle.control_flow.specs.Greens.{BeginBy, GoesOn, IsLawful, end_of};
 ghost use Rattle.control_flow.specs.Timelines.{AreServings, line_of, rotation_of, turned, left_for, earliest_end, last_end, passed_numbers, shortest_greens, begin_behind, green_behind};
 
 use super::greens::{Green, Timeline};
@@ -35,23 +36,25 @@ pub fn timeline(
     ensures lawful { IfOk result (λ line. IsLawful plan.now line) }
     ensures begin { IfOk result (λ line. GoesOn head.now line) }
     ensures end { IfOk result (λ line. until < end_of line) }
+    ensures by { IfOk result (λ line. BeginBy (max 104000 (until + 20)) line) }
 {
+    learn(plan);
     let mut rows = Vec::new(alloc);
-    let mut head = *head;
+    let mut current = *head;
     for (index, phase) in phases.iter().enumerate() {
         let next = &served[index];
         if !next.kept {
-            leave(plan, &head, *phase, next.green, &mut rows)?;
+            leave(plan, &current, *phase, next.green, &mut rows)?;
         }
-        head = Head {
+        current = Head {
             phase: *phase,
             since: next.green,
             at: next.finish,
             fresh: false,
         };
     }
-    let latest = head.since + plan.phase(head.phase).greatest;
-    turn(plan, &head, latest, until, &mut rows)?;
+    let latest = current.since + plan.phase(current.phase).greatest;
+    turn(plan, &current, latest, until, &mut rows)?;
     Ok(Timeline::from_rows(rows))
 }
 
@@ -74,11 +77,20 @@ pub fn rotation(
     ensures lawful { IfOk result (λ line. IsLawful plan.now line) }
     ensures begin { IfOk result (λ line. GoesOn head.now line) }
     ensures end { IfOk result (λ line. until < end_of line) }
+    ensures by { IfOk result (λ line. BeginBy (max 104000 (until + 20)) line) }
 {
+    learn(plan);
     let mut rows = Vec::new(alloc);
     let earliest = earliest_end(plan, head);
     turn(plan, head, earliest, until, &mut rows)?;
     Ok(Timeline::from_rows(rows))
+}
+
+/// That the phases are a plan.
+fn learn(plan: &PhasePlan)
+    ensures { IsPlan plan.now }
+{
+    let _ = plan.count();
 }
 
 /// When the green of a head ends, if nothing more is served in it.
@@ -100,6 +112,7 @@ fn leave(
     begin: u32,
     rows: &mut Vec<Green>,
 ) -> Result<(), AllocError>
+    requires plan { IsPlan plan.now }
     requires head { IsHead plan.now head.now }
     requires reach { head.now.at ≤ 104000 }
     requires phase { phase < length plan.now }
@@ -133,6 +146,7 @@ fn pass(
     from: u32,
     rows: &mut Vec<Green>,
 ) -> Result<(), AllocError>
+    requires plan { IsPlan plan.now }
     requires leaving { leaving < length plan.now }
     requires wanted { wanted < length plan.now }
     requires from { from ≤ 105000 }
@@ -156,12 +170,13 @@ fn add_shortest(
     from: u32,
     rows: &mut Vec<Green>,
 ) -> Result<u32, AllocError>
+    requires plan { IsPlan plan.now }
     requires low { low ≤ high }
     requires high { high ≤ length plan.now }
     requires from { from ≤ 106000 }
     ensures rows { OnOk result (rows.new.items ≡ rows.old.items ++ shortest_greens plan.now from (range_with_len low (high - low))) }
     ensures behind { IfOk result (λ next. next ≡ begin_behind plan.now from (range_with_len low (high - low))) }
-    ensures bounds { IfOk result (λ next. next ≤ from + 1000) }
+    ensures bounds { IfOk result (λ next. next ≤ from + 560) }
 {
     let mut from = from;
     for phase in low..high {
@@ -182,6 +197,7 @@ fn turn(
     until: u32,
     rows: &mut Vec<Green>,
 ) -> Result<(), AllocError>
+    requires plan { IsPlan plan.now }
     requires phase { head.now.phase < length plan.now }
     requires to { to ≤ 105000 }
     requires until { until ≤ 104000 }
@@ -202,6 +218,7 @@ fn turn(
 
 /// The green of the next phase of the ring behind a row, as early as it may be, of its least length.
 fn green_behind(plan: &PhasePlan, row: &Green) -> Green
+    requires plan { IsPlan plan.now }
     requires phase { row.now.phase < length plan.now }
     requires to { row.now.to ≤ 104000 }
     ensures value { result ≡ green_behind plan.now row.now.phase row.now.to }
