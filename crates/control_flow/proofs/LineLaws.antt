@@ -4,13 +4,13 @@ use Rattle.std.specs.List.{range_with_len}
 use Rattle.std.proofs.lemmas.List.{drop_more, drop_all}
 use Rattle.std.proofs.lemmas.Bool.{cases_lt, cond_below, cond_above, cond_both, ltb-true, ltb-false}
 use Rattle.std.proofs.lemmas.List.Elements.{All-nil, All-cons, All-append, All-weaker}
-use Rattle.phase_plan.specs.Phases.{IsPhase, IsPlan, phase_at, passing, switch_time}
+use Rattle.phase_plan.specs.Phases.{IsPlan, phase_at, passing, switch_time}
 use Rattle.phase_plan.specs.declared.Phase.{Phase}
 use Rattle.switch_rules.specs.Serving.{IsHead, earliest_green}
 use Rattle.switch_rules.specs.declared.Head.{Head}
 use Rattle.switch_rules.specs.declared.Served.{Served}
 use Rattle.control_flow.specs.declared.greens.Green.{Green}
-use Rattle.control_flow.specs.Greens.{row_at, end_of, next_phase, IsGreen, Follows, IsLawful, GoesOn, BeginBy}
+use Rattle.control_flow.specs.Greens.{row_at, end_of, next_phase, IsGreen, IsLawful, GoesOn, BeginBy}
 use Rattle.control_flow.specs.Timelines.{head_behind, IsServingOf, AreServings, passed_numbers, shortest_greens, begin_behind, earliest_end, last_end, left_for, green_behind, turning, turned, line_of, rotation_of}
 use Rattle.control_flow.proofs.RowLaws.{lawful-nil, lawful-cons, end_of-last}
 use Rattle.control_flow.proofs.RingLaws.{IsWalk, phase-bounds, next_phase-below, walk-passed, begin_behind-append, begin_behind-later, begin_behind-passed}

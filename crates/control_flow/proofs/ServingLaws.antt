@@ -1,9 +1,9 @@
 -- What a fit serving keeps: its green, its end, and how it stands to the head before it.
-use Rattle.std.proofs.Common.{◌≡◌, ℕ, ◌+◌, ◌-◌, ◌*◌, ◌<◌, ◌≤◌, Bool, true, false, cond, eqb, leb, ltb, ◌&&◌, max, List, length, Ok, Err, refl, sym, ap, subst, ◌∙◌, inl, inr, arith}
-use Rattle.std.proofs.lemmas.Bool.{cases_Bool, cases_lt, cond_both, cond_below, cond_above, and_parts, eqb-true, leb-false, ltb-false, true≢false}
-use Rattle.phase_plan.specs.Phases.{IsPhase, IsPlan, phase_at, switch_time}
+use Rattle.std.proofs.Common.{◌≡◌, ℕ, ◌+◌, ◌-◌, ◌*◌, ◌<◌, ◌≤◌, Bool, true, false, eqb, leb, ltb, ◌&&◌, max, List, length, Ok, refl, sym, ap, subst, ◌∙◌, arith}
+use Rattle.std.proofs.lemmas.Bool.{cond_both, and_parts, eqb-true, leb-false, ltb-false, true≢false}
+use Rattle.phase_plan.specs.Phases.{IsPhase, IsPlan, phase_at}
 use Rattle.phase_plan.specs.declared.Phase.{Phase}
-use Rattle.switch_rules.specs.Serving.{IsHead, IsCluster, start_in_green, goes_on, earliest_green, served_from, served_anew, serving}
+use Rattle.switch_rules.specs.Serving.{IsHead, IsCluster, start_in_green, goes_on, earliest_green, served_from, serving}
 use Rattle.switch_rules.specs.declared.Head.{Head}
 use Rattle.switch_rules.specs.declared.Cluster.{Cluster}
 use Rattle.switch_rules.specs.declared.Served.{Served}

@@ -1,6 +1,5 @@
 -- Small timelines, worked out by hand and computed here from the definitions.
-use Rattle.std.proofs.Common.{◌≡◌, ℕ, true, false, List, [], ◌∷◌, ◌++◌, Some, None, Ok, refl}
-use Rattle.phase_plan.specs.Phases.{switch_time}
+use Rattle.std.proofs.Common.{◌≡◌, ℕ, true, false, List, [], ◌∷◌, Some, None, Ok, refl}
 use Rattle.phase_plan.specs.declared.Phase.{Phase}
 use Rattle.switch_rules.specs.Serving.{serving}
 use Rattle.switch_rules.specs.declared.Cluster.{Cluster}
@@ -8,7 +7,7 @@ use Rattle.switch_rules.specs.declared.Head.{Head}
 use Rattle.switch_rules.specs.declared.Served.{Served}
 use Rattle.control_flow.specs.declared.greens.Green.{Green}
 use Rattle.control_flow.specs.declared.greens.Colour.TheVariants as colours
-use Rattle.control_flow.specs.Greens.{green_at, standing, colour_at, head_at, spliced, end_of, next_phase}
+use Rattle.control_flow.specs.Greens.{green_at, standing, colour_at, head_at, spliced, end_of}
 use Rattle.control_flow.specs.Timelines.{head_behind, passed_numbers, line_of, rotation_of}
 
 abbrev usual : Phase

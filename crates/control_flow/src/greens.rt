@@ -1,6 +1,8 @@
 //! What a timeline is made of.
 
+use super::splicing::count_before;
 use foundation::threads::CrossesThreads;
+use std::alloc::AllocError;
 use std::marker::Model;
 
 /// A green of a phase, from a second up to another one.
@@ -44,7 +46,8 @@ impl Model for Timeline {
 }
 
 impl Timeline {
-    ghost use Rattle.std.specs.Prelude.{◌≡◌};
+    ghost use Rattle.std.specs.Prelude.{◌≡◌, OnErr, OnOk};
+    ghost use Rattle.control_flow.specs.Greens.{spliced};
 
     /// The timeline of these rows.
     pub(crate) fn from_rows(rows: Vec<Green>) -> Self
@@ -60,6 +63,25 @@ impl Timeline {
         ensures { result.now ≡ self.now }
     {
         self.rows.as_slice()
+    }
+
+    /// Replaces the rows from the begin of the first row of `next` on by `next`; an empty one replaces nothing. Where
+    /// memory is wanting, all is as before.
+    ///
+    /// `law_of_splicing` says what this keeps, where `next` continues the timeline.
+    ///
+    /// docs/RULES.md, "Timeline".
+    pub fn splice(&mut self, next: Timeline) -> Result<(), AllocError>
+        ensures ok { OnOk result (self.new ≡ spliced self.old next) }
+        ensures err { OnErr result (self.new ≡ self.old) }
+    {
+        let Some(first) = next.rows.first() else {
+            return Ok(());
+        };
+        let kept = count_before(self.rows(), first.from);
+        self.rows.reserve(next.rows.len())?;
+        self.rows.truncate(kept);
+        self.rows.extend_from_slice(&next.rows)
     }
 }
 

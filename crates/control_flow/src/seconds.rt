@@ -1,9 +1,9 @@
 //! What a timeline shows at a second.
 
-ghost use Rattle.std.specs.Prelude.{◌≡◌, ◌<◌, length, Some};
+ghost use Rattle.std.specs.Prelude.{◌≡◌, ℕ, ◌<◌, ◌≤◌, length, Some};
 ghost use Rattle.switch_rules.specs.Serving.{IsHead};
 ghost use Rattle.control_flow.specs.Greens as spec;
-ghost use Rattle.control_flow.specs.Greens.{IsGreen, IsLawful, covers, covers_yellow, end_of, head_in, is_green, is_yellow, colour_at, row_after};
+ghost use Rattle.control_flow.specs.Greens.{BeginBy, IsGreen, IsLawful, covers, covers_yellow, end_of, head_in, is_green, is_yellow, colour_at, row_after};
 
 use super::greens::{Colour, Green, Timeline};
 use phase_plan::PhasePlan;
@@ -22,6 +22,7 @@ pub fn head_at(plan: &PhasePlan, line: &Timeline, now: u32) -> Head
     requires end { now < end_of line.now }
     ensures value { spec.head_at plan.now line.now now ≡ Some result }
     ensures head { IsHead plan.now result }
+    ensures by { (n : ℕ) → now ≤ n → BeginBy n line.now → result.at ≤ n }
 {
     let Some(row) = row_after(line, now) else {
         unreachable!()

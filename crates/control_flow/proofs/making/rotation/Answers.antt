@@ -1,6 +1,5 @@
 use Rattle.std.proofs.Common.{◌≡◌, ℕ, List, ◌++◌, sym, ap, subst, ◌∙◌}
 use Rattle.control_flow.specs.declared.greens.Green.{Green}
-use Rattle.control_flow.specs.Greens.{BeginBy}
 use Rattle.control_flow.specs.Timelines.{turned, rotation_of}
 use Rattle.control_flow.proofs.LineLaws.{IsLine, rotation_of-line}
 use Rattle.control_flow.proofs.making.rotation.Goals as goal
@@ -11,10 +10,10 @@ line c =
     let head = c.args.head.now in
     let until = c.args.until in
     let value : c.from_rows.result ≡ rotation_of plan head until =
-        c.from_rows.ensures
-        ∙ c.in_ok-turn.ensures
-        ∙ ap (λ (rows : List Green). rows ++ turned plan head c.earliest_end-earliest.result until) c.new-rows.ensures.items
-        ∙ ap (λ (to : ℕ). turned plan head to until) c.earliest_end-earliest.ensures.value in
+    c.from_rows.ensures
+    ∙ c.in_ok-turn.ensures
+    ∙ ap (λ (rows : List Green). rows ++ turned plan head c.earliest_end-earliest.result until) c.new-rows.ensures.items
+    ∙ ap (λ (to : ℕ). turned plan head to until) c.earliest_end-earliest.ensures.value in
     subst (IsLine plan head until) (sym value) (rotation_of-line plan head until c.learn.ensures c.requires.head c.requires.reach)
 
 pub returns-clause-lawful : goal.returns-clause-lawful

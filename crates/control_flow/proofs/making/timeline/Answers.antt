@@ -1,10 +1,8 @@
-use Rattle.std.proofs.Common.{◌≡◌, ◌+◌, ◌<◌, ◌≤◌, ℕ, Vec, Global, rules, List, [], ◌∷◌, ◌++◌, length, get_or, drop, refl, sym, ap, subst, ◌∙◌, arith}
-use Rattle.std.proofs.lemmas.List.{drop_all}
-use Rattle.switch_rules.specs.declared.Served.{Served}
+use Rattle.std.proofs.Common.{◌≡◌, Vec, Global, rules, sym, ap, subst, ◌∙◌, arith}
 use Rattle.control_flow.specs.declared.greens.Green.{Green}
-use Rattle.control_flow.specs.Timelines.{AreServings, head_behind, line_of}
+use Rattle.control_flow.specs.Timelines.{line_of}
 use Rattle.control_flow.proofs.ServingLaws.{IsServingOf-keeps, IsServingOf-head}
-use Rattle.control_flow.proofs.LineLaws.{IsLine, IsNext, line_of-line, next-serving, line-kept, line-left, line-over}
+use Rattle.control_flow.proofs.LineLaws.{IsLine, line_of-line, next-serving, line-kept, line-left, line-over}
 use Rattle.control_flow.proofs.making.timeline.Goals as goal
 use Rattle.control_flow.proofs.making.timeline.Goals.{then-not-next+in_ok-leave, else-not-next}
 
@@ -40,18 +38,18 @@ loop-index-preserved c =
     let head = IsServingOf-head plan l.current _ _ c.learn.ensures l.invariant.head next.one in
     elim c.if-not-next.branch [
       | then-not-next+in_ok-leave w ↦ record {
-          rows = line-left plan l.current c.args.phases.now c.args.served.now l.index c.args.until l.rows.items _ _ c.loop-index-test.true next.below w.if-not-next.true l.invariant.rows
-              (ap (λ (v : Vec Green Global). v.items) w.rows-is ∙ w.in_ok-leave.ensures);
-          servings = next.others;
-          head = head;
-          reach = omega (arith, keeps.reach);
-        }
+        rows = line-left plan l.current c.args.phases.now c.args.served.now l.index c.args.until l.rows.items _ _ c.loop-index-test.true next.below w.if-not-next.true l.invariant.rows
+            (ap (λ (v : Vec Green Global). v.items) w.rows-is ∙ w.in_ok-leave.ensures);
+        servings = next.others;
+        head = head;
+        reach = omega (arith, keeps.reach);
+      }
       | else-not-next w ↦ record {
-          rows = rw w.rows-is (line-kept plan l.current c.args.phases.now c.args.served.now l.index c.args.until l.rows.items _ c.loop-index-test.true next.below w.if-not-next.false l.invariant.rows);
-          servings = next.others;
-          head = head;
-          reach = omega (arith, keeps.reach);
-        }
+        rows = rw w.rows-is (line-kept plan l.current c.args.phases.now c.args.served.now l.index c.args.until l.rows.items _ c.loop-index-test.true next.below w.if-not-next.false l.invariant.rows);
+        servings = next.others;
+        head = head;
+        reach = omega (arith, keeps.reach);
+      }
     ]
 
 line : (c : goal.After-from_rows) → IsLine c.args.plan.now c.args.head.now c.args.until c.from_rows.result
@@ -59,8 +57,8 @@ line c =
     let l = c.loop-index in
     let plan = c.args.plan.now in
     let value : c.from_rows.result ≡ line_of plan c.args.head.now c.args.phases.now c.args.served.now c.args.until =
-        c.from_rows.ensures ∙ c.in_ok-turn.ensures
-        ∙ line-over plan l.current c.phase.result.now c.args.phases.now c.args.served.now l.index c.args.until l.rows.items _ c.loop-index-test.false c.phase.ensures.value l.invariant.rows in
+    c.from_rows.ensures ∙ c.in_ok-turn.ensures
+    ∙ line-over plan l.current c.phase.result.now c.args.phases.now c.args.served.now l.index c.args.until l.rows.items _ c.loop-index-test.false c.phase.ensures.value l.invariant.rows in
     subst (IsLine plan c.args.head.now c.args.until) (sym value) (line_of-line plan c.args.phases.now c.args.served.now c.args.head.now c.args.until c.learn.ensures c.requires.head c.requires.reach c.requires.servings)
 
 pub returns-clause-lawful : goal.returns-clause-lawful
