@@ -27,8 +27,8 @@ use std::sync::ledger::Ledger;
 /// many servings reach. A key is how many clusters of each phase are served, the green phase, since when, and up to
 /// which second its time is spent.
 ///
-/// There are at most as many servings as phases for each key that fit prefixes reach at all. An `Err` comes where memory
-/// runs out.
+/// It takes at most as many steps, for each key that fit prefixes reach at all, as the instance has phases; also where
+/// it fails. An `Err` comes where memory runs out.
 ///
 /// docs/RULES.md, "Best answer".
 pub fn layered<L: Ledger>(
