@@ -4,7 +4,6 @@ ghost use Rattle.std.specs.Prelude.{◌≡◌, ◌+◌, ◌-◌, ◌<◌, ◌≤
 ghost use Rattle.std.specs.List.{range_with_len};
 ghost use Rattle.phase_plan.specs.Phases.{IsPlan};
 ghost use Rattle.switch_rules.specs.Serving.{IsHead, earliest_green};
-ghost use Rattle.control_flow.specs.Greens as spec;
 ghost use Rattle.control_flow.specs.Greens.{BeginBy, GoesOn, IsLawful, end_of};
 ghost use Rattle.control_flow.specs.Timelines.{AreServings, HasGreens, line_of, rotation_of, turned, left_for, earliest_end, last_end, passed_numbers, shortest_greens, begin_behind, green_behind};
 
