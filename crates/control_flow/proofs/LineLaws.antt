@@ -1,7 +1,7 @@
 -- The timelines of servings and of no plan are lawful, begin with the green of the head, and end late enough.
-use Rattle.std.proofs.Common.{◌≡◌, ℕ, zero, suc, ◌+◌, ◌-◌, ◌<◌, ◌≤◌, Bool, true, false, max, cond, ltb, List, [], ◌∷◌, ◌++◌, length, get_or, drop, refl, sym, ap, subst, ◌∙◌, inl, inr, arith, append_assoc}
+use Rattle.std.proofs.Common.{◌≡◌, ℕ, zero, suc, ◌+◌, ◌-◌, ◌<◌, ◌≤◌, Bool, true, false, max, cond, ltb, List, [], ◌∷◌, ◌++◌, length, get_or, drop, refl, sym, ap, subst, ◌∙◌, inl, inr, arith, append_assoc, length-append}
 use Rattle.std.specs.List.{range_with_len}
-use Rattle.std.proofs.lemmas.List.{drop_more, drop_all}
+use Rattle.std.proofs.lemmas.List.{drop_more, drop_all, get_or-append-add}
 use Rattle.std.proofs.lemmas.Bool.{cases_lt, cond_below, cond_above, cond_both, ltb-true, ltb-false}
 use Rattle.std.proofs.lemmas.List.Elements.{All-nil, All-cons, All-append, All-weaker}
 use Rattle.phase_plan.specs.Phases.{IsPlan, phase_at, passing, switch_time}
@@ -10,8 +10,8 @@ use Rattle.switch_rules.specs.Serving.{IsHead, earliest_green}
 use Rattle.switch_rules.specs.declared.Head.{Head}
 use Rattle.switch_rules.specs.declared.Served.{Served}
 use Rattle.control_flow.specs.declared.greens.Green.{Green}
-use Rattle.control_flow.specs.Greens.{row_at, end_of, next_phase, IsGreen, IsLawful, GoesOn, BeginBy}
-use Rattle.control_flow.specs.Timelines.{head_behind, IsServingOf, AreServings, passed_numbers, shortest_greens, begin_behind, earliest_end, last_end, left_for, green_behind, turning, turned, line_of, rotation_of}
+use Rattle.control_flow.specs.Greens.{no_green, row_at, end_of, next_phase, IsGreen, IsLawful, GoesOn, BeginBy}
+use Rattle.control_flow.specs.Timelines.{head_behind, IsServingOf, AreServings, IsGreenOf, HasGreens, passed_numbers, shortest_greens, begin_behind, earliest_end, last_end, left_for, green_behind, turning, turned, line_of, rotation_of}
 use Rattle.control_flow.proofs.RowLaws.{lawful-nil, lawful-cons, end_of-last}
 use Rattle.control_flow.proofs.RingLaws.{IsWalk, phase-bounds, next_phase-below, walk-passed, begin_behind-append, begin_behind-later, begin_behind-passed}
 use Rattle.control_flow.proofs.ServingLaws.{Keeps, IsServingOf-keeps, IsServingOf-head}
@@ -204,6 +204,43 @@ line_of-line plan (k ∷ ks) (s ∷ ss) head until p h reach servings =
     cond_both s.kept rest (left_for plan head (last_end plan head k s.green) (passed_numbers plan head.phase k) ++ rest) (IsLine plan head until)
     (λ e. kept-line plan head k s until rest (keeps.stood e) line)
     (λ e. left-line plan head k s until rest p h reach one.phase keeps (keeps.anew e) line)
+
+-- each serving has its green
+
+IsGreenOf-behind : (front rows : List Green) (k : ℕ) (s : Served) → IsGreenOf rows k s → IsGreenOf (front ++ rows) k s
+IsGreenOf-behind front rows k s g =
+    let same = get_or-append-add front rows g.index no_green in
+    record {
+      index = length front + g.index;
+      below = omega (arith, length-append front rows, g.below);
+      phase = ap (λ (r : Green). r.phase) same ∙ g.phase;
+      begin = ap (λ (r : Green). r.from) same ∙ g.begin;
+      finish = omega (arith, ap (λ (r : Green). r.to) same, g.finish);
+    }
+
+HasGreens-behind : (front rows : List Green) (ks : List ℕ) (ss : List Served) → HasGreens rows ks ss → HasGreens (front ++ rows) ks ss
+HasGreens-behind front rows [] ss has = tt
+HasGreens-behind front rows (k ∷ ks) [] has = tt
+HasGreens-behind front rows (k ∷ ks) (s ∷ ss) has = (IsGreenOf-behind front rows k s has.0, HasGreens-behind front rows ks ss has.1)
+
+pub line_of-greens : (plan : List Phase) (ks : List ℕ) (ss : List Served) (head : Head) (until : ℕ) → IsPlan plan → IsHead plan head → head.at ≤ 104000 → AreServings plan head ks ss
+    → HasGreens (line_of plan head ks ss until) ks ss
+line_of-greens plan [] ss head until p h reach servings = tt
+line_of-greens plan (k ∷ ks) [] head until p h reach servings = tt
+line_of-greens plan (k ∷ ks) (s ∷ ss) head until p h reach servings =
+    let one = servings.0 in
+    let keeps = IsServingOf-keeps plan head k s p h one in
+    let next = head_behind k s in
+    let behind = IsServingOf-head plan head k s p h one in
+    let low : next.at ≤ 104000 = omega (arith, keeps.reach) in
+    let rest = line_of plan next ks ss until in
+    let begin = (line_of-line plan ks ss next until p behind low servings.1).begin in
+    let here : IsGreenOf rest k s = record { index = 0; below = begin.some; phase = begin.phase; begin = begin.begin; finish = begin.spent } in
+    let has : HasGreens rest (k ∷ ks) (s ∷ ss) = (here, line_of-greens plan ks ss next until p behind low servings.1) in
+    let left = left_for plan head (last_end plan head k s.green) (passed_numbers plan head.phase k) in
+    cond_both s.kept rest (left ++ rest) (λ rows. HasGreens rows (k ∷ ks) (s ∷ ss))
+    (λ e. has)
+    (λ e. HasGreens-behind left rest (k ∷ ks) (s ∷ ss) has)
 
 -- steps of the loops
 

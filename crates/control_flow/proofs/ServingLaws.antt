@@ -1,5 +1,5 @@
 -- What a fit serving keeps: its green, its end, and how it stands to the head before it.
-use Rattle.std.proofs.Common.{◌≡◌, ℕ, ◌+◌, ◌-◌, ◌*◌, ◌<◌, ◌≤◌, Bool, true, false, eqb, leb, ltb, ◌&&◌, max, List, length, Ok, refl, sym, ap, subst, ◌∙◌, arith}
+use Rattle.std.proofs.Common.{◌≡◌, ℕ, ◌+◌, ◌-◌, ◌*◌, ◌<◌, ◌≤◌, Bool, true, false, eqb, leb, ltb, ◌&&◌, max, List, [], ◌∷◌, ◌++◌, length, Ok, refl, sym, ap, subst, ◌∙◌, arith}
 use Rattle.std.proofs.lemmas.Bool.{cond_both, and_parts, eqb-true, leb-false, ltb-false, true≢false}
 use Rattle.phase_plan.specs.Phases.{IsPhase, IsPlan, phase_at}
 use Rattle.phase_plan.specs.declared.Phase.{Phase}
@@ -7,7 +7,7 @@ use Rattle.switch_rules.specs.Serving.{IsHead, IsCluster, start_in_green, goes_o
 use Rattle.switch_rules.specs.declared.Head.{Head}
 use Rattle.switch_rules.specs.declared.Cluster.{Cluster}
 use Rattle.switch_rules.specs.declared.Served.{Served}
-use Rattle.control_flow.specs.Timelines.{head_behind, IsServingOf}
+use Rattle.control_flow.specs.Timelines.{head_behind, IsServingOf, AreServings}
 use Rattle.control_flow.proofs.RingLaws.{phase-bounds}
 
 -- a cluster served from this start in this green
@@ -111,3 +111,33 @@ pub IsServingOf-head : (plan : List Phase) (head : Head) (k : ℕ) (s : Served) 
 IsServingOf-head plan head k s plan_is h serving_is =
     let keeps = IsServingOf-keeps plan head k s plan_is h serving_is in
     record { phase = serving_is.phase; begun = keeps.begun; within = keeps.within }
+
+-- for callers: a serving as `serve` gives it, and servings that are added one by one
+
+pub IsServingOf-from : (plan : List Phase) (head : Head) (k : ℕ) (c : Cluster) (s : Served) (next : Head) → IsPlan plan → IsHead plan head → k < length plan → IsCluster c
+    → serving plan head k c ≡ Ok (s, next) → IsServingOf plan head k s
+IsServingOf-from plan head k c s next plan_is h below bounds fit = record {
+  phase = below;
+  cluster = c;
+  bounds = bounds;
+  fit = fit ∙ ap (λ (n : Head). Ok (s, n)) (serving-behind plan head k c s next plan_is h below bounds fit);
+}
+
+-- the head behind servings
+abbrev pub head_after : Head → List ℕ → List Served → Head
+head_after head [] ss = head
+head_after head (k ∷ ks) [] = head
+head_after head (k ∷ ks) (s ∷ ss) = head_after (head_behind k s) ks ss
+
+pub AreServings-push : (plan : List Phase) (head : Head) (ks : List ℕ) (ss : List Served) (k : ℕ) (s : Served) → AreServings plan head ks ss → IsServingOf plan (head_after head ks ss) k s
+    → AreServings plan head (ks ++ k ∷ []) (ss ++ s ∷ [])
+AreServings-push plan head [] [] k s all one = (one, tt)
+AreServings-push plan head [] (t ∷ ss) k s all one = absurd all
+AreServings-push plan head (j ∷ ks) [] k s all one = absurd all
+AreServings-push plan head (j ∷ ks) (t ∷ ss) k s all one = (all.0, AreServings-push plan (head_behind j t) ks ss k s all.1 one)
+
+pub head_after-push : (plan : List Phase) (head : Head) (ks : List ℕ) (ss : List Served) (k : ℕ) (s : Served) → AreServings plan head ks ss → head_after head (ks ++ k ∷ []) (ss ++ s ∷ []) ≡ head_behind k s
+head_after-push plan head [] [] k s all = refl
+head_after-push plan head [] (t ∷ ss) k s all = absurd all
+head_after-push plan head (j ∷ ks) [] k s all = absurd all
+head_after-push plan head (j ∷ ks) (t ∷ ss) k s all = head_after-push plan (head_behind j t) ks ss k s all.1

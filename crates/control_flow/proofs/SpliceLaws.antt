@@ -1,14 +1,16 @@
 -- A timeline that is continued from the head that it has at a second.
-use Rattle.std.proofs.Common.{◌≡◌, ℕ, ◌+◌, ◌<◌, ◌≤◌, Bool, true, false, cond, ltb, leb, List, [], ◌∷◌, ◌++◌, Option, Some, None, refl, sym, ap, subst, ◌∙◌, inl, inr, arith}
+use Rattle.std.proofs.Common.{◌≡◌, ℕ, ◌+◌, ◌<◌, ◌≤◌, Bool, true, false, ◌==◌, ◌&&◌, ◌||◌, cond, ltb, leb, List, [], ◌∷◌, ◌++◌, All, Option, Some, None, refl, sym, ap, subst, ◌∙◌, inl, inr, arith}
 use Rattle.std.specs.Option.{option_map}
-use Rattle.std.proofs.lemmas.Bool.{cases_lt, cases_Bool, cond_below, cond_above, cond_both, and_from, and_left, lt-ltb, le-leb, lt-leb, leb-false}
-use Rattle.std.proofs.lemmas.List.Elements.{All-nil, All-cons, All-head, All-tail, All-append}
-use Rattle.phase_plan.specs.Phases.{IsPlan}
+use Rattle.std.specs.List.{list_any}
+use Rattle.std.proofs.lemmas.Bool.{cases_lt, cases_Bool, cond_below, cond_above, cond_both, and_from, and_left, and_right, lt-ltb, le-leb, lt-leb, leb-false}
+use Rattle.std.proofs.lemmas.List.Elements.{All-nil, All-cons, All-head, All-tail, All-append, All-weaker}
+use Rattle.phase_plan.specs.Phases.{IsPlan, phase_at}
 use Rattle.phase_plan.specs.declared.Phase.{Phase}
 use Rattle.switch_rules.specs.declared.Head.{Head}
 use Rattle.control_flow.specs.declared.greens.Green.{Green}
-use Rattle.control_flow.specs.Greens.{row_at, end_of, IsGreen, Follows, IsLawful, GoesOn, BeginBy, covers, green_at, standing, row_after, head_in, head_at, rows_before, spliced}
-use Rattle.control_flow.proofs.RowLaws.{lawful-cons, lawful-tail, lawful-first, lawful-next, end_of-append}
+use Rattle.control_flow.specs.declared.greens.Colour.TheVariants as colours
+use Rattle.control_flow.specs.Greens.{row_at, end_of, IsGreen, Follows, IsLawful, GoesOn, BeginBy, covers, covers_yellow, green_at, is_green, is_yellow, colour_at, standing, row_after, head_in, head_at, rows_before, spliced}
+use Rattle.control_flow.proofs.RowLaws.{lawful-cons, lawful-tail, lawful-first, lawful-next, end_of-append, row_after-some}
 use Rattle.control_flow.proofs.RingLaws.{phase-bounds}
 
 -- the head of a row: its phase and begin, and a time that is not before now
@@ -181,6 +183,81 @@ splice-standing plan (r ∷ rs) now row first rest p lawful e same spent next se
       rw (kept-more r first rs below) (standing-more r (rows_before rs first.from ++ first ∷ rest) rs second others)
 ]
 
+-- and the same colours
+
+later-any : (test : Green → Bool) (rows : List Green) → All (λ (row : Green). test row ≡ false) rows → list_any test rows ≡ false
+later-any test [] all = refl
+later-any test (row ∷ rows) all =
+    let here = All-head (λ (g : Green). test g ≡ false) row rows all in
+    let others = later-any test rows (All-tail (λ (g : Green). test g ≡ false) row rows all) in
+    cc
+
+all-later : (plan : List Phase) (first : Green) (rows : List Green) → IsLawful plan (first ∷ rows) → All (λ (row : Green). (first.to ≤ row.from) × (first.to ≤ row.to)) rows
+all-later plan first [] lawful = All-nil (λ (row : Green). (first.to ≤ row.from) × (first.to ≤ row.to))
+all-later plan first (next ∷ rows) lawful =
+    let follows = lawful-next plan first next rows lawful in
+    let others = lawful-tail plan first (next ∷ rows) lawful in
+    let green = lawful-first plan next rows others in
+    let more = λ (row : Green) (h : (next.to ≤ row.from) × (next.to ≤ row.to)). let both : (first.to ≤ row.from) × (first.to ≤ row.to) = (omega (arith, follows.begins, green.least, h.0), omega (arith, follows.begins, green.least, h.1)) in both in
+    All-cons (λ (row : Green). (first.to ≤ row.from) × (first.to ≤ row.to)) next rows (omega (arith, follows.begins), omega (arith, follows.begins, green.least))
+    (All-weaker (λ (row : Green). (next.to ≤ row.from) × (next.to ≤ row.to)) (λ (row : Green). (first.to ≤ row.from) × (first.to ≤ row.to)) more rows (all-later plan next rows others))
+
+-- a test that no row from now on passes, and that the first row passes where the old one does
+pub record LooksBack (now : ℕ) (row first : Green) (test : Green → Bool) : Type 0 where
+  pub later : (g : Green) → now ≤ g.from → now ≤ g.to → test g ≡ false
+  pub same : test first ≡ test row
+
+none-later : (plan : List Phase) (now : ℕ) (row first from : Green) (rows : List Green) (test : Green → Bool) → LooksBack now row first test → now ≤ from.to → IsLawful plan (from ∷ rows) → list_any test rows ≡ false
+none-later plan now row first from rows test back spent lawful =
+    let more = λ (g : Green) (h : (from.to ≤ g.from) × (from.to ≤ g.to)). back.later g (omega (arith, h.0)) (omega (arith, h.1)) in
+    later-any test rows (All-weaker (λ (g : Green). (from.to ≤ g.from) × (from.to ≤ g.to)) (λ (g : Green). test g ≡ false) more rows (all-later plan from rows lawful))
+
+splice-any : (plan : List Phase) (old : List Green) (now : ℕ) (row first : Green) (rest : List Green) (test : Green → Bool) → IsPlan plan → IsLawful plan old → row_after old now ≡ Some row → Replaces first row → now ≤ first.to
+    → IsLawful plan (first ∷ rest) → LooksBack now row first test → list_any test (rows_before old first.from ++ first ∷ rest) ≡ list_any test old
+splice-any plan [] now row first rest test p lawful e same spent next back = let impossible : list_any test (first ∷ rest) ≡ list_any test [] = cc in impossible
+splice-any plan (r ∷ rs) now row first rest test p lawful e same spent next back = elim (cases_lt now r.to) [
+  | inl h ↦
+      let f = cond_below now r.to (Some r) (row_after rs now) h in
+      let is : r ≡ row = cc in
+      let from : first.from ≡ r.from = same.from ∙ sym (ap (λ (g : Green). g.from) is) in
+      let new = none-later plan now row first first rest test back spent next in
+      let before = none-later plan now row first r rs test back (omega arith) lawful in
+      let shows : test first ≡ test r = back.same ∙ sym (ap test is) in
+      rw (kept-none r first rs from) cc
+  | inr h ↦
+      let found = cond_above now r.to (Some r) (row_after rs now) (row_after rs now) h refl ∙ e in
+      let later = begins-later plan r rs now row lawful found in
+      let long = green-length plan r p (lawful-first plan r rs lawful) in
+      let below : r.from < first.from = omega (arith, same.from, later, long) in
+      let others = splice-any plan rs now row first rest test p (lawful-tail plan r rs lawful) found same spent next back in
+      rw (kept-more r first rs below) (ap (λ (b : Bool). test r || b) others)
+]
+
+green-looks-back : (now : ℕ) (row first : Green) (k second : ℕ) → now < row.to → Replaces first row → now ≤ first.to → second < now → LooksBack now row first (λ g. (g.phase == k) && covers g second)
+green-looks-back now row first k second h same spent past = record {
+  later = λ g from to. and_right (g.phase == k) (covers g second) (and_left (leb g.from second) (ltb second g.to) (lt-leb g.from second (omega arith)));
+  same =
+      let phase = ap (λ (j : ℕ). (j == k) && covers first second) same.phase in
+      phase ∙ ap (λ (b : Bool). (row.phase == k) && b)
+      (ap (λ (b : Bool). leb first.from second && b) (lt-ltb second first.to (omega arith)) ∙ ap (λ (g : ℕ). leb g second && true) same.from ∙ sym (ap (λ (b : Bool). leb row.from second && b) (lt-ltb second row.to (omega arith))));
+}
+
+yellow-looks-back : (now : ℕ) (row first : Green) (k yellow second : ℕ) → now < row.to → now ≤ first.to → second < now → LooksBack now row first (λ g. (g.phase == k) && covers_yellow g yellow second)
+yellow-looks-back now row first k yellow second h spent past =
+    let none = λ (g : Green) (to : now ≤ g.to). and_right (g.phase == k) (covers_yellow g yellow second) (and_left (leb g.to second) (ltb second (g.to + yellow)) (lt-leb g.to second (omega arith))) in
+    record { later = λ g from to. none g to; same = none first spent ∙ sym (none row (omega arith)) }
+
+splice-colours : (plan : List Phase) (old : List Green) (now : ℕ) (row first : Green) (rest : List Green) → IsPlan plan → IsLawful plan old → row_after old now ≡ Some row → Replaces first row → now ≤ first.to
+    → IsLawful plan (first ∷ rest) → (k second : ℕ) → second < now → colour_at plan (rows_before old first.from ++ first ∷ rest) k second ≡ colour_at plan old k second
+splice-colours plan old now row first rest p lawful e same spent next k second past =
+    let behind = (row_after-some (IsGreen plan) old now row lawful.greens e).1 in
+    let yellow = (phase_at plan k).yellow in
+    let green_same = splice-any plan old now row first rest (λ g. (g.phase == k) && covers g second) p lawful e same spent next (green-looks-back now row first k second behind same spent past) in
+    let yellow_same = splice-any plan old now row first rest (λ g. (g.phase == k) && covers_yellow g yellow second) p lawful e same spent next (yellow-looks-back now row first k yellow second behind spent past) in
+    let new = rows_before old first.from ++ first ∷ rest in
+    ap (λ (b : Bool). cond b colours.Green (cond (is_yellow plan new k second) colours.Yellow colours.Red)) green_same
+    ∙ ap (λ (b : Bool). cond (is_green old k second) colours.Green (cond b colours.Yellow colours.Red)) yellow_same
+
 -- the rows that are kept
 
 kept-by : (old : List Green) (second n : ℕ) → BeginBy n old → BeginBy n (rows_before old second)
@@ -194,6 +271,7 @@ kept-by (r ∷ rs) second n h =
 pub record IsContinued (plan : List Phase) (old : List Green) (now : ℕ) (next : List Green) : Type 0 where
   pub lawful : IsLawful plan (spliced old next)
   pub past : (second : ℕ) → second < now → standing (spliced old next) second ≡ standing old second
+  pub colours : (k second : ℕ) → second < now → colour_at plan (spliced old next) k second ≡ colour_at plan old k second
   pub end : end_of (spliced old next) ≡ end_of next
   pub by : (n : ℕ) → BeginBy n old → BeginBy n next → BeginBy n (spliced old next)
 
@@ -206,6 +284,7 @@ continued plan old now head (first ∷ rest) p lawful e next begin =
     record {
       lawful = splice-lawful plan old now of.row first rest p lawful of.found same next;
       past = splice-standing plan old now of.row first rest p lawful of.found same (omega (arith, of.later, begin.spent)) next;
+      colours = splice-colours plan old now of.row first rest p lawful of.found same (omega (arith, of.later, begin.spent)) next;
       end = end_of-append (rows_before old first.from) first rest;
       by = λ n a b. All-append (λ (g : Green). g.from ≤ n) (rows_before old first.from) (first ∷ rest) (kept-by old first.from n a) b;
     }

@@ -87,6 +87,9 @@ late-standing = refl
 
 -- the head in the green, in the start-up loss of one, and before one
 
+late-start : head_at two late 1 ≡ Some (record { phase = 0; since = 0; at = 1; fresh = true })
+late-start = refl
+
 late-in : head_at two late 29 ≡ Some (head 0 0 29)
 late-in = refl
 

@@ -1,5 +1,5 @@
 -- The timeline of a plan of servings, and that of no plan.
-use Rattle.std.specs.Prelude.{◌≡◌, ℕ, zero, suc, false, ◌+◌, ◌-◌, ◌<◌, max, min, nat_lt, if◌then◌else◌, List, [], ◌∷◌, ◌++◌, length, Ok}
+use Rattle.std.specs.Prelude.{◌≡◌, ℕ, zero, suc, false, ◌+◌, ◌-◌, ◌<◌, ◌≤◌, max, min, nat_lt, if◌then◌else◌, List, [], ◌∷◌, ◌++◌, length, Ok}
 use Rattle.std.specs.List.{range_with_len}
 use Rattle.phase_plan.specs.Phases.{phase_at, passing, switch_time}
 use Rattle.phase_plan.specs.declared.Phase.{Phase}
@@ -7,7 +7,7 @@ use Rattle.switch_rules.specs.Serving.{IsCluster, serving}
 use Rattle.switch_rules.specs.declared.Head.{Head}
 use Rattle.switch_rules.specs.declared.Cluster.{Cluster}
 use Rattle.switch_rules.specs.declared.Served.{Served}
-use Rattle.control_flow.specs.Greens.{next_phase}
+use Rattle.control_flow.specs.Greens.{next_phase, row_at}
 use Rattle.control_flow.specs.declared.greens.Green.{Green}
 
 -- the head behind a serving of phase k
@@ -27,6 +27,20 @@ AreServings plan head [] [] = Unit {0}
 AreServings plan head [] (s ∷ ss) = ⊥
 AreServings plan head (k ∷ ks) [] = ⊥
 AreServings plan head (k ∷ ks) (s ∷ ss) = IsServingOf plan head k s × AreServings plan (head_behind k s) ks ss
+
+-- some row is the green of a serving of phase k: it begins with that green, and does not end before the serving
+pub record IsGreenOf (rows : List Green) (k : ℕ) (s : Served) : Type 0 where
+  pub index : ℕ
+  pub below : index < length rows
+  pub phase : (row_at rows index).phase ≡ k
+  pub begin : (row_at rows index).from ≡ s.green
+  pub finish : s.finish ≤ (row_at rows index).to
+
+-- each of the servings of these phases has its green
+abbrev pub HasGreens : List Green → List ℕ → List Served → Type 0
+HasGreens rows [] served = Unit {0}
+HasGreens rows (k ∷ ks) [] = Unit {0}
+HasGreens rows (k ∷ ks) (s ∷ ss) = IsGreenOf rows k s × HasGreens rows ks ss
 
 -- the phases that the ring passes from phase s to a wanted green of phase j, all others where j is s
 abbrev pub passed_numbers : List Phase → ℕ → ℕ → List ℕ

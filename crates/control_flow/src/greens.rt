@@ -79,7 +79,8 @@ impl Timeline {
             return Ok(());
         };
         let kept = count_before(self.rows(), first.from);
-        self.rows.reserve(next.rows.len())?;
+        let freed = self.rows.len() - kept;
+        self.rows.reserve(next.rows.len().saturating_sub(freed))?;
         self.rows.truncate(kept);
         self.rows.extend_from_slice(&next.rows)
     }

@@ -4,17 +4,16 @@ ghost use Rattle.std.specs.Prelude.{◌≡◌, ◌+◌, ◌-◌, ◌<◌, ◌≤
 ghost use Rattle.std.specs.List.{range_with_len};
 ghost use Rattle.phase_plan.specs.Phases.{IsPlan};
 ghost use Rattle.switch_rules.specs.Serving.{IsHead, earliest_green};
-ghost use Rattle.control_flow.specs.Greens as spec;
 ghost use Rattle.control_flow.specs.Greens.{BeginBy, GoesOn, IsLawful, end_of};
-ghost use Rattle.control_flow.specs.Timelines.{AreServings, line_of, rotation_of, turned, left_for, earliest_end, last_end, passed_numbers, shortest_greens, begin_behind, green_behind};
+ghost use Rattle.control_flow.specs.Timelines.{AreServings, HasGreens, line_of, rotation_of, turned, left_for, earliest_end, last_end, passed_numbers, shortest_greens, begin_behind, green_behind};
 
 use super::greens::{Green, Timeline};
 use phase_plan::PhasePlan;
 use std::alloc::{AllocError, Global};
 use switch_rules::{Head, Served};
 
-/// The timeline of servings, one after another from a head: it begins with the green of the head, and ends behind
-/// second `until`.
+/// The timeline of servings, one after another from a head: each serving has its green, the first row is the green of
+/// the head, and the last row ends behind second `until`.
 ///
 /// The head is one of the plan with `at` up to 104,000, and so is `until`. The two lists are the phases and the
 /// servings of one feasible sequence from that head.
@@ -33,6 +32,7 @@ pub fn timeline(
     requires until { until ≤ 104000 }
     requires servings { AreServings plan.now head.now phases.now served.now }
     ensures value { IfOk result (λ line. line ≡ line_of plan.now head.now phases.now served.now until) }
+    ensures greens { IfOk result (λ line. HasGreens line phases.now served.now) }
     ensures lawful { IfOk result (λ line. IsLawful plan.now line) }
     ensures begin { IfOk result (λ line. GoesOn head.now line) }
     ensures end { IfOk result (λ line. until < end_of line) }

@@ -1,8 +1,8 @@
-use Rattle.std.proofs.Common.{◌≡◌, Vec, Global, rules, sym, ap, subst, ◌∙◌, arith}
+use Rattle.std.proofs.Common.{◌≡◌, List, Vec, Global, rules, sym, ap, subst, ◌∙◌, arith}
 use Rattle.control_flow.specs.declared.greens.Green.{Green}
-use Rattle.control_flow.specs.Timelines.{line_of}
+use Rattle.control_flow.specs.Timelines.{line_of, HasGreens}
 use Rattle.control_flow.proofs.ServingLaws.{IsServingOf-keeps, IsServingOf-head}
-use Rattle.control_flow.proofs.LineLaws.{IsLine, line_of-line, next-serving, line-kept, line-left, line-over}
+use Rattle.control_flow.proofs.LineLaws.{IsLine, line_of-line, line_of-greens, next-serving, line-kept, line-left, line-over}
 use Rattle.control_flow.proofs.making.timeline.Goals as goal
 use Rattle.control_flow.proofs.making.timeline.Goals.{then-not-next+in_ok-leave, else-not-next}
 
@@ -52,14 +52,21 @@ loop-index-preserved c =
       }
     ]
 
+value : (c : goal.After-from_rows) → c.from_rows.result ≡ line_of c.args.plan.now c.args.head.now c.args.phases.now c.args.served.now c.args.until
+value c =
+    let l = c.loop-index in
+    c.from_rows.ensures ∙ c.in_ok-turn.ensures
+    ∙ line-over c.args.plan.now l.current c.phase.result.now c.args.phases.now c.args.served.now l.index c.args.until l.rows.items _ c.loop-index-test.false c.phase.ensures.value l.invariant.rows
+
 line : (c : goal.After-from_rows) → IsLine c.args.plan.now c.args.head.now c.args.until c.from_rows.result
 line c =
-    let l = c.loop-index in
-    let plan = c.args.plan.now in
-    let value : c.from_rows.result ≡ line_of plan c.args.head.now c.args.phases.now c.args.served.now c.args.until =
-    c.from_rows.ensures ∙ c.in_ok-turn.ensures
-    ∙ line-over plan l.current c.phase.result.now c.args.phases.now c.args.served.now l.index c.args.until l.rows.items _ c.loop-index-test.false c.phase.ensures.value l.invariant.rows in
-    subst (IsLine plan c.args.head.now c.args.until) (sym value) (line_of-line plan c.args.phases.now c.args.served.now c.args.head.now c.args.until c.learn.ensures c.requires.head c.requires.reach c.requires.servings)
+    let facts = line_of-line c.args.plan.now c.args.phases.now c.args.served.now c.args.head.now c.args.until c.learn.ensures c.requires.head c.requires.reach c.requires.servings in
+    subst (IsLine c.args.plan.now c.args.head.now c.args.until) (sym (value c)) facts
+
+pub returns-clause-greens : goal.returns-clause-greens
+returns-clause-greens c =
+    let facts = line_of-greens c.args.plan.now c.args.phases.now c.args.served.now c.args.head.now c.args.until c.learn.ensures c.requires.head c.requires.reach c.requires.servings in
+    subst (λ (rows : List Green). HasGreens rows c.args.phases.now c.args.served.now) (sym (value c)) facts
 
 pub returns-clause-lawful : goal.returns-clause-lawful
 returns-clause-lawful c = (line c).lawful
