@@ -47,11 +47,11 @@ IsLegal-more events event legal above read = record {
 }
 
 -- a Read publishes nothing
-published-read : (events : List BoardEvent) (stamp node version : ℕ) → published (events ++ record { stamp = stamp; node = node; kind = Read version } ∷ []) ≡ published events
+pub published-read : (events : List BoardEvent) (stamp node version : ℕ) → published (events ++ record { stamp = stamp; node = node; kind = Read version } ∷ []) ≡ published events
 published-read events stamp node version = flat_map-append _ events _ ∙ append-nil (published events)
 
 -- a Publish publishes its forecast, behind all others
-published-publish : (events : List BoardEvent) (stamp node : ℕ) (forecast : List Row) → published (after_publish events stamp node forecast) ≡ published events ++ forecast ∷ []
+pub published-publish : (events : List BoardEvent) (stamp node : ℕ) (forecast : List Row) → published (after_publish events stamp node forecast) ≡ published events ++ forecast ∷ []
 published-publish events stamp node forecast = flat_map-append _ events _
 
 -- a Read behind the log leaves what is published at a place
@@ -72,11 +72,11 @@ newest-more oldest [] forecast = refl
 newest-more oldest (f ∷ fs) forecast = newest-more f fs forecast
 
 -- logs that publish the same have the same newest forecast
-newest-same : (events others : List BoardEvent) → published events ≡ published others → newest events ≡ newest others
+pub newest-same : (events others : List BoardEvent) → published events ≡ published others → newest events ≡ newest others
 newest-same events others same = ap (λ (all : List (List Row)). slice_index_or ([] ∷ all) (length all) []) same
 
 -- after a Publish its forecast is the newest
-newest-publish : (events : List BoardEvent) (stamp node : ℕ) (forecast : List Row) → newest (after_publish events stamp node forecast) ≡ forecast
+pub newest-publish : (events : List BoardEvent) (stamp node : ℕ) (forecast : List Row) → newest (after_publish events stamp node forecast) ≡ forecast
 newest-publish events stamp node forecast =
     ap (λ (all : List (List Row)). slice_index_or ([] ∷ all) (length all) []) (published-publish events stamp node forecast)
     ∙ newest-more [] (published events) forecast

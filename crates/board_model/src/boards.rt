@@ -103,7 +103,7 @@ impl Model for BoardLog {
 impl CrossesThreads for BoardLog {}
 
 impl BoardLog {
-    ghost use Rattle.std.specs.Prelude.{◌≡◌, ◌<◌, ◌≤◌, ◌+◌, [], IfOk, IfErr, IsOk, OnOk, OnErr, if◌then◌else◌, is_ok};
+    ghost use Rattle.std.specs.Prelude.{◌≡◌, ◌<◌, ◌≤◌, ◌+◌, [], IfOk, IfErr, IsOk, OnOk, OnErr};
     ghost use Rattle.board_model.specs.Forecasts.{IsAboveLast};
     ghost use Rattle.board_model.specs.Boards.{IsLegal, stamps, version_of, newest, after_read, after_publish};
 
@@ -172,8 +172,8 @@ impl BoardLog {
         self.events.reserve(1)
     }
 
-    /// Adds the event of a reading, and answers the version that is read. The stamp is above the last one, and memory is
-    /// set aside. It takes none.
+    /// Adds the event of a reading, and answers the version that is read. The stamp is above the last one, and memory
+    /// is set aside. It takes none.
     ///
     /// docs/RULES.md, "Board".
     pub fn note_read(&mut self, stamp: u64, node: u32) -> u32
@@ -221,8 +221,12 @@ impl BoardLog {
     /// docs/RULES.md, "Board".
     pub fn read(&mut self, stamp: u64, node: u32) -> Result<Seen, AllocError>
         requires { IsAboveLast (stamps self.old.events) stamp }
-        ensures ok { IfOk result (λ seen. seen ≡ record { version = version_of self.old.events; stamp = stamp; forecast = newest self.old.events }) }
-        ensures events { self.new.events ≡ (if is_ok result then after_read self.old.events stamp node else self.old.events) }
+        ensures ok { IfOk result (λ seen. seen ≡ record {
+          version = version_of self.old.events;
+          stamp = stamp;
+          forecast = newest self.old.events;
+        }) }
+        ensures events { OnOk result (self.new.events ≡ after_read self.old.events stamp node) }
         ensures err { OnErr result (self.new ≡ self.old) }
     {
         let forecast = self.newest(*self.events.allocator())?;
@@ -249,8 +253,11 @@ impl BoardLog {
     ) -> Result<Sent, (Forecast, AllocError)>
         requires above { IsAboveLast (stamps self.old.events) stamp }
         requires few { version_of self.old.events < 64000000 }
-        ensures ok { IfOk result (λ sent. sent ≡ record { version = version_of self.old.events + 1; stamp = stamp }) }
-        ensures events { self.new.events ≡ (if is_ok result then after_publish self.old.events stamp node f else self.old.events) }
+        ensures ok { IfOk result (λ sent. sent ≡ record {
+          version = version_of self.old.events + 1;
+          stamp = stamp;
+        }) }
+        ensures events { OnOk result (self.new.events ≡ after_publish self.old.events stamp node f) }
         ensures back { IfErr result (λ refused. refused.0 ≡ f) }
         ensures err { OnErr result (self.new ≡ self.old) }
     {

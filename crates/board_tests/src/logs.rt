@@ -1,60 +1,80 @@
 //! Logs of a board.
-use crate::rows::{numbers, two_rows};
+use crate::rows::{push_rows, two_rows};
 use board_model::{BoardKind, BoardLog};
 use std::alloc::{AllocError, Global};
 use std::test::Fail;
 
-/// The events of a log: the stamp, the node, and 0 with the version read, or 1 with the number of rows published.
-fn events_of(alloc: Global, log: &BoardLog) -> Result<Vec<u64>, AllocError> {
-    let mut numbers = Vec::new(alloc);
+/// Adds for each event its stamp, its node, and 0 with the version read, or 1 with the rows published.
+fn push_events(seen: &mut Vec<u64>, log: &BoardLog) -> Result<(), AllocError> {
     for event in log.events() {
-        let (word, number) = match &event.kind {
-            BoardKind::Read(version) => (0, u64::from(*version)),
-            BoardKind::Publish(forecast) => (1, forecast.rows().len() as u64),
-        };
-        numbers.push(event.stamp)?;
-        numbers.push(u64::from(event.node))?;
-        numbers.push(word)?;
-        numbers.push(number)?;
+        seen.push(event.stamp)?;
+        seen.push(u64::from(event.node))?;
+        match &event.kind {
+            BoardKind::Read(version) => {
+                seen.push(0)?;
+                seen.push(u64::from(*version))?;
+            }
+            BoardKind::Publish(forecast) => {
+                seen.push(1)?;
+                push_rows(seen, forecast)?;
+            }
+        }
     }
-    Ok(numbers)
+    Ok(())
 }
 
-/// What the log of the tests has for its events.
-const EVENTS: [u64; 12] = [0, 1, 0, 0, 1, 0, 1, 2, 2, 1, 0, 1];
-
-#[test]
-fn readings_before_and_after_a_publishing(rt: HostRuntime) -> Result<(), Fail> {
-    let alloc = rt.alloc();
+/// A reading, a publishing and a reading: the version and the stamp of each, the rows that were read, and the events.
+fn readings_seen(alloc: Global) -> Result<Vec<u64>, AllocError> {
     let mut log = BoardLog::new(alloc);
+    let mut seen = Vec::new(alloc);
     let first = log.read(0, 1)?;
     let sent = log
         .publish(1, 0, two_rows(alloc)?)
         .map_err(|refused| refused.1)?;
     let second = log.read(2, 1)?;
-    assert_eq!(rt; (first.version, first.stamp), (0, 0));
-    assert_eq!(rt; numbers(alloc, &first.forecast)?.len(), 0);
-    assert_eq!(rt; (sent.version, sent.stamp), (1, 1));
-    assert_eq!(rt; (second.version, second.stamp), (1, 2));
-    let rows = numbers(alloc, &second.forecast)?;
-    assert_eq!(rt; rows.as_slice(), [22, 500, 23, 500].as_slice());
-    assert_eq!(rt; log.version(), 1);
-    assert_eq!(rt; events_of(alloc, &log)?.as_slice(), EVENTS.as_slice());
-    Ok(())
+    for version in [first.version, sent.version, second.version, log.version()] {
+        seen.push(u64::from(version))?;
+    }
+    for stamp in [first.stamp, sent.stamp, second.stamp] {
+        seen.push(stamp)?;
+    }
+    push_rows(&mut seen, &first.forecast)?;
+    push_rows(&mut seen, &second.forecast)?;
+    push_events(&mut seen, &log)?;
+    Ok(seen)
 }
 
-#[test]
-fn memory_first_and_the_stamp_later(rt: HostRuntime) -> Result<(), Fail> {
-    let alloc = rt.alloc();
+/// The same with the memory taken first: the version of each, the rows that were read, and the events.
+fn notes_seen(alloc: Global) -> Result<Vec<u64>, AllocError> {
     let mut log = BoardLog::new(alloc);
+    let mut seen = Vec::new(alloc);
+    let forecast = two_rows(alloc)?;
     log.reserve()?;
-    assert_eq!(rt; log.note_read(0, 1), 0);
+    seen.push(u64::from(log.note_read(0, 1)))?;
     log.reserve()?;
-    assert_eq!(rt; log.note_publish(1, 0, two_rows(alloc)?), 1);
-    let rows = numbers(alloc, &log.newest(alloc)?)?;
+    seen.push(u64::from(log.note_publish(1, 0, forecast)))?;
     log.reserve()?;
-    assert_eq!(rt; log.note_read(2, 1), 1);
-    assert_eq!(rt; rows.as_slice(), [22, 500, 23, 500].as_slice());
-    assert_eq!(rt; events_of(alloc, &log)?.as_slice(), EVENTS.as_slice());
+    let newest = log.newest(alloc)?;
+    seen.push(u64::from(log.note_read(2, 1)))?;
+    push_rows(&mut seen, &newest)?;
+    push_events(&mut seen, &log)?;
+    Ok(seen)
+}
+
+/// What the readings show.
+const READINGS: &[u64] = &[
+    0, 1, 1, 1, 0, 1, 2, 0, 2, 22, 500, 23, 500, 0, 1, 0, 0, 1, 0, 1, 2, 22, 500, 23, 500, 2, 1, 0,
+    1,
+];
+
+/// What the notes show.
+const NOTES: &[u64] = &[
+    0, 1, 1, 2, 22, 500, 23, 500, 0, 1, 0, 0, 1, 0, 1, 2, 22, 500, 23, 500, 2, 1, 0, 1,
+];
+
+#[test]
+fn a_publishing_between_readings(rt: HostRuntime) -> Result<(), Fail> {
+    assert_eq!(rt; readings_seen(rt.alloc())?.as_slice(), READINGS);
+    assert_eq!(rt; notes_seen(rt.alloc())?.as_slice(), NOTES);
     Ok(())
 }

@@ -1,7 +1,4 @@
 //! Forecasts.
-ghost use Rattle.std.specs.Prelude.{◌≡◌, [], ◌∷◌, IfOk};
-ghost use Rattle.board_model.specs.declared.forecasts.Row.{Row};
-
 use board_model::{Forecast, Row};
 use std::alloc::{AllocError, Global};
 use std::test::Fail;
@@ -20,28 +17,34 @@ pub(crate) fn two_rows(alloc: Global) -> Result<Forecast, AllocError> {
     Ok(forecast)
 }
 
-/// The seconds and amounts of a forecast, row by row.
-pub(crate) fn numbers(alloc: Global, forecast: &Forecast) -> Result<Vec<u32>, AllocError> {
-    let mut numbers = Vec::new(alloc);
+/// Adds the number of rows, and then the second and the amount of each.
+pub(crate) fn push_rows(seen: &mut Vec<u64>, forecast: &Forecast) -> Result<(), AllocError> {
+    seen.push(forecast.rows().len() as u64)?;
     for row in forecast.rows() {
-        numbers.push(row.second)?;
-        numbers.push(row.amount)?;
+        seen.push(u64::from(row.second))?;
+        seen.push(u64::from(row.amount))?;
     }
-    Ok(numbers)
+    Ok(())
 }
+
+/// Two rows, their copy, the empty forecast, and the amounts of some seconds.
+fn forecasts_seen(alloc: Global) -> Result<Vec<u64>, AllocError> {
+    let mut seen = Vec::new(alloc);
+    let forecast = two_rows(alloc)?;
+    push_rows(&mut seen, &forecast)?;
+    push_rows(&mut seen, &forecast.copy(alloc)?)?;
+    push_rows(&mut seen, &Forecast::empty(alloc))?;
+    for second in 21..25 {
+        seen.push(u64::from(forecast.amount_at(second)))?;
+    }
+    Ok(seen)
+}
+
+/// What the forecasts show.
+const FORECASTS: &[u64] = &[2, 22, 500, 23, 500, 2, 22, 500, 23, 500, 0, 0, 500, 500, 0];
 
 #[test]
 fn rows_and_amounts(rt: HostRuntime) -> Result<(), Fail> {
-    let alloc = rt.alloc();
-    let forecast = two_rows(alloc)?;
-    let rows = numbers(alloc, &forecast)?;
-    assert_eq!(rt; rows.as_slice(), [22, 500, 23, 500].as_slice());
-    let copied = numbers(alloc, &forecast.copy(alloc)?)?;
-    assert_eq!(rt; copied.as_slice(), [22, 500, 23, 500].as_slice());
-    for (second, want) in [(0, 0), (21, 0), (22, 500), (23, 500), (24, 0)] {
-        assert_eq!(rt; forecast.amount_at(second), want, "at {second}");
-    }
-    let none = numbers(alloc, &Forecast::empty(alloc))?;
-    assert_eq!(rt; none.len(), 0);
+    assert_eq!(rt; forecasts_seen(rt.alloc())?.as_slice(), FORECASTS);
     Ok(())
 }
