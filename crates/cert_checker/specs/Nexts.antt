@@ -25,8 +25,14 @@ wait_until t c = c.size * (t - c.arr)
 abbrev pub IsMet : Claim → Entry → Type 0
 IsMet c next = HasEntry c.entries (key_of_entry next) next.delay ⊎ IsTooDear c.problem c.answer (stage_behind next)
 
--- where an entry with this key stands, if there is one: the keys before are below it, and the key there is not
-pub record IsPlace (entries : List Entry) (key : Entry) (place : ℕ) : Type 0 where
-  pub within : place ≤ length entries
-  pub below : 0 < place → IsBefore (digits_of (entry_at entries (place - 1))) (digits_of key)
-  pub here : place < length entries → ¬ IsBefore (digits_of (entry_at entries place)) (digits_of key)
+-- an entry with this key, if there is one, stands from low to high: the keys below are before it, and those from high on
+-- are not
+pub record IsSpan (entries : List Entry) (key : Entry) (low high : ℕ) : Type 0 where
+  pub rise : low ≤ high
+  pub within : high ≤ length entries
+  pub below : 0 < low → IsBefore (digits_of (entry_at entries (low - 1))) (digits_of key)
+  pub here : high < length entries → ¬ IsBefore (digits_of (entry_at entries high)) (digits_of key)
+
+-- the one place where it stands
+abbrev pub IsPlace : List Entry → Entry → ℕ → Type 0
+IsPlace entries key place = IsSpan entries key place place

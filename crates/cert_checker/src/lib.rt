@@ -110,5 +110,5 @@ fn has_root(c: &Certificate) -> bool
         at: start.at,
         delay: 0,
     };
-    has_entry(c.entries(), &root)
+    has_entry(c.entries(), &root, &mut 0)
 }

@@ -1,27 +1,78 @@
 //! Looks for an entry by its key.
 
-ghost use Rattle.std.specs.Prelude.{◌≡◌, ◌≤◌, ◌↔◌, IsTrue};
-ghost use Rattle.dp_certificate.specs.Certificates.{AreRising, IsBefore, digits_of};
+ghost use Rattle.std.specs.Prelude.{◌≡◌, ◌<◌, ◌≤◌, ◌↔◌, IsTrue, length};
+ghost use Rattle.dp_certificate.specs.Certificates.{AreRising, IsBefore, digits_of, entry_at};
 ghost use Rattle.dp_certificate.specs.Proves.{HasEntry, key_of_entry};
-ghost use Rattle.cert_checker.specs.Nexts.{IsPlace};
+ghost use Rattle.cert_checker.specs.Nexts.{IsPlace, IsSpan};
 
 use dp_certificate::Entry;
 
-/// Whether an entry has the key of this one and at most its delay.
-pub(crate) fn has_entry(entries: &[Entry], next: &Entry) -> bool
+/// Whether an entry has the key of this one and at most its delay. The search starts where the last one ended: what is
+/// next behind neighbours often stands close together.
+pub(crate) fn has_entry(entries: &[Entry], next: &Entry, near: &mut usize) -> bool
     requires { AreRising entries.now }
     ensures { IsTrue result ↔ HasEntry entries.now (key_of_entry next.now) next.now.delay }
 {
-    let place = place_of(entries, next);
+    let place = place_of(entries, next, *near);
+    *near = place;
     place < entries.len() && stands_for(&entries[place], next)
 }
 
-/// Where an entry with the key of this one stands, if there is one.
-fn place_of(entries: &[Entry], key: &Entry) -> usize
+/// Where an entry with this key stands, if there is one; it is sought from a place on in steps that double.
+fn place_of(entries: &[Entry], key: &Entry, near: usize) -> usize
     ensures { IsPlace entries.now key.now result }
 {
-    let mut low = 0;
-    let mut high = entries.len();
+    let (low, high) = if near < entries.len() && is_before(&entries[near], key) {
+        spread_up(entries, key, near)
+    } else {
+        spread_down(entries, key, near.min(entries.len()))
+    };
+    narrow(entries, key, low, high)
+}
+
+/// A span with the place of a key, above an entry whose key is before it.
+fn spread_up(entries: &[Entry], key: &Entry, near: usize) -> (usize, usize)
+    requires within { near < length entries.now }
+    requires before { IsBefore (digits_of (entry_at entries.now near)) (digits_of key.now) }
+    ensures { IsSpan entries.now key.now result.0 result.1 }
+{
+    let mut low = near + 1;
+    let mut step = 1;
+    while step < entries.len() - low {
+        if !is_before(&entries[low + step], key) {
+            return (low, low + step);
+        }
+        low += step + 1;
+        step *= 2;
+    }
+    (low, entries.len())
+}
+
+/// A span with the place of a key, up to an entry whose key is not before it, or up to the end.
+fn spread_down(entries: &[Entry], key: &Entry, near: usize) -> (usize, usize)
+    requires within { near ≤ length entries.now }
+    requires here { near < length entries.now → ¬ IsBefore (digits_of (entry_at entries.now near)) (digits_of key.now) }
+    ensures { IsSpan entries.now key.now result.0 result.1 }
+{
+    let mut high = near;
+    let mut step = 1;
+    while step < high {
+        if is_before(&entries[high - step], key) {
+            return (high - step + 1, high);
+        }
+        high -= step;
+        step *= 2;
+    }
+    (0, high)
+}
+
+/// The place of a key in a span, by halves.
+fn narrow(entries: &[Entry], key: &Entry, low: usize, high: usize) -> usize
+    requires { IsSpan entries.now key.now low high }
+    ensures { IsPlace entries.now key.now result }
+{
+    let mut low = low;
+    let mut high = high;
     while low < high {
         let middle = low + (high - low) / 2;
         if is_before(&entries[middle], key) {

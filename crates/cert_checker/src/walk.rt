@@ -24,8 +24,9 @@ pub(crate) fn first_open<L: Ledger>(c: &Certificate, steps: &mut Steps<L>) -> Op
     ensures phase { IfSome result (λ found. IsOpenAt c.now (entry_at c.now.entries (found.0 - 1)) found.1) }
     ensures cost { steps.new ≤ steps.old + length c.now.problem.plan * length c.now.entries }
 {
+    let mut near = [0; 4];
     for (index, entry) in c.entries().iter().enumerate() {
-        if let Some(phase) = open_phase(c, entry, steps) {
+        if let Some(phase) = open_phase(c, entry, &mut near, steps) {
             return Some((index as u32 + 1, phase));
         }
     }
@@ -33,8 +34,13 @@ pub(crate) fn first_open<L: Ledger>(c: &Certificate, steps: &mut Steps<L>) -> Op
 }
 
 /// The least phase of which the next cluster can be served behind an entry, and leads to no entry and not to what is
-/// too dear.
-fn open_phase<L: Ledger>(c: &Certificate, entry: &Entry, steps: &mut Steps<L>) -> Option<u8>
+/// too dear. For each phase the search for what is next starts where the last one ended.
+fn open_phase<L: Ledger>(
+    c: &Certificate,
+    entry: &Entry,
+    near: &mut [usize; 4],
+    steps: &mut Steps<L>,
+) -> Option<u8>
     requires { IsEntry c.now.problem entry.now }
     ensures none { IfNone result (IsClosed c.now entry.now) }
     ensures some { IfSome result (λ k. IsOpenAt c.now entry.now k) }
@@ -44,7 +50,7 @@ fn open_phase<L: Ledger>(c: &Certificate, entry: &Entry, steps: &mut Steps<L>) -
     let head = head_at(i, entry);
     for phase in 0..i.plan().count() {
         let next = next_behind(i, entry, &head, phase, steps);
-        if !is_closed_by(c, &next) {
+        if !is_closed_by(c, &next, &mut near[phase as usize]) {
             return Some(phase);
         }
     }
@@ -116,14 +122,14 @@ fn cluster_at(i: &Instance, phase: u8, index: u8) -> Option<&Cluster>
 }
 
 /// Whether what is served next, if anything, is an entry of no more delay, or too dear.
-fn is_closed_by(c: &Certificate, next: &Option<Entry>) -> bool
+fn is_closed_by(c: &Certificate, next: &Option<Entry>, near: &mut usize) -> bool
     requires { IfSome next.now (IsNext c.now.problem) }
     ensures { IsTrue result ↔ IfSome next.now (IsMet c.now) }
 {
     let Some(next) = next else {
         return true;
     };
-    has_entry(c.entries(), next) || is_too_dear(c, next)
+    has_entry(c.entries(), next, near) || is_too_dear(c, next)
 }
 
 /// Whether the clusters that are left behind what is served next cost too much to undercut the claimed delay.
