@@ -22,7 +22,7 @@ impl CrossesThreads for Seen {}
 /// What a publisher is told: the version that its forecast became.
 ///
 /// docs/RULES.md, "Board".
-#[derive(Drop)]
+#[derive(Clone, Copy)]
 pub struct Sent {
     /// The version, from 1.
     pub version: u32,
