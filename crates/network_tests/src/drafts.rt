@@ -1,5 +1,5 @@
 //! Networks made of drafts.
-use crate::texts::fault_text;
+use crate::shown::{Asked, answered};
 use foundation::items::Items;
 use foundation::text::Text;
 use phase_plan::Phase;
@@ -59,26 +59,43 @@ fn entry_link(alloc: Global, number: u32) -> Result<DraftLink, AllocError> {
     })
 }
 
-/// A node with so many entry links and one link that leaves the network, and further nodes without links.
-fn crossing(alloc: Global, entries: u32, further: u32) -> Result<Draft, AllocError> {
-    let mut nodes = Vec::new(alloc);
-    nodes.push(node(alloc, "n", 0, entries)?)?;
-    for number in 0..further {
-        let name = format!(in alloc; "n{number}")?;
-        nodes.push(node(alloc, name.as_str(), 0, 0)?)?;
-    }
-    let mut links = Vec::new(alloc);
-    for number in 0..entries {
-        links.push(entry_link(alloc, number)?)?;
-    }
-    links.push(DraftLink {
+/// The link that leaves the network.
+fn exit_link(alloc: Global) -> Result<DraftLink, AllocError> {
+    Ok(DraftLink {
         name: text(alloc, "x")?,
         from: Some(text(alloc, "n")?),
         to: None,
         travel: 120,
         sat: 1,
         turns: Items::from_vec(Vec::new(alloc)),
-    })?;
+    })
+}
+
+/// A node with so many entry links, and further nodes without links.
+fn nodes(alloc: Global, entries: u32, further: u32) -> Result<Vec<DraftNode>, AllocError> {
+    let mut nodes = Vec::new(alloc);
+    nodes.push(node(alloc, "n", 0, entries)?)?;
+    for number in 0..further {
+        let name = format!(in alloc; "n{number}")?;
+        nodes.push(node(alloc, name.as_str(), 0, 0)?)?;
+    }
+    Ok(nodes)
+}
+
+/// So many entry links, and the one that leaves the network.
+fn links(alloc: Global, entries: u32) -> Result<Vec<DraftLink>, AllocError> {
+    let mut links = Vec::new(alloc);
+    for number in 0..entries {
+        links.push(entry_link(alloc, number)?)?;
+    }
+    links.push(exit_link(alloc)?)?;
+    Ok(links)
+}
+
+/// A node with so many entry links and one link that leaves the network, and further nodes without links.
+fn crossing(alloc: Global, entries: u32, further: u32) -> Result<Draft, AllocError> {
+    let nodes = nodes(alloc, entries, further)?;
+    let links = links(alloc, entries)?;
     let conflicts: Vec<DraftConflict> = Vec::new(alloc);
     Ok(Draft {
         run: Run {
@@ -103,23 +120,13 @@ const CROSSINGS: &[(u32, u32, &str)] = &[
     (34, 0, "bound phase 1 1"),
 ];
 
-/// How many nodes and links the draft's network has, or its fault.
-fn counted(alloc: Global, draft: Draft) -> Result<String, AllocError> {
-    match build(alloc, draft) {
-        Ok(network) => counts(alloc, network.nodes(), network.links()),
-        Err(fault) => fault_text(alloc, fault),
-    }
-}
-
-fn counts(alloc: Global, nodes: u32, links: u32) -> Result<String, AllocError> {
-    format!(in alloc; "{nodes} {links}")
-}
-
 #[test]
 fn counts_of_nodes_and_entry_links(rt: HostRuntime) -> Result<(), Fail> {
     let alloc = rt.alloc();
     for &(entries, further, line) in CROSSINGS {
-        let found = counted(alloc, crossing(alloc, entries, further)?)?;
+        let made = build(alloc, crossing(alloc, entries, further)?);
+        let mut found = String::new(alloc);
+        answered(&mut found, made, &Asked::Counts)?;
         assert_eq!(rt; found.as_str(), line);
     }
     Ok(())

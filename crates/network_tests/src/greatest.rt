@@ -112,20 +112,25 @@ a = "f15"
 b = "f0"
 "#;
 
-/// A piece for each of the numbers.
-fn repeated(alloc: Global, piece: &str, from: u32, to: u32) -> Result<String, AllocError> {
-    let mut text = String::new(alloc);
+/// Adds a piece for each of the numbers.
+fn add_pieces(
+    text: &mut String,
+    alloc: Global,
+    piece: &str,
+    from: u32,
+    to: u32,
+) -> Result<(), AllocError> {
     for number in from..to {
         let digits = format!(in alloc; "{number}")?;
         text.push_str(piece.replace(alloc, '#', digits.as_str())?.as_str())?;
     }
-    Ok(text)
+    Ok(())
 }
 
 fn greatest(alloc: Global) -> Result<String, AllocError> {
     let mut text = String::new(alloc);
     for &(piece, from, to) in PIECES {
-        text.push_str(repeated(alloc, piece, from, to)?.as_str())?;
+        add_pieces(&mut text, alloc, piece, from, to)?;
     }
     Ok(text)
 }

@@ -1,10 +1,8 @@
 //! Of two faults the one of the earlier stage, and within a stage the one at the first place.
-use crate::rows::misjudged;
-use crate::texts::WORKED;
-use std::test::Fail;
 
 /// Faults of two stages, the later one mostly at an earlier place or a lower number.
-const STAGES: &str = r#"rounds = 4 -> rounds = 0 & name = "a" -> name = 5 => shape node 1 0
+pub(crate) const STAGES: &str =
+    r#"rounds = 4 -> rounds = 0 & name = "a" -> name = 5 => shape node 1 0
 rounds = 4 -> rounds = -1 & b = "sb" -> b = 5 => shape conflict 2 0
 name = "a" -> name = "A" & links = ["ba"] -> links = "ba" => shape phase 1 1
 name = "a" .. least = 5 -> least = 0 & links = ["ba"] -> links = [5] => shape phase 1 1
@@ -36,7 +34,8 @@ links = ["ba"] -> links = ["ba", "sa"] & links = ["sa"] -> links = [] & links = 
 b = "sa" -> b = "ba" & name = "sb" .. share = 1000 -> share = 999 => shares 3"#;
 
 /// Two shapes at fault.
-const SHAPES_IN_ORDER: &str = r#"[run] -> extra = 1|[run] & gap = 1 -> gap = "1" => shape top 0 0
+pub(crate) const SHAPES_IN_ORDER: &str =
+    r#"[run] -> extra = 1|[run] & gap = 1 -> gap = "1" => shape top 0 0
 [run] -> extra = 1|[run] & b = "sb" -> b = 5 => shape top 0 0
 gap = 1 -> gap = "1" & name = "a" -> name = 5 => shape run 0 0
 gap = 1 -> gap = "1" & b = "sb" -> b = 5 => shape run 0 0
@@ -58,7 +57,8 @@ name = "xb" -> name = 5 & a = "ba" -> a = 5 => shape link 5 0
 b = "sa" -> b = 5 & a = "ab" -> a = 5 => shape conflict 1 0"#;
 
 /// Two places out of bounds.
-const BOUNDS_IN_ORDER: &str = r#"gap = 1 -> gap = 11 & name = "a" -> name = "A" => bound run 0 0
+pub(crate) const BOUNDS_IN_ORDER: &str =
+    r#"gap = 1 -> gap = 11 & name = "a" -> name = "A" => bound run 0 0
 gap = 1 -> gap = 11 & name = "sb" .. share = 1000 -> share = 1001 => bound run 0 0
 name = "a" .. least = 5 -> least = 0 & name = "a" -> name = "A" => bound node 1 0
 name = "a" -> name = "A" & name = "b" -> name = "B" => bound node 1 0
@@ -74,7 +74,7 @@ exit = "ba", share = 500 -> exit = "ba", share = 1001 & exit = "xb", share = 500
 exit = "xb", share = 500 -> exit = "xb", share = 1001 & name = "ba" .. sat = 500 -> sat = 0 => bound turn 2 2"#;
 
 /// Two names given twice, or two that stand for nothing.
-const NAMES_IN_ORDER: &str =
+pub(crate) const NAMES_IN_ORDER: &str =
     r#"name = "b" -> name = "a" & name = "ab" -> name = "sa" => twice node 2 0
 name = "ab" -> name = "sa" & name = "xb" -> name = "sa" => twice link 2 0
 name = "ab" -> name = "sa" & name = "xb" -> name = "ba" => twice link 2 0
@@ -94,7 +94,7 @@ name = "xb"|from = "b" -> name = "xb"|from = "c" & a = "ba" -> a = "zz" => unkno
 b = "sa" -> b = "zz" & a = "ab" -> a = "zz" => unknown conflict 1 0"#;
 
 /// Two faults of one of the later stages, which go by the numbers of links, and clashes by the order of the file.
-const JOINS_IN_ORDER: &str =
+pub(crate) const JOINS_IN_ORDER: &str =
     r#"name = "sa"|to = "a" -> name = "sa" & from = "a"|to = "b" -> from = "a"|to = "a" => ends 0
 from = "a"|to = "b" -> from = "a"|to = "a" & name = "xb"|from = "b" -> name = "xb" => ends 1
 name = "sa" .. share = 1000 -> share = 999 & exit = "ba" -> exit = "sb" => shares 0
@@ -120,20 +120,3 @@ b = "sa" -> b = "ba" & b = "sb" -> b = "ba" => clash 2 2
 b = "sa" -> b = "ba" & links = ["sb"] -> links = [] & links = ["ab"] -> links = ["ab", "sb"] => clash 2 2
 links = ["sa"] -> links = [] & links = ["ba"] -> links = ["ba", "sa"] & b = "sb" -> b = "ab" => clash 2 0
 b = "sb" -> b = "ab" & b = "sa" -> b = "sb" => clash 2 3"#;
-
-const TABLES: &[&str] = &[
-    STAGES,
-    SHAPES_IN_ORDER,
-    BOUNDS_IN_ORDER,
-    NAMES_IN_ORDER,
-    JOINS_IN_ORDER,
-];
-
-#[test]
-fn of_two_faults_the_first_is_named(rt: HostRuntime) -> Result<(), Fail> {
-    for &rows in TABLES {
-        let wrong = misjudged(rt.alloc(), WORKED, rows)?;
-        assert_eq!(rt; wrong.as_str(), "");
-    }
-    Ok(())
-}

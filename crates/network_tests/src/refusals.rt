@@ -1,6 +1,8 @@
 //! Each fault at each kind of place, and what is accepted.
-use crate::rows::misjudged;
-use crate::texts::{BARE, WORKED, outcome, outcome_of};
+use crate::orders::{BOUNDS_IN_ORDER, JOINS_IN_ORDER, NAMES_IN_ORDER, SHAPES_IN_ORDER, STAGES};
+use crate::rows::{TOLD, WRONG, misjudged};
+use crate::shown::{Asked, asked_of};
+use crate::texts::{BARE, WORKED};
 use std::alloc::{AllocError, Global};
 use std::test::Fail;
 
@@ -233,38 +235,44 @@ gap = 1 -> gap = 1|gap = 1 => toml
 name = "a" -> name = "a => toml
 gap = 1 -> gap = "1" & name = "b" -> name = b => toml"#;
 
-/// The texts that are changed, and the rows that change them.
-const TABLES: &[(&str, &str)] = &[
-    (WORKED, KEYS_ABSENT),
-    (WORKED, KEYS_FURTHER),
-    (WORKED, KINDS),
-    (BARE, ARRAYS),
-    (WORKED, BOUNDS),
-    (WORKED, NAMES),
-    (WORKED, JOINS),
-    (WORKED, ACCEPTED),
-    (WORKED, NO_TOML),
+/// Texts that are no network: none, a mark alone, and one that is no TOML.
+const NO_NETWORK: &str = "x ->  => shape top 0 0
+x -> \u{feff} => shape top 0 0
+x -> no table => toml";
+
+/// A change that changes nothing.
+const UNCHANGED: &str = "step = 5 -> step = 5 => ok";
+
+const UNCHANGED_BARE: &str = "step = 5 -> step = 5 => bound top 0 0";
+
+/// The texts that are changed, the rows that change them, and what is told of those that are judged otherwise.
+const TABLES: &[(&str, &str, &str)] = &[
+    (WORKED, KEYS_ABSENT, ""),
+    (WORKED, KEYS_FURTHER, ""),
+    (WORKED, KINDS, ""),
+    (BARE, ARRAYS, ""),
+    (WORKED, BOUNDS, ""),
+    (WORKED, NAMES, ""),
+    (WORKED, JOINS, ""),
+    (WORKED, ACCEPTED, ""),
+    (WORKED, NO_TOML, ""),
+    ("x", NO_NETWORK, ""),
+    (WORKED, UNCHANGED, ""),
+    (BARE, UNCHANGED_BARE, ""),
+    (WORKED, STAGES, ""),
+    (WORKED, SHAPES_IN_ORDER, ""),
+    (WORKED, BOUNDS_IN_ORDER, ""),
+    (WORKED, NAMES_IN_ORDER, ""),
+    (WORKED, JOINS_IN_ORDER, ""),
+    (WORKED, WRONG, TOLD),
 ];
 
 #[test]
 fn each_text_is_judged_as_its_row_says(rt: HostRuntime) -> Result<(), Fail> {
-    for &(base, rows) in TABLES {
+    for &(base, rows, told) in TABLES {
         let wrong = misjudged(rt.alloc(), base, rows)?;
-        assert_eq!(rt; wrong.as_str(), "");
+        assert_eq!(rt; wrong.as_str(), told);
     }
-    Ok(())
-}
-
-#[test]
-fn texts_that_are_no_network(rt: HostRuntime) -> Result<(), Fail> {
-    let alloc = rt.alloc();
-    let mut found = String::new(alloc);
-    for text in ["", "\u{feff}", "no table", WORKED, BARE] {
-        found.push_str(outcome(alloc, text)?.as_str())?;
-        found.push('\n')?;
-    }
-    let wanted = "shape top 0 0\nshape top 0 0\ntoml\nok\nbound top 0 0\n";
-    assert_eq!(rt; found.as_str(), wanted);
     Ok(())
 }
 
@@ -272,22 +280,24 @@ fn texts_that_are_no_network(rt: HostRuntime) -> Result<(), Fail> {
 fn with_tail(alloc: Global, tail: &[u8]) -> Result<String, AllocError> {
     let mut bytes = Vec::from_slice(alloc, WORKED.as_bytes())?;
     bytes.extend_from_slice(tail)?;
-    outcome_of(alloc, bytes.as_slice())
+    asked_of(alloc, bytes.as_slice(), &Asked::Nothing)
 }
+
+/// Bytes behind the worked network, and what it is judged with them.
+const TAILS: &[(&[u8], &str)] = &[
+    (b"# \xc3\xa9", "ok"),
+    (b"# \xff\n", "toml"),
+    (b"# \xe2\x82", "toml"),
+    (b"c = \"\xc3\xa9\"\n", "shape conflict 2 0"),
+    (b"c = \"\xff\"\n", "toml"),
+    (b"c = \"\xc3\"\n", "toml"),
+];
 
 #[test]
 fn bytes_that_are_no_text_are_no_toml(rt: HostRuntime) -> Result<(), Fail> {
-    let alloc = rt.alloc();
-    let whole = with_tail(alloc, b"# \xc3\xa9")?;
-    let stray = with_tail(alloc, b"# \xff\n")?;
-    let cut = with_tail(alloc, b"# \xe2\x82")?;
-    let named = with_tail(alloc, b"c = \"\xc3\xa9\"\n")?;
-    let stray_named = with_tail(alloc, b"c = \"\xff\"\n")?;
-    let cut_named = with_tail(alloc, b"c = \"\xc3\"\n")?;
-    let found = format!(in alloc; "{whole}, {stray}, {cut}; {named}, {stray_named}, {cut_named}")?;
-    assert_eq!(rt;
-        found.as_str(),
-        "ok, toml, toml; shape conflict 2 0, toml, toml"
-    );
+    for &(tail, wanted) in TAILS {
+        let found = with_tail(rt.alloc(), tail)?;
+        assert_eq!(rt; found.as_str(), wanted);
+    }
     Ok(())
 }

@@ -1,6 +1,6 @@
-//! The worked network, and what a text of a network is read as.
-use road_net::{NetFault, Part, Place, read_network};
-use std::alloc::{AllocError, Global};
+//! The worked network, and faults in words.
+use road_net::{NetFault, Part, Place};
+use std::alloc::AllocError;
 
 /// Two nodes, a and b, with a link each way, a link that enters at each, and one that leaves at b.
 pub(crate) const WORKED: &str = "[run]
@@ -115,41 +115,34 @@ fn part_name(part: Part) -> &'static str {
     }
 }
 
-fn at_place(alloc: Global, word: &str, place: Place) -> Result<String, AllocError> {
+fn show_place(text: &mut String, word: &str, place: Place) -> Result<(), AllocError> {
     let part = part_name(place.part);
     let Place { item, sub, .. } = place;
-    format!(in alloc; "{word} {part} {item} {sub}")
+    write!(text, "{word} {part} {item} {sub}")?;
+    Ok(())
 }
 
-/// The fault in words, with nodes and links by their numbers from 0.
-pub(crate) fn fault_text(alloc: Global, fault: NetFault) -> Result<String, AllocError> {
+fn show_number(text: &mut String, word: &str, number: u32) -> Result<(), AllocError> {
+    write!(text, "{word} {number}")?;
+    Ok(())
+}
+
+/// Writes the fault in words, with nodes and links by their numbers from 0.
+pub(crate) fn show_fault(text: &mut String, fault: NetFault) -> Result<(), AllocError> {
     match fault {
-        NetFault::NoMemory => String::from_str(alloc, "no memory"),
-        NetFault::NotToml => String::from_str(alloc, "toml"),
-        NetFault::Shape(place) => at_place(alloc, "shape", place),
-        NetFault::Bound(place) => at_place(alloc, "bound", place),
-        NetFault::Twice(place) => at_place(alloc, "twice", place),
-        NetFault::Unknown(place) => at_place(alloc, "unknown", place),
-        NetFault::Ends(link) => format!(in alloc; "ends {link}"),
-        NetFault::Crowd(node) => format!(in alloc; "crowd {node}"),
-        NetFault::Shares(link) => format!(in alloc; "shares {link}"),
-        NetFault::Phaseless(link) => format!(in alloc; "phaseless {link}"),
-        NetFault::Clash { a, b } => format!(in alloc; "clash {a} {b}"),
-    }
-}
-
-/// What the text is read as: `ok`, or its fault in words.
-pub(crate) fn outcome(alloc: Global, text: &str) -> Result<String, AllocError> {
-    outcome_of(alloc, text.as_bytes())
-}
-
-/// What the bytes are read as.
-pub(crate) fn outcome_of(alloc: Global, bytes: &[u8]) -> Result<String, AllocError> {
-    if bytes.len() > 1_000_000 {
-        return String::from_str(alloc, "too long");
-    }
-    match read_network(alloc, bytes) {
-        Ok(_) => String::from_str(alloc, "ok"),
-        Err(fault) => fault_text(alloc, fault),
+        NetFault::NoMemory => text.push_str("no memory"),
+        NetFault::NotToml => text.push_str("toml"),
+        NetFault::Shape(place) => show_place(text, "shape", place),
+        NetFault::Bound(place) => show_place(text, "bound", place),
+        NetFault::Twice(place) => show_place(text, "twice", place),
+        NetFault::Unknown(place) => show_place(text, "unknown", place),
+        NetFault::Ends(link) => show_number(text, "ends", link),
+        NetFault::Crowd(node) => show_number(text, "crowd", node),
+        NetFault::Shares(link) => show_number(text, "shares", link),
+        NetFault::Phaseless(link) => show_number(text, "phaseless", link),
+        NetFault::Clash { a, b } => {
+            show_number(text, "clash", a)?;
+            show_number(text, "", b)
+        }
     }
 }

@@ -1,4 +1,4 @@
-use Rattle.std.proofs.Common.{◌≡◌, ℕ, ◌+◌, ◌<◌, ◌≤◌, List, length, Option, Some, None, IfSome, IsSome, ap, arith}
+use Rattle.std.proofs.Common.{◌≡◌, ℕ, ◌+◌, ◌<◌, ◌≤◌, List, length, Option, Some, None, IfSome, IsSome, arith}
 use Rattle.outside_world.specs.Shelf.{front_of}
 use Rattle.outside_world.proofs.ShelfLemmas.{whole_file, long_file}
 use Rattle.signal_cli.specs.Jobs.{IsLongFile, text_of}
