@@ -20,7 +20,7 @@ const WORKED: &[&str] = &[TWO_CLUSTERS, THREE_PHASES];
 #[test]
 fn texts_written_again(rt: HostRuntime) {
     for &text in WORKED {
-        assert!(rt; is_written_again(rt.alloc(), text) == Some(true), "{text}");
+        assert!(rt; is_written_again(rt.alloc(), text) == Some(true));
     }
 }
 
