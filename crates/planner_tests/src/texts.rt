@@ -1,7 +1,7 @@
 // Texts of instances, and their beginnings.
 
 use schedule_meaning::{read_instance, write_instance};
-use std::test::Fail;
+use std::alloc::Global;
 
 /// The lines of two phases alike, up to the head's.
 pub const TWO_PHASES: &str = "instance 1\nphases 2\nphase 5 30 3 2 2 120\nphase 5 30 3 2 2 120\n";
@@ -16,19 +16,20 @@ const THREE_PHASES: &str =
 
 const WORKED: &[&str] = &[TWO_CLUSTERS, THREE_PHASES];
 
-// What is written of an instance, and of a copy of it, is the text that it was read from.
+// What is written of a copy of an instance is the text that the instance was read from.
 #[test]
-fn texts_written_again(rt: HostRuntime) -> Result<(), Fail> {
-    let alloc = rt.alloc();
+fn texts_written_again(rt: HostRuntime) {
     for &text in WORKED {
-        assert!(rt; text.len() < 10_000);
-        let instance = read_instance(alloc, text.as_bytes())
-            .ok()
-            .ok_or("no instance")?;
-        let written = write_instance(alloc, &instance)?;
-        assert!(rt; written.as_slice() == text.as_bytes(), "{text}");
-        let copy = write_instance(alloc, &instance.copy(alloc)?)?;
-        assert!(rt; copy.as_slice() == text.as_bytes(), "a copy of {text}");
+        assert!(rt; is_written_again(rt.alloc(), text) == Some(true));
     }
-    Ok(())
+}
+
+fn is_written_again(alloc: Global, text: &str) -> Option<bool> {
+    if text.len() > 10_000 {
+        return None;
+    }
+    let instance = read_instance(alloc, text.as_bytes()).ok()?;
+    let copy = instance.copy(alloc).ok()?;
+    let written = write_instance(alloc, &copy).ok()?;
+    Some(written.as_slice() == text.as_bytes())
 }
