@@ -1,5 +1,5 @@
 -- What is served next behind an entry, written as an entry again.
-use Rattle.std.proofs.Common.{◌≡◌, ℕ, ◌+◌, ◌<◌, ◌≤◌, ◌⊎◌, ◌↔◌, length, get_or, IfSome, Option, Some, None, Ok, refl, sym, ap, subst, ◌∙◌, inl, inr, arith}
+use Rattle.std.proofs.Common.{◌≡◌, ℕ, ◌+◌, ◌<◌, ◌≤◌, ◌⊎◌, length, get_or, IfSome, Option, Some, None, Ok, refl, sym, ap, subst, ◌∙◌, inl, inr, arith}
 use Rattle.std.specs.List.{slice_get}
 use Rattle.std.specs.Option.{option_map}
 use Rattle.std.proofs.lemmas.Bool.{cases_lt}
@@ -41,16 +41,13 @@ next-bounds p e k c r bounds place ec fit = record {
 }
 
 -- what is next behind an entry, as an option
-mapped : (c : Claim) (next : Option Entry) → IfSome next (IsMet c) ↔ IfSome (option_map stage_behind next) (λ s. HasEntry c.entries (key_of s) s.delay ⊎ IsTooDear c.problem c.answer s)
-mapped c None = (λ h. h, λ h. h)
-mapped c (Some e) = (λ h. h, λ h. h)
+mapped : (c : Claim) (next : Option Entry) → IfSome next (IsMet c) → IfSome (option_map stage_behind next) (λ s. HasEntry c.entries (key_of s) s.delay ⊎ IsTooDear c.problem c.answer s)
+mapped c None h = h
+mapped c (Some e) h = h
 
--- an entry is closed at a phase where what is next is met, and only there
+-- an entry is closed at a phase where what is next is met
 pub closed-at : (c : Claim) (e : Entry) (k : ℕ) (next : Option Entry) → option_map stage_behind next ≡ stage_after c.problem (stage_of_entry c.problem e) k → IfSome next (IsMet c) → IsClosedAt c e k
-closed-at c e k next same met = subst (λ (o : Option Stage). IfSome o (λ s. HasEntry c.entries (key_of s) s.delay ⊎ IsTooDear c.problem c.answer s)) same ((mapped c next).0 met)
-
-pub met-at : (c : Claim) (e : Entry) (k : ℕ) (next : Option Entry) → option_map stage_behind next ≡ stage_after c.problem (stage_of_entry c.problem e) k → IsClosedAt c e k → IfSome next (IsMet c)
-met-at c e k next same closed = (mapped c next).1 (subst (λ (o : Option Stage). IfSome o (λ s. HasEntry c.entries (key_of s) s.delay ⊎ IsTooDear c.problem c.answer s)) (sym same) closed)
+closed-at c e k next same met = subst (λ (o : Option Stage). IfSome o (λ s. HasEntry c.entries (key_of s) s.delay ⊎ IsTooDear c.problem c.answer s)) same (mapped c next met)
 
 -- and at a number that is no phase
 closed-none : (c : Claim) (o : Option Stage) → ((s : Stage) → o ≡ Some s → ⊥) → IfSome o (λ s. HasEntry c.entries (key_of s) s.delay ⊎ IsTooDear c.problem c.answer s)

@@ -1,4 +1,5 @@
--- A completion of a stage costs at least what its clusters that are not yet served cost when each waits until the stage's time.
+-- A completion of a stage costs at least what its clusters that are not yet served cost when each waits until the
+-- stage's time.
 use Rattle.std.proofs.Common.{◌≡◌, ℕ, zero, suc, ◌+◌, ◌-◌, ◌*◌, ◌<◌, ◌≤◌, ◌&&◌, nat_lt, nat_le, max, Bool, true, false, cond, List, [], ◌∷◌, length, length-set, sum, get_or, drop, take, Some, Result, Ok, Err, refl, sym, ap, subst, ◌∙◌, inl, inr, add-one, drop-cons, arith}
 use Rattle.std.specs.List.{range_with_len, slice_get, sum_by}
 use Rattle.std.proofs.Math.Nat.{mul-le-mul_left}

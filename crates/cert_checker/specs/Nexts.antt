@@ -25,8 +25,8 @@ wait_until t c = c.size * (t - c.arr)
 abbrev pub IsMet : Claim → Entry → Type 0
 IsMet c next = HasEntry c.entries (key_of_entry next) next.delay ⊎ IsTooDear c.problem c.answer (stage_behind next)
 
--- an entry with this key, if there is one, stands from low to high: the keys below are before it, and those from high on
--- are not
+-- an entry with this key, if there is one, stands from low to high: the keys below are before it, and those from high
+-- on are not
 pub record IsSpan (entries : List Entry) (key : Entry) (low high : ℕ) : Type 0 where
   pub rise : low ≤ high
   pub within : high ≤ length entries

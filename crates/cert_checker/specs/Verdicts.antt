@@ -38,8 +38,8 @@ abbrev pub IsOpenAt : Claim → Entry → ℕ → Type 0
 IsOpenAt c e k = ((j : ℕ) → j < k → IsClosedAt c e j) × ¬ IsClosedAt c e k
 
 -- why a certificate does not prove its answer: the first of the claimed plan's fault, its other delay, the first stage
--- that is no entry, the first entry that is not closed with its least such phase, and the first at the end that undercuts
--- the answer; entries are numbered from 1
+-- that is no entry, the first entry that is not closed with its least such phase, and the first entry at the end that
+-- undercuts the answer; entries are numbered from 1
 abbrev pub IsWhy : Claim → Why → Type 0
 IsWhy c (Sequence fault) = IsClaimFault c.problem c.answer fault
 IsWhy c (Delay said is) = IsClaimedOtherwise c.problem c.answer said is

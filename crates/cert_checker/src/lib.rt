@@ -29,7 +29,8 @@ pub enum Why {
     Delay { said: u64, is: u64 },
     /// No entry has the key of the start with no delay.
     NoRoot,
-    /// The first entry behind which something can be served next that is no entry and not too dear, with the least phase.
+    /// The first entry behind which something can be served next that is no entry and not too dear, and the least
+    /// phase of which it can.
     Open { entry: u32, phase: u8 },
     /// The first entry behind which nothing is left, and which undercuts the answer.
     Cheaper { entry: u32 },
