@@ -3,3 +3,4 @@ pub mod Loops
 pub mod FormLaws
 pub mod FaultLaws
 pub mod FirstFault
+pub mod LengthLaws

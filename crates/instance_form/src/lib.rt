@@ -5,6 +5,8 @@ mod form;
 mod lines;
 mod lists;
 mod reading;
+mod writing;
 
 pub use form::{Form, FormFault};
 pub use reading::{one_text, read_form, read_front};
+pub use writing::write_form;

@@ -5,6 +5,7 @@ ghost use Rattle.std.specs.Prelude.{◌≡◌, ◌+◌, ◌*◌, ◌<◌, ◌≤
 ghost use Rattle.phase_plan.specs.Phases as spec;
 ghost use Rattle.phase_plan.specs.Phases.{IsPhase, IsPlan, IsFirstFault, AreSwitchTimes, AreSwitchTimesFrom, passing};
 
+use std::alloc::{AllocError, Global};
 use std::marker::Model;
 
 /// The times of one phase, in whole seconds.
@@ -119,6 +120,27 @@ impl PhasePlan {
             switch_times: switch_times(&phases),
             phases,
         })
+    }
+
+    /// An equal plan, on this allocator. An `Err` comes where memory runs out.
+    ///
+    /// docs/RULES.md, "Phases".
+    pub fn copy(&self, alloc: Global) -> Result<PhasePlan, AllocError>
+        ensures { IfOk result (λ copy. copy ≡ self.now) }
+    {
+        Ok(PhasePlan {
+            phases: self.phases.as_slice().to_vec(alloc)?,
+            switch_times: self.switch_times,
+        })
+    }
+
+    /// The phases, in order.
+    ///
+    /// docs/RULES.md, "Phases".
+    pub fn phases(&self) -> &[Phase]
+        ensures { result.now ≡ self.now }
+    {
+        self.phases.as_slice()
     }
 
     /// How many phases there are, 2 to 4.

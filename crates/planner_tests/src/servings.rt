@@ -7,7 +7,9 @@ use foundation::items::Items;
 use foundation::steps::Steps;
 use line_text::field_u64;
 use phase_plan::{Phase, PhasePlan, PlanFault};
-use schedule_meaning::{Instance, InstanceFault, SeqFault, Timed, read_instance, replay};
+use schedule_meaning::{
+    Instance, InstanceFault, SeqFault, ServingsFault, Timed, read_instance, replay, servings,
+};
 use std::alloc::Global;
 use std::marker::Brand;
 use std::sync::ledger::{Blank, Ledger};
@@ -185,6 +187,29 @@ fn sequences(rt: HostRuntime) -> Result<(), Fail> {
         let found = timed(&instance, sequence);
         assert!(rt; found.0 == told && found.1 == numbers, "{sequence:?}");
     }
+    Ok(())
+}
+
+// What a whole sequence serves, one cluster after another.
+const SERVED: &[(&str, [u64; 4])] = &[("kept", [0, 0, 8, 0]), ("new", [13, 15, 19, 24000])];
+
+#[test]
+fn servings_of_a_sequence(rt: HostRuntime) -> Result<(), Fail> {
+    let alloc = rt.alloc();
+    let instance = instance(alloc, TWO_PHASES, MEETING)?;
+    let list = servings(alloc, &instance, &[0, 1]).ok().ok_or("refused")?;
+    assert!(rt; list.len() == SERVED.len());
+    for (served, &(word, numbers)) in list.iter().zip(SERVED) {
+        let found = told(*served);
+        assert!(rt; found.0 == word && found.1 == numbers, "{word}");
+    }
+    let unknown = servings(alloc, &instance, &[0, 2]);
+    assert!(rt;
+        matches!(
+            unknown,
+            Err(ServingsFault::Seq(SeqFault::Phase { place: 2 }))
+        )
+    );
     Ok(())
 }
 

@@ -1,4 +1,5 @@
 pub mod Choosing
 pub mod Sequences
 pub mod TextLaws
+pub mod Underway
 mod WorkedRows

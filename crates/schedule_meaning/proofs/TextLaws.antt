@@ -1,12 +1,16 @@
-use Rattle.std.proofs.Common.{◌≡◌, ℕ, ◌+◌, ◌^◌, ◌<◌, ◌≤◌, List, [], ◌∷◌, ◌++◌, length, map, get_or, All, ap, length-append, zero, suc, arith}
+use Rattle.std.proofs.Common.{◌≡◌, ℕ, ◌+◌, ◌*◌, ◌^◌, ◌<◌, ◌≤◌, List, [], ◌∷◌, ◌++◌, length, map, sum, sum_by, get_or, All, Result, Ok, Err, IfOk, ap, length-append, zero, suc, arith}
 use Rattle.std.specs.List.{flat_map, concat, join_with_byte}
 use Rattle.std.specs.Fmt.{decimal}
 use Rattle.std.specs.Prelude.{codes}
 use Rattle.std.proofs.lemmas.List.Concat.{flat_map-cons}
+use Rattle.std.proofs.lemmas.List.Sums.{sum-map}
 use Rattle.phase_plan.specs.declared.Phase.{Phase}
 use Rattle.switch_rules.specs.declared.Head.{Head}
 use Rattle.switch_rules.specs.declared.Cluster.{Cluster}
 use Rattle.instance_form.specs.InstanceText.{line, count_line, phase_line, head_line, cluster_line, cluster_lines, instance_text}
+use Rattle.instance_form.proofs.LengthLaws.{text-le}
+use Rattle.schedule_meaning.specs.Instances.{Problem, counts_of}
+use Rattle.schedule_meaning.specs.Texts.{Spells}
 
 -- a list is no longer than what has at least one element for each of its own
 longer-flat_map : {X A : Type 0} (f : X → List A) → ((x : X) → 1 ≤ length (f x)) → (xs : List X) → length xs ≤ length (flat_map f xs)
@@ -37,3 +41,15 @@ lists-below-text plan h lists bytes e short = λ i d inside.
     below (length (get_or lists i d)) (length (cluster_lines 0 lists)) (length (instance_text plan h lists)) (length bytes) (2 ^ 32) (lists-le-lines 0 lists i d inside)
     (longer-concat (line (codes "instance 1" ∷ []) ∷ count_line (length plan) ∷ flat_map phase_line plan ∷ head_line h ∷ []) (cluster_lines 0 lists) (line (codes "end" ∷ []) ∷ []))
     (ap length e) short
+
+-- the text of an instance has fewer than 2^32 bytes
+short-text : (bytes : List ℕ) (p : Problem) → Spells bytes p → sum (counts_of p.lists) ≤ 40 → length bytes < 2 ^ 32
+short-text bytes p spells few =
+    fits (length bytes) (length (instance_text p.plan p.head p.lists)) (sum_by (λ list. length list) p.lists) (sum (counts_of p.lists)) (ap length spells.1) (text-le p.plan p.head p.lists spells.0) (sum-map length p.lists) few
+  where
+    fits : (n m c s : ℕ) → n ≡ m → m ≤ 56 * c + 500 → s ≡ c → s ≤ 40 → n < 2 ^ 32
+    fits n m c s e f g h = omega arith
+
+pub short-texts : {X E : Type 0} (bytes : X → List ℕ) (p : Problem) (r : Result X E) → IfOk r (λ x. Spells (bytes x) p) → sum (counts_of p.lists) ≤ 40 → IfOk r (λ x. length (bytes x) < 2 ^ 32)
+short-texts bytes p (Ok x) spells few = short-text (bytes x) p spells few
+short-texts bytes p (Err e) spells few = tt

@@ -2,6 +2,7 @@ pub mod Best
 pub mod Choice
 pub mod Faults
 pub mod Instances
+pub mod Listing
 pub mod Texts
 pub mod Timing
 pub use Rattle.phase_plan.specs.Phases

@@ -1,4 +1,4 @@
-ghost use Rattle.std.specs.Prelude.{◌≡◌, ◌+◌, ◌^◌, ◌<◌, ◌≤◌, All, length, map, sum, IfErr, IfNone, IfSome, IsTrue, OnOk, ◌↔◌};
+ghost use Rattle.std.specs.Prelude.{◌≡◌, ◌+◌, ◌^◌, ◌<◌, ◌≤◌, All, length, map, sum, IfOk, IfErr, IfNone, IfSome, IsTrue, OnOk, ◌↔◌};
 ghost use Rattle.phase_plan.specs.Phases.{IsPlan};
 ghost use Rattle.switch_rules.specs.Serving.{IsHead, IsCluster};
 ghost use Rattle.switch_rules.specs.Orders.{orders};
@@ -9,6 +9,7 @@ use super::faults::InstanceFault;
 use foundation::items::Items;
 use foundation::threads::CrossesThreads;
 use phase_plan::PhasePlan;
+use std::alloc::{AllocError, Global};
 use std::marker::Model;
 use switch_rules::{Cluster, Head, MOST_ORDERS, ways};
 
@@ -73,6 +74,19 @@ impl Instance {
         })
     }
 
+    /// An equal instance, on this allocator. An `Err` comes where memory runs out.
+    ///
+    /// docs/RULES.md, "Instance".
+    pub fn copy(&self, alloc: Global) -> Result<Instance, AllocError>
+        ensures { IfOk result (λ copy. copy ≡ self.now) }
+    {
+        Ok(Instance {
+            plan: self.plan.copy(alloc)?,
+            head: self.head,
+            lists: copy_lists(alloc, self.lists.as_slice())?,
+        })
+    }
+
     /// The phases.
     ///
     /// docs/RULES.md, "Phases".
@@ -104,6 +118,15 @@ impl Instance {
         self.lists.as_slice()[phase as usize].as_slice()
     }
 
+    /// The clusters of each phase, in the order of the phases.
+    ///
+    /// docs/RULES.md, "Clusters".
+    pub fn lists(&self) -> &[Items<Cluster>]
+        ensures { result.now ≡ self.now.lists }
+    {
+        self.lists.as_slice()
+    }
+
     /// Writes down how many clusters each phase has, into as many places as there are phases.
     ///
     /// docs/RULES.md, "Instance".
@@ -113,6 +136,17 @@ impl Instance {
     {
         count_clusters(self.lists.as_slice(), counts);
     }
+}
+
+/// Lists of clusters that are equal to these.
+fn copy_lists(alloc: Global, lists: &[Items<Cluster>]) -> Result<Items<Items<Cluster>>, AllocError>
+    ensures { IfOk result (λ copy. copy ≡ lists.now) }
+{
+    let mut copy = Vec::with_capacity(alloc, lists.len())?;
+    for list in lists {
+        copy.push(Items::from_vec(list.as_slice().to_vec(alloc)?))?;
+    }
+    Ok(Items::from_vec(copy))
 }
 
 /// Refuses a head whose phase is none of the plan, or whose times are out of bounds.

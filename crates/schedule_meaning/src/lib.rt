@@ -3,12 +3,14 @@
 
 mod faults;
 mod instances;
+mod listing;
 mod planners;
 mod replays;
 mod texts;
 
 pub use faults::{InstanceFault, SeqFault};
 pub use instances::Instance;
+pub use listing::{ServingsFault, servings};
 pub use planners::{Answer, PlainPlanner, Planner, best_answer};
 pub use replays::{Timed, replay};
-pub use texts::{TextFault, read_instance};
+pub use texts::{TextFault, read_instance, write_instance};

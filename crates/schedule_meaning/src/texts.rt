@@ -1,13 +1,13 @@
 ghost use Rattle.std.specs.Prelude.{◌≡◌, ◌^◌, ◌<◌, IfOk, IfErr, MatchResult, length};
 ghost use Rattle.instance_form.specs.InstanceText.{instance_text};
 ghost use Rattle.schedule_meaning.specs.Instances.{Problem, IsInstance};
-ghost use Rattle.schedule_meaning.specs.Texts.{IsTextFault, IsWant};
+ghost use Rattle.schedule_meaning.specs.Texts.{IsTextFault, IsWant, Spells};
 
 use super::faults::InstanceFault;
 use super::instances::Instance;
-use instance_form::{FormFault, read_form};
+use instance_form::{FormFault, read_form, write_form};
 use phase_plan::{PhasePlan, PlanFault};
-use std::alloc::Global;
+use std::alloc::{AllocError, Global};
 
 /// Why a text is no instance's.
 ///
@@ -61,4 +61,17 @@ pub fn read_instance(alloc: Global, bytes: &[u8]) -> Result<Instance, TextFault>
         Ok(instance) => Ok(instance),
         Err(fault) => Err(TextFault::Instance(fault)),
     }
+}
+
+/// The one spelling of an instance, in fewer than 2^32 bytes, which `read_instance` reads as that instance. An `Err`
+/// comes where memory runs out.
+///
+/// docs/FORMATS.md, "Instance text".
+pub fn write_instance(alloc: Global, i: &Instance) -> Result<Vec<u8>, AllocError>
+    ensures text { IfOk result (λ text. text.items ≡ instance_text i.now.plan i.now.head i.now.lists) }
+    ensures lawful { IsInstance i.now }
+    ensures spells { IfOk result (λ text. Spells text.items i.now) }
+    ensures short { IfOk result (λ text. length text.items < 2 ^ 32) }
+{
+    write_form(alloc, i.plan().phases(), &i.head(), i.lists())
 }
