@@ -1,8 +1,0 @@
-mod AnswerLaws
-mod Apart
-mod EntryLaws
-mod Feeds
-mod FirstFault
-mod Many
-mod TailLaws
-mod WholeLaws

@@ -1,14 +1,8 @@
-pub mod Answers
-pub mod CertificateText
 pub mod Certificates
 pub mod Faults
-pub mod Lines
 pub mod Numbers
 pub mod Prefixes
 pub mod Proves
-pub mod Reading
-pub mod TextFaults
-pub use Rattle.instance_form.specs.InstanceText
 pub use Rattle.schedule_meaning.specs.Best
 pub use Rattle.schedule_meaning.specs.Instances
 pub use Rattle.schedule_meaning.specs.Timing

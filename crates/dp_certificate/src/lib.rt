@@ -2,12 +2,9 @@
 #![tactic(auto)]
 
 mod certificates;
-mod lines;
-mod reading;
 
 pub use certificates::{CertFault, Certificate};
 use foundation::threads::CrossesThreads;
-pub use reading::{CertText, read_certificate};
 
 /// One entry of a table of least delays: a key, which is what decides how a plan can go on, with a delay.
 ///
