@@ -34,10 +34,10 @@ of_form form.NoMemory = NoMemory
 abbrev pub Spells : List ℕ → Claim → Type 0
 Spells bytes c = HasText c × (bytes ≡ certificate_text c)
 
--- why bytes are no certificate's text: the first line that has not the form of its place, or else the fault of the
--- phases, or else that of the instance, or else that of the certificate
+-- why bytes are no certificate's text: they have not the form of a text, and this is the first line that has not the form
+-- of its place; or else the fault of the phases; or else that of the instance; or else that of the certificate
 abbrev pub IsTextFault : List ℕ → CertText → Type 0
-IsTextFault bytes (Line n) = IsFirstFault n bytes
+IsTextFault bytes (Line n) = IsFirstFault n bytes × ((c : Claim) → ¬ Spells bytes c)
 IsTextFault bytes (Plan fault) = (c : Claim) × Spells bytes c × IsPlanFault c.problem.plan fault
 IsTextFault bytes (Instance fault) = (c : Claim) × Spells bytes c × IsPlan c.problem.plan × IsInstanceFault c.problem fault
 IsTextFault bytes (Cert fault) = (c : Claim) × Spells bytes c × IsInstance c.problem × IsCertFault c fault
