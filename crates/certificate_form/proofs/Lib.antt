@@ -1,0 +1,9 @@
+mod AnswerLaws
+mod Apart
+mod EntryLaws
+mod Feeds
+mod FirstFault
+mod Many
+mod TailLaws
+mod WholeLaws
+mod WritingLaws

@@ -1,0 +1,96 @@
+use Rattle.std.proofs.Common.{◌≡◌, ℕ, List, ◌++◌, length, Some, None, arith}
+use Rattle.std.specs.Prelude.{codes}
+use Rattle.std.proofs.lemmas.Result.{err_from_is_err_and}
+use Rattle.instance_form.specs.declared.form.FormFault.TheVariants.{Line}
+use Rattle.instance_form.proofs.Loops.{fault_is}
+use Rattle.schedule_meaning.specs.Instances.{Problem}
+use Rattle.certificate_form.proofs.FirstFault.{front_text, first_fault}
+use Rattle.certificate_form.proofs.TailLaws.{tail_text}
+use Rattle.certificate_form.proofs.WholeLaws.{no_opening, behind_opening, front_line, whole, room, read_fits, read_found, read_only, fails_only, fails_line}
+use Rattle.certificate_form.proofs.reading.read_lines.Goals as goal
+use Rattle.certificate_form.proofs.reading.read_lines.Goals.{In_err-rest, In_ok-rest, In_ok-form}
+
+no_first : (c : In_err-rest) → (rest : List ℕ) → c.args.bytes.now ≡ codes "certificate 1\n" ++ rest → ⊥
+no_first c rest e =
+    let none : c.literal.result ≡ None = c.in_err-rest.ensures.ok_part in
+    rw none at (c.literal.ensures.only rest e)
+
+pub returns-in_err-rest-clause-only : goal.returns-in_err-rest-clause-only
+returns-in_err-rest-clause-only c = λ claim fits e. absurd (no_opening c.args.bytes.now claim (no_first (goal.at.returns-in_err-rest-clause-only c).In_err-rest) e)
+
+pub returns-in_err-rest-clause-line : goal.returns-in_err-rest-clause-line
+returns-in_err-rest-clause-line c =
+    let none : c.literal.result ≡ None = c.in_err-rest.ensures.ok_part in
+    let fault : c.in_err-rest.field-0.0 ≡ Line 1 = fault_is c.literal.result _ _ none c.in_err-rest.ensures.value in
+    let p = err_from_is_err_and c.from_residual.result c.from_residual.ensures.1 in
+    rw (p.1, p.2, fault) (first_fault c.args.bytes.now (no_first (goal.at.returns-in_err-rest-clause-line c).In_err-rest))
+
+-- the first line is there
+opened : (c : In_ok-rest) → c.args.bytes.now ≡ codes "certificate 1\n" ++ c.in_ok-rest.rest.now
+opened c =
+    let some : c.literal.result ≡ Some c.in_ok-rest.rest = c.in_ok-rest.ensures.ok_part in
+    rw some at c.literal.ensures.found
+
+pub returns-in_err-form-clause-only : goal.returns-in_err-form-clause-only
+returns-in_err-form-clause-only c = λ claim fits e.
+    let p = err_from_is_err_and c.from_residual-in_err-form.result c.from_residual-in_err-form.ensures.1 in
+    let a = claim.problem in
+    rw (p.1, p.2) (c.in_err-form.ensures.only a.plan a.head a.lists (tail_text (length a.plan) claim.answer claim.entries) fits.instance
+    (behind_opening c.args.bytes.now c.in_ok-rest.rest.now claim (opened (goal.at.returns-in_err-form-clause-only c).In_ok-rest) e))
+
+pub returns-in_err-form-clause-line : goal.returns-in_err-form-clause-line
+returns-in_err-form-clause-line c =
+    let p = err_from_is_err_and c.from_residual-in_err-form.result c.from_residual-in_err-form.ensures.1 in
+    rw (p.1, p.2) (front_line c.args.bytes.now c.in_ok-rest.rest.now c.in_err-form.field-0.0 (opened (goal.at.returns-in_err-form-clause-line c).In_ok-rest) c.in_err-form.ensures.line)
+
+-- what the instance's lines say
+problem_of : In_ok-form → Problem
+problem_of c = record { plan = c.in_ok-form.form.phases.items; head = c.in_ok-form.form.head; lists = c.in_ok-form.form.lists.items }
+
+-- and what stands behind them
+spelled : (c : In_ok-form) → c.args.bytes.now ≡ front_text (problem_of c) ++ c.in_ok-form.rest.now
+unfolding problem_of
+spelled c = whole (problem_of c) c.args.bytes.now c.in_ok-rest.rest.now c.in_ok-form.rest.now (opened (goal.at.In_ok-form c).In_ok-rest) c.in_ok-form.ensures.found
+
+pub tail-requires-clause-room : goal.tail-requires-clause-room
+unfolding problem_of
+tail-requires-clause-room c =
+    room (problem_of (goal.at.tail-requires-clause-room c).In_ok-form) c.args.bytes.now c.in_ok-rest.rest.now c.in_ok-form.rest.now c.in_ok-form.line 4294967296 c.in_ok-form.ensures.fits
+    (opened (goal.at.tail-requires-clause-room c).In_ok-rest) c.in_ok-form.ensures.found c.in_ok-form.ensures.next c.requires
+
+pub returns-in_err-answer-clause-only : goal.returns-in_err-answer-clause-only
+unfolding problem_of
+returns-in_err-answer-clause-only c = λ claim fits e.
+    let d = (goal.at.returns-in_err-answer-clause-only c).In_ok-form in
+    let p = err_from_is_err_and c.from_residual-in_err-answer.result c.from_residual-in_err-answer.ensures.1 in
+    let phases : c.len-phases.result ≡ length c.in_ok-form.form.phases.items = omega (arith, c.len-phases.ensures, c.in_ok-form.form.phases.ok.0) in
+    rw (p.1, p.2) (fails_only (problem_of d) c.in_ok-form.ensures.fits c.args.bytes.now c.in_ok-form.rest.now c.in_ok-form.line (spelled d) c.in_ok-form.ensures.next c.in_err-answer.field-0.0 (rw phases at c.in_err-answer.ensures.exact) claim fits e)
+
+pub returns-in_err-answer-clause-line : goal.returns-in_err-answer-clause-line
+unfolding problem_of
+returns-in_err-answer-clause-line c =
+    let d = (goal.at.returns-in_err-answer-clause-line c).In_ok-form in
+    let p = err_from_is_err_and c.from_residual-in_err-answer.result c.from_residual-in_err-answer.ensures.1 in
+    let phases : c.len-phases.result ≡ length c.in_ok-form.form.phases.items = omega (arith, c.len-phases.ensures, c.in_ok-form.form.phases.ok.0) in
+    rw (p.1, p.2) (fails_line (problem_of d) c.in_ok-form.ensures.fits c.args.bytes.now c.in_ok-form.rest.now c.in_ok-form.line (spelled d) c.in_ok-form.ensures.next c.in_err-answer.field-0.0 (rw phases at c.in_err-answer.ensures.exact))
+
+pub returns-clause-fits : goal.returns-clause-fits
+unfolding problem_of
+returns-clause-fits c =
+    let d = (goal.at.returns-clause-fits c).In_ok-form in
+    let phases : c.len-phases.result ≡ length c.in_ok-form.form.phases.items = omega (arith, c.len-phases.ensures, c.in_ok-form.form.phases.ok.0) in
+    read_fits (problem_of d) c.in_ok-form.ensures.fits c.args.bytes.now c.in_ok-form.rest.now c.in_ok-form.line (spelled d) c.in_ok-form.ensures.next c.in_ok-answer.answer c.in_ok-answer.entries.items (rw phases at c.in_ok-answer.ensures.exact)
+
+pub returns-clause-found : goal.returns-clause-found
+unfolding problem_of
+returns-clause-found c =
+    let d = (goal.at.returns-clause-found c).In_ok-form in
+    let phases : c.len-phases.result ≡ length c.in_ok-form.form.phases.items = omega (arith, c.len-phases.ensures, c.in_ok-form.form.phases.ok.0) in
+    read_found (problem_of d) c.in_ok-form.ensures.fits c.args.bytes.now c.in_ok-form.rest.now c.in_ok-form.line (spelled d) c.in_ok-form.ensures.next c.in_ok-answer.answer c.in_ok-answer.entries.items (rw phases at c.in_ok-answer.ensures.exact)
+
+pub returns-clause-only : goal.returns-clause-only
+unfolding problem_of
+returns-clause-only c = λ claim fits e.
+    let d = (goal.at.returns-clause-only c).In_ok-form in
+    let phases : c.len-phases.result ≡ length c.in_ok-form.form.phases.items = omega (arith, c.len-phases.ensures, c.in_ok-form.form.phases.ok.0) in
+    read_only (problem_of d) c.in_ok-form.ensures.fits c.args.bytes.now c.in_ok-form.rest.now c.in_ok-form.line (spelled d) c.in_ok-form.ensures.next c.in_ok-answer.answer c.in_ok-answer.entries.items (rw phases at c.in_ok-answer.ensures.exact) claim fits e

@@ -1,0 +1,53 @@
+-- The one spelling of a certificate.
+use Rattle.std.specs.Prelude.{◌≡◌, ℕ, ◌^◌, ◌<◌, ◌≤◌, List, [], ◌∷◌, ◌++◌, length, map, take, slice_index, All, codes}
+use Rattle.std.specs.List.{flat_map, concat}
+use Rattle.std.specs.Fmt.{decimal}
+use Rattle.instance_form.specs.InstanceText.{line, instance_text}
+use Rattle.instance_form.specs.InstanceText as form
+use Rattle.schedule_meaning.specs.declared.planners.Answer.{Answer}
+use Rattle.schedule_meaning.specs.declared.planners.Answer.TheVariants.{Plan, NoPlan}
+use Rattle.dp_certificate.specs.Certificates.{Claim}
+use Rattle.dp_certificate.specs.declared.Entry.{Entry}
+
+-- a number behind a space
+abbrev pub after_space : ℕ → List ℕ
+after_space n = 32 ∷ decimal n
+
+-- the delay and the sequence, or that there is no plan
+abbrev pub answer_line : Answer → List ℕ
+answer_line (Plan sequence delay) = line (codes "answer" ∷ decimal delay ∷ map decimal sequence)
+answer_line NoPlan = line (codes "answer none" ∷ [])
+
+-- the counts of so many phases, the head and the delay
+abbrev pub entry_line : ℕ → Entry → List ℕ
+entry_line phases e = line (codes "entry" ∷ map decimal (take phases e.counts ++ e.phase ∷ e.since ∷ e.at ∷ e.delay ∷ []))
+
+-- the instance, the answer and the entries, line by line
+unfoldable pub certificate_text : Claim → List ℕ
+certificate_text c = concat (
+    line (codes "certificate 1" ∷ []) ∷
+    instance_text c.problem.plan c.problem.head c.problem.lists ∷
+    answer_line c.answer ∷
+    flat_map (entry_line (length c.problem.plan)) c.entries ∷
+    line (codes "end" ∷ []) ∷ [])
+
+-- the numbers of an answer and of an entry are below their types' limits; an entry has a count for each of four phases,
+-- and none for those past the last
+abbrev pub IsWritableAnswer : Answer → Type 0
+IsWritableAnswer (Plan sequence delay) = All (λ k. k < 2 ^ 8) sequence × (delay < 2 ^ 64)
+IsWritableAnswer NoPlan = Unit {0}
+
+pub record IsWritableEntry (phases : ℕ) (e : Entry) : Type 0 where
+  pub places : length e.counts ≡ 4
+  pub counts : All (λ n. n < 2 ^ 8) e.counts
+  pub past : (k : ℕ) → phases ≤ k → slice_index e.counts k ≡ 0
+  pub phase : e.phase < 2 ^ 8
+  pub since : e.since < 2 ^ 32
+  pub at : e.at < 2 ^ 32
+  pub delay : e.delay < 2 ^ 64
+
+-- what has a spelling
+pub record HasText (c : Claim) : Type 0 where
+  pub instance : form.HasText c.problem.plan c.problem.head c.problem.lists
+  pub answer : IsWritableAnswer c.answer
+  pub entries : All (IsWritableEntry (length c.problem.plan)) c.entries

@@ -1,0 +1,9 @@
+pub mod Answers
+pub mod CertificateText
+pub mod Lines
+pub mod Reading
+pub mod TextFaults
+pub use Rattle.dp_certificate.specs.Certificates
+pub use Rattle.dp_certificate.specs.Faults
+pub use Rattle.dp_certificate.specs.Numbers
+pub use Rattle.instance_form.specs.InstanceText

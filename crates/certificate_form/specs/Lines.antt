@@ -1,0 +1,30 @@
+-- Reading an entry, and as many things as follow one another, from the front of the bytes.
+use Rattle.std.specs.Prelude.{ℕ, zero, suc, ◌^◌, Bool, nat_lt, if◌then◌else◌, List, [], ◌∷◌, Option, Some, codes}
+use Rattle.std.specs.Option.{option_map_or}
+use Rattle.line_text.specs.Fields.{literal_at, field_at}
+use Rattle.instance_form.specs.Lines.{◌>>=◌}
+use Rattle.dp_certificate.specs.declared.Entry.{Entry}
+
+-- a count, where there is one, and else 0
+unfoldable pub count_at : Bool → List ℕ → Option (ℕ × List ℕ)
+count_at there bytes = if there then field_at (2 ^ 8) 32 bytes else Some (0, bytes)
+
+-- an entry with so many counts
+unfoldable pub entry_line_at : ℕ → List ℕ → Option (Entry × List ℕ)
+entry_line_at phases bytes = do
+  rest ← literal_at (codes "entry ") bytes
+  first ← count_at (nat_lt 0 phases) rest
+  second ← count_at (nat_lt 1 phases) first.1
+  third ← count_at (nat_lt 2 phases) second.1
+  fourth ← count_at (nat_lt 3 phases) third.1
+  phase ← field_at (2 ^ 8) 32 fourth.1
+  since ← field_at (2 ^ 32) 32 phase.1
+  at ← field_at (2 ^ 32) 32 since.1
+  delay ← field_at (2 ^ 64) 10 at.1
+  Some (record { counts = first.0 ∷ second.0 ∷ third.0 ∷ fourth.0 ∷ []; phase = phase.0; since = since.0; at = at.0; delay = delay.0 }, delay.1)
+
+-- as many as follow one another, up to so many, and the bytes after them
+unfoldable pub many_at : {A : Type 0} → (List ℕ → Option (A × List ℕ)) → ℕ → List ℕ → List A × List ℕ
+many_at read zero bytes = ([], bytes)
+many_at read (suc most) bytes =
+    option_map_or (λ first. let others = many_at read most first.1 in (first.0 ∷ others.0, others.1)) (read bytes) ([], bytes)

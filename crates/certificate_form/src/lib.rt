@@ -1,0 +1,9 @@
+//! The text of a certificate: reading it, and writing its one spelling.
+#![tactic(auto)]
+
+mod lines;
+mod reading;
+mod writing;
+
+pub use reading::{CertText, read_certificate};
+pub use writing::write_certificate;

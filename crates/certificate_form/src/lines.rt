@@ -1,0 +1,86 @@
+//! Reading an entry's line from the front of the bytes, and as many as follow one another.
+
+ghost use Rattle.std.specs.Prelude.{◌≡◌, ◌+◌, ◌^◌, ◌<◌, ◌≤◌, length, IfOk, IfNone, IfSome, None};
+ghost use Rattle.std.specs.Option.{option_map};
+ghost use Rattle.line_text.specs.Fields.{field_at};
+ghost use Rattle.instance_form.specs.Lines.{seen};
+ghost use Rattle.certificate_form.specs.Lines.{count_at, entry_line_at, many_at};
+
+use dp_certificate::Entry;
+use line_text::{field_u8, field_u32, field_u64, literal};
+use std::alloc::{AllocError, Global};
+
+/// A count, where there is one, and else 0; and the bytes after it.
+#[tactic(auto, unfolding(crate::specs::Lines::count_at))]
+fn count(there: bool, bytes: &[u8]) -> Option<(u8, &[u8])>
+    ensures exact { option_map seen result ≡ count_at there bytes.now }
+    ensures shorter { IfSome result (λ x. length x.1.now ≤ length bytes.now) }
+{
+    if there {
+        field_u8(b' ', bytes)
+    } else {
+        Some((0, bytes))
+    }
+}
+
+/// An entry of an instance with so many phases, and the bytes after its line.
+///
+/// docs/FORMATS.md, "Certificate text".
+#[tactic(auto, unfolding(crate::specs::Lines::entry_line_at))]
+fn entry_line(phases: u8, bytes: &[u8]) -> Option<(Entry, &[u8])>
+    ensures exact { option_map seen result ≡ entry_line_at phases bytes.now }
+    ensures shorter { IfSome result (λ x. length x.1.now < length bytes.now) }
+{
+    let rest = literal("entry ", bytes)?;
+    let (first, rest) = count(0 < phases, rest)?;
+    let (second, rest) = count(1 < phases, rest)?;
+    let (third, rest) = count(2 < phases, rest)?;
+    let (fourth, rest) = count(3 < phases, rest)?;
+    let (phase, rest) = field_u8(b' ', rest)?;
+    let (since, rest) = field_u32(b' ', rest)?;
+    let (at, rest) = field_u32(b' ', rest)?;
+    let (delay, rest) = field_u64(b'\n', rest)?;
+    let entry = Entry {
+        counts: [first, second, third, fourth],
+        phase,
+        since,
+        at,
+        delay,
+    };
+    Some((entry, rest))
+}
+
+/// The entries of an instance with so many phases, as many as follow one another, and the bytes after them.
+///
+/// docs/FORMATS.md, "Certificate text".
+pub(crate) fn entry_lines(
+    alloc: Global,
+    phases: u8,
+    bytes: &[u8],
+) -> Result<(Vec<Entry>, &[u8]), AllocError>
+    ensures exact { IfOk result (λ x. many_at (entry_line_at phases) (length bytes.now) bytes.now ≡ (x.0.items, x.1.now)) }
+    ensures few { IfOk result (λ x. length x.0.items + length x.1.now ≤ length bytes.now) }
+    ensures stop { IfOk result (λ x. entry_line_at phases x.1.now ≡ None) }
+{
+    let mut entries = Vec::new(alloc);
+    let mut rest = bytes;
+    while let Some((entry, after)) = entry_line(phases, rest) {
+        entries.push(entry)?;
+        rest = after;
+    }
+    Ok((entries, rest))
+}
+
+/// The numbers with a space behind each, as many as follow one another, and the bytes after them.
+pub(crate) fn spaced_numbers(alloc: Global, bytes: &[u8]) -> Result<(Vec<u8>, &[u8]), AllocError>
+    ensures exact { IfOk result (λ x. many_at (field_at (2 ^ 8) 32) (length bytes.now) bytes.now ≡ (x.0.items, x.1.now)) }
+    ensures few { IfOk result (λ x. length x.0.items + length x.1.now ≤ length bytes.now) }
+{
+    let mut numbers = Vec::new(alloc);
+    let mut rest = bytes;
+    while let Some((number, after)) = field_u8(b' ', rest) {
+        numbers.push(number)?;
+        rest = after;
+    }
+    Ok((numbers, rest))
+}
