@@ -1,5 +1,4 @@
+pub mod Bounds
 pub mod Digits
 pub mod Orders
-pub mod Servings
-pub mod Stages
 pub mod Tables
