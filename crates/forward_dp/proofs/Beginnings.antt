@@ -1,6 +1,6 @@
 -- An order begins with each fit prefix, so that a layer has no more keys than there are orders.
 use Rattle.std.specs.Prelude.{unwrap_or, nat_eq}
-use Rattle.std.proofs.Common.{◌≡◌, ℕ, zero, suc, ◌+◌, ◌<◌, ◌≤◌, ◌||◌, true, List, [], ◌∷◌, ◌++◌, length, map, sum, get_or, take, Some, is_some, refl, sym, ap, subst, ◌∙◌, Contains, eq-eqb, arith}
+use Rattle.std.proofs.Common.{◌≡◌, ℕ, zero, suc, ◌+◌, ◌<◌, ◌≤◌, ◌||◌, true, List, [], ◌∷◌, length, map, sum, get_or, take, Some, is_some, refl, sym, ap, subst, ◌∙◌, Contains, eq-eqb, arith}
 use Rattle.std.specs.List.{flat_map, range_with_len}
 use Rattle.std.specs.Map.{keys_of}
 use Rattle.std.specs.Option.{option_map}

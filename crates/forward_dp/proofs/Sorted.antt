@@ -1,5 +1,5 @@
 -- What is found, sorted by the numbers, is the whole table.
-use Rattle.std.proofs.Common.{◌≡◌, ℕ, zero, suc, ◌+◌, ◌<◌, ◌≤◌, ◌==◌, cond, false, List, [], ◌∷◌, ◌++◌, length, sum, get_or, count_by, All, Some, IfSome, Contains, refl, sym, ap, subst, ◌∙◌, inl, inr, add-one, eq-eqb, arith}
+use Rattle.std.proofs.Common.{◌≡◌, ℕ, zero, suc, ◌+◌, ◌<◌, ◌≤◌, ◌==◌, cond, false, List, [], ◌∷◌, ◌++◌, length, sum, get_or, count_by, All, Some, refl, sym, ap, subst, ◌∙◌, inl, inr, add-one, eq-eqb, arith}
 use Rattle.std.specs.List.Sorted.{IsPermutation, IsNonDecreasingBy}
 use Rattle.std.proofs.lemmas.Bool.{cases_lt}
 use Rattle.std.proofs.Math.Seq.{get_or-append_seam}
@@ -9,13 +9,12 @@ use Rattle.std.proofs.lemmas.List.Sorted.{All-permutation, Contains-permutation,
 use Rattle.std.proofs.lemmas.List.Sums.{sum_by-cons}
 use Rattle.switch_rules.specs.declared.Head.{Head}
 use Rattle.schedule_meaning.specs.Instances.{Problem, IsInstance, counts_of}
-use Rattle.dp_certificate.specs.Prefixes.{Key, Stage, key_of, stage_of}
+use Rattle.dp_certificate.specs.Prefixes.{Stage, key_of, stage_of}
 use Rattle.dp_certificate.specs.Certificates.{IsBefore, digits_of, entry_at, no_entry}
 use Rattle.dp_certificate.specs.Proves.{HasEntry, key_of_entry}
 use Rattle.dp_certificate.specs.Whole.{IsOfPrefix, IsWhole}
 use Rattle.dp_certificate.specs.declared.Entry.{Entry}
 use Rattle.forward_dp.specs.Found.{AreEntriesOf, AreFound, HasFound, IsEntryOf, IsFoundBy}
-use Rattle.forward_dp.specs.Layers.{IsStage}
 use Rattle.forward_dp.specs.Numbers.{FitsNumber, key_number}
 use Rattle.forward_dp.proofs.Bounds.{fits-number, stage-bounds, stage-few}
 use Rattle.forward_dp.proofs.KeyOrder.{four, keys-rise}

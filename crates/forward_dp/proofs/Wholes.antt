@@ -1,12 +1,12 @@
 -- The whole table with the best answer is a certificate that proves it.
 use Rattle.std.specs.Prelude.{option_and_then, IfOk, IsOk, OnErr}
-use Rattle.std.proofs.Common.{◌≡◌, ℕ, ◌+◌, ◌<◌, ◌≤◌, ◌⊎◌, ◌==◌, ◌&&◌, false, List, [], ◌∷◌, ◌++◌, length, sum, get_or, All, Option, Some, IfSome, Result, Ok, Err, refl, sym, ap, subst, ◌∙◌, inl, inr, eq-eqb, arith}
+use Rattle.std.proofs.Common.{◌≡◌, ℕ, ◌+◌, ◌≤◌, ◌⊎◌, ◌==◌, ◌&&◌, false, List, [], ◌∷◌, ◌++◌, length, sum, get_or, Option, Some, IfSome, Result, Ok, Err, refl, sym, ap, subst, ◌∙◌, inl, eq-eqb, arith}
 use Rattle.std.specs.List.Sorted.{IsNonDecreasingBy, IsPermutation}
 use Rattle.std.proofs.lemmas.Bool.{ne_eqb}
 use Rattle.std.proofs.lemmas.List.Elements.{All-weaker}
 use Rattle.std.proofs.lemmas.Option.{none-some}
 use Rattle.schedule_meaning.specs.Best.{IsBest, IsLeast}
-use Rattle.schedule_meaning.specs.Instances.{Problem, IsInstance, counts_of, list_at}
+use Rattle.schedule_meaning.specs.Instances.{Problem, IsInstance, counts_of}
 use Rattle.schedule_meaning.specs.Timing.{delay_of}
 use Rattle.schedule_meaning.specs.declared.planners.Answer.{Answer}
 use Rattle.schedule_meaning.specs.declared.planners.Answer.TheVariants.{Plan, NoPlan}
@@ -15,7 +15,7 @@ use Rattle.schedule_meaning.proofs.Sequences.{get_or-counts}
 use Rattle.dp_certificate.specs.Certificates.{Claim, IsCertificate, IsEntry}
 use Rattle.dp_certificate.specs.Numbers.{IsShort}
 use Rattle.dp_certificate.specs.Prefixes.{Key, Stage, first_stage, key_of, stage_after, stage_of}
-use Rattle.dp_certificate.specs.Proves.{HasEntry, IsClosed, IsEnded, IsNoCheaper, IsPlanned, IsTooDear, Proves, key_of_entry, stage_of_entry}
+use Rattle.dp_certificate.specs.Proves.{HasEntry, IsClosed, IsEnded, IsNoCheaper, IsPlanned, IsTooDear, Proves, stage_of_entry}
 use Rattle.dp_certificate.specs.Whole.{IsOfPrefix, IsWhole}
 use Rattle.dp_certificate.specs.declared.Entry.{Entry}
 use Rattle.dp_certificate.proofs.Stages.{delay-of-stage, some-same, stage-of-delay, stage-push}

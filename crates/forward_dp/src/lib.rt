@@ -59,10 +59,11 @@ fn run_layers<L: Ledger>(
     ensures found { IfOk result (λ made. IsTrue collects → AreFound i.now (sum (counts_of i.now.lists) + 1) made.1.items) }
     ensures servings { (keys : List Key) → HasAllKeys i.now keys → steps.new ≤ steps.old + length i.now.plan * length keys }
 {
+    let places = count_places(i);
     let mut layer = first_layer(alloc, i)?;
     let mut next = IndexMap::new(alloc);
     let mut found = Vec::new(alloc);
-    for served in 0..count_places(i) {
+    for served in 0..places {
         collect(&layer, collects, &mut found)?;
         extend(i, &layer, served, &mut next, steps)?;
         mem::swap(&mut layer, &mut next);

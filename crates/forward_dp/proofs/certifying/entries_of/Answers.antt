@@ -1,4 +1,4 @@
-use Rattle.std.proofs.Common.{◌≡◌, ◌<◌, length, subst, arith}
+use Rattle.std.proofs.Common.{◌≡◌, length, arith}
 use Rattle.forward_dp.proofs.Sorted.{entries-more}
 use Rattle.forward_dp.proofs.certifying.entries_of.Goals as goal
 
