@@ -39,15 +39,6 @@ found-push entries index number way before items now so_far at same =
     same ∙ ap (λ xs. xs ++ found_at e ∷ []) so_far ∙ append_assoc before (map found_at (take index entries)) (found_at e ∷ [])
     ∙ ap (λ xs. before ++ xs) (sym (map-append found_at (take index entries) (e ∷ [])) ∙ ap (map found_at) (sym one))
 
--- before the first layer nothing is found
-pub found-none : (p : Problem) → AreFound p 0 []
-found-none p = record {
-  each = λ k d h. absurd (omega arith);
-  all = λ prefix h. absurd (omega arith);
-  once = λ number. omega arith;
-  few = omega arith;
-}
-
 -- how often a number stands where no element has it, and where no two share theirs
 count-none : (number : ℕ) (xs : List (ℕ × ℕ)) → ((k : ℕ) (d : ℕ × ℕ) → k < length xs → (get_or xs k d).0 ≡ number → ⊥) → count_by (λ f. f.0 == number) xs ≡ 0
 count-none number [] other = refl

@@ -39,7 +39,7 @@ pub some-and : {X : Type 0} (P : X → Type 0) (o : Option X) → IsSomeAnd o P 
 some-and P None h = absurd h
 some-and P (Some x) h = (x, refl, h)
 
-pub and-some : {X : Type 0} (P : X → Type 0) (o : Option X) (x : X) → o ≡ Some x → P x → IsSomeAnd o P
+and-some : {X : Type 0} (P : X → Type 0) (o : Option X) (x : X) → o ≡ Some x → P x → IsSomeAnd o P
 and-some P o x e h = subst (λ o. IsSomeAnd o P) (sym e) h
 
 pub if-some : {X : Type 0} (P : X → Type 0) (o : Option X) (x : X) → o ≡ Some x → IfSome o P → P x

@@ -46,7 +46,7 @@ entry-bounds p lawful e o =
     } in
     subst (IsEntry p) (sym (entry-same p e o)) within
 
-pub whole-certificate : (p : Problem) (entries : List Entry) (answer : Answer) → IsInstance p → IsWhole p entries → IsCertificate (record { problem = p; entries = entries; answer = answer })
+whole-certificate : (p : Problem) (entries : List Entry) (answer : Answer) → IsInstance p → IsWhole p entries → IsCertificate (record { problem = p; entries = entries; answer = answer })
 whole-certificate p entries answer lawful whole = record {
   instance = lawful;
   bounds = All-weaker (IsOfPrefix p) (IsEntry p) (entry-bounds p lawful) entries whole.each;
@@ -100,7 +100,7 @@ planned : (p : Problem) (answer : Answer) → IsLeast p answer → IsPlanned p a
 planned p (Plan sequence delay) least = least.0
 planned p NoPlan least = tt
 
-pub whole-proves : (p : Problem) (entries : List Entry) (answer : Answer) → IsInstance p → IsWhole p entries → IsBest p answer → Proves (record { problem = p; entries = entries; answer = answer })
+whole-proves : (p : Problem) (entries : List Entry) (answer : Answer) → IsInstance p → IsWhole p entries → IsBest p answer → Proves (record { problem = p; entries = entries; answer = answer })
 whole-proves p entries answer lawful whole best =
     let c : Claim = record { problem = p; entries = entries; answer = answer } in
     let least = best-least p answer best in
@@ -126,9 +126,6 @@ parts p places layer best answer found sorted slice entries lawful all is_layer 
   whole = whole-table p (sum (counts_of p.lists) + 1) sorted entries lawful (omega arith) (found-sorted p (sum (counts_of p.lists) + 1) found sorted h moved) rises (subst (λ xs. AreEntriesOf xs entries) same made);
   best = best-answer p places (ways_of layer) best answer lawful all (subst (λ n. IsLayer p n (ways_of layer)) (sym all) is_layer) is_best is_answer;
 }
-
-pub parts-short : (p : Problem) (entries : List Entry) (answer : Answer) → AreParts p entries answer → IsShort answer
-parts-short p entries answer h = best-short p answer h.lawful h.best
 
 -- a certificate made of these parts has what it promises
 pub record IsCertified (p : Problem) (c : Claim) : Type 0 where
