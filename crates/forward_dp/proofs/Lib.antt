@@ -1,5 +1,9 @@
+pub mod Beginnings
+pub mod Bounds
+pub mod Collecting
 pub mod Digits
+pub mod KeyOrder
 pub mod Orders
-pub mod Servings
-pub mod Stages
+pub mod Sorted
 pub mod Tables
+pub mod Wholes

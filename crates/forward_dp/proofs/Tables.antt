@@ -31,10 +31,11 @@ use Rattle.forward_dp.specs.declared.layers.Way.{Way}
 use Rattle.forward_dp.specs.Numbers.{key_number, order_number, FitsNumber}
 use Rattle.forward_dp.specs.Layers.{AreReached, HasWay, Improves, IsAnswerOf, IsBestWay, IsCarried, IsExtended, IsLayer, IsNoWorse, IsReached, IsStage, LeadsTo, TakesIn, arrival, stage_at, ways_of}
 use Rattle.forward_dp.proofs.Orders.{order-push, order-below, best-plan, best-none}
-use Rattle.forward_dp.proofs.Stages.{behind, step-fit, stage-push, stage-after-bounds, stage-after-phase, last-of, stage-bounds, stage-phases, stage-few, fits-number, stage-alike, stage-of-delay, delay-of-stage}
+use Rattle.dp_certificate.proofs.Stages.{behind, step-fit, stage-push, stage-after-phase, last-of, stage-phases, stage-alike, stage-of-delay, delay-of-stage}
+use Rattle.forward_dp.proofs.Bounds.{stage-after-bounds, stage-bounds, stage-few, fits-number}
 
 -- what is known of an option's value
-some-and : {X : Type 0} (P : X → Type 0) (o : Option X) → IsSomeAnd o P → (x : X) × (o ≡ Some x) × P x
+pub some-and : {X : Type 0} (P : X → Type 0) (o : Option X) → IsSomeAnd o P → (x : X) × (o ≡ Some x) × P x
 some-and P None h = absurd h
 some-and P (Some x) h = (x, refl, h)
 
@@ -44,7 +45,7 @@ and-some P o x e h = subst (λ o. IsSomeAnd o P) (sym e) h
 pub if-some : {X : Type 0} (P : X → Type 0) (o : Option X) (x : X) → o ≡ Some x → IfSome o P → P x
 if-some P o x e h = subst (λ o. IfSome o P) e h
 
-if-each : {X : Type 0} (P : X → Type 0) (o : Option X) → ((x : X) → o ≡ Some x → P x) → IfSome o P
+pub if-each : {X : Type 0} (P : X → Type 0) (o : Option X) → ((x : X) → o ≡ Some x → P x) → IfSome o P
 if-each P None h = tt
 if-each P (Some x) h = h x refl
 

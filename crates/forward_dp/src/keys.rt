@@ -1,6 +1,6 @@
 //! Keys as numbers: counts and head in one number, and back.
 
-ghost use Rattle.std.specs.Prelude.{◌≡◌, ℕ, List};
+ghost use Rattle.std.specs.Prelude.{◌≡◌, ◌<◌, ℕ, List, slice_index};
 ghost use Rattle.switch_rules.specs.declared.Head.{Head};
 ghost use Rattle.forward_dp.specs.Numbers.{FitsNumber, key_number};
 
@@ -23,6 +23,7 @@ pub(crate) fn unpack(key: u64, fresh: bool) -> ([u32; 4], Head)
         → result.0 ≡ counts }
     ensures head { (counts : List ℕ) (head : Head) → FitsNumber counts head → key_number counts head ≡ key
         → head.fresh ≡ fresh → result.1 ≡ head }
+    ensures small { (slice_index result.0 0 < 64) × (slice_index result.0 1 < 64) × (slice_index result.0 2 < 64) × (slice_index result.0 3 < 64) }
 {
     let green = key / 131_072;
     let rest = green / 131_072;

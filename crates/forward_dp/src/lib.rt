@@ -2,22 +2,26 @@
 //! prefixes of one length reach.
 #![tactic(auto)]
 
-ghost use Rattle.std.specs.Prelude.{◌≡◌, ◌+◌, ◌*◌, ◌≤◌, List, length, sum, IfOk};
+ghost use Rattle.std.specs.Prelude.{◌≡◌, ◌+◌, ◌*◌, ◌≤◌, List, length, sum, IfOk, IsTrue};
 ghost use Rattle.schedule_meaning.specs.Best.{IsBest, IsLeast};
 ghost use Rattle.schedule_meaning.specs.Instances.{IsInstance, counts_of};
 ghost use Rattle.dp_certificate.specs.Prefixes.{HasAllKeys, Key};
-ghost use Rattle.forward_dp.specs.Layers.{IsAnswerOf};
+ghost use Rattle.forward_dp.specs.Found.{AreFound};
+ghost use Rattle.forward_dp.specs.Layers.{IsAnswerOf, IsLayer, ways_of};
 
 mod answers;
+mod certifying;
 mod keys;
 mod layers;
 
 use answers::sequence_of;
+pub use certifying::certify;
+use certifying::collect;
 use foundation::items::Items;
 use foundation::steps::Steps;
 use foundation::threads::CrossesThreads;
 use indexmap::IndexMap;
-use layers::{Way, best_of, extend, first_layer};
+use layers::{Layer, Way, best_of, extend, first_layer};
 use schedule_meaning::{Answer, Instance, Planner};
 use std::alloc::{AllocError, Global};
 use std::mem;
@@ -40,14 +44,32 @@ pub fn layered<L: Ledger>(
     ensures least { IfOk result (IsLeast i.now) }
     ensures servings { (keys : List Key) → HasAllKeys i.now keys → steps.new ≤ steps.old + length i.now.plan * length keys }
 {
+    let (layer, _) = run_layers(alloc, i, false, steps)?;
+    answer_of(alloc, best_of(&layer), count_places(i))
+}
+
+/// The layer behind all servings, and, if `collects`, the numbers and the delays of all layers' keys.
+fn run_layers<L: Ledger>(
+    alloc: Global,
+    i: &Instance,
+    collects: bool,
+    steps: &mut Steps<L>,
+) -> Result<(Layer, Vec<(u64, u64)>), AllocError>
+    ensures layer { IfOk result (λ made. IsLayer i.now (sum (counts_of i.now.lists)) (ways_of made.0)) }
+    ensures found { IfOk result (λ made. IsTrue collects → AreFound i.now (sum (counts_of i.now.lists) + 1) made.1.items) }
+    ensures servings { (keys : List Key) → HasAllKeys i.now keys → steps.new ≤ steps.old + length i.now.plan * length keys }
+{
     let places = count_places(i);
     let mut layer = first_layer(alloc, i)?;
     let mut next = IndexMap::new(alloc);
+    let mut found = Vec::new(alloc);
     for served in 0..places {
+        collect(&layer, collects, &mut found)?;
         extend(i, &layer, served, &mut next, steps)?;
         mem::swap(&mut layer, &mut next);
     }
-    answer_of(alloc, best_of(&layer), places)
+    collect(&layer, collects, &mut found)?;
+    Ok((layer, found))
 }
 
 /// How many clusters there are in all.
