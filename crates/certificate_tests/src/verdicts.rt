@@ -1,0 +1,150 @@
+// What the checker says of worked certificates, and the certificate that the table makes.
+
+ghost use Rattle.std.specs.Prelude.{◌≡◌, ◌<◌};
+
+use cert_checker::{Verdict, Why, check};
+use certificate_form::{read_certificate, write_certificate};
+use dp_certificate::Certificate;
+use forward_dp::certify;
+use foundation::steps::Steps;
+use schedule_meaning::{Instance, SeqFault, read_instance};
+use std::alloc::{AllocError, Global};
+use std::marker::Brand;
+use std::sync::ledger::{Blank, Ledger};
+use std::test::Fail;
+
+const INSTANCE: &str =
+    "instance 1\nphases 2\nphase 5 30 3 2 2 120\nphase 5 30 3 2 2 120\nhead 0 0 0 kept\ncluster 0 4000 0 8\ncluster 1 2000 3 4\nend\n";
+
+const WHOLE: &str =
+    "entry 0 0 0 0 0 0\nentry 0 1 1 10 16 18000\nentry 1 0 0 0 8 0\nentry 1 1 0 21 31 110000\nentry 1 1 1 13 19 24000\n";
+
+// What the certificate shows, its answer, its entries, and the verdict with its numbers.
+const VERDICTS: &[(&str, &str, &str, &str, [u64; 2])] = &[
+    (
+        "the whole table",
+        "answer 24000 0 1\n",
+        WHOLE,
+        "accepted",
+        [0, 0],
+    ),
+    (
+        "entries too dear to matter left out",
+        "answer 24000 0 1\n",
+        "entry 0 0 0 0 0 0\nentry 1 0 0 0 8 0\nentry 1 1 1 13 19 24000\n",
+        "accepted",
+        [0, 0],
+    ),
+    (
+        "an entry that is missing",
+        "answer 24000 0 1\n",
+        "entry 0 0 0 0 0 0\nentry 0 1 1 10 16 18000\nentry 1 1 0 21 31 110000\nentry 1 1 1 13 19 24000\n",
+        "open",
+        [1, 0],
+    ),
+    (
+        "another delay",
+        "answer 23999 0 1\n",
+        WHOLE,
+        "delay",
+        [23999, 24000],
+    ),
+    (
+        "an answer that is not the least",
+        "answer 110000 1 0\n",
+        WHOLE,
+        "cheaper",
+        [5, 0],
+    ),
+    (
+        "no plan where there is one",
+        "answer none\n",
+        WHOLE,
+        "cheaper",
+        [4, 0],
+    ),
+    ("no sequence", "answer 24000 0 0\n", WHOLE, "count", [0, 0]),
+    ("no entries", "answer 24000 0 1\n", "", "root", [0, 0]),
+];
+
+#[test]
+fn verdicts(rt: HostRuntime) -> Result<(), Fail> {
+    let alloc = rt.alloc();
+    for &(shows, answer, entries, told, numbers) in VERDICTS {
+        let text = ["certificate 1\n", INSTANCE, answer, entries, "end\n"].concat(alloc)?;
+        assert!(rt; text.len() < 10_000);
+        let certificate = read_certificate(alloc, text.as_bytes())
+            .ok()
+            .ok_or("no certificate")?;
+        let found = verdict(&certificate);
+        assert!(rt; found.0 == told && found.1 == numbers, "{shows}");
+        let written = write_certificate(alloc, &certificate)?;
+        assert!(rt; written == text.as_bytes(), "{shows}");
+    }
+    Ok(())
+}
+
+#[test]
+fn whole_table(rt: HostRuntime) -> Result<(), Fail> {
+    let alloc = rt.alloc();
+    let instance = read_instance(alloc, INSTANCE.as_bytes())
+        .ok()
+        .ok_or("no instance")?;
+    let written = write_certificate(alloc, &certified(alloc, &instance)?)?;
+    let text = [
+        "certificate 1\n",
+        INSTANCE,
+        "answer 24000 0 1\n",
+        WHOLE,
+        "end\n",
+    ]
+    .concat(alloc)?;
+    assert!(rt; written == text.as_bytes());
+    Ok(())
+}
+
+// The certificate of an instance.
+fn certified(alloc: Global, i: &Instance) -> Result<Certificate, AllocError> {
+    certified_counted::<Brand>(alloc, i, Blank::new(1))
+}
+
+fn certified_counted<L: Ledger>(
+    alloc: Global,
+    i: &Instance,
+    blank: Blank,
+) -> Result<Certificate, AllocError>
+    requires name { blank.name ≡ L.name }
+    requires parts { blank.parts ≡ L.parts }
+    requires some { 0 < L.parts }
+{
+    let mut steps = Steps::<L>::new(blank);
+    certify(alloc, i, &mut steps)
+}
+
+// The verdict on a certificate, in a word and numbers.
+fn verdict(c: &Certificate) -> (&'static str, [u64; 2]) {
+    verdict_counted::<Brand>(c, Blank::new(1))
+}
+
+fn verdict_counted<L: Ledger>(c: &Certificate, blank: Blank) -> (&'static str, [u64; 2])
+    requires name { blank.name ≡ L.name }
+    requires parts { blank.parts ≡ L.parts }
+    requires some { 0 < L.parts }
+{
+    let mut steps = Steps::<L>::new(blank);
+    match check(c, &mut steps) {
+        Verdict::Accepted => ("accepted", [0, 0]),
+        Verdict::Rejected(Why::Sequence(SeqFault::WrongCount(phase))) => (
+            "count",
+            [u64::from(phase), 0],
+        ),
+        Verdict::Rejected(Why::Sequence(_)) => ("sequence", [0, 0]),
+        Verdict::Rejected(Why::Delay { said, is }) => ("delay", [said, is]),
+        Verdict::Rejected(Why::NoRoot) => ("root", [0, 0]),
+        Verdict::Rejected(Why::Open { entry, phase }) => (
+            "open",
+            [u64::from(entry), u64::from(phase)],
+        ),
+        Verdict::Rejected(Why::Cheaper { entry }) => ("cheaper", [u64::from(entry), 0]),
+    }
+}
