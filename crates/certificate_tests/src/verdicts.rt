@@ -79,7 +79,7 @@ fn verdicts(rt: HostRuntime) -> Result<(), Fail> {
         let found = verdict(&certificate);
         assert!(rt; found.0 == told && found.1 == numbers, "{shows}");
         let written = write_certificate(alloc, &certificate)?;
-        assert!(rt; written == text.as_bytes(), "{shows}");
+        assert!(rt; written.as_slice() == text.as_bytes(), "{shows}");
     }
     Ok(())
 }
@@ -99,7 +99,7 @@ fn whole_table(rt: HostRuntime) -> Result<(), Fail> {
         "end\n",
     ]
     .concat(alloc)?;
-    assert!(rt; written == text.as_bytes());
+    assert!(rt; written.as_slice() == text.as_bytes());
     Ok(())
 }
 

@@ -190,26 +190,23 @@ fn sequences(rt: HostRuntime) -> Result<(), Fail> {
     Ok(())
 }
 
-// What a whole sequence serves, one cluster after another.
-const SERVED: &[(&str, [u64; 4])] = &[("kept", [0, 0, 8, 0]), ("new", [13, 15, 19, 24000])];
+// What sequences of the clusters that meet serve at a place, from 0: in the green that is kept or in a new one, and
+// its green, start, finish and cost; or a word.
+const SERVED: &[(&[u8], usize, &str, [u64; 4])] = &[
+    (&[0, 1], 0, "kept", [0, 0, 8, 0]),
+    (&[0, 1], 1, "new", [13, 15, 19, 24000]),
+    (&[0, 1], 2, "end", [0; 4]),
+    (&[0, 2], 0, "refused", [0; 4]),
+];
 
 #[test]
-fn servings_of_a_sequence(rt: HostRuntime) -> Result<(), Fail> {
+fn servings_of_sequences(rt: HostRuntime) -> Result<(), Fail> {
     let alloc = rt.alloc();
     let instance = instance(alloc, TWO_PHASES, MEETING)?;
-    let list = servings(alloc, &instance, &[0, 1]).ok().ok_or("refused")?;
-    assert!(rt; list.len() == SERVED.len());
-    for (served, &(word, numbers)) in list.iter().zip(SERVED) {
-        let found = told(*served);
-        assert!(rt; found.0 == word && found.1 == numbers, "{word}");
+    for &(sequence, place, told, numbers) in SERVED {
+        let found = served_at(alloc, &instance, sequence, place);
+        assert!(rt; found.0 == told && found.1 == numbers, "{place}");
     }
-    let unknown = servings(alloc, &instance, &[0, 2]);
-    assert!(rt;
-        matches!(
-            unknown,
-            Err(ServingsFault::Seq(SeqFault::Phase { place: 2 }))
-        )
-    );
     Ok(())
 }
 
@@ -341,6 +338,26 @@ fn word_of(why: Unfit) -> &'static str {
     match why {
         Unfit::TooLong => "long",
         Unfit::TooLate => "late",
+    }
+}
+
+// What a sequence serves at a place, from 0.
+fn served_at(
+    alloc: Global,
+    i: &Instance,
+    sequence: &[u8],
+    place: usize,
+) -> (&'static str, [u64; 4]) {
+    if sequence.len() > 100 {
+        return ("a long sequence", [0; 4]);
+    }
+    match servings(alloc, i, sequence) {
+        Ok(list) => match list.get(place) {
+            Some(served) => told(*served),
+            None => ("end", [0; 4]),
+        },
+        Err(ServingsFault::Seq(_)) => ("refused", [0; 4]),
+        Err(ServingsFault::NoMemory) => ("no memory", [0; 4]),
     }
 }
 
