@@ -2,7 +2,7 @@
 use Rattle.std.specs.Prelude.{ℕ, zero, suc, ◌^◌, Bool, nat_lt, if◌then◌else◌, List, [], ◌∷◌, Option, Some, codes}
 use Rattle.std.specs.Option.{option_map_or}
 use Rattle.line_text.specs.Fields.{literal_at, field_at}
-use Rattle.instance_form.specs.Lines.{◌>>=◌}
+use Rattle.foundation.specs.Options.{◌>>=◌}
 use Rattle.dp_certificate.specs.declared.Entry.{Entry}
 
 -- a count, where there is one, and else 0

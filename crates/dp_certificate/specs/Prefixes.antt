@@ -4,7 +4,7 @@ use Rattle.std.specs.Result.{result_ok}
 use Rattle.switch_rules.specs.Serving.{serving}
 use Rattle.switch_rules.specs.declared.Head.{Head}
 use Rattle.schedule_meaning.specs.Instances.{Problem, list_at}
-use Rattle.schedule_meaning.specs.Timing.{◌>>=◌}
+use Rattle.foundation.specs.Options.{◌>>=◌}
 
 -- where a prefix leads: how many clusters of each of four phases are served, the head, and the delay so far
 pub record Stage : Type 0 where

@@ -12,7 +12,8 @@ use Rattle.phase_plan.specs.declared.Phase.{Phase}
 use Rattle.switch_rules.specs.declared.Head.{Head}
 use Rattle.switch_rules.specs.declared.Cluster.{Cluster}
 use Rattle.instance_form.specs.InstanceText.{count_line, phase_line, freshness, head_line, cluster_line, IsWritable, IsWritableHead, IsWritableCluster}
-use Rattle.instance_form.specs.Lines.{◌>>=◌, count_line_at, phase_line_at, freshness_at, head_line_at, cluster_line_at}
+use Rattle.foundation.specs.Options.{◌>>=◌}
+use Rattle.instance_form.specs.Lines.{count_line_at, phase_line_at, freshness_at, head_line_at, cluster_line_at}
 
 -- a step that is there
 pub then_some : {A B P : Type 0} (o : Option A) {f : A → Option B} {y : B} → (o >>= f) ≡ Some y → ((x : A) → o ≡ Some x → f x ≡ Some y → P) → P

@@ -1,15 +1,12 @@
 -- Reading one line from the front of the bytes: its values, and the bytes after it.
 use Rattle.std.specs.Prelude.{ℕ, ◌^◌, Bool, true, false, ◌&&◌, ◌==◌, nat_le, List, Option, Some, None, if◌then◌else◌, codes}
 use Rattle.std.specs.Borrow.{Bor}
-use Rattle.std.specs.Option.{option_map, option_or, option_and_then}
+use Rattle.std.specs.Option.{option_map, option_or}
+use Rattle.foundation.specs.Options.{◌>>=◌}
 use Rattle.line_text.specs.Fields.{literal_at, field_at}
 use Rattle.phase_plan.specs.declared.Phase.{Phase}
 use Rattle.switch_rules.specs.declared.Head.{Head}
 use Rattle.switch_rules.specs.declared.Cluster.{Cluster}
-
-infixl 10 ◌>>=◌
-abbrev pub ◌>>=◌ : {A B : Type 0} → Option A → (A → Option B) → Option B
-o >>= f = option_and_then f o
 
 -- a value and the bytes after it, as contracts see them
 abbrev pub seen : {A : Type 0} → A × Bor (List ℕ) → A × List ℕ

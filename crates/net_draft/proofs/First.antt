@@ -3,7 +3,7 @@ use Rattle.std.proofs.Common.{◌≡◌, ℕ, ◌<◌, List, length, get_or, tak
 use Rattle.std.proofs.lemmas.List.{take-map}
 use Rattle.std.proofs.lemmas.Option.{slice_get-map, slice_get_read}
 use Rattle.net_draft.specs.Faults.{each, Blames, GivesOr}
-use Rattle.net_draft.specs.FirstShape.{ordinal, IsFirst}
+use Rattle.net_draft.specs.FirstShape.{ordinal, IsAfterRead}
 use Rattle.net_draft.specs.declared.faults.NetFault.{NetFault}
 use Rattle.net_draft.specs.declared.faults.NetFault.TheVariants.{NoMemory, NotToml, Shape, Bound, Twice, Unknown, Ends, Crowd, Shares, Phaseless, Clash}
 use Rattle.net_draft.specs.declared.faults.Place.{Place}
@@ -25,7 +25,7 @@ Blames-weaker (Clash a b) f h = h
 
 module _ {W X Y : Type 0} (f : X → Option Y) (g : W → X) where
   -- P holds of an element, and all before it are read
-  pub first-at : (ws : List W) (i : ℕ) (w : W) (ys : List Y) (P : X → Type 0) (number : ℕ) → i < length ws → w ≡ get_or ws i w → each (λ v. f (g v)) (take i ws) ≡ Some ys → number ≡ ordinal i → P (g w) → IsFirst f P (map g ws) number
+  pub first-at : (ws : List W) (i : ℕ) (w : W) (ys : List Y) (P : X → Type 0) (number : ℕ) → i < length ws → w ≡ get_or ws i w → each (λ v. f (g v)) (take i ws) ≡ Some ys → number ≡ ordinal i → P (g w) → IsAfterRead f P (map g ws) number
   first-at ws i w ys P number h at before is here = (
     i,
     is,

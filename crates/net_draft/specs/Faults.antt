@@ -1,4 +1,5 @@
 use Rattle.std.specs.Prelude.{◌≡◌, Option, Some, None, Result, Ok, Err, List, [], ◌∷◌}
+use Rattle.foundation.specs.Options.{◌>>=◌}
 use Rattle.net_draft.specs.declared.faults.NetFault.{NetFault}
 use Rattle.net_draft.specs.declared.faults.NetFault.TheVariants.{NoMemory, Shape}
 use Rattle.net_draft.specs.declared.faults.Place.{Place}
@@ -34,12 +35,6 @@ GivesOr P view (Err fault) reading = Blames fault (λ place. P place × (reading
 -- what `Gives` says, and that a fault names this place
 abbrev pub GivesAt : {X Y : Type 0} → Place → (X → Y) → Result X NetFault → Option Y → Type 0
 GivesAt place = GivesOr (λ named. named ≡ place)
-
--- one reading after another
-infixl 10 ◌>>=◌
-abbrev pub ◌>>=◌ : {X Y : Type 0} → Option X → (X → Option Y) → Option Y
-None >>= f = None
-(Some x) >>= f = f x
 
 -- what f gives of each element, where it gives something of all of them
 abbrev pub each : {X Y : Type 0} → (X → Option Y) → List X → Option (List Y)

@@ -11,14 +11,15 @@ use Rattle.net_draft.specs.declared.faults.Part.TheVariants.{Top, Run, Node, Pha
 abbrev pub ordinal : ℕ → ℕ
 ordinal index = min (index + 1) (2 ^ 32 - 1)
 
--- P holds of the element with this number, and f reads all before it
-abbrev pub IsFirst : {X Y : Type 0} → (X → Option Y) → (X → Type 0) → List X → ℕ → Type 0
-IsFirst f P xs number =
+-- P holds of the element with this number, and f reads all before it. A list here may be longer than the numbers go, and
+-- many elements then share the greatest; `IsFirst` of net_numbers is for lists whose elements have numbers of their own.
+abbrev pub IsAfterRead : {X Y : Type 0} → (X → Option Y) → (X → Type 0) → List X → ℕ → Type 0
+IsAfterRead f P xs number =
     (index : ℕ) × (number ≡ ordinal index) × IsSome (each f (take index xs)) × IsSomeAnd (slice_get xs index) P
 
 -- f does not read the element with this number, and reads all before it
 abbrev pub IsFirstUnread : {X Y : Type 0} → (X → Option Y) → List X → ℕ → Type 0
-IsFirstUnread f = IsFirst f (λ x. f x ≡ None)
+IsFirstUnread f = IsAfterRead f (λ x. f x ≡ None)
 
 -- the first fault within a node: of its own form, or else of its first phase that is not read
 abbrev pub IsNodeFault : Data → Part → ℕ → Type 0
@@ -36,14 +37,14 @@ IsLinkFault d _ sub = ⊥
 abbrev pub IsFaultWithin : TopForm → Part → ℕ → ℕ → Type 0
 IsFaultWithin top Top item sub = ⊥
 IsFaultWithin top Run item sub = (item ≡ 0) × (sub ≡ 0) × (run_of top.run ≡ None)
-IsFaultWithin top Node item sub = IsSome (run_of top.run) × IsFirst node_of (λ d. IsNodeFault d Node sub) top.nodes item
-IsFaultWithin top Phase item sub = IsSome (run_of top.run) × IsFirst node_of (λ d. IsNodeFault d Phase sub) top.nodes item
+IsFaultWithin top Node item sub = IsSome (run_of top.run) × IsAfterRead node_of (λ d. IsNodeFault d Node sub) top.nodes item
+IsFaultWithin top Phase item sub = IsSome (run_of top.run) × IsAfterRead node_of (λ d. IsNodeFault d Phase sub) top.nodes item
 IsFaultWithin top Link item sub =
     IsSome (run_of top.run) × IsSome (each node_of top.nodes)
-    × IsFirst link_of (λ d. IsLinkFault d Link sub) top.links item
+    × IsAfterRead link_of (λ d. IsLinkFault d Link sub) top.links item
 IsFaultWithin top Turn item sub =
     IsSome (run_of top.run) × IsSome (each node_of top.nodes)
-    × IsFirst link_of (λ d. IsLinkFault d Turn sub) top.links item
+    × IsAfterRead link_of (λ d. IsLinkFault d Turn sub) top.links item
 IsFaultWithin top Conflict item sub =
     IsSome (run_of top.run) × IsSome (each node_of top.nodes) × IsSome (each link_of top.links)
     × (sub ≡ 0) × IsFirstUnread conflict_of top.conflicts item

@@ -3,7 +3,8 @@ use Rattle.std.specs.Prelude.{codes, ℕ, ◌-◌, ◌^◌, nat_lt, ℤ, pos, ne
 use Rattle.std.specs.List.{list_any}
 use Rattle.std.specs.Str.{bytes_eq}
 use Rattle.toml.specs.Data.{Data, Items, no_items, item, Members, no_members, member, get_member, as_str, as_integer, as_array, as_table}
-use Rattle.net_draft.specs.Faults.{◌>>=◌, each}
+use Rattle.foundation.specs.Options.{◌>>=◌}
+use Rattle.net_draft.specs.Faults.{each}
 use Rattle.net_draft.specs.declared.drafts.Run.{Run}
 use Rattle.net_draft.specs.declared.drafts.Draft.{Draft}
 use Rattle.net_draft.specs.declared.drafts.DraftNode.{DraftNode}

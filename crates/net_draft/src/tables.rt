@@ -71,7 +71,7 @@ fn read_run(table: &Table) -> Result<Run, NetFault>
 }
 
 fn read_nodes(alloc: Global, values: &[Value]) -> Result<Vec<DraftNode>, NetFault>
-    ensures { GivesOr (λ named. shape.IsFirst spec.node_of (λ node. shape.IsNodeFault node named.part named.sub) (map view values.now) named.item)
+    ensures { GivesOr (λ named. shape.IsAfterRead spec.node_of (λ node. shape.IsNodeFault node named.part named.sub) (map view values.now) named.item)
         (λ nodes. nodes.items) result (each spec.node_of (map view values.now)) }
 {
     let mut nodes = Vec::new(alloc);
@@ -160,7 +160,7 @@ fn only_phase_keys(table: &Table, place: Place) -> Result<&Table, NetFault>
 }
 
 fn read_links(alloc: Global, values: &[Value]) -> Result<Vec<DraftLink>, NetFault>
-    ensures { GivesOr (λ named. shape.IsFirst spec.link_of (λ link. shape.IsLinkFault link named.part named.sub) (map view values.now) named.item)
+    ensures { GivesOr (λ named. shape.IsAfterRead spec.link_of (λ link. shape.IsLinkFault link named.part named.sub) (map view values.now) named.item)
         (λ links. links.items) result (each spec.link_of (map view values.now)) }
 {
     let mut links = Vec::new(alloc);

@@ -5,7 +5,8 @@ use Rattle.std.proofs.lemmas.List.Elements.{All-nil, All-cons}
 use Rattle.std.proofs.lemmas.List.Quantifiers.{position-Some}
 use Rattle.std.proofs.lemmas.Slice.Eq.{bytes_eq-Decides}
 use Rattle.std.specs.Str.{bytes_eq}
-use Rattle.net_draft.specs.Faults.{each, ◌>>=◌}
+use Rattle.foundation.specs.Options.{◌>>=◌}
+use Rattle.net_draft.specs.Faults.{each}
 use Rattle.net_draft.proofs.Each.{bind-some}
 use Rattle.net_draft.specs.declared.drafts.DraftNode.{DraftNode}
 use Rattle.net_draft.specs.declared.drafts.DraftPhase.{DraftPhase}

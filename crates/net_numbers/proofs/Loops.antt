@@ -2,9 +2,6 @@
 use Rattle.std.proofs.Common.{◌≡◌, ℕ, ◌+◌, ◌<◌, ◌≤◌, List, length, get_or, take, All, sym, subst}
 use Rattle.std.proofs.lemmas.List.{take_all}
 use Rattle.std.proofs.lemmas.List.Elements.{All-more}
-use Rattle.net_draft.specs.declared.faults.NetFault.{NetFault}
-use Rattle.net_draft.specs.declared.faults.NetFault.TheVariants.{NoMemory, NotToml, Shape, Bound, Twice, Unknown, Ends, Crowd, Shares, Phaseless, Clash}
-use Rattle.net_numbers.specs.Outcome.{Refuses}
 
 module _ {X : Type 0} (P : X → Type 0) (xs : List X) (i : ℕ) where
   -- one more element
@@ -18,20 +15,6 @@ module _ {X : Type 0} (P : X → Type 0) (xs : List X) (i : ℕ) where
   -- an element that fails the test
   pub All-not : (x : X) → i < length xs → x ≡ get_or xs i x → (P x → ⊥) → All P xs → ⊥
   All-not x h at fails all = fails (subst P (sym at) (all i x h))
-
--- what a fault of a part says of the whole
-pub Refuses-weaker : {P Q : Type 0} (fault : NetFault) → (P → Q) → Refuses fault P → Refuses fault Q
-Refuses-weaker NoMemory f h = tt
-Refuses-weaker NotToml f h = h
-Refuses-weaker (Shape place) f h = h
-Refuses-weaker (Bound place) f h = f h
-Refuses-weaker (Twice place) f h = f h
-Refuses-weaker (Unknown place) f h = f h
-Refuses-weaker (Ends link) f h = f h
-Refuses-weaker (Crowd node) f h = f h
-Refuses-weaker (Shares link) f h = f h
-Refuses-weaker (Phaseless link) f h = f h
-Refuses-weaker (Clash a b) f h = f h
 
 -- what holds of all elements holds of one
 pub All-at : {X : Type 0} (P : X → Type 0) (xs : List X) (i : ℕ) (x : X) → i < length xs → x ≡ get_or xs i x → All P xs → P x

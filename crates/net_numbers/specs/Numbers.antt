@@ -3,7 +3,8 @@ use Rattle.std.specs.Prelude.{◌≢◌, ℕ, ◌==◌, Bool, List, [], Option, 
 use Rattle.std.specs.List.{list_any}
 use Rattle.std.specs.Str.{bytes_eq}
 use Rattle.phase_plan.specs.declared.Phase.{Phase}
-use Rattle.net_draft.specs.Faults.{each, ◌>>=◌}
+use Rattle.foundation.specs.Options.{◌>>=◌}
+use Rattle.net_draft.specs.Faults.{each}
 use Rattle.net_draft.specs.declared.drafts.Run.{Run}
 use Rattle.net_draft.specs.declared.drafts.Draft.{Draft}
 use Rattle.net_draft.specs.declared.drafts.DraftNode.{DraftNode}

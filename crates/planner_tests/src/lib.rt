@@ -5,6 +5,8 @@
 #[cfg(test)]
 mod faults_of_texts;
 #[cfg(test)]
+mod planners;
+#[cfg(test)]
 mod servings;
 #[cfg(test)]
 mod texts;

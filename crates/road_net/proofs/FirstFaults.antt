@@ -6,11 +6,14 @@ use Rattle.net_draft.specs.declared.faults.NetFault.TheVariants.{NoMemory, Ends,
 use Rattle.net_numbers.specs.declared.roads.Link.{Link}
 use Rattle.net_numbers.specs.declared.roads.Turn.{Turn}
 use Rattle.net_numbers.specs.Numbers.{Net, no_link}
+use Rattle.net_numbers.specs.declared.numbering.Parts.{Parts}
 use Rattle.net_numbers.specs.Outcome.{Refuses}
+use Rattle.net_numbers.specs.Parts.{net_of}
+use Rattle.road_net.specs.declared.NodeLinks.{NodeLinks}
 use Rattle.road_net.specs.FirstFaults.{IsFirstWithout, TestsEach, clash_at, IsJoinFault}
 use Rattle.road_net.specs.Joins.{HasEnds, HasEndsAt, AreRoomy, HasRoomAt, AreByNode, HasSharesAt, AreShared, IsPhasedAt, ArePhased, conflict_at, IsConflict, IsConflictAt}
 use Rattle.road_net.specs.Network.{IsJoined}
-use Rattle.road_net.specs.Stored.{Joins}
+use Rattle.road_net.specs.Stored.{Joins, Links}
 use Rattle.road_net.specs.declared.joins.Side.TheVariants.{To}
 use Rattle.road_net.proofs.Joining.{All-each, roomy, crowded}
 
@@ -35,6 +38,12 @@ module _ (net : Net) where
   refused fault result h is =
       let p = err_from_is_err_and result is in
       rw (p.1, p.2) (fault-refuses fault h, h)
+
+-- a fault of the joins is what is answered in place of the links of each node
+pub blamed : (parts : Parts) (fault : NetFault) (result : Result NodeLinks NetFault) → IsJoinFault (net_of parts) fault → IsErrAnd result (λ named. named ≡ fault) → Links parts result
+blamed parts fault result h is =
+    let p = err_from_is_err_and result is in
+    rw (p.1, p.2) h
 
 -- The tests one after another. What each was given is that of the network, and `lists` are those of the links that end
 -- at each node.

@@ -5,10 +5,12 @@ use Rattle.net_draft.specs.declared.faults.NetFault.{NetFault}
 use Rattle.net_draft.specs.declared.faults.NetFault.TheVariants.{NoMemory, NotToml, Shape}
 use Rattle.net_draft.specs.declared.drafts.Draft.{Draft}
 use Rattle.net_numbers.specs.declared.numbering.Parts.{Parts}
+use Rattle.road_net.specs.declared.NodeLinks.{NodeLinks}
 use Rattle.road_net.specs.declared.joins.Side.TheVariants.{From, To}
 use Rattle.net_numbers.specs.Outcome.{Refuses}
 use Rattle.net_numbers.specs.Numbers.{Net}
 use Rattle.net_numbers.specs.Parts.{net_of}
+use Rattle.road_net.specs.FirstFaults.{IsJoinFault}
 use Rattle.road_net.specs.Joins.{AreByNode}
 use Rattle.road_net.specs.Network.{IsNetwork, IsJoined, IsDraftText, HasNoDraft}
 
@@ -17,6 +19,11 @@ pub record IsStored (parts : Parts) (entry_links exit_links : List (List ℕ)) :
   pub network : IsNetwork (net_of parts)
   pub entries : AreByNode To parts.links.items (length parts.node_names) entry_links
   pub exits : AreByNode From parts.links.items (length parts.node_names) exit_links
+
+-- the lists of links of each node, where the parts are joined as they have to be; a fault is the first of their joins
+abbrev pub Links : Parts → Result NodeLinks NetFault → Type 0
+Links parts (Ok links) = IsStored parts links.entry.items links.exit.items
+Links parts (Err fault) = IsJoinFault (net_of parts) fault
 
 -- the network is that of the parts, where they are joined as they have to be
 abbrev pub Joins : Net → Result Net NetFault → Type 0

@@ -9,7 +9,7 @@ ghost use Rattle.net_numbers.specs.Outline.{IsOutline};
 ghost use Rattle.net_numbers.specs.Parts.{net_of};
 ghost use Rattle.road_net.specs.FirstFaults.{IsJoinFault, IsDraftFault};
 ghost use Rattle.road_net.specs.Network.{IsNetworkOf, IsNetworkText, IsCause};
-ghost use Rattle.road_net.specs.Stored.{Drafts, Joins};
+ghost use Rattle.road_net.specs.Stored.{IsStored, Drafts, Joins, Links};
 
 mod joins;
 mod senses;
@@ -230,27 +230,55 @@ pub fn build(alloc: Global, draft: Draft) -> Result<Network, NetFault>
     joined(alloc, parts)
 }
 
-/// The network of these parts, where they are joined as they must be. The fault is want of memory, or the first that is
-/// found when all are tested for the ends of links, then for crowded nodes, for shares, for phases and for conflicts.
+/// The network of these parts, where they are joined as they must be. The fault is that of `node_links`.
+///
+/// The parts are tested by reference and become part of the network behind all tests, since the proof of a function that
+/// owns them goes over all that they hold at each way out of it.
 fn joined(alloc: Global, parts: Parts) -> Result<Network, NetFault>
     requires { IsOutline (net_of parts) }
     ensures joins { Joins (net_of parts) result }
     ensures first { IfErr result (IsJoinFault (net_of parts)) }
 {
+    let links = node_links(alloc, &parts)?;
+    Ok(network_of(parts, links))
+}
+
+fn network_of(parts: Parts, links: NodeLinks) -> Network
+    requires { IsStored parts links.entry.items links.exit.items }
+    ensures { result ≡ net_of parts }
+{
+    let NodeLinks { entry, exit } = links;
+    Network {
+        parts,
+        entry_links: entry,
+        exit_links: exit,
+    }
+}
+
+/// The links that end at each node, and those that come from it.
+#[derive(Drop)]
+struct NodeLinks {
+    entry: Vec<Items<u32>>,
+    exit: Vec<Items<u32>>,
+}
+
+/// The links of each node of these parts, where the parts are joined as they must be. The fault is want of memory, or the
+/// first that is found when all are tested for the ends of links, then for crowded nodes, for shares, for phases and for
+/// conflicts.
+fn node_links(alloc: Global, parts: &Parts) -> Result<NodeLinks, NetFault>
+    requires { IsOutline (net_of parts.now) }
+    ensures { Links parts.now result }
+{
     let links = parts.links.as_slice();
     let nodes = parts.node_names.len();
     joins::check_ends(links)?;
-    let entry_links = joins::links_by_node(alloc, links, nodes, Side::To)?;
-    joins::check_room(entry_links.as_slice())?;
+    let entry = joins::links_by_node(alloc, links, nodes, Side::To)?;
+    joins::check_room(entry.as_slice())?;
     joins::check_shares(links, parts.turns.as_slice())?;
     joins::check_phases(alloc, links, parts.phase_links.as_slice())?;
     joins::check_conflicts(links, parts.conflicts.as_slice())?;
-    let exit_links = joins::links_by_node(alloc, links, nodes, Side::From)?;
-    Ok(Network {
-        parts,
-        entry_links,
-        exit_links,
-    })
+    let exit = joins::links_by_node(alloc, links, nodes, Side::From)?;
+    Ok(NodeLinks { entry, exit })
 }
 
 /// The network of a text, which is read as TOML. The text has fewer than 2^32 bytes.

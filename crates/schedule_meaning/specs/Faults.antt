@@ -8,7 +8,8 @@ use Rattle.switch_rules.specs.declared.Head.{Head}
 use Rattle.switch_rules.specs.declared.Cluster.{Cluster}
 use Rattle.switch_rules.specs.declared.Unfit.{Unfit}
 use Rattle.schedule_meaning.specs.Instances.{Problem, IsSpaced, cluster_at, counts_of, list_at}
-use Rattle.schedule_meaning.specs.Timing.{◌>>=◌, next_cluster, times_of}
+use Rattle.foundation.specs.Options.{◌>>=◌}
+use Rattle.schedule_meaning.specs.Timing.{next_cluster, times_of}
 use Rattle.schedule_meaning.specs.declared.faults.InstanceFault.{InstanceFault}
 use Rattle.schedule_meaning.specs.declared.faults.InstanceFault.TheVariants.{HeadPhase, HeadTime, ListCount, ClusterBound, Order, Many}
 use Rattle.schedule_meaning.specs.declared.faults.SeqFault.{SeqFault}

@@ -25,10 +25,10 @@ of_form form.NoMemory = NoMemory
 abbrev pub Spells : List ℕ → Problem → Type 0
 Spells bytes p = HasText p.plan p.head p.lists × (bytes ≡ instance_text p.plan p.head p.lists)
 
--- why bytes are no instance's text: the first line that has not the form of its place, or else the fault of the
--- phases, or else that of the instance
+-- why bytes are no instance's text: they have not the form of a text, and this is the first line that has not the form
+-- of its place; or else the fault of the phases; or else that of the instance
 abbrev pub IsTextFault : List ℕ → TextFault → Type 0
-IsTextFault bytes (Line n) = IsFaultOf BeginsText 1 bytes (form.Line n)
+IsTextFault bytes (Line n) = IsFaultOf BeginsText 1 bytes (form.Line n) × ((p : Problem) → ¬ Spells bytes p)
 IsTextFault bytes (Plan fault) = (p : Problem) × Spells bytes p × IsPlanFault p.plan fault
 IsTextFault bytes (Instance fault) = (p : Problem) × Spells bytes p × IsPlan p.plan × IsInstanceFault p fault
 IsTextFault bytes NoMemory = Unit {0}

@@ -1,17 +1,13 @@
-use Rattle.std.specs.Prelude.{◌≡◌, ℕ, ◌+◌, ◌-◌, ◌*◌, ◌≤◌, ◌==◌, count_by, if◌then◌else◌, List, [], ◌∷◌, length, sum, sum_by, slice_index, slice_get, Option, Some, None, option_and_then}
+use Rattle.std.specs.Prelude.{◌≡◌, ℕ, ◌+◌, ◌-◌, ◌*◌, ◌≤◌, ◌==◌, count_by, if◌then◌else◌, List, [], ◌∷◌, length, sum, sum_by, slice_index, slice_get, Option, Some, None}
 use Rattle.std.specs.Option.{option_map}
 use Rattle.std.specs.Result.{result_ok}
+use Rattle.foundation.specs.Options.{◌>>=◌}
 use Rattle.switch_rules.specs.Serving.{serving, IsHead}
 use Rattle.switch_rules.specs.Orders.{one_less}
 use Rattle.switch_rules.specs.declared.Head.{Head}
 use Rattle.switch_rules.specs.declared.Served.{Served}
 use Rattle.switch_rules.specs.declared.Cluster.{Cluster}
 use Rattle.schedule_meaning.specs.Instances.{Problem, list_at, counts_of}
-
--- goes on with a value, where there is one
-infixl 10 ◌>>=◌
-abbrev pub ◌>>=◌ : {A B : Type 0} → Option A → (A → Option B) → Option B
-o >>= f = option_and_then f o
 
 -- the next cluster of phase k, where so many of each phase are left
 abbrev pub next_cluster : List (List Cluster) → List ℕ → ℕ → Option Cluster

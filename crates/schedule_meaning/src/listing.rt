@@ -19,15 +19,15 @@ use switch_rules::{Served, serve};
 pub enum ServingsFault {
     /// The sequence is not feasible; the fault is the one that `replay` names.
     Seq(SeqFault),
-    /// Memory ran out.
+    /// The sequence is feasible, and memory ran out.
     NoMemory,
 }
 
 /// What a sequence of phases serves from the instance's head, one cluster after another, for callers that count no
 /// steps.
 ///
-/// A fault `Seq` comes exactly where the sequence is not feasible; it is the first in the order of `SeqFault`. The
-/// sequence has fewer than 2^32 numbers.
+/// A fault `Seq` comes exactly where the sequence is not feasible; it is the first in the order of `SeqFault`. Memory
+/// runs out only where it is feasible. The sequence has fewer than 2^32 numbers.
 ///
 /// docs/RULES.md, "Sequence, feasibility, delay".
 pub fn servings(alloc: Global, i: &Instance, seq: &[u8]) -> Result<Vec<Served>, ServingsFault>

@@ -1,16 +1,17 @@
-use Rattle.std.proofs.Common.{◌≡◌, ℕ, ◌<◌, ◌≤◌, List, length, Option, Some, None, IfSome, IsSome, ap, arith}
+use Rattle.std.proofs.Common.{◌≡◌, ℕ, ◌+◌, ◌<◌, ◌≤◌, List, length, Option, Some, None, IfSome, IsSome, ap, arith}
 use Rattle.outside_world.specs.Shelf.{front_of}
 use Rattle.outside_world.proofs.ShelfLemmas.{whole_file, long_file}
 use Rattle.signal_cli.specs.Jobs.{IsLongFile, text_of}
+use Rattle.signal_cli.specs.declared.texts.TheConstants.{MOST_BYTES}
 
 -- what was fetched within the limit is the whole text
-pub fetched-whole : (files : Option (List (List ℕ × List ℕ))) (name bytes : List ℕ) → IfSome files (λ known. front_of known name 100663297 ≡ Some bytes) → length bytes ≤ 100663296 → IsSome files → text_of files name ≡ Some bytes
+pub fetched-whole : (files : Option (List (List ℕ × List ℕ))) (name bytes : List ℕ) → IfSome files (λ known. front_of known name (MOST_BYTES + 1) ≡ Some bytes) → length bytes ≤ MOST_BYTES → IsSome files → text_of files name ≡ Some bytes
 fetched-whole None name bytes e short told = absurd (cc)
-fetched-whole (Some known) name bytes e short told = whole_file known name 100663297 bytes e (omega arith)
+fetched-whole (Some known) name bytes e short told = whole_file known name (MOST_BYTES + 1) bytes e (omega arith)
 
 -- what was fetched past the limit is the front of a text past the limit
-pub fetched-long : (files : Option (List (List ℕ × List ℕ))) (name bytes : List ℕ) → IfSome files (λ known. front_of known name 100663297 ≡ Some bytes) → 100663296 < length bytes → IsLongFile files name
+pub fetched-long : (files : Option (List (List ℕ × List ℕ))) (name bytes : List ℕ) → IfSome files (λ known. front_of known name (MOST_BYTES + 1) ≡ Some bytes) → MOST_BYTES < length bytes → IsLongFile files name
 fetched-long None name bytes e long = record { text = bytes; told = λ told. absurd (cc); long = long }
 fetched-long (Some known) name bytes e long =
-    let (content, same, past) = long_file known name 100663297 bytes e (omega arith) in
+    let (content, same, past) = long_file known name (MOST_BYTES + 1) bytes e (omega arith) in
     record { text = content; told = λ told. same; long = omega (arith, past) }

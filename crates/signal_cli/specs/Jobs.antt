@@ -8,6 +8,7 @@ use Rattle.schedule_meaning.specs.declared.planners.Answer.{Answer}
 use Rattle.signal_cli.specs.Answers.{answer_text}
 use Rattle.signal_cli.specs.declared.status.Status.{Status}
 use Rattle.signal_cli.specs.declared.status.Status.TheVariants.{Done, Rejected, Usage, BadInput, ReadFault, WriteFault, NoMemory}
+use Rattle.signal_cli.specs.declared.texts.TheConstants.{MOST_BYTES}
 
 -- the words of the command `plan FILE`
 abbrev pub IsPlanOf : List (List ℕ) → List ℕ → Type 0
@@ -19,7 +20,7 @@ text_of files name = option_and_then (λ known. file_of known name) files
 
 -- a text that is read as this instance: it is within the limit, and it is the instance's one spelling
 pub record Reads (text : List ℕ) (p : Problem) : Type 0 where
-  pub limit : length text ≤ 100663296
+  pub limit : length text ≤ MOST_BYTES
   pub instance : IsInstance p
   pub spelling : text ≡ instance_text p.plan p.head p.lists
 
@@ -31,7 +32,7 @@ IsBad text = (p : Problem) → ¬ Reads text p
 pub record IsLongFile (files : Option (List (List ℕ × List ℕ))) (name : List ℕ) : Type 0 where
   pub text : List ℕ
   pub told : IsSome files → text_of files name ≡ Some text
-  pub long : 100663296 < length text
+  pub long : MOST_BYTES < length text
 
 -- the file's text is read as no instance
 pub record IsBadFile (files : Option (List (List ℕ × List ℕ))) (name : List ℕ) : Type 0 where

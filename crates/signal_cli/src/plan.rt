@@ -8,8 +8,9 @@ ghost use Rattle.signal_cli.specs.Refusals.{Reports};
 use super::answers::answer_text;
 use super::status::Status;
 use super::texts::fetch_text;
+use forward_dp::LayerPlanner;
 use outside_world::{Shelf, Sink};
-use schedule_meaning::{PlainPlanner, TextFault, best_answer, read_instance};
+use schedule_meaning::{TextFault, best_answer, read_instance};
 use std::alloc::{AllocError, Global};
 
 /// The text of the best answer of the instance that a file's text spells.
@@ -24,7 +25,7 @@ fn plan_text<S: Shelf>(alloc: Global, shelf: &mut S, file: &str) -> Result<Strin
         Err(TextFault::NoMemory) => return Err(Status::NoMemory),
         Err(_) => return Err(Status::BadInput),
     };
-    match best_answer(alloc, &mut PlainPlanner, &instance) {
+    match best_answer(alloc, &mut LayerPlanner, &instance) {
         Ok(answer) => answer_text(alloc, &answer).map_err(|_| Status::NoMemory),
         Err(AllocError) => Err(Status::NoMemory),
     }

@@ -16,7 +16,7 @@ pub const MOST_BYTES: usize = 100_663_296;
 /// docs/FORMATS.md, "Exit statuses and lines of refusal".
 pub fn fetch_text<S: Shelf>(alloc: Global, shelf: &mut S, file: &str) -> Result<Vec<u8>, Status>
     ensures files { S.files shelf.new ≡ S.files shelf.old }
-    ensures limit { IfOk result (λ text. length text.items ≤ 100663296) }
+    ensures limit { IfOk result (λ text. length text.items ≤ MOST_BYTES) }
     ensures told { IfOk result (λ text. IsSome (S.files shelf.old) → text_of (S.files shelf.old) file.now ≡ Some text.items) }
     ensures ok { OnOk result (S.failed shelf.new ≡ S.failed shelf.old) }
     ensures err { IfErr result (FetchFails (S.files shelf.old) (S.failed shelf.old) (S.failed shelf.new) file.now) }

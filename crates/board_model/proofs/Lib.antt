@@ -1,0 +1,4 @@
+pub mod ForCallers
+pub mod ForecastLaws
+pub mod LastOf
+pub mod LogLaws

@@ -1,0 +1,110 @@
+// Forecasts: rows of seconds with amounts.
+ghost use Rattle.std.specs.Prelude.{◌≡◌, [], IfOk};
+
+use foundation::threads::CrossesThreads;
+use std::alloc::{AllocError, Global};
+use std::marker::Model;
+
+/// One row of a forecast: how much comes in one second.
+///
+/// docs/RULES.md, "Forecast".
+#[derive(Clone, Copy)]
+pub struct Row {
+    /// The second, 0 to 100,000.
+    pub second: u32,
+    /// What comes in it, 1 to 80,000 thousandths of a vehicle.
+    pub amount: u32,
+}
+
+impl CrossesThreads for Row {}
+
+/// Which vehicles will come, and when: at most 180 rows whose seconds rise strictly, each within its bounds. Contracts
+/// see it as the list of its rows.
+///
+/// docs/RULES.md, "Forecast".
+#[derive(Drop)]
+pub struct Forecast {
+    rows: Vec<Row>,
+}
+
+impl Model for Forecast {
+    ghost use Rattle.std.specs.Prelude.{List};
+    ghost use Rattle.board_model.specs.declared.forecasts.Row.{Row};
+
+    ghost Value = { List Row };
+
+    ghost use Rattle.board_model.specs.Forecasts.{IsForecast};
+
+    ghost view = { λ forecast. forecast.rows.items };
+
+    ghost invariant = { λ forecast. IsForecast forecast.rows.items };
+}
+
+impl CrossesThreads for Forecast {}
+
+impl Forecast {
+    ghost use Rattle.std.specs.Prelude.{◌≡◌, ◌<◌, ◌≤◌, [], ◌∷◌, ◌++◌, IfOk, if◌then◌else◌, is_ok, length};
+    ghost use Rattle.board_model.specs.Forecasts.{IsForecast, IsRow, IsAboveLast, seconds, amount_at};
+
+    /// The forecast of no row. It keeps the allocator, of which `push` takes its memory.
+    ///
+    /// docs/RULES.md, "Forecast".
+    pub fn empty(alloc: Global) -> Forecast
+        ensures { result ≡ [] }
+    {
+        Forecast {
+            rows: Vec::new(alloc),
+        }
+    }
+
+    /// Adds a row at the end. There are fewer than 180 rows, the row is within its bounds, and its second is above that
+    /// of the last row.
+    ///
+    /// An `Err` comes only where memory runs out, and leaves the forecast as it was.
+    ///
+    /// docs/RULES.md, "Forecast".
+    pub fn push(&mut self, r: Row) -> Result<(), AllocError>
+        requires room { length self.old < 180 }
+        requires above { IsAboveLast (seconds self.old) r.second }
+        requires row { IsRow r }
+        ensures rows { self.new ≡ (if is_ok result then self.old ++ r ∷ [] else self.old) }
+        ensures forecast { IsForecast self.new }
+    {
+        self.rows.push(r)?;
+        Ok(())
+    }
+
+    /// The rows, in the order of their seconds.
+    ///
+    /// docs/RULES.md, "Forecast".
+    pub fn rows(&self) -> &[Row]
+        ensures value { result.now ≡ self.now }
+        ensures forecast { IsForecast self.now }
+    {
+        self.rows.as_slice()
+    }
+
+    /// What comes in this second, in thousandths of a vehicle: at most 80,000, and 0 where no row has the second.
+    ///
+    /// docs/RULES.md, "Forecast".
+    pub fn amount_at(&self, second: u32) -> u32
+        ensures value { result ≡ amount_at self.now second }
+        ensures bounds { result ≤ 80000 }
+    {
+        self.rows
+            .iter()
+            .find(|row| row.second == second)
+            .map(|row| row.amount)
+            .unwrap_or(0)
+    }
+
+    /// An equal forecast. An `Err` comes only where memory runs out.
+    ///
+    /// docs/RULES.md, "Forecast".
+    pub fn copy(&self, alloc: Global) -> Result<Forecast, AllocError>
+        ensures { IfOk result (λ forecast. forecast ≡ self.now) }
+    {
+        let rows = Vec::from_slice(alloc, &self.rows)?;
+        Ok(Forecast { rows })
+    }
+}

@@ -1,0 +1,9 @@
+//! Forecasts of vehicles, and the board of one link as one thread uses it: a log of who read which version, and who
+//! published which forecast.
+#![tactic(auto)]
+
+mod boards;
+mod forecasts;
+
+pub use boards::{BoardEvent, BoardKind, BoardLog, Heard, Seen, Sent};
+pub use forecasts::{Forecast, Row};

@@ -1,0 +1,4 @@
+pub mod Law
+pub mod Nexts
+pub mod Places
+pub mod Rests

@@ -1,0 +1,156 @@
+-- Small timelines, worked out by hand and computed here from the definitions.
+use Rattle.std.proofs.Common.{◌≡◌, ℕ, true, false, List, [], ◌∷◌, Some, None, Ok, refl}
+use Rattle.phase_plan.specs.declared.Phase.{Phase}
+use Rattle.switch_rules.specs.Serving.{serving}
+use Rattle.switch_rules.specs.declared.Cluster.{Cluster}
+use Rattle.switch_rules.specs.declared.Head.{Head}
+use Rattle.switch_rules.specs.declared.Served.{Served}
+use Rattle.control_flow.specs.declared.greens.Green.{Green}
+use Rattle.control_flow.specs.declared.greens.Colour.TheVariants as colours
+use Rattle.control_flow.specs.Greens.{green_at, standing, colour_at, head_at, spliced, end_of}
+use Rattle.control_flow.specs.Timelines.{head_behind, passed_numbers, line_of, rotation_of}
+
+abbrev usual : Phase
+usual = record { least = 5; greatest = 30; yellow = 3; clear = 2; loss = 2; wait = 120 }
+
+abbrev two : List Phase
+two = usual ∷ usual ∷ []
+
+abbrev three : List Phase
+three = usual ∷ usual ∷ usual ∷ []
+
+abbrev cluster : ℕ → ℕ → ℕ → Cluster
+cluster size arr len = record { size = size; arr = arr; len = len }
+
+abbrev head : ℕ → ℕ → ℕ → Head
+head phase since at = record { phase = phase; since = since; at = at; fresh = false }
+
+abbrev green : ℕ → ℕ → ℕ → Green
+green phase from to = record { phase = phase; from = from; to = to }
+
+-- a cluster of each phase, the other phase first
+
+abbrev first_served : Served
+first_served = record { green = 20; start = 20; finish = 22; cost = 0; kept = false }
+
+abbrev second_served : Served
+second_served = record { green = 50; start = 50; finish = 52; cost = 0; kept = false }
+
+first_fit : serving two (head 0 0 0) 1 (cluster 1000 20 2) ≡ Ok (first_served, head_behind 1 first_served)
+first_fit = refl
+
+second_fit : serving two (head_behind 1 first_served) 0 (cluster 1000 50 2) ≡ Ok (second_served, head_behind 0 second_served)
+second_fit = refl
+
+other_first : line_of two (head 0 0 0) (1 ∷ 0 ∷ []) (first_served ∷ second_served ∷ []) 60 ≡ green 0 0 15 ∷ green 1 20 45 ∷ green 0 50 80 ∷ []
+other_first = refl
+
+-- no clusters: the green is held, then the ring turns
+
+held : line_of two (head 0 0 0) [] [] 39 ≡ green 0 0 30 ∷ green 1 35 40 ∷ []
+held = refl
+
+held_longer : line_of two (head 0 0 0) [] [] 40 ≡ green 0 0 30 ∷ green 1 35 40 ∷ green 0 45 50 ∷ []
+held_longer = refl
+
+-- a late cluster: what is early is rested in all-red
+
+abbrev late_served : Served
+late_served = record { green = 60; start = 60; finish = 62; cost = 0; kept = false }
+
+late_fit : serving two (head 0 0 0) 1 (cluster 1000 60 2) ≡ Ok (late_served, head_behind 1 late_served)
+late_fit = refl
+
+abbrev late : List Green
+late = green 0 0 30 ∷ green 1 60 90 ∷ []
+
+late-line : line_of two (head 0 0 0) (1 ∷ []) (late_served ∷ []) 60 ≡ late
+late-line = refl
+
+late-yellow : colour_at two late 0 32 ≡ colours.Yellow
+late-yellow = refl
+
+late-red : colour_at two late 0 33 ≡ colours.Red
+late-red = refl
+
+late-rest : colour_at two late 1 59 ≡ colours.Red
+late-rest = refl
+
+late-green : colour_at two late 1 60 ≡ colours.Green
+late-green = refl
+
+late-nothing : green_at late 59 ≡ None
+late-nothing = refl
+
+late-standing : standing late 89 ≡ Some (1, 60)
+late-standing = refl
+
+-- the head in the green, in the start-up loss of one, and before one
+
+late-start : head_at two late 1 ≡ Some (record { phase = 0; since = 0; at = 1; fresh = true })
+late-start = refl
+
+late-in : head_at two late 29 ≡ Some (head 0 0 29)
+late-in = refl
+
+late-before : head_at two late 30 ≡ Some (record { phase = 1; since = 60; at = 60; fresh = true })
+late-before = refl
+
+late-begin : head_at two late 61 ≡ Some (record { phase = 1; since = 60; at = 61; fresh = true })
+late-begin = refl
+
+late-moving : head_at two late 62 ≡ Some (head 1 60 62)
+late-moving = refl
+
+late-over : head_at two late 90 ≡ None
+late-over = refl
+
+late-end : end_of late ≡ 90
+late-end = refl
+
+-- a green that goes on is one row
+
+abbrev third_served : Served
+third_served = record { green = 0; start = 20; finish = 22; cost = 0; kept = true }
+
+third_fit : serving two (head 0 0 0) 0 (cluster 1000 20 2) ≡ Ok (third_served, head_behind 0 third_served)
+third_fit = refl
+
+goes_on : line_of two (head 0 0 0) (0 ∷ []) (third_served ∷ []) 30 ≡ green 0 0 30 ∷ green 1 35 40 ∷ []
+goes_on = refl
+
+-- the ring passes phases on the way, each for its least green
+
+passing_one : passed_numbers three 0 2 ≡ 1 ∷ []
+passing_one = refl
+
+passing_the_end : passed_numbers three 2 1 ≡ 0 ∷ []
+passing_the_end = refl
+
+passing_round : passed_numbers three 1 1 ≡ 2 ∷ 0 ∷ []
+passing_round = refl
+
+abbrev round_served : Served
+round_served = record { green = 60; start = 60; finish = 62; cost = 0; kept = false }
+
+round_fit : serving three (head 1 10 12) 1 (cluster 1000 60 2) ≡ Ok (round_served, head_behind 1 round_served)
+round_fit = refl
+
+round : line_of three (head 1 10 12) (1 ∷ []) (round_served ∷ []) 60 ≡ green 1 10 35 ∷ green 2 40 45 ∷ green 0 50 55 ∷ green 1 60 90 ∷ []
+round = refl
+
+-- with no plan
+
+turns : rotation_of two (head 0 0 0) 20 ≡ green 0 0 5 ∷ green 1 10 15 ∷ green 0 20 25 ∷ []
+turns = refl
+
+turns_from_later : rotation_of two (head 1 10 27) 20 ≡ green 1 10 27 ∷ []
+turns_from_later = refl
+
+-- a splice
+
+spliced_early : spliced (green 0 0 30 ∷ green 1 35 40 ∷ []) (green 0 0 5 ∷ green 1 10 40 ∷ []) ≡ green 0 0 5 ∷ green 1 10 40 ∷ []
+spliced_early = refl
+
+spliced_late : spliced (green 0 0 30 ∷ green 1 35 40 ∷ green 0 45 50 ∷ []) (green 1 35 65 ∷ []) ≡ green 0 0 30 ∷ green 1 35 65 ∷ []
+spliced_late = refl

@@ -1,0 +1,10 @@
+use Rattle.std.proofs.Common.{nat_lt, ◌∙◌, rules, tests}
+use Rattle.std.proofs.lemmas.Iterator.{YieldsList-from_slice}
+use Rattle.std.proofs.lemmas.Iterator.Search.{find_from_yields_List}
+use Rattle.control_flow.specs.declared.greens.Green.{Green}
+use Rattle.control_flow.proofs.seconds.row_after.Goals as goal
+
+pub returns : goal.returns
+returns c =
+    c.copied.ensures
+    ∙ find_from_yields_List (λ (row : Green). nat_lt c.args.now row.to) _ _ c.find.result c.find.ensures.ran (YieldsList-from_slice c.args.line.now (c.iter.ensures.rest ∙ c.rows.ensures)) (λ x b q k. search (rules, tests))

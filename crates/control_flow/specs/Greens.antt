@@ -1,0 +1,108 @@
+-- Which greens may follow one another, whatever made them, and what a signal shows at a second.
+use Rattle.std.specs.Prelude.{◌≡◌, ℕ, ◌+◌, ◌<◌, ◌≤◌, List, length, slice_index_or, All, find}
+use Rattle.std.specs.Prelude.{Bool, ◌==◌, ◌&&◌, nat_le, nat_lt, true, if◌then◌else◌, Option, [], ◌∷◌, ◌++◌}
+use Rattle.std.specs.List.{list_any}
+use Rattle.std.specs.Option.{option_map}
+use Rattle.phase_plan.specs.Phases.{phase_at}
+use Rattle.phase_plan.specs.declared.Phase.{Phase}
+use Rattle.switch_rules.specs.declared.Head.{Head}
+use Rattle.control_flow.specs.declared.greens.Green.{Green}
+use Rattle.control_flow.specs.declared.greens.Colour.{Colour}
+use Rattle.control_flow.specs.declared.greens.Colour.TheVariants as colours
+
+-- what stands where a timeline has no row
+abbrev pub no_green : Green
+no_green = record { phase = 0; from = 0; to = 0 }
+
+-- the row at this index, from 0
+abbrev pub row_at : List Green → ℕ → Green
+row_at rows index = slice_index_or rows index no_green
+
+-- the second behind the last row
+abbrev pub end_of : List Green → ℕ
+end_of [] = 0
+end_of (row ∷ []) = row.to
+end_of (row ∷ next ∷ rows) = end_of (next ∷ rows)
+
+-- the phase that follows phase s on the ring
+abbrev pub next_phase : List Phase → ℕ → ℕ
+next_phase plan s = if nat_lt (s + 1) (length plan) then s + 1 else 0
+
+-- a green of a phase of the plan that lasts at least its least and at most its greatest time
+pub record IsGreen (plan : List Phase) (row : Green) : Type 0 where
+  pub phase : row.phase < length plan
+  pub least : row.from + (phase_at plan row.phase).least ≤ row.to
+  pub greatest : row.to ≤ row.from + (phase_at plan row.phase).greatest
+
+-- the row after a row is of the next phase of the ring, and begins behind yellow and all-red at the earliest
+pub record Follows (plan : List Phase) (row next : Green) : Type 0 where
+  pub phase : next.phase ≡ next_phase plan row.phase
+  pub begins : row.to + (phase_at plan row.phase).yellow + (phase_at plan row.phase).clear ≤ next.from
+
+-- a lawful timeline: each row is a green of the plan, and each but the first follows the row before it
+pub record IsLawful (plan : List Phase) (rows : List Green) : Type 0 where
+  pub greens : All (IsGreen plan) rows
+  pub order : (k : ℕ) → k + 1 < length rows → Follows plan (row_at rows k) (row_at rows (k + 1))
+
+-- the first row is the green of this head, and does not end before its time is spent
+pub record GoesOn (head : Head) (rows : List Green) : Type 0 where
+  pub some : 0 < length rows
+  pub phase : (row_at rows 0).phase ≡ head.phase
+  pub begin : (row_at rows 0).from ≡ head.since
+  pub spent : head.at ≤ (row_at rows 0).to
+
+-- each row begins at this second or before it
+abbrev pub BeginBy : ℕ → List Green → Type 0
+BeginBy second rows = All (λ row. row.from ≤ second) rows
+
+-- whether a row covers a second
+abbrev pub covers : Green → ℕ → Bool
+covers row second = nat_le row.from second && nat_lt second row.to
+
+-- whether the yellow behind a row, of so many seconds, covers a second
+abbrev pub covers_yellow : Green → ℕ → ℕ → Bool
+covers_yellow row yellow second = nat_le row.to second && nat_lt second (row.to + yellow)
+
+-- the first row that covers a second
+abbrev pub green_at : List Green → ℕ → Option Green
+green_at rows second = find (λ row. covers row second) rows
+
+-- which phase is green at a second, and since when
+abbrev pub standing : List Green → ℕ → Option (ℕ × ℕ)
+standing rows second = option_map (λ row. (row.phase, row.from)) (green_at rows second)
+
+-- whether a row of the phase covers a second
+abbrev pub is_green : List Green → ℕ → ℕ → Bool
+is_green rows k second = list_any (λ row. (row.phase == k) && covers row second) rows
+
+-- whether the yellow behind a row of the phase covers a second
+abbrev pub is_yellow : List Phase → List Green → ℕ → ℕ → Bool
+is_yellow plan rows k second = list_any (λ row. (row.phase == k) && covers_yellow row (phase_at plan k).yellow second) rows
+
+-- what phase k shows at a second
+abbrev pub colour_at : List Phase → List Green → ℕ → ℕ → Colour
+colour_at plan rows k second = if is_green rows k second then colours.Green else if is_yellow plan rows k second then colours.Yellow else colours.Red
+
+-- the first row that ends behind a second
+abbrev pub row_after : List Green → ℕ → Option Green
+row_after rows now = find (λ row. nat_lt now row.to) rows
+
+-- the signal's state at a second, by the row that is green then, or else will be next
+abbrev pub head_in : List Phase → ℕ → Green → Head
+head_in plan now row =
+    if nat_le row.from now then record { phase = row.phase; since = row.from; at = now; fresh = nat_lt now (row.from + (phase_at plan row.phase).loss) }
+    else record { phase = row.phase; since = row.from; at = row.from; fresh = true }
+
+-- the signal's state at a second, where some row ends behind it
+abbrev pub head_at : List Phase → List Green → ℕ → Option Head
+head_at plan rows now = option_map (head_in plan now) (row_after rows now)
+
+-- the timeline's rows up to the first that does not begin before a second
+abbrev pub rows_before : List Green → ℕ → List Green
+rows_before [] second = []
+rows_before (row ∷ rows) second = if nat_lt row.from second then row ∷ rows_before rows second else []
+
+-- a timeline whose rows from the begin of another one's first row on are replaced by that one
+abbrev pub spliced : List Green → List Green → List Green
+spliced old [] = old
+spliced old (row ∷ rows) = rows_before old row.from ++ row ∷ rows

@@ -1,0 +1,4 @@
+pub mod Greens
+pub mod Timelines
+pub use Rattle.phase_plan.specs.Phases
+pub use Rattle.switch_rules.specs.Serving
