@@ -1,5 +1,5 @@
--- Reading one after another, as the loops do: what was read before, and what is still read; what they take, and that what
--- was written is read.
+-- Reading one after another, as the loops do: what was read before, and what is still read; what they take, and that
+-- what was written is read.
 use Rattle.std.proofs.Common.{◌≡◌, ℕ, zero, suc, ◌+◌, ◌-◌, ◌<◌, ◌≤◌, List, [], ◌∷◌, ◌++◌, length, Option, Some, None, refl, sym, ap, ◌∙◌, append_assoc, length-append, arith}
 use Rattle.std.specs.List.{flat_map, AllByRecursion}
 use Rattle.std.specs.Option.{option_map_or}

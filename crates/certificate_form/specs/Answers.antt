@@ -34,8 +34,8 @@ of_form form.NoMemory = NoMemory
 abbrev pub Spells : List ℕ → Claim → Type 0
 Spells bytes c = HasText c × (bytes ≡ certificate_text c)
 
--- why bytes are no certificate's text: they have not the form of a text, and this is the first line that has not the form
--- of its place; or else the fault of the phases; or else that of the instance; or else that of the certificate
+-- why bytes are no certificate's text: they have not the form of a text, and this is the first line that has not the
+-- form of its place; or else the fault of the phases; or else that of the instance; or else that of the certificate
 abbrev pub IsTextFault : List ℕ → CertText → Type 0
 IsTextFault bytes (Line n) = IsFirstFault n bytes × ((c : Claim) → ¬ Spells bytes c)
 IsTextFault bytes (Plan fault) = (c : Claim) × Spells bytes c × IsPlanFault c.problem.plan fault
