@@ -29,7 +29,8 @@ pub record HasFound (found : List (ℕ × ℕ)) (number most : ℕ) : Type 0 whe
   pub number_is : pair.0 ≡ number
   pub delay : pair.1 ≤ most
 
--- the keys that fewer than so many servings reach, each once, with the least delay of the prefixes that reach it
+-- the keys that fewer than so many servings reach, each once, with the least delay of the prefixes that reach it; each
+-- number of servings reaches at most as many keys as there are orders
 pub record AreFound (p : Problem) (served : ℕ) (found : List (ℕ × ℕ)) : Type 0 where
   pub each : All (IsFoundBy p served) found
   pub all : (prefix : List ℕ) → length prefix < served → IfSome (stage_of p prefix) (λ s. HasFound found (key_number s.counts s.head) s.delay)

@@ -1,5 +1,5 @@
 //! The best answer of an instance by a table that grows forward: layer by layer, one way is kept for each key that fit
-//! prefixes of one length reach.
+//! prefixes of one length reach. The whole table can be had as a certificate of that answer.
 #![tactic(auto)]
 
 ghost use Rattle.std.specs.Prelude.{◌≡◌, ◌+◌, ◌*◌, ◌≤◌, List, length, sum, IfOk, IsTrue};
@@ -48,7 +48,7 @@ pub fn layered<L: Ledger>(
     answer_of(alloc, best_of(&layer), count_places(i))
 }
 
-/// The layer behind all servings, and, if `collects`, the numbers and the delays of all layers' keys.
+/// The layer of the whole sequences, and, if `collects`, the numbers and the delays of the keys of all layers.
 fn run_layers<L: Ledger>(
     alloc: Global,
     i: &Instance,
