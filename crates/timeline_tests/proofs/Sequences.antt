@@ -1,11 +1,11 @@
 -- What a sequence serves are servings of its phases, one after another.
 use Rattle.std.specs.Prelude.{unwrap_or}
-use Rattle.std.proofs.Common.{◌≡◌, ℕ, ◌-◌, ◌<◌, ◌==◌, List, [], ◌∷◌, length, sum, get_or, Option, Some, None, Ok, sym, ap, subst, ◌∙◌, inl, inr, arith}
+use Rattle.std.proofs.Common.{◌≡◌, ℕ, ◌-◌, ◌<◌, ◌==◌, List, [], ◌∷◌, length, sum, get_or, Option, Some, sym, ap, subst, ◌∙◌, inl, inr, arith}
 use Rattle.std.specs.Option.{option_map}
 use Rattle.std.proofs.lemmas.Bool.{cases_lt}
 use Rattle.std.proofs.lemmas.List.{get_or_past}
 use Rattle.std.proofs.lemmas.Option.{slice_get_within, get_or_from_slice_get, cond_some}
-use Rattle.switch_rules.specs.Serving.{IsHead, IsCluster, serving}
+use Rattle.switch_rules.specs.Serving.{IsHead, IsCluster}
 use Rattle.switch_rules.specs.Orders.{one_less}
 use Rattle.switch_rules.specs.declared.Head.{Head}
 use Rattle.switch_rules.specs.declared.Cluster.{Cluster}
@@ -13,7 +13,7 @@ use Rattle.switch_rules.specs.declared.Served.{Served}
 use Rattle.schedule_meaning.specs.Instances.{Problem, IsInstance, list_at, counts_of}
 use Rattle.schedule_meaning.specs.Timing.{next_cluster, timed_from, timed}
 use Rattle.schedule_meaning.proofs.Sequences.{option-cases, timed-begins, timed-fit}
-use Rattle.control_flow.specs.Timelines.{head_behind, IsServingOf, AreServings}
+use Rattle.control_flow.specs.Timelines.{head_behind, AreServings}
 use Rattle.control_flow.proofs.ServingLaws.{serving-behind, IsServingOf-head, IsServingOf-from}
 
 -- a phase that has a next cluster is one of the plan, and that cluster is within its bounds
