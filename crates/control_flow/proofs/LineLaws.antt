@@ -1,9 +1,9 @@
 -- The timelines of servings and of no plan are lawful, begin with the green of the head, and end late enough.
-use Rattle.std.proofs.Common.{◌≡◌, ℕ, zero, suc, ◌+◌, ◌-◌, ◌<◌, ◌≤◌, Bool, true, false, max, cond, ltb, List, [], ◌∷◌, ◌++◌, length, get_or, drop, refl, sym, ap, subst, ◌∙◌, inl, inr, arith, append_assoc, length-append}
+use Rattle.std.proofs.Common.{◌≡◌, ℕ, zero, suc, ◌+◌, ◌-◌, ◌<◌, ◌≤◌, Bool, true, false, cond, ltb, List, [], ◌∷◌, ◌++◌, length, All, get_or, drop, refl, sym, ap, subst, ◌∙◌, inl, inr, arith, append_assoc, length-append}
 use Rattle.std.specs.List.{range_with_len}
 use Rattle.std.proofs.lemmas.List.{drop_more, drop_all, get_or-append-add}
 use Rattle.std.proofs.lemmas.Bool.{cases_lt, cond_below, cond_above, cond_both, ltb-true, ltb-false}
-use Rattle.std.proofs.lemmas.List.Elements.{All-nil, All-cons, All-append, All-weaker}
+use Rattle.std.proofs.lemmas.List.Elements.{All-nil, All-cons, All-head, All-tail, All-append, All-weaker}
 use Rattle.phase_plan.specs.Phases.{IsPlan, phase_at, passing, switch_time}
 use Rattle.phase_plan.specs.declared.Phase.{Phase}
 use Rattle.switch_rules.specs.Serving.{IsHead, earliest_green}
@@ -21,7 +21,6 @@ pub record IsLine (plan : List Phase) (head : Head) (until : ℕ) (rows : List G
   pub lawful : IsLawful plan rows
   pub begin : GoesOn head rows
   pub end : until < end_of rows
-  pub by : BeginBy (max 104000 (until + 20)) rows
 
 -- a green of the ring behind a row
 
@@ -105,19 +104,27 @@ turned-line : (plan : List Phase) (head : Head) (to until : ℕ) → IsPlan plan
 turned-line plan head to until p h reach least greatest spent =
     let row : Green = record { phase = head.phase; from = head.since; to = to } in
     let green : IsGreen plan row = record { phase = h.phase; least = least; greatest = greatest } in
-    let more = λ (r : Green) (e : r.from ≤ until + 20). let weaker : r.from ≤ max 104000 (until + 20) = omega arith in weaker in
     record {
       lawful = turning-lawful plan until (until + 1) row p green;
       begin = record { some = omega arith; phase = refl; begin = refl; spent = spent };
       end = turning-end plan until (until + 1) row p (omega arith);
-      by = All-cons (λ (r : Green). r.from ≤ max 104000 (until + 20)) row (turning plan (until + 1) until head.phase to) (omega (arith, h.begun))
-          (All-weaker (λ (r : Green). r.from ≤ until + 20) (λ (r : Green). r.from ≤ max 104000 (until + 20)) more (turning plan (until + 1) until head.phase to) (turning-by plan until (until + 1) head.phase to p h.phase));
     }
+
+turned-by : (plan : List Phase) (head : Head) (to until n : ℕ) → IsPlan plan → head.phase < length plan → head.since ≤ n → until + 20 ≤ n → BeginBy n (turned plan head to until)
+turned-by plan head to until n p h since last =
+    let row : Green = record { phase = head.phase; from = head.since; to = to } in
+    let more = λ (r : Green) (e : r.from ≤ until + 20). let weaker : r.from ≤ n = omega arith in weaker in
+    All-cons (λ (r : Green). r.from ≤ n) row (turning plan (until + 1) until head.phase to) since
+    (All-weaker (λ (r : Green). r.from ≤ until + 20) (λ (r : Green). r.from ≤ n) more (turning plan (until + 1) until head.phase to) (turning-by plan until (until + 1) head.phase to p h))
 
 pub rotation_of-line : (plan : List Phase) (head : Head) (until : ℕ) → IsPlan plan → IsHead plan head → head.at ≤ 104000 → IsLine plan head until (rotation_of plan head until)
 rotation_of-line plan head until p h reach =
     let times = phase-bounds plan head.phase p h.phase in
     turned-line plan head (earliest_end plan head) until p h reach (omega arith) (omega (arith, h.within, times.greatest)) (omega arith)
+
+-- where its rows begin
+pub rotation_of-by : (plan : List Phase) (head : Head) (until n : ℕ) → IsPlan plan → IsHead plan head → head.since ≤ n → until + 20 ≤ n → BeginBy n (rotation_of plan head until)
+rotation_of-by plan head until n p h since last = turned-by plan head (earliest_end plan head) until n p h.phase since last
 
 -- the greens that the ring passes, up to a second at which the wanted green can begin
 
@@ -158,10 +165,17 @@ kept-line plan head k s until rows stood line = record {
   lawful = line.lawful;
   begin = record { some = line.begin.some; phase = line.begin.phase ∙ stood.0; begin = line.begin.begin ∙ stood.1; spent = omega (arith, stood.2, line.begin.spent) };
   end = line.end;
-  by = line.by;
 }
 
 -- a green that is left
+
+-- the wanted green can begin behind those that the ring passes
+left-short : (plan : List Phase) (head : Head) (k b : ℕ) → IsHead plan head → k < length plan → earliest_green plan head k ≤ b
+    → begin_behind plan (last_end plan head k b + (phase_at plan head.phase).yellow + (phase_at plan head.phase).clear) (passed_numbers plan head.phase k) ≤ b
+left-short plan head k b h below earliest =
+    let to = last_end plan head k b in
+    let in_time : to + switch_time plan head.phase k ≤ b = omega (arith, earliest) in
+    omega (arith, begin_behind-passed plan to head.phase k h.phase below, in_time)
 
 left-line : (plan : List Phase) (head : Head) (k : ℕ) (s : Served) (until : ℕ) (rest : List Green) → IsPlan plan → IsHead plan head → head.at ≤ 104000 → k < length plan → Keeps plan head k s
     → earliest_green plan head k ≤ s.green → IsLine plan (head_behind k s) until rest
@@ -173,19 +187,12 @@ left-line plan head k s until rest p h reach below keeps earliest line =
     let ks = passed_numbers plan head.phase k in
     let from = to + (phase_at plan head.phase).yellow + (phase_at plan head.phase).clear in
     let green : IsGreen plan row = record { phase = h.phase; least = omega arith; greatest = omega (arith, h.within, times.greatest) } in
-    let in_time : to + switch_time plan head.phase k ≤ s.green = omega (arith, earliest) in
-    let short : begin_behind plan from ks ≤ s.green = omega (arith, begin_behind-passed plan to head.phase k h.phase below, in_time) in
-    let bound : s.green ≤ 103840 = omega (arith, keeps.begun, keeps.reach) in
-    let more = λ (r : Green) (e : r.from ≤ s.green). let weaker : r.from ≤ max 104000 (until + 20) = omega (arith, bound) in weaker in
+    let short = left-short plan head k s.green h below earliest in
     let others : IsRest plan k s.green rest = record { lawful = line.lawful; some = line.begin.some; phase = line.begin.phase; begins = omega (arith, line.begin.begin) } in
     record {
       lawful = shortest-lawful plan ks row k s.green rest p green (walk-passed plan head.phase k h.phase below) short others;
       begin = record { some = omega arith; phase = refl; begin = refl; spent = omega arith };
       end = omega (arith, line.end, end_of-last (row ∷ shortest_greens plan from ks) rest line.begin.some);
-      by = All-cons (λ (r : Green). r.from ≤ max 104000 (until + 20)) row (shortest_greens plan from ks ++ rest) (omega (arith, h.begun))
-          (All-append (λ (r : Green). r.from ≤ max 104000 (until + 20)) (shortest_greens plan from ks) rest
-          (All-weaker (λ (r : Green). r.from ≤ s.green) (λ (r : Green). r.from ≤ max 104000 (until + 20)) more (shortest_greens plan from ks) (shortest-by plan from ks s.green short))
-          line.by);
     }
 
 pub line_of-line : (plan : List Phase) (ks : List ℕ) (ss : List Served) (head : Head) (until : ℕ) → IsPlan plan → IsHead plan head → head.at ≤ 104000 → AreServings plan head ks ss
@@ -204,6 +211,34 @@ line_of-line plan (k ∷ ks) (s ∷ ss) head until p h reach servings =
     cond_both s.kept rest (left_for plan head (last_end plan head k s.green) (passed_numbers plan head.phase k) ++ rest) (IsLine plan head until)
     (λ e. kept-line plan head k s until rest (keeps.stood e) line)
     (λ e. left-line plan head k s until rest p h reach one.phase keeps (keeps.anew e) line)
+
+-- where their rows begin
+
+left-by : (plan : List Phase) (head : Head) (k b n : ℕ) (rest : List Green) → IsHead plan head → k < length plan → earliest_green plan head k ≤ b → head.since ≤ n → b ≤ n → BeginBy n rest
+    → BeginBy n (left_for plan head (last_end plan head k b) (passed_numbers plan head.phase k) ++ rest)
+left-by plan head k b n rest h below earliest since early others =
+    let to = last_end plan head k b in
+    let row : Green = record { phase = head.phase; from = head.since; to = to } in
+    let ks = passed_numbers plan head.phase k in
+    let from = to + (phase_at plan head.phase).yellow + (phase_at plan head.phase).clear in
+    let short : begin_behind plan from ks ≤ n = omega (arith, left-short plan head k b h below earliest) in
+    All-cons (λ (r : Green). r.from ≤ n) row (shortest_greens plan from ks ++ rest) since
+    (All-append (λ (r : Green). r.from ≤ n) (shortest_greens plan from ks) rest (shortest-by plan from ks n short) others)
+
+pub line_of-by : (plan : List Phase) (ks : List ℕ) (ss : List Served) (head : Head) (until n : ℕ) → IsPlan plan → IsHead plan head → AreServings plan head ks ss
+    → head.since ≤ n → until + 20 ≤ n → All (λ (s : Served). s.green ≤ n) ss → BeginBy n (line_of plan head ks ss until)
+line_of-by plan [] ss head until n p h servings since last greens = turned-by plan head (head.since + (phase_at plan head.phase).greatest) until n p h.phase since last
+line_of-by plan (k ∷ ks) [] head until n p h servings since last greens = absurd servings
+line_of-by plan (k ∷ ks) (s ∷ ss) head until n p h servings since last greens =
+    let one = servings.0 in
+    let keeps = IsServingOf-keeps plan head k s p h one in
+    let next = head_behind k s in
+    let rest = line_of plan next ks ss until in
+    let early = All-head (λ (t : Served). t.green ≤ n) s ss greens in
+    let others = line_of-by plan ks ss next until n p (IsServingOf-head plan head k s p h one) servings.1 early last (All-tail (λ (t : Served). t.green ≤ n) s ss greens) in
+    cond_both s.kept rest (left_for plan head (last_end plan head k s.green) (passed_numbers plan head.phase k) ++ rest) (BeginBy n)
+    (λ e. others)
+    (λ e. left-by plan head k s.green n rest h one.phase (keeps.anew e) since early others)
 
 -- each serving has its green
 

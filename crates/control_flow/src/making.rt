@@ -1,6 +1,6 @@
 //! The timeline of a plan of servings, and that of no plan.
 
-ghost use Rattle.std.specs.Prelude.{◌≡◌, ◌+◌, ◌-◌, ◌<◌, ◌≤◌, ◌++◌, length, max, OnOk, IfOk};
+ghost use Rattle.std.specs.Prelude.{◌≡◌, ℕ, ◌+◌, ◌-◌, ◌<◌, ◌≤◌, ◌++◌, length, All, OnOk, IfOk};
 ghost use Rattle.std.specs.List.{range_with_len};
 ghost use Rattle.phase_plan.specs.Phases.{IsPlan};
 ghost use Rattle.switch_rules.specs.Serving.{IsHead, earliest_green};
@@ -15,8 +15,8 @@ use switch_rules::{Head, Served};
 /// The timeline of servings, one after another from a head: each serving has its green, the first row is the green of
 /// the head, and the last row ends behind second `until`.
 ///
-/// The head is one of the plan with `at` up to 104,000, and so is `until`. The two lists are the phases and the
-/// servings of one feasible sequence from that head.
+/// The head is one of the plan, and `at` and `until` are at most 104,000. An `Err` comes only where memory runs out. The
+/// two lists are the phases and the servings of one feasible sequence from that head.
 ///
 /// docs/RULES.md, "Timeline".
 pub fn timeline(
@@ -36,7 +36,7 @@ pub fn timeline(
     ensures lawful { IfOk result (λ line. IsLawful plan.now line) }
     ensures begin { IfOk result (λ line. GoesOn head.now line) }
     ensures end { IfOk result (λ line. until < end_of line) }
-    ensures by { IfOk result (λ line. BeginBy (max 104000 (until + 20)) line) }
+    ensures by { (n : ℕ) → head.now.since ≤ n → until + 20 ≤ n → All (λ s. s.green ≤ n) served.now → IfOk result (BeginBy n) }
 {
     learn(plan);
     let mut rows = Vec::new(alloc);
@@ -61,7 +61,7 @@ pub fn timeline(
 /// The timeline with no plan: the green of the head ends as soon as it may, and then the ring turns, each green of its
 /// least length, until one ends behind second `until`.
 ///
-/// The head is one of the plan with `at` up to 104,000, and so is `until`.
+/// The head is one of the plan, and `at` and `until` are at most 104,000. An `Err` comes only where memory runs out.
 ///
 /// docs/RULES.md, "Timeline".
 pub fn rotation(
@@ -77,7 +77,7 @@ pub fn rotation(
     ensures lawful { IfOk result (λ line. IsLawful plan.now line) }
     ensures begin { IfOk result (λ line. GoesOn head.now line) }
     ensures end { IfOk result (λ line. until < end_of line) }
-    ensures by { IfOk result (λ line. BeginBy (max 104000 (until + 20)) line) }
+    ensures by { (n : ℕ) → head.now.since ≤ n → until + 20 ≤ n → IfOk result (BeginBy n) }
 {
     learn(plan);
     let mut rows = Vec::new(alloc);

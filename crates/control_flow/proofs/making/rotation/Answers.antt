@@ -1,20 +1,22 @@
 use Rattle.std.proofs.Common.{◌≡◌, ℕ, List, ◌++◌, sym, ap, subst, ◌∙◌}
 use Rattle.control_flow.specs.declared.greens.Green.{Green}
+use Rattle.control_flow.specs.Greens.{BeginBy}
 use Rattle.control_flow.specs.Timelines.{turned, rotation_of}
-use Rattle.control_flow.proofs.LineLaws.{IsLine, rotation_of-line}
+use Rattle.control_flow.proofs.LineLaws.{IsLine, rotation_of-line, rotation_of-by}
 use Rattle.control_flow.proofs.making.rotation.Goals as goal
 
-line : (c : goal.After-from_rows) → IsLine c.args.plan.now c.args.head.now c.args.until c.from_rows.result
-line c =
+value : (c : goal.After-from_rows) → c.from_rows.result ≡ rotation_of c.args.plan.now c.args.head.now c.args.until
+value c =
     let plan = c.args.plan.now in
     let head = c.args.head.now in
     let until = c.args.until in
-    let value : c.from_rows.result ≡ rotation_of plan head until =
     c.from_rows.ensures
     ∙ c.in_ok-turn.ensures
     ∙ ap (λ (rows : List Green). rows ++ turned plan head c.earliest_end-earliest.result until) c.new-rows.ensures.items
-    ∙ ap (λ (to : ℕ). turned plan head to until) c.earliest_end-earliest.ensures.value in
-    subst (IsLine plan head until) (sym value) (rotation_of-line plan head until c.learn.ensures c.requires.head c.requires.reach)
+    ∙ ap (λ (to : ℕ). turned plan head to until) c.earliest_end-earliest.ensures.value
+
+line : (c : goal.After-from_rows) → IsLine c.args.plan.now c.args.head.now c.args.until c.from_rows.result
+line c = subst (IsLine c.args.plan.now c.args.head.now c.args.until) (sym (value c)) (rotation_of-line c.args.plan.now c.args.head.now c.args.until c.learn.ensures c.requires.head c.requires.reach)
 
 pub returns-clause-lawful : goal.returns-clause-lawful
 returns-clause-lawful c = (line c).lawful
@@ -23,4 +25,4 @@ pub returns-clause-end : goal.returns-clause-end
 returns-clause-end c = (line c).end
 
 pub returns-clause-by : goal.returns-clause-by
-returns-clause-by c = (line c).by
+returns-clause-by c = λ n since last. subst (BeginBy n) (sym (value c)) (rotation_of-by c.args.plan.now c.args.head.now c.args.until n c.learn.ensures c.requires.head since last)

@@ -1,8 +1,9 @@
 use Rattle.std.proofs.Common.{◌≡◌, List, Vec, Global, rules, sym, ap, subst, ◌∙◌, arith}
 use Rattle.control_flow.specs.declared.greens.Green.{Green}
+use Rattle.control_flow.specs.Greens.{BeginBy}
 use Rattle.control_flow.specs.Timelines.{line_of, HasGreens}
 use Rattle.control_flow.proofs.ServingLaws.{IsServingOf-keeps, IsServingOf-head}
-use Rattle.control_flow.proofs.LineLaws.{IsLine, line_of-line, line_of-greens, next-serving, line-kept, line-left, line-over}
+use Rattle.control_flow.proofs.LineLaws.{IsLine, line_of-line, line_of-by, line_of-greens, next-serving, line-kept, line-left, line-over}
 use Rattle.control_flow.proofs.making.timeline.Goals as goal
 use Rattle.control_flow.proofs.making.timeline.Goals.{then-not-next+in_ok-leave, else-not-next}
 
@@ -78,4 +79,6 @@ pub returns-clause-end : goal.returns-clause-end
 returns-clause-end c = (line c).end
 
 pub returns-clause-by : goal.returns-clause-by
-returns-clause-by c = (line c).by
+returns-clause-by c = λ n since last greens.
+    let facts = line_of-by c.args.plan.now c.args.phases.now c.args.served.now c.args.head.now c.args.until n c.learn.ensures c.requires.head c.requires.servings since last greens in
+    subst (BeginBy n) (sym (value c)) facts
