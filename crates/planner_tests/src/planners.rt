@@ -11,14 +11,7 @@ const IMPATIENT: &str = "instance 1\nphases 2\nphase 5 30 3 2 2 20\nphase 5 30 3
 // What the instance shows, the lines up to its head, those from there to its end, and the best answer: whether
 // there is a plan, its delay and its sequence.
 const WORKED: &[(&str, &str, &str, bool, u64, &[u8])] = &[
-    (
-        "no clusters",
-        TWO_PHASES,
-        "head 0 0 0 kept\n",
-        true,
-        0,
-        &[],
-    ),
+    ("no clusters", TWO_PHASES, "head 0 0 0 kept\n", true, 0, &[]),
     (
         "of two orders that cost the same the first",
         TWO_PHASES,
@@ -71,9 +64,25 @@ fn worked_plans(rt: HostRuntime) -> Result<(), Fail> {
     for &(shows, phases, rest, is_plan, delay, sequence) in WORKED {
         let text = [phases, rest, "end\n"].concat(alloc)?;
         assert!(rt; text.len() < 10_000);
-        let instance = read_instance(alloc, text.as_bytes()).ok().ok_or("no instance")?;
-        let by_layers = answers(alloc, &mut LayerPlanner, &instance, is_plan, delay, sequence)?;
-        let plainly = answers(alloc, &mut PlainPlanner, &instance, is_plan, delay, sequence)?;
+        let instance = read_instance(alloc, text.as_bytes())
+            .ok()
+            .ok_or("no instance")?;
+        let by_layers = answers(
+            alloc,
+            &mut LayerPlanner,
+            &instance,
+            is_plan,
+            delay,
+            sequence,
+        )?;
+        let plainly = answers(
+            alloc,
+            &mut PlainPlanner,
+            &instance,
+            is_plan,
+            delay,
+            sequence,
+        )?;
         assert!(rt; by_layers && plainly, "{shows}");
     }
     Ok(())
