@@ -38,8 +38,7 @@ fn lines_of_sequences(rt: HostRuntime) -> Result<(), Fail> {
     let alloc = rt.alloc();
     for &(clusters, sequence, until, rows) in LINES {
         assert!(rt; until <= 60);
-        let instance = instance(alloc, clusters)?;
-        let line = planned(alloc, &instance, sequence, until)?;
+        let line = line_of(alloc, clusters, sequence, until)?;
         assert!(rt; are_rows(&line, rows), "{clusters:?} until {until}");
     }
     Ok(())
@@ -74,15 +73,24 @@ pub fn planned(alloc: Global, i: &Instance, sequence: &[u8], until: u32) -> Resu
     Ok(timeline(alloc, i.plan(), &head, sequence, &served, until)?)
 }
 
-/// The timeline with no plan from the instance's head.
-pub fn unplanned(alloc: Global, i: &Instance, until: u32) -> Result<Timeline, Fail>
+/// The timeline of a sequence for these clusters.
+pub fn line_of(alloc: Global, clusters: &str, sequence: &[u8], until: u32) -> Result<Timeline, Fail>
     requires { until ≤ 104000 }
 {
-    let head = i.head();
+    let instance = instance(alloc, clusters)?;
+    planned(alloc, &instance, sequence, until)
+}
+
+/// The timeline with no plan.
+pub fn unplanned(alloc: Global, until: u32) -> Result<Timeline, Fail>
+    requires { until ≤ 104000 }
+{
+    let instance = instance(alloc, "")?;
+    let head = instance.head();
     if head.at > 104_000 {
         return Err("past the bounds".into());
     }
-    Ok(rotation(alloc, i.plan(), &head, until)?)
+    Ok(rotation(alloc, instance.plan(), &head, until)?)
 }
 
 /// Whether a timeline has these rows.
