@@ -1,7 +1,8 @@
 use Rattle.std.proofs.Common.{◌≡◌, ℕ, ◌+◌, ◌<◌, ◌≤◌, List, length, Option, Some, None, IfSome, IsSome, arith}
 use Rattle.outside_world.specs.Shelf.{front_of}
 use Rattle.outside_world.proofs.ShelfLemmas.{whole_file, long_file}
-use Rattle.signal_cli.specs.Jobs.{IsLongFile, text_of}
+use Rattle.signal_cli.specs.Jobs.{IsBad, IsBadFile, text_of}
+use Rattle.signal_cli.specs.declared.bad_texts.BadText.TheVariants.{Long}
 use Rattle.signal_cli.specs.declared.texts.TheConstants.{MOST_BYTES}
 
 -- what was fetched within the limit is the whole text
@@ -9,9 +10,14 @@ pub fetched-whole : (files : Option (List (List ℕ × List ℕ))) (name bytes :
 fetched-whole None name bytes e short told = absurd (cc)
 fetched-whole (Some known) name bytes e short told = whole_file known name (MOST_BYTES + 1) bytes e (omega arith)
 
+-- a text past the limit is read as no instance
+past-limit : (text : List ℕ) → MOST_BYTES < length text → IsBad text
+past-limit text long p reads = absurd (omega (arith, long, reads.limit))
+
 -- what was fetched past the limit is the front of a text past the limit
-pub fetched-long : (files : Option (List (List ℕ × List ℕ))) (name bytes : List ℕ) → IfSome files (λ known. front_of known name (MOST_BYTES + 1) ≡ Some bytes) → MOST_BYTES < length bytes → IsLongFile files name
-fetched-long None name bytes e long = record { text = bytes; told = λ told. absurd (cc); long = long }
+pub fetched-long : (files : Option (List (List ℕ × List ℕ))) (name bytes : List ℕ) → IfSome files (λ known. front_of known name (MOST_BYTES + 1) ≡ Some bytes) → MOST_BYTES < length bytes → IsBadFile files name Long
+fetched-long None name bytes e long = record { text = bytes; told = λ told. absurd (cc); bad = past-limit bytes long; fault = long }
 fetched-long (Some known) name bytes e long =
     let (content, same, past) = long_file known name (MOST_BYTES + 1) bytes e (omega arith) in
-    record { text = content; told = λ told. same; long = omega (arith, past) }
+    let over : MOST_BYTES < length content = omega (arith, past) in
+    record { text = content; told = λ told. same; bad = past-limit content over; fault = over }

@@ -5,7 +5,15 @@ use Rattle.instance_form.specs.InstanceText.{instance_text}
 use Rattle.schedule_meaning.specs.Instances.{Problem, IsInstance}
 use Rattle.schedule_meaning.specs.Best.{IsBest, IsLeast}
 use Rattle.schedule_meaning.specs.declared.planners.Answer.{Answer}
+use Rattle.schedule_meaning.specs.Texts.{IsTextFault, IsWant}
 use Rattle.signal_cli.specs.Answers.{answer_text}
+use Rattle.signal_cli.specs.Codes.{bad_line}
+use Rattle.signal_cli.specs.Refusals.{Says}
+use Rattle.signal_cli.specs.declared.bad_texts.BadText.{BadText}
+use Rattle.signal_cli.specs.declared.bad_texts.BadText.TheVariants.{Long, Fault}
+use Rattle.signal_cli.specs.declared.bad_texts.Refusal.{Refusal}
+use Rattle.signal_cli.specs.declared.bad_texts.Refusal.TheVariants.{Bad}
+use Rattle.signal_cli.specs.declared.bad_texts.Refusal.TheVariants as refusal
 use Rattle.signal_cli.specs.declared.status.Status.{Status}
 use Rattle.signal_cli.specs.declared.status.Status.TheVariants.{Done, Rejected, Usage, BadInput, ReadFault, WriteFault, NoMemory}
 use Rattle.signal_cli.specs.declared.texts.TheConstants.{MOST_BYTES}
@@ -28,17 +36,23 @@ pub record Reads (text : List ℕ) (p : Problem) : Type 0 where
 abbrev pub IsBad : List ℕ → Type 0
 IsBad text = (p : Problem) → ¬ Reads text p
 
--- the file's text is longer than the limit
-pub record IsLongFile (files : Option (List (List ℕ × List ℕ))) (name : List ℕ) : Type 0 where
-  pub text : List ℕ
-  pub told : IsSome files → text_of files name ≡ Some text
-  pub long : MOST_BYTES < length text
+-- what is wrong with a text: it is longer than the limit; or it is within the limit and is no instance's, by this fault
+abbrev pub HasFault : List ℕ → BadText → Type 0
+HasFault text Long = MOST_BYTES < length text
+HasFault text (Fault fault) = (length text ≤ MOST_BYTES) × IsTextFault text fault × ¬ IsWant fault
 
--- the file's text is read as no instance
-pub record IsBadFile (files : Option (List (List ℕ × List ℕ))) (name : List ℕ) : Type 0 where
+-- the file's text is read as no instance, and this is wrong with it
+pub record IsBadFile (files : Option (List (List ℕ × List ℕ))) (name : List ℕ) (why : BadText) : Type 0 where
   pub text : List ℕ
   pub told : IsSome files → text_of files name ≡ Some text
   pub bad : IsBad text
+  pub fault : HasFault text why
+
+-- the file's text is read as no instance, and the line that was written has the code of what is wrong with it
+pub record RefusesFile (files : Option (List (List ℕ × List ℕ))) (name : List ℕ) (old new : Option (List ℕ)) (before now : ℕ) : Type 0 where
+  pub why : BadText
+  pub file : IsBadFile files name why
+  pub line : Says (bad_line why) old new before now
 
 -- these bytes are the text of the best answer of the instance that the file's text spells
 pub record IsBestText (files : Option (List (List ℕ × List ℕ))) (name bytes : List ℕ) : Type 0 where
@@ -51,15 +65,11 @@ pub record IsBestText (files : Option (List (List ℕ × List ℕ))) (name bytes
   pub least : IsLeast problem answer
   pub written : bytes ≡ answer_text answer
 
--- why there is no answer for the text of a file: the file failed, its text is read as no instance, or memory ran out
-abbrev pub PlanFails : Option (List (List ℕ × List ℕ)) → List (List ℕ) → List (List ℕ) → List ℕ → Status → Type 0
-PlanFails files old new name Done = ⊥
-PlanFails files old new name Rejected = ⊥
-PlanFails files old new name Usage = ⊥
-PlanFails files old new name BadInput = (new ≡ old) × IsBadFile files name
-PlanFails files old new name ReadFault = GainsLast old new name
-PlanFails files old new name WriteFault = ⊥
-PlanFails files old new name NoMemory = new ≡ old
+-- why there is no answer for the text of a file: its text is read as no instance, the file failed, or memory ran out
+abbrev pub PlanFails : Option (List (List ℕ × List ℕ)) → List (List ℕ) → List (List ℕ) → List ℕ → Refusal → Type 0
+PlanFails files old new name (Bad why) = (new ≡ old) × IsBadFile files name why
+PlanFails files old new name (refusal.ReadFault) = GainsLast old new name
+PlanFails files old new name (refusal.NoMemory) = new ≡ old
 
 -- done, or out of memory
 abbrev pub IsDone : Status → Type 0
@@ -68,16 +78,6 @@ IsDone status = (status ≡ Done) ⊎ (status ≡ NoMemory)
 -- refused for its text, or out of memory
 abbrev pub IsRefused : Status → Type 0
 IsRefused status = (status ≡ BadInput) ⊎ (status ≡ NoMemory)
-
--- why a text was not fetched: its file failed, it is longer than the limit, or memory ran out
-abbrev pub FetchFails : Option (List (List ℕ × List ℕ)) → List (List ℕ) → List (List ℕ) → List ℕ → Status → Type 0
-FetchFails files old new name Done = ⊥
-FetchFails files old new name Rejected = ⊥
-FetchFails files old new name Usage = ⊥
-FetchFails files old new name BadInput = (new ≡ old) × IsLongFile files name
-FetchFails files old new name ReadFault = GainsLast old new name
-FetchFails files old new name WriteFault = ⊥
-FetchFails files old new name NoMemory = new ≡ old
 
 -- The best answer was written. `grew` says how what was written grew by its text: whole, or by some front of it.
 abbrev pub WritesBest : (Option (List ℕ) → Option (List ℕ) → List ℕ → Type 0) → Option (List (List ℕ × List ℕ)) → List ℕ → Option (List ℕ) → Option (List ℕ) → Type 0

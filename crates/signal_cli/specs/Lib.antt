@@ -1,4 +1,5 @@
 pub mod Answers
+pub mod Codes
 pub mod Jobs
 pub mod Refusals
 pub use Rattle.instance_form.specs.InstanceText

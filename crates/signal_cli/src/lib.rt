@@ -2,6 +2,7 @@
 #![tactic(auto)]
 
 mod answers;
+mod bad_texts;
 mod plan;
 mod status;
 mod texts;

@@ -2,10 +2,11 @@ ghost use Rattle.std.specs.Prelude.{◌≡◌, ◌≢◌, ◌≤◌, ℕ, List, 
 ghost use Rattle.outside_world.specs.Shelf.{GainsLast};
 ghost use Rattle.outside_world.specs.Sink.{Gains, GainsFront, Rose};
 ghost use Rattle.schedule_meaning.specs.Instances.{Problem};
-ghost use Rattle.signal_cli.specs.Jobs.{Delivers, IsBad, IsBadFile, IsBestText, IsDone, IsRefused, PlanFails, Reads, WritesBest, text_of};
+ghost use Rattle.signal_cli.specs.Jobs.{Delivers, IsBad, IsBestText, IsDone, IsRefused, PlanFails, Reads, RefusesFile, WritesBest, text_of};
 ghost use Rattle.signal_cli.specs.Refusals.{Reports};
 
 use super::answers::answer_text;
+use super::bad_texts::{BadText, Refusal, refuse_text};
 use super::status::Status;
 use super::texts::fetch_text;
 use forward_dp::LayerPlanner;
@@ -14,7 +15,7 @@ use schedule_meaning::{TextFault, best_answer, read_instance};
 use std::alloc::{AllocError, Global};
 
 /// The text of the best answer of the instance that a file's text spells.
-fn plan_text<S: Shelf>(alloc: Global, shelf: &mut S, file: &str) -> Result<String, Status>
+fn plan_text<S: Shelf>(alloc: Global, shelf: &mut S, file: &str) -> Result<String, Refusal>
     ensures best { IfOk result (λ text. IsBestText (S.files shelf.old) file.now (string_bytes text)) }
     ensures ok { OnOk result (S.failed shelf.new ≡ S.failed shelf.old) }
     ensures err { IfErr result (PlanFails (S.files shelf.old) (S.failed shelf.old) (S.failed shelf.new) file.now) }
@@ -22,12 +23,12 @@ fn plan_text<S: Shelf>(alloc: Global, shelf: &mut S, file: &str) -> Result<Strin
     let text = fetch_text(alloc, shelf, file)?;
     let instance = match read_instance(alloc, &text) {
         Ok(instance) => instance,
-        Err(TextFault::NoMemory) => return Err(Status::NoMemory),
-        Err(_) => return Err(Status::BadInput),
+        Err(TextFault::NoMemory) => return Err(Refusal::NoMemory),
+        Err(fault) => return Err(Refusal::Bad(BadText::Fault(fault))),
     };
     match best_answer(alloc, &mut LayerPlanner, &instance) {
-        Ok(answer) => answer_text(alloc, &answer).map_err(|_| Status::NoMemory),
-        Err(AllocError) => Err(Status::NoMemory),
+        Ok(answer) => answer_text(alloc, &answer).map_err(|_| Refusal::NoMemory),
+        Err(AllocError) => Err(Refusal::NoMemory),
     }
 }
 
@@ -45,7 +46,8 @@ fn deliver<O: Sink>(out: &mut O, text: &[u8]) -> Status
 /// The command `plan FILE`: writes the best answer of the instance that the file's text spells.
 ///
 /// `Done`, `BadInput`, `ReadFault`, `WriteFault` and `NoMemory` come each with its cause, and nothing
-/// is written to `out` before all work is done. A refusal writes its line to `err`.
+/// is written to `out` before all work is done. A refusal writes its line to `err`; that of a bad text
+/// has the code of a fault that the text has.
 ///
 /// docs/FORMATS.md, "Words".
 pub fn plan_job<S: Shelf, O: Sink, E: Sink>(
@@ -60,7 +62,8 @@ pub fn plan_job<S: Shelf, O: Sink, E: Sink>(
     ensures write_fault { result ≡ Status.WriteFault → Rose (O.faults out.old) (O.faults out.new)
         × WritesBest GainsFront (S.files shelf.old) file.now (O.written out.old) (O.written out.new) }
     ensures read_fault { result ≡ Status.ReadFault → GainsLast (S.failed shelf.old) (S.failed shelf.new) file.now }
-    ensures bad_input { result ≡ Status.BadInput → IsBadFile (S.files shelf.old) file.now }
+    ensures bad_input { result ≡ Status.BadInput → RefusesFile (S.files shelf.old) file.now
+        (E.written err.old) (E.written err.new) (E.faults err.old) (E.faults err.new) }
     ensures never { (result ≢ Status.Usage) × (result ≢ Status.Rejected) }
 
     // Nothing else changes the shelf's list or out, and the line of the refusal is written to err.
@@ -77,7 +80,9 @@ pub fn plan_job<S: Shelf, O: Sink, E: Sink>(
 {
     let status = match plan_text(alloc, shelf, file) {
         Ok(text) => deliver(out, text.as_bytes()),
-        Err(status) => status,
+        Err(Refusal::Bad(why)) => return refuse_text(alloc, why, err),
+        Err(Refusal::ReadFault) => Status::ReadFault,
+        Err(Refusal::NoMemory) => Status::NoMemory,
     };
     status.report(err);
     status

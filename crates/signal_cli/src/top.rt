@@ -2,7 +2,7 @@ ghost use Rattle.std.specs.Prelude.{◌≡◌, ◌≢◌, ◌↔◌, ℕ, List, 
 ghost use Rattle.outside_world.specs.Shelf.{GainsLast};
 ghost use Rattle.outside_world.specs.Sink.{Gains, GainsFront, Rose};
 ghost use Rattle.schedule_meaning.specs.Instances.{Problem};
-ghost use Rattle.signal_cli.specs.Jobs.{IsBad, IsBadFile, IsDone, IsPlanOf, IsRefused, Reads, WritesBest, text_of};
+ghost use Rattle.signal_cli.specs.Jobs.{IsBad, IsDone, IsPlanOf, IsRefused, Reads, RefusesFile, WritesBest, text_of};
 ghost use Rattle.signal_cli.specs.Refusals.{Reports};
 
 use super::plan::plan_job;
@@ -15,7 +15,8 @@ use std::alloc::Global;
 ///
 /// The words are `plan FILE`, which writes the best answer of the instance that the file's text
 /// spells; all others are `Usage`. Each status comes with its cause, nothing is written to `out`
-/// before all work is done, and a refusal writes its line to `err`.
+/// before all work is done, and a refusal writes its line to `err`; that of a bad text has the code of
+/// a fault that the text has.
 ///
 /// docs/FORMATS.md, "Words".
 pub fn signal<S: Shelf, O: Sink, E: Sink>(
@@ -34,7 +35,8 @@ pub fn signal<S: Shelf, O: Sink, E: Sink>(
     ensures read_fault { result ≡ Status.ReadFault → (file : List ℕ) × IsPlanOf words.now file
         × GainsLast (S.failed shelf.old) (S.failed shelf.new) file }
     ensures bad_input { result ≡ Status.BadInput → (file : List ℕ) × IsPlanOf words.now file
-        × IsBadFile (S.files shelf.old) file }
+        × RefusesFile (S.files shelf.old) file
+        (E.written err.old) (E.written err.new) (E.faults err.old) (E.faults err.new) }
     ensures never { result ≢ Status.Rejected }
 
     // Nothing else changes the shelf's list or out, and the line of the refusal is written to err.

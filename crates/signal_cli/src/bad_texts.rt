@@ -1,0 +1,116 @@
+ghost use Rattle.std.specs.Prelude.{◌≡◌, IfOk, string_bytes};
+ghost use Rattle.signal_cli.specs.Codes.{bad_line, code_of, field_name, instance_code, plan_code};
+ghost use Rattle.signal_cli.specs.Refusals.{RefusesText};
+
+use super::status::{Status, say};
+use outside_world::Sink;
+use phase_plan::{Field, PlanFault};
+use schedule_meaning::{InstanceFault, TextFault};
+use std::alloc::{AllocError, Global};
+
+/// What is wrong with a text.
+///
+/// docs/FORMATS.md, "Codes of a bad text".
+#[derive(Clone, Copy)]
+pub enum BadText {
+    /// It is longer than the limit.
+    Long,
+    /// It is within the limit, and no instance's.
+    Fault(TextFault),
+}
+
+/// Why there is no answer for the text of a file.
+///
+/// docs/FORMATS.md, "Exit statuses and lines of refusal".
+#[derive(Clone, Copy)]
+pub enum Refusal {
+    /// The text is refused.
+    Bad(BadText),
+    /// The file can't be read.
+    ReadFault,
+    /// Memory ran out.
+    NoMemory,
+}
+
+/// Writes the line of a bad text, or that of want of memory where there is none for the line, and answers the status
+/// that goes with it. Where the sink fails, the status stays.
+///
+/// docs/FORMATS.md, "Exit statuses and lines of refusal".
+pub fn refuse_text<E: Sink>(alloc: Global, why: BadText, err: &mut E) -> Status
+    ensures { RefusesText why result (E.written err.old) (E.written err.new) (E.faults err.old) (E.faults err.new) }
+{
+    match bad_line(alloc, why) {
+        Ok(line) => {
+            say(line.as_bytes(), err);
+            Status::BadInput
+        }
+        Err(AllocError) => {
+            Status::NoMemory.report(err);
+            Status::NoMemory
+        }
+    }
+}
+
+// The line that a bad text is refused with. An `Err` comes where memory runs out.
+fn bad_line(alloc: Global, why: BadText) -> Result<String, AllocError>
+    ensures { IfOk result (λ line. string_bytes line ≡ bad_line why) }
+{
+    let code = code_of(alloc, why)?;
+    format!(in alloc; "signal: bad 1 {code}\n")
+}
+
+// The code of what is wrong with a text.
+fn code_of(alloc: Global, why: BadText) -> Result<String, AllocError>
+    ensures { IfOk result (λ code. string_bytes code ≡ code_of why) }
+{
+    match why {
+        BadText::Long => String::from_str(alloc, "long"),
+        BadText::Fault(TextFault::Line(line)) => format!(in alloc; "line {line}"),
+        BadText::Fault(TextFault::Plan(fault)) => plan_code(alloc, fault),
+        BadText::Fault(TextFault::Instance(fault)) => instance_code(alloc, fault),
+        BadText::Fault(TextFault::NoMemory) => Err(AllocError),
+    }
+}
+
+// The code of a fault of the phases.
+fn plan_code(alloc: Global, fault: PlanFault) -> Result<String, AllocError>
+    ensures { IfOk result (λ code. string_bytes code ≡ plan_code fault) }
+{
+    match fault {
+        PlanFault::Count(_) => String::from_str(alloc, "plan count"),
+        PlanFault::Bound { phase, field } => {
+            let name = field_name(field);
+            format!(in alloc; "plan {phase} {name}")
+        }
+    }
+}
+
+// The name of a time of a phase.
+fn field_name(field: Field) -> &'static str
+    ensures { result.now ≡ field_name field }
+{
+    match field {
+        Field::Least => "least",
+        Field::Greatest => "greatest",
+        Field::Yellow => "yellow",
+        Field::Clear => "clear",
+        Field::Loss => "loss",
+        Field::Wait => "wait",
+    }
+}
+
+// The code of a fault of the instance.
+fn instance_code(alloc: Global, fault: InstanceFault) -> Result<String, AllocError>
+    ensures { IfOk result (λ code. string_bytes code ≡ instance_code fault) }
+{
+    match fault {
+        InstanceFault::HeadPhase => String::from_str(alloc, "head phase"),
+        InstanceFault::HeadTime => String::from_str(alloc, "head time"),
+        InstanceFault::ListCount => String::from_str(alloc, "lists"),
+        InstanceFault::ClusterBound { phase, place } => {
+            format!(in alloc; "cluster {phase} {place}")
+        }
+        InstanceFault::Order { phase, place } => format!(in alloc; "order {phase} {place}"),
+        InstanceFault::Many => String::from_str(alloc, "many"),
+    }
+}
