@@ -1,4 +1,4 @@
-use Rattle.std.specs.Prelude.{◌≡◌, ℕ, ◌<◌, ◌≤◌, List, [], ◌∷◌, length, Option, Some, IsSome, option_and_then, codes, ◌⊎◌}
+use Rattle.std.specs.Prelude.{◌≡◌, ℕ, ◌<◌, ◌≤◌, List, length, Option, Some, IsSome, option_and_then, ◌⊎◌}
 use Rattle.outside_world.specs.Shelf.{file_of, GainsLast}
 use Rattle.outside_world.specs.Sink.{Gains, GainsFront, Rose}
 use Rattle.instance_form.specs.InstanceText.{instance_text}
