@@ -68,6 +68,7 @@ struct Lines {
 pub fn read_certificate(alloc: Global, bytes: &[u8]) -> Result<Certificate, CertText>
     requires { length bytes.now < 2 ^ 32 }
     ensures found { IfOk result (λ c. bytes.now ≡ certificate_text c) }
+    ensures fits { IfOk result HasText }
     ensures lawful { IfOk result IsCertificate }
     ensures only { (c : Claim) → HasText c → IsCertificate c → bytes.now ≡ certificate_text c
         → MatchResult result (λ v. v ≡ c) IsWant }

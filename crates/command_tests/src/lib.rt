@@ -5,6 +5,8 @@
 #[cfg(test)]
 mod adapters;
 #[cfg(test)]
+mod certificates;
+#[cfg(test)]
 mod planning;
 #[cfg(test)]
 mod refusals;

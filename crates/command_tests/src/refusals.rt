@@ -70,6 +70,37 @@ const REFUSED: &[(&[&str], &str, Status, &str)] = &[
         Status::ReadFault,
         "signal: cannot read 1\n",
     ),
+    (&["certify"], TWO_CLUSTERS, Status::Usage, "signal: usage\n"),
+    (
+        &["check", "file", "file"],
+        TWO_CLUSTERS,
+        Status::Usage,
+        "signal: usage\n",
+    ),
+    (
+        &["certify", "absent"],
+        TWO_CLUSTERS,
+        Status::ReadFault,
+        "signal: cannot read 1\n",
+    ),
+    (
+        &["check", "absent"],
+        TWO_CLUSTERS,
+        Status::ReadFault,
+        "signal: cannot read 1\n",
+    ),
+    (
+        &["certify", "file"],
+        NO_END,
+        Status::BadInput,
+        "signal: bad 1 line 8\n",
+    ),
+    (
+        &["check", "file"],
+        "",
+        Status::BadInput,
+        "signal: bad 1 line 1\n",
+    ),
 ];
 
 // Texts with further spaces behind them, and the refusal.

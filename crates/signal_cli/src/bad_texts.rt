@@ -1,8 +1,10 @@
 ghost use Rattle.std.specs.Prelude.{◌≡◌, IfOk, string_bytes};
-ghost use Rattle.signal_cli.specs.Codes.{bad_line, code_of, field_name, instance_code, plan_code};
+ghost use Rattle.signal_cli.specs.Codes.{bad_line, cert_code, code_of, field_name, instance_code, plan_code};
 ghost use Rattle.signal_cli.specs.Refusals.{RefusesText};
 
 use super::status::{Status, say};
+use certificate_form::CertText;
+use dp_certificate::CertFault;
 use outside_world::Sink;
 use phase_plan::{Field, PlanFault};
 use schedule_meaning::{InstanceFault, TextFault};
@@ -17,6 +19,8 @@ pub enum BadText {
     Long,
     /// It is within the limit, and no instance's.
     Fault(TextFault),
+    /// It is within the limit, and no certificate's.
+    Certificate(CertText),
 }
 
 /// Why there is no answer for the text of a file.
@@ -30,6 +34,17 @@ pub enum Refusal {
     ReadFault,
     /// Memory ran out.
     NoMemory,
+}
+
+impl From<AllocError> for Refusal {
+    ghost use Rattle.std.specs.Prelude.{◌≡◌};
+    ghost use Rattle.signal_cli.specs.declared.bad_texts.Refusal.TheVariants.{NoMemory};
+
+    ghost from_gives = { λ fault e. e ≡ NoMemory };
+
+    fn from(_: AllocError) -> Refusal {
+        Refusal::NoMemory
+    }
 }
 
 /// Writes the line of a bad text, or that of want of memory where there is none for the line, and answers the status
@@ -69,6 +84,21 @@ fn code_of(alloc: Global, why: BadText) -> Result<String, AllocError>
         BadText::Fault(TextFault::Plan(fault)) => plan_code(alloc, fault),
         BadText::Fault(TextFault::Instance(fault)) => instance_code(alloc, fault),
         BadText::Fault(TextFault::NoMemory) => Err(AllocError),
+        BadText::Certificate(fault) => cert_code(alloc, fault),
+    }
+}
+
+// The code of a fault of a certificate's text.
+fn cert_code(alloc: Global, fault: CertText) -> Result<String, AllocError>
+    ensures { IfOk result (λ code. string_bytes code ≡ cert_code fault) }
+{
+    match fault {
+        CertText::Line(line) => format!(in alloc; "line {line}"),
+        CertText::Plan(fault) => plan_code(alloc, fault),
+        CertText::Instance(fault) => instance_code(alloc, fault),
+        CertText::Cert(CertFault::Entry(number)) => format!(in alloc; "entry {number}"),
+        CertText::Cert(CertFault::Order(number)) => format!(in alloc; "entry order {number}"),
+        CertText::NoMemory => Err(AllocError),
     }
 }
 

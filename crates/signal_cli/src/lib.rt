@@ -3,11 +3,17 @@
 
 mod answers;
 mod bad_texts;
+mod certify;
+mod check;
+mod commands;
 mod plan;
 mod status;
 mod texts;
 mod top;
+mod verdicts;
 
+pub use certify::certify_job;
+pub use check::check_job;
 pub use plan::plan_job;
 pub use status::Status;
 pub use top::signal;

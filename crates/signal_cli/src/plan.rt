@@ -2,7 +2,7 @@ ghost use Rattle.std.specs.Prelude.{◌≡◌, ◌≢◌, ◌≤◌, ℕ, List, 
 ghost use Rattle.outside_world.specs.Shelf.{GainsLast};
 ghost use Rattle.outside_world.specs.Sink.{Gains, GainsFront, Rose};
 ghost use Rattle.schedule_meaning.specs.Instances.{Problem};
-ghost use Rattle.signal_cli.specs.Jobs.{Delivers, IsBad, IsBestText, IsDone, IsRefused, PlanFails, Reads, RefusesFile, WritesBest, text_of};
+ghost use Rattle.signal_cli.specs.Jobs.{Delivers, IsBad, IsBestText, IsDone, IsInFile, IsRefused, PlanFails, Reads, RefusesFile, WritesBest, text_of};
 ghost use Rattle.signal_cli.specs.Refusals.{Reports};
 
 use super::answers::answer_text;
@@ -11,8 +11,26 @@ use super::status::Status;
 use super::texts::fetch_text;
 use forward_dp::LayerPlanner;
 use outside_world::{Shelf, Sink};
-use schedule_meaning::{TextFault, best_answer, read_instance};
+use schedule_meaning::{Instance, TextFault, best_answer, read_instance};
 use std::alloc::{AllocError, Global};
+
+/// The instance that a file's text spells.
+pub fn fetch_instance<S: Shelf>(
+    alloc: Global,
+    shelf: &mut S,
+    file: &str,
+) -> Result<Instance, Refusal>
+    ensures told { IfOk result (IsInFile (S.files shelf.old) file.now) }
+    ensures ok { OnOk result (S.failed shelf.new ≡ S.failed shelf.old) }
+    ensures err { IfErr result (PlanFails (S.files shelf.old) (S.failed shelf.old) (S.failed shelf.new) file.now) }
+{
+    let text = fetch_text(alloc, shelf, file)?;
+    match read_instance(alloc, &text) {
+        Ok(instance) => Ok(instance),
+        Err(TextFault::NoMemory) => Err(Refusal::NoMemory),
+        Err(fault) => Err(Refusal::Bad(BadText::Fault(fault))),
+    }
+}
 
 /// The text of the best answer of the instance that a file's text spells.
 fn plan_text<S: Shelf>(alloc: Global, shelf: &mut S, file: &str) -> Result<String, Refusal>
@@ -20,12 +38,7 @@ fn plan_text<S: Shelf>(alloc: Global, shelf: &mut S, file: &str) -> Result<Strin
     ensures ok { OnOk result (S.failed shelf.new ≡ S.failed shelf.old) }
     ensures err { IfErr result (PlanFails (S.files shelf.old) (S.failed shelf.old) (S.failed shelf.new) file.now) }
 {
-    let text = fetch_text(alloc, shelf, file)?;
-    let instance = match read_instance(alloc, &text) {
-        Ok(instance) => instance,
-        Err(TextFault::NoMemory) => return Err(Refusal::NoMemory),
-        Err(fault) => return Err(Refusal::Bad(BadText::Fault(fault))),
-    };
+    let instance = fetch_instance(alloc, shelf, file)?;
     match best_answer(alloc, &mut LayerPlanner, &instance) {
         Ok(answer) => answer_text(alloc, &answer).map_err(|_| Refusal::NoMemory),
         Err(AllocError) => Err(Refusal::NoMemory),
@@ -33,7 +46,7 @@ fn plan_text<S: Shelf>(alloc: Global, shelf: &mut S, file: &str) -> Result<Strin
 }
 
 /// Puts a text into a sink, and answers whether it was written.
-fn deliver<O: Sink>(out: &mut O, text: &[u8]) -> Status
+pub fn deliver<O: Sink>(out: &mut O, text: &[u8]) -> Status
     ensures delivers { Delivers text.now (O.written out.old) (O.written out.new) (O.faults out.old) (O.faults out.new) result }
     ensures later { O.faults out.old ≤ O.faults out.new }
 {

@@ -1,6 +1,6 @@
 ghost use Rattle.std.specs.Prelude.{◌≡◌, ℕ, ◌<◌, ◌≤◌, List, IfOk, IfErr, OnOk, Some, IsSome, length};
 ghost use Rattle.outside_world.specs.Shelf.{Continues, GainsLast};
-ghost use Rattle.signal_cli.specs.Jobs.{PlanFails, text_of};
+ghost use Rattle.signal_cli.specs.Jobs.{CheckFails, PlanFails, text_of};
 
 use super::bad_texts::{BadText, Refusal};
 use outside_world::{Shelf, ShelfFault};
@@ -20,6 +20,7 @@ pub fn fetch_text<S: Shelf>(alloc: Global, shelf: &mut S, file: &str) -> Result<
     ensures told { IfOk result (λ text. IsSome (S.files shelf.old) → text_of (S.files shelf.old) file.now ≡ Some text.items) }
     ensures ok { OnOk result (S.failed shelf.new ≡ S.failed shelf.old) }
     ensures err { IfErr result (PlanFails (S.files shelf.old) (S.failed shelf.old) (S.failed shelf.new) file.now) }
+    ensures err_check { IfErr result (CheckFails (S.files shelf.old) (S.failed shelf.old) (S.failed shelf.new) file.now) }
 {
     match shelf.fetch(alloc, file, MOST_BYTES + 1) {
         Ok(text) if text.len() > MOST_BYTES => Err(Refusal::Bad(BadText::Long)),
