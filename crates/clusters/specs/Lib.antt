@@ -1,0 +1,6 @@
+pub mod Cuts
+pub mod Inflow
+pub mod Platoons
+pub mod Smoothing
+pub mod Sound
+pub mod Windows

@@ -1,0 +1,33 @@
+-- What planning and forecasting ask of platoons.
+use Rattle.std.specs.Prelude.{◌≡◌, ℕ, ◌+◌, ◌<◌, ◌≤◌, List, All, length, map}
+use Rattle.switch_rules.specs.Serving.{IsCluster}
+use Rattle.switch_rules.specs.declared.Cluster.{Cluster}
+use Rattle.net_numbers.specs.Numbers.{Net}
+use Rattle.net_numbers.specs.Outline.{link_at, phase_links_at, plan_at}
+use Rattle.clusters.specs.declared.shapes.Part.{Part}
+use Rattle.clusters.specs.declared.shapes.Platoon.{Platoon}
+use Rattle.clusters.specs.Platoons.{platoons_at, whole_of}
+
+-- a part of a platoon of so many seconds: an amount for each, at most what can leave its link in a second
+pub record IsPart (net : Net) (len : ℕ) (part : Part) : Type 0 where
+  pub count : length part.amounts ≡ len
+  pub amounts : All (λ amount. amount ≤ (link_at net part.link).sat) part.amounts
+
+-- a platoon of these links that does not arrive before now: a part for each link, in their order, that add up to its size
+pub record IsPlatoon (net : Net) (now : ℕ) (links : List ℕ) (p : Platoon) : Type 0 where
+  pub arr : now ≤ p.cluster.arr
+  pub order : map (λ part. part.link) p.parts ≡ links
+  pub parts : All (IsPart net p.cluster.len) p.parts
+  pub whole : whole_of p.parts ≡ p.cluster.size
+
+-- each list has the platoons of a phase of the node
+pub record AreOfNode (net : Net) (node now : ℕ) (lists : List (List Platoon)) : Type 0 where
+  pub count : length lists ≡ length (plan_at net node)
+  pub each : (k : ℕ) → k < length lists → All (IsPlatoon net now (phase_links_at net node k)) (platoons_at lists k)
+
+-- the clusters of platoons
+abbrev pub clusters_of : List Platoon → List Cluster
+clusters_of list = map (λ p. p.cluster) list
+
+abbrev pub cluster_lists : List (List Platoon) → List (List Cluster)
+cluster_lists lists = map clusters_of lists

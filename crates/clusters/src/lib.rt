@@ -1,0 +1,8 @@
+//! From what a node senses and hears to the clusters that it plans: inflow, smoothing, platoons and their window.
+#![tactic(auto)]
+
+mod shapes;
+mod smoothing;
+
+pub use shapes::{Part, Platoon, Window};
+pub use smoothing::smooth;
