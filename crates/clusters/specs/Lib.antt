@@ -3,4 +3,5 @@ pub mod Inflow
 pub mod Platoons
 pub mod Smoothing
 pub mod Sound
+pub mod Steps
 pub mod Windows

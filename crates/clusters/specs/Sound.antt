@@ -1,5 +1,5 @@
 -- What planning and forecasting ask of platoons.
-use Rattle.std.specs.Prelude.{◌≡◌, ℕ, ◌+◌, ◌<◌, ◌≤◌, List, All, length, map}
+use Rattle.std.specs.Prelude.{◌≡◌, ℕ, ◌+◌, ◌<◌, ◌≤◌, List, All, length, map, slice_index_or}
 use Rattle.switch_rules.specs.Serving.{IsCluster}
 use Rattle.switch_rules.specs.declared.Cluster.{Cluster}
 use Rattle.net_numbers.specs.Numbers.{Net}
@@ -31,3 +31,25 @@ clusters_of list = map (λ p. p.cluster) list
 
 abbrev pub cluster_lists : List (List Platoon) → List (List Cluster)
 cluster_lists lists = map clusters_of lists
+
+-- the seconds of the streams, and what they bring in each
+pub record AreStreams (net : Net) (look : ℕ) (streams : List Part) : Type 0 where
+  pub few : length streams ≤ 16
+  pub parts : All (IsPart net look) streams
+  pub links : All (λ s. (link_at net s.link).sat ≤ 5000) streams
+
+-- what stands where a list has no cluster
+abbrev pub no_cluster : Cluster
+no_cluster = record { size = 0; arr = 0; len = 0 }
+
+abbrev pub cluster_at : List Cluster → ℕ → Cluster
+cluster_at list k = slice_index_or list k no_cluster
+
+-- no cluster arrives before the one before it has arrived whole
+abbrev pub IsSpaced : List Cluster → Type 0
+IsSpaced list = (k : ℕ) → k + 1 < length list → (cluster_at list k).arr + (cluster_at list k).len ≤ (cluster_at list (k + 1)).arr
+
+-- no cluster arrives before the one before it has arrived whole, and each is within its bounds
+pub record AreSpacedClusters (list : List Cluster) : Type 0 where
+  pub each : All IsCluster list
+  pub spaced : IsSpaced list

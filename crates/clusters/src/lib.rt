@@ -1,6 +1,8 @@
 //! From what a node senses and hears to the clusters that it plans: inflow, smoothing, platoons and their window.
 #![tactic(auto)]
 
+mod cuts;
+mod inflows;
 mod shapes;
 mod smoothing;
 
