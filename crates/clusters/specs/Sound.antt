@@ -6,7 +6,10 @@ use Rattle.net_numbers.specs.Numbers.{Net}
 use Rattle.net_numbers.specs.Outline.{link_at, phase_links_at, plan_at}
 use Rattle.clusters.specs.declared.shapes.Part.{Part}
 use Rattle.clusters.specs.declared.shapes.Platoon.{Platoon}
-use Rattle.clusters.specs.Platoons.{platoons_at, whole_of}
+use Rattle.board_model.specs.declared.boards.Heard.{Heard}
+use Rattle.road_net.specs.declared.senses.Sensed.{Sensed}
+use Rattle.clusters.specs.Platoons.{ArePlatoons, most_of, platoons_at, streams_of, whole_of}
+use Rattle.clusters.specs.Windows.{IsRising}
 
 -- a part of a platoon of so many seconds: an amount for each, at most what can leave its link in a second
 pub record IsPart (net : Net) (len : ℕ) (part : Part) : Type 0 where
@@ -32,12 +35,6 @@ clusters_of list = map (λ p. p.cluster) list
 abbrev pub cluster_lists : List (List Platoon) → List (List Cluster)
 cluster_lists lists = map clusters_of lists
 
--- the seconds of the streams, and what they bring in each
-pub record AreStreams (net : Net) (look : ℕ) (streams : List Part) : Type 0 where
-  pub few : length streams ≤ 16
-  pub parts : All (IsPart net look) streams
-  pub links : All (λ s. (link_at net s.link).sat ≤ 5000) streams
-
 -- what stands where a list has no cluster
 abbrev pub no_cluster : Cluster
 no_cluster = record { size = 0; arr = 0; len = 0 }
@@ -53,3 +50,10 @@ IsSpaced list = (k : ℕ) → k + 1 < length list → (cluster_at list k).arr + 
 pub record AreSpacedClusters (list : List Cluster) : Type 0 where
   pub each : All IsCluster list
   pub spaced : IsSpaced list
+
+-- the platoons of a phase of a node, with what planning and forecasting ask of them
+pub record AreOfPhase (net : Net) (node phase : ℕ) (sensed : Sensed) (heard : List Heard) (list : List Platoon) : Type 0 where
+  pub platoons : ArePlatoons net.run.gap (most_of net node phase) sensed.now net.run.look (streams_of net sensed heard (phase_links_at net node phase)) list
+  pub parts : All (IsPlatoon net sensed.now (phase_links_at net node phase)) list
+  pub clusters : AreSpacedClusters (clusters_of list)
+  pub rising : IsRising list

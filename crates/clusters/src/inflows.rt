@@ -1,8 +1,9 @@
 //! What reaches the end of a link in the seconds that a planning looks ahead, and what leaves there.
-ghost use Rattle.std.specs.Prelude.{◌≡◌, ◌+◌, ◌*◌, ◌<◌, ◌≤◌, ◌^◌, ℕ, nat_lt, if◌then◌else◌, All, IfOk, length, slice_index, sum, sum_by, map};
+ghost use Rattle.std.specs.Prelude.{◌≡◌, ◌+◌, ◌-◌, ◌*◌, ◌++◌, replicate, ◌<◌, ◌≤◌, ◌^◌, ℕ, nat_lt, ◌==◌, find, option_copied, if◌then◌else◌, All, IfOk, length, slice_index, sum, sum_by, map};
 ghost use Rattle.board_model.specs.Forecasts.{IsForecast, amount_at};
 ghost use Rattle.net_numbers.specs.Outline.{link_at};
 ghost use Rattle.road_net.specs.Senses.{amount};
+ghost use Rattle.clusters.specs.Steps.{IsSeen};
 ghost use Rattle.clusters.specs.Inflow.{inflow, leaving, sense_of, forecast_of};
 ghost use Rattle.clusters.specs.Platoons.{streams_of};
 
@@ -10,7 +11,7 @@ use crate::shapes::Part;
 use crate::smoothing::smooth_in_place;
 use board_model::{Heard, Row};
 use foundation::items::Items;
-use road_net::{Network, Sensed};
+use road_net::{LinkSense, Network, Sensed};
 use std::alloc::{AllocError, Global};
 
 /// What leaves the end of each of these links, in each second that the network looks ahead.
@@ -72,10 +73,17 @@ fn sensed_of(sensed: &Sensed, l: u32) -> (u32, &[u32])
     ensures queue { result.0 ≡ (sense_of sensed.entry.now l).queue }
     ensures coming { result.1.now ≡ (sense_of sensed.entry.now l).coming }
 {
-    match sensed.links.as_slice().iter().find(|s| s.link == l) {
+    match find_sense(sensed, l) {
         Some(sense) => (sense.queue, sense.coming.as_slice()),
         None => (0, &[]),
     }
+}
+
+/// What is sensed of a link, if it is.
+fn find_sense(sensed: &Sensed, l: u32) -> Option<&LinkSense>
+    ensures { option_copied result ≡ find (λ s. s.link == l) sensed.entry.now.links }
+{
+    sensed.links.as_slice().iter().find(|s| s.link == l)
 }
 
 /// The rows of the forecast that was heard of a link; none where none was.
@@ -108,11 +116,39 @@ fn inflow(
     ensures value { IfOk result (λ amounts. amounts.items ≡ inflow now look travel queue coming.now rows.now) }
     ensures sum { IfOk result (λ amounts. sum amounts.items ≤ 2014400000) }
 {
-    let mut amounts = vec![in alloc; 0; look as usize]?;
-    let seen = coming.len().min(travel.min(look) as usize);
-    amounts[..seen].copy_from_slice(&coming[..seen]);
-    amounts[0] += queue;
+    let mut amounts = seen_ahead(alloc, look, travel, queue, coming)?;
     add_forecast(amounts.as_mut_slice(), now, now + travel, rows);
+    Ok(amounts)
+}
+
+/// What the node sees coming, in each of so many seconds: the queue in the first one, and what is on the link for as long
+/// as it takes to travel it.
+fn seen_ahead(
+    alloc: Global,
+    look: u32,
+    travel: u32,
+    queue: u32,
+    coming: &[u32],
+) -> Result<Vec<u32>, AllocError>
+    requires look { (1 ≤ look) × (look ≤ 180) }
+    requires travel { (1 ≤ travel) × (travel ≤ 120) }
+    requires amounts { queue + sum coming.now ≤ 2000000000 }
+    ensures { IfOk result (λ amounts. IsSeen look travel queue coming.now amounts.items) }
+{
+    let seen = coming.len().min(travel.min(look) as usize);
+    let mut amounts = padded(alloc, &coming[..seen], look as usize)?;
+    amounts[0] += queue;
+    Ok(amounts)
+}
+
+/// These amounts, at most `count`, and zeros behind them up to `count`.
+fn padded(alloc: Global, front: &[u32], count: usize) -> Result<Vec<u32>, AllocError>
+    requires { length front.now ≤ count }
+    ensures { IfOk result (λ amounts. amounts.items ≡ front.now ++ replicate (count - length front.now) 0) }
+{
+    let mut amounts = Vec::with_capacity(alloc, count)?;
+    amounts.extend_from_slice(front)?;
+    amounts.resize(count, 0)?;
     Ok(amounts)
 }
 

@@ -3,8 +3,10 @@
 
 mod cuts;
 mod inflows;
+mod node_platoons;
 mod shapes;
 mod smoothing;
 
+pub use node_platoons::platoons;
 pub use shapes::{Part, Platoon, Window};
 pub use smoothing::smooth;
