@@ -6,3 +6,4 @@ pub mod PlatoonLaws
 pub mod SeenLaws
 pub mod SmoothLaws
 pub mod TogetherLaws
+pub mod WindowLaws

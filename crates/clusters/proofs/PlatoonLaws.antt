@@ -23,10 +23,12 @@ use Rattle.clusters.specs.declared.shapes.Platoon.{Platoon}
 use Rattle.clusters.specs.Smoothing.{smoothed, left_by}
 use Rattle.clusters.specs.Inflow.{inflow, inflow_at, leaving, sense_of, forecast_of}
 use Rattle.clusters.specs.Cuts.{first_of, last_of, run_at, IsRun, IsCut}
-use Rattle.clusters.specs.Platoons.{ArePlatoons, most_of, part_of, platoon_of, platoon_within, streams_of, together, whole_of}
-use Rattle.clusters.specs.Sound.{IsPart, IsPlatoon, AreOfPhase, AreSpacedClusters, IsSpaced, cluster_at, clusters_of}
+use Rattle.clusters.specs.Platoons.{ArePlatoons, ArePlatoonsOf, most_of, platoons_at, part_of, platoon_of, platoon_within, streams_of, together, whole_of}
+use Rattle.clusters.specs.Sound.{IsPart, IsPlatoon, AreOfNode, AreOfPhase, cluster_lists, AreSpacedClusters, IsSpaced, cluster_at, clusters_of}
 use Rattle.clusters.specs.Windows.{IsRising, arrivals}
 use Rattle.clusters.specs.Steps.{AreGathered, AreStreams, IsRunBefore}
+use Rattle.net_draft.specs.declared.drafts.Run.{Run}
+use Rattle.clusters.proofs.ListLaws.{get_or-push-at, get_or-push-other, length-push}
 use Rattle.clusters.proofs.SmoothLaws.{left-more}
 use Rattle.clusters.proofs.TogetherLaws.{AreSmall, brought, length-slice_range, All-slice_range, whole-some, whole-few}
 
@@ -203,3 +205,56 @@ phase-made net node phase sensed heard series streams list h early are sound bri
             (omega (arith, made.order k below, (each k (omega arith)).order)));
       };
     }
+
+pub phase-from : (net : Net) (node phase : ℕ) (sensed : Sensed) (heard : List Heard) (run : Run) (times : Phase) (plan : List Phase) (links series : List ℕ) (streams : List Part) (list : List Platoon)
+    → IsNetwork net → sensed.now ≤ 18000 → run ≡ net.run → plan ≡ plan_at net node → times ≡ phase_at plan phase → links ≡ phase_links_at net node phase
+    → streams ≡ streams_of net sensed heard links → AreStreams run.look streams → series ≡ together streams run.look
+    → AreGathered run.gap (times.greatest - times.loss) sensed.now series streams list → AreOfPhase net node phase sensed heard list
+phase-from net node phase sensed heard run times plan links series streams list h early r p t l s sound brings made =
+    let look : run.look ≡ net.run.look = ap (λ (q : Run). q.look) r in
+    let times_are : times ≡ phase_at (plan_at net node) phase = t ∙ ap (λ ps. phase_at ps phase) p in
+    let P : ℕ → Type 0 = λ n. AreStreams n streams in
+    let Q : Run → Type 0 = λ q. AreGathered q.gap (times.greatest - times.loss) sensed.now series streams list in
+    let R : Phase → Type 0 = λ q. AreGathered net.run.gap (q.greatest - q.loss) sensed.now series streams list in
+    phase-made net node phase sensed heard series streams list h early (s ∙ ap (streams_of net sensed heard) l) (subst P look sound) (brings ∙ ap (together streams) look)
+    (subst R times_are (subst Q r made))
+
+-- The platoons of the first i phases.
+pub record ArePhases (net : Net) (node : ℕ) (sensed : Sensed) (heard : List Heard) (lists : List (List Platoon)) (i : ℕ) : Type 0 where
+  pub count : length lists ≡ i
+  pub each : (k : ℕ) → k < i → AreOfPhase net node k sensed heard (platoons_at lists k)
+
+pub phases-none : (net : Net) (node : ℕ) (sensed : Sensed) (heard : List Heard) → ArePhases net node sensed heard [] 0
+phases-none net node sensed heard = record { count = refl; each = λ k lt. absurd (omega arith); }
+
+pub phases-more : (net : Net) (node : ℕ) (sensed : Sensed) (heard : List Heard) (lists more : List (List Platoon)) (list : List Platoon) (i : ℕ)
+    → ArePhases net node sensed heard lists i → AreOfPhase net node i sensed heard list → more ≡ lists ++ list ∷ [] → ArePhases net node sensed heard more (i + 1)
+phases-more net node sensed heard lists more list i h one pushed =
+    let P : List (List Platoon) → Type 0 = λ ls. ArePhases net node sensed heard ls (i + 1) in
+    subst P (sym pushed)
+    (record {
+      count = omega (arith, length-push lists list, h.count);
+      each = λ k lt. elim (cases_lt k i) [
+        | inl below ↦ rw (get_or-push-other lists list [] k (omega (arith, h.count))) (h.each k below)
+        | inr past ↦
+            let at : k ≡ i = omega arith in
+            rw (get_or-push-at lists list [] k (omega (arith, h.count)), at) one
+      ];
+    })
+
+pub phases-platoons : (net : Net) (node : ℕ) (sensed : Sensed) (heard : List Heard) (lists : List (List Platoon)) (i : ℕ) → ArePhases net node sensed heard lists i → i ≡ length (plan_at net node)
+    → ArePlatoonsOf net node sensed heard lists
+phases-platoons net node sensed heard lists i h e = record { count = omega (arith, h.count, e); each = λ k lt. (h.each k (omega (arith, h.count))).platoons; }
+
+pub phases-node : (net : Net) (node : ℕ) (sensed : Sensed) (heard : List Heard) (lists : List (List Platoon)) (i : ℕ) → ArePhases net node sensed heard lists i → i ≡ length (plan_at net node)
+    → AreOfNode net node sensed.now lists
+phases-node net node sensed heard lists i h e = record { count = omega (arith, h.count, e); each = λ k lt. (h.each k (omega (arith, h.count))).parts; }
+
+pub phases-clusters : (net : Net) (node : ℕ) (sensed : Sensed) (heard : List Heard) (lists : List (List Platoon)) (i : ℕ) → ArePhases net node sensed heard lists i
+    → All AreSpacedClusters (cluster_lists lists)
+phases-clusters net node sensed heard lists i h =
+    All-map AreSpacedClusters clusters_of lists (All-from_get_or (λ list. AreSpacedClusters (clusters_of list)) lists [] (λ k lt. (h.each k (omega (arith, h.count))).clusters))
+
+pub phases-rising : (net : Net) (node : ℕ) (sensed : Sensed) (heard : List Heard) (lists : List (List Platoon)) (i : ℕ) → ArePhases net node sensed heard lists i
+    → All IsRising lists
+phases-rising net node sensed heard lists i h = All-from_get_or IsRising lists [] (λ k lt. (h.each k (omega (arith, h.count))).rising)

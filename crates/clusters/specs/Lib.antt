@@ -4,4 +4,5 @@ pub mod Platoons
 pub mod Smoothing
 pub mod Sound
 pub mod Steps
+pub mod Taking
 pub mod Windows

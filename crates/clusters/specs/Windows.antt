@@ -35,12 +35,16 @@ pub record IsSmall (counts : List ℕ) : Type 0 where
 abbrev pub counts_of : List (List Platoon) → List ℕ
 counts_of lists = map length lists
 
+-- so many of each phase are the longest front that can be planned at once
+pub record IsLongest (lists : List (List Platoon)) (counts : List ℕ) : Type 0 where
+  pub front : IsFront lists counts
+  pub small : IsSmall counts
+  pub longest : (more : List ℕ) → IsFront lists more → IsSmall more → sum more ≤ sum counts
+
 -- The window is the longest front that can be planned at once, phase by phase; the others wait.
 pub record IsWindow (lists : List (List Platoon)) (window : Window) : Type 0 where
+  pub longest : IsLongest lists (counts_of window.lists)
   pub taken : (k : ℕ) → platoons_at window.lists k ≡ take (slice_index (counts_of window.lists) k) (platoons_at lists k)
-  pub front : IsFront lists (counts_of window.lists)
-  pub small : IsSmall (counts_of window.lists)
-  pub longest : (more : List ℕ) → IsFront lists more → IsSmall more → sum more ≤ sum (counts_of window.lists)
   pub waiting : window.waiting + sum (counts_of window.lists) ≡ sum (counts_of lists)
 
 -- a list of platoons that can be cut to a window: at most 180, each later than the one before it

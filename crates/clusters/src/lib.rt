@@ -6,7 +6,9 @@ mod inflows;
 mod node_platoons;
 mod shapes;
 mod smoothing;
+mod windows;
 
 pub use node_platoons::platoons;
 pub use shapes::{Part, Platoon, Window};
 pub use smoothing::smooth;
+pub use windows::window;

@@ -2,7 +2,7 @@ use Rattle.clusters.proofs.GatherLaws.{gathering-none, gathering-more, gathering
 use Rattle.clusters.proofs.cuts.gathered.Goals as goal
 
 pub loop-first-init : goal.loop-first-init
-loop-first-init c = gathering-none c.args.cutting.gap c.args.cutting.most c.args.cutting.now c.args.series.now c.args.streams.now
+loop-first-init c = rw c.new-platoons.ensures.items (gathering-none c.args.cutting.gap c.args.cutting.most c.args.cutting.now c.args.series.now c.args.streams.now)
 
 pub loop-first-preserved : goal.loop-first-preserved
 loop-first-preserved c =
