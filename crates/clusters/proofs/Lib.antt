@@ -5,5 +5,6 @@ pub mod ListLaws
 pub mod PlatoonLaws
 pub mod SeenLaws
 pub mod SmoothLaws
+pub mod TakingLaws
 pub mod TogetherLaws
 pub mod WindowLaws

@@ -15,6 +15,8 @@ pub struct Part {
     pub amounts: Items<u32>,
 }
 
+impl CrossesThreads for Part {}
+
 /// Vehicles of one phase that come together, with what comes along each link.
 ///
 /// docs/RULES.md, "Platoons".
@@ -26,6 +28,8 @@ pub struct Platoon {
     pub parts: Items<Part>,
 }
 
+impl CrossesThreads for Platoon {}
+
 /// The platoons that one planning takes up.
 ///
 /// docs/RULES.md, "Window".
@@ -36,3 +40,5 @@ pub struct Window {
     /// How many platoons wait for a later planning.
     pub waiting: u32,
 }
+
+impl CrossesThreads for Window {}

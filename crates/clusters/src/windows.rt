@@ -46,9 +46,10 @@ fn taken(alloc: Global, lists: &[Items<Platoon>]) -> Result<Vec<u32>, AllocError
 {
     let mut counts = vec![in alloc; 0; lists.len()]?;
     for _taken in 0..MOST_CLUSTERS {
-        let Some((_, phase)) = first_waiting(lists, counts.as_slice()) else {
+        let Some(first) = first_waiting(lists, counts.as_slice()) else {
             return Ok(counts);
         };
+        let phase = first.1;
         counts[phase] += 1;
         if ways(counts.as_slice()) > MOST_ORDERS {
             counts[phase] -= 1;
