@@ -33,24 +33,24 @@ Owns owner history seat own = (owner own.number ≡ Some seat) × (history own.n
 abbrev pub IsUnmade : (ℕ → Option ℕ) → (ℕ → List Call) → ℕ → Type 0
 IsUnmade owner history number = (owner number ≡ None) × (history number ≡ [])
 
--- the seat's call in flight has the turn of its link, and the log that the link stands for
-pub record IsFlying (words : List ℕ) (logs : ℕ → List BoardEvent) (v : View) (f : Flight) : Type 0 where
-  pub turn : slice_index words (f.link + 1) ≡ number_of v.entries + 1
+-- the call in flight of a seat with these entries has the turn of its link, and the log that the link stands for
+pub record IsFlying (words : List ℕ) (logs : ℕ → List BoardEvent) (entries : List Entry) (f : Flight) : Type 0 where
+  pub turn : slice_index words (f.link + 1) ≡ number_of entries + 1
   pub log : f.events ≡ logs f.link
-  pub numbered : 1 ≤ length v.entries
+  pub numbered : 1 ≤ length entries
 
--- the seat that makes the passes is the first, and those to be made are unmade
-pub record IsDealing (terms : Terms) (owner : ℕ → Option ℕ) (history : ℕ → List Call) (seat : ℕ) (v : View) : Type 0 where
+-- the seat that makes the passes is the first, and all but those that it has made are unmade
+pub record IsDealing (terms : Terms) (owner : ℕ → Option ℕ) (history : ℕ → List Call) (seat made : ℕ) : Type 0 where
   pub first : seat ≡ 0
-  pub most : v.made ≤ terms.passes
-  pub unmade : (number : ℕ) → v.made ≤ number → IsUnmade owner history number
+  pub most : made ≤ terms.passes
+  pub unmade : (number : ℕ) → made ≤ number → IsUnmade owner history number
 
 -- what a seat knows holds
 pub record IsSeated (terms : Terms) (words : List ℕ) (logs : ℕ → List BoardEvent) (owner : ℕ → Option ℕ) (history : ℕ → List Call) (seat : ℕ) (v : View) : Type 0 where
   pub known : v.known ≤ slice_index words 0
   pub owns : All (Owns owner history seat) v.entries
-  pub flies : (f : Flight) → v.flight ≡ Some f → IsFlying words logs v f
-  pub deals : v.deals ≡ true → IsDealing terms owner history seat v
+  pub flies : (f : Flight) → v.flight ≡ Some f → IsFlying words logs v.entries f
+  pub deals : v.deals ≡ true → IsDealing terms owner history seat v.made
 
 -- S is what a slot holds, and stands says for which log it stands
 module _ {S : Type 0} (stands : S → List BoardEvent → Type 0) where
