@@ -1,0 +1,9 @@
+pub mod Closes
+pub mod Draws
+pub mod Lists
+pub mod Logs
+pub mod Meets
+pub mod Opens
+pub mod Orders
+pub mod Seats
+pub mod Turns
