@@ -1,5 +1,5 @@
 -- Nothing is lost: what arrived is on the links or has left the network.
-use Rattle.std.proofs.Common.{◌≡◌, ◌≢◌, ℕ, zero, suc, ◌+◌, ◌-◌, ◌*◌, ◌<◌, ◌≤◌, eqb, if◌then◌else◌, cond, List, [], ◌∷◌, Option, Some, None, All, AllPairs, length, get_or, sum_by, refl, sym, ap, subst, ◌∙◌, inl, inr, add-one, arith}
+use Rattle.std.proofs.Common.{◌≡◌, ◌≢◌, ℕ, zero, suc, ◌+◌, ◌-◌, ◌<◌, ◌≤◌, List, [], ◌∷◌, Option, Some, None, All, AllPairs, length, get_or, sum_by, refl, sym, ap, subst, ◌∙◌, inl, inr, add-one, arith}
 use Rattle.std.proofs.lemmas.Bool.Decides.{eqb_tells}
 use Rattle.std.proofs.lemmas.Bool.{cases_lt}
 use Rattle.std.proofs.lemmas.List.Sums.{sum_by-cons}
@@ -9,19 +9,19 @@ use Rattle.net_numbers.specs.Numbers.{Net}
 use Rattle.net_numbers.specs.Outline.{link_at, turns_at}
 use Rattle.road_net.specs.Joins.{split_of, HasShares}
 use Rattle.road_net.proofs.Shares.{split-none, parts-whole}
-use Rattle.net_simulator.specs.Flow.{Passed, total, reached, queue, waiting, discharged, discharged_to, entering, passing, past_of}
+use Rattle.net_simulator.specs.Flow.{Passed, total, reached, waiting, discharged, entering, past_of}
 use Rattle.net_simulator.specs.Sums.{outward, arrived, gone, on_road}
-use Rattle.net_simulator.proofs.Sums.{total-same, total-add, total-swap, total-zero, total-part, total-le, without, without-here, without-other, total-without}
-use Rattle.net_simulator.proofs.Turning.{no_turn, exit_at, IsNoExit}
+use Rattle.net_simulator.proofs.Sums.{total-same, total-add, total-swap, total-zero, total-part, without, without-here, without-other, total-without}
+use Rattle.net_simulator.proofs.Turning.{no_turn, IsNoExit}
 use Rattle.net_simulator.proofs.FlowLaws.{past-none}
-use Rattle.net_simulator.proofs.Sound.{IsSound, Continues, goes-on, is-sound, discharged_to-most}
+use Rattle.net_simulator.proofs.Sound.{IsSound, Continues, goes-on}
 
 -- what a link discharges into other links: all of it, where it ends at a node
 abbrev pub onward : Option ℕ → ℕ → ℕ
 onward None amount = 0
 onward (Some node) amount = amount
 
-pub sum_by-same : (f g : Turn → ℕ) (ts : List Turn) → All (λ t. f t ≡ g t) ts → sum_by f ts ≡ sum_by g ts
+pub sum_by-same : {A : Type 0} (f g : A → ℕ) (ts : List A) → All (λ t. f t ≡ g t) ts → sum_by f ts ≡ sum_by g ts
 sum_by-same f g [] same = refl
 sum_by-same f g (t ∷ ts) same =
     let head : f t ≡ g t = same 0 t (omega arith) in

@@ -1,11 +1,11 @@
 -- How the past of a network grows.
-use Rattle.std.proofs.Common.{◌≡◌, ℕ, zero, suc, ◌+◌, ◌-◌, ◌<◌, ◌≤◌, List, [], ◌∷◌, ◌++◌, Option, length, get_or, map, refl, sym, ap, ◌∙◌, arith, length-append}
+use Rattle.std.proofs.Common.{◌≡◌, ℕ, zero, suc, ◌+◌, ◌<◌, ◌≤◌, [], ◌∷◌, ◌++◌, Option, length, get_or, map, refl, sym, ap, ◌∙◌, arith, length-append}
 use Rattle.std.specs.List.{range_with_len}
 use Rattle.std.proofs.Math.ListN.{get_or-append}
 use Rattle.std.proofs.Math.Seq.{get_or-append_seam}
 use Rattle.std.proofs.lemmas.List.FromFn.{get_or-map-range_with_len}
 use Rattle.net_numbers.specs.Numbers.{Net}
-use Rattle.net_simulator.specs.Flow.{Passed, nothing, passed_in, passing, longer, history, past_of}
+use Rattle.net_simulator.specs.Flow.{nothing, passed_in, passing, history, past_of}
 
 -- there is one row more than seconds
 pub length-history : (net : Net) (arriving : ℕ → ℕ → ℕ) (shown : ℕ → ℕ → Option (ℕ × ℕ)) (n : ℕ) → length (history net arriving shown n) ≡ n + 1

@@ -1,17 +1,15 @@
 -- One second of the code is one second of the past.
-use Rattle.std.proofs.Common.{◌≡◌, ◌≢◌, ℕ, zero, suc, ◌+◌, ◌-◌, ◌*◌, ◌%◌, ◌<◌, ◌≤◌, Bool, true, false, not, ◌&&◌, eqb, ltb, min, if◌then◌else◌, cond, List, Option, Some, None, IfSome, length, get_or, slice_index, slice_index_or, refl, sym, ap, subst, ◌∙◌, inl, inr, arith}
+use Rattle.std.proofs.Common.{◌≡◌, ◌≢◌, ℕ, ◌+◌, ◌-◌, ◌*◌, ◌%◌, ◌<◌, ◌≤◌, Bool, true, false, not, ◌&&◌, eqb, ltb, min, cond, List, Option, Some, None, IfSome, length, slice_index, slice_index_or, refl, sym, ap, ◌∙◌, inl, inr, arith}
 use Rattle.std.specs.Option.{option_map}
 use Rattle.std.proofs.Math.Nat.{add-mod_right}
 use Rattle.std.proofs.lemmas.Bool.{ltb-true}
 use Rattle.std.proofs.lemmas.Bool.Decides.{eqb_tells}
 use Rattle.phase_plan.specs.Phases.{phase_at}
-use Rattle.phase_plan.specs.declared.Phase.{Phase}
-use Rattle.net_numbers.specs.declared.roads.Link.{Link}
 use Rattle.net_numbers.specs.Numbers.{Net}
 use Rattle.net_numbers.specs.Outline.{link_at, plan_at, turns_at}
 use Rattle.road_net.specs.Joins.{split_of}
 use Rattle.control_flow.specs.declared.greens.Green.{Green}
-use Rattle.net_simulator.specs.Flow.{Passed, total, reached, queue, waiting, is_lost, may_go, discharged_to, discharged, entering, passing}
+use Rattle.net_simulator.specs.Flow.{Passed, total, queue, waiting, is_lost, may_go, discharged_to, discharged}
 use Rattle.net_simulator.specs.Rows.{cell}
 use Rattle.net_simulator.specs.Steps.{is_open, goes, waits_at}
 use Rattle.net_simulator.specs.Worlds.{Keeps}

@@ -1,27 +1,25 @@
 -- What a node sees, by what a world keeps, and how much it can be.
-use Rattle.std.proofs.Common.{◌≡◌, ◌≢◌, ℕ, zero, suc, ◌+◌, ◌-◌, ◌*◌, ◌<◌, ◌≤◌, List, [], ◌∷◌, Option, All, AllPairs, length, get_or, slice_index, map, sum, sum_by, refl, sym, ap, subst, ◌∙◌, add-one, arith}
+use Rattle.std.proofs.Common.{◌≡◌, ℕ, zero, suc, ◌+◌, ◌-◌, ◌<◌, ◌≤◌, List, [], ◌∷◌, All, AllPairs, length, get_or, map, sum_by, refl, sym, ap, subst, ◌∙◌, add-one, arith}
 use Rattle.std.specs.List.{range_with_len}
+use Rattle.std.specs.List.Sorted.{IsStrictlyIncreasing}
 use Rattle.std.proofs.lemmas.List.FromFn.{length-map-range_with_len, get_or-map-range_with_len, fill_by_all, sum_by-map-range_with_len_more}
 use Rattle.std.proofs.lemmas.List.Elements.{All-map, All-weaker}
 use Rattle.std.proofs.lemmas.List.Kept.{AllPairs-from_increasing}
 use Rattle.std.proofs.lemmas.List.Sums.{sum_by-cons, sum-map}
-use Rattle.net_numbers.specs.declared.roads.Link.{Link}
 use Rattle.net_numbers.specs.Numbers.{Net}
 use Rattle.net_numbers.specs.Outline.{link_at}
-use Rattle.road_net.specs.declared.joins.Side.TheVariants.{To}
 use Rattle.road_net.specs.declared.senses.LinkSense.{LinkSense}
 use Rattle.road_net.specs.declared.senses.Sensed.{Sensed}
-use Rattle.road_net.specs.Joins.{AreLinksAt}
 use Rattle.road_net.specs.Network.{IsNetwork, entry_links}
 use Rattle.road_net.specs.Senses.{amount, IsSensedOf}
-use Rattle.net_simulator.specs.Flow.{Passed, total, queue, reached, past_of}
+use Rattle.control_flow.specs.declared.greens.Green.{Green}
+use Rattle.net_simulator.specs.Flow.{Passed, total, past_of}
 use Rattle.net_simulator.specs.Rows.{cell}
 use Rattle.net_simulator.specs.Senses.{coming, link_sense, sense, seen_by}
-use Rattle.net_simulator.specs.Sums.{on_road, AreArrivals}
+use Rattle.net_simulator.specs.Sums.{on_road}
 use Rattle.net_simulator.specs.Worlds.{Keeps, Stands, Kept, IsWorldOf, standing_by}
 use Rattle.net_simulator.proofs.Sums.{total-without, without, without-other}
 use Rattle.net_simulator.proofs.Sound.{IsSound}
-use Rattle.net_simulator.proofs.Keeping.{HasBounds}
 use Rattle.net_simulator.proofs.Conserving.{sum_by-same, grown, reached-entered}
 use Rattle.net_simulator.proofs.Passing.{bounds-of, sound-at, on-road-most}
 
@@ -106,14 +104,28 @@ map-link net past n [] = refl
 map-link net past n (l ∷ ls) = ap (λ ks. l ∷ ks) (map-link net past n ls)
 
 -- what the definition gives is within the bounds of what a node sees
-pub is-sensed : (net : Net) (node : ℕ) (w : Kept) → IsNetwork net → AreLinksAt To net.links node (entry_links net node) → (world : IsWorldOf net w) → IsSensedOf net node (sense net (past_of net world.arriving (standing_by world.lines) w.second) w.second node)
-is-sensed net node w network entries world =
+pub is-sensed : (net : Net) (node : ℕ) (w : Kept) → IsNetwork net → All (λ l. l < length net.link_names) (entry_links net node) → IsStrictlyIncreasing (entry_links net node) → (world : IsWorldOf net w) → IsSensedOf net node (sense net (past_of net world.arriving (standing_by world.lines) w.second) w.second node)
+is-sensed net node w network below rising world =
     let past : ℕ → ℕ → Passed = past_of net world.arriving (standing_by world.lines) w.second in
-    let count = network.outline.road_count in
-    let below = All-weaker (λ l. (l < length net.links) × _) (λ l. l < length net.link_names) (λ l h. let b = h.0 in omega arith) (entry_links net node) entries.have in
     record {
       now = world.stands.by;
       links = map-link net past w.second (entry_links net node);
       coming = All-map (λ s. length s.coming ≡ (link_at net s.link).travel) (link_sense net past w.second) (entry_links net node) (λ i d h. length-map-range_with_len _ 0 _);
-      amounts = omega (arith, sensed-on net past w.second (sound-at net network world.arriving (standing_by world.lines) w.second) (entry_links net node) (AllPairs-from_increasing (entry_links net node) entries.rising) below, on-road-most net network world.arriving (standing_by world.lines) world.arrivals w.second);
+      amounts = omega (arith, sensed-on net past w.second (sound-at net network world.arriving (standing_by world.lines) w.second) (entry_links net node) (AllPairs-from_increasing (entry_links net node) rising) below, on-road-most net network world.arriving (standing_by world.lines) world.arrivals w.second);
     }
+
+pub below-names : (net : Net) (links names : List ℕ) → IsNetwork net → links ≡ names → All (λ l. l < length net.links) links → All (λ l. l < length net.link_names) names
+below-names net links names network is have = subst (All (λ l. l < length net.link_names)) is (λ k d h. let b = have k d h in let count = network.outline.road_count in omega arith)
+
+-- what the code gathers is what the definition gives
+pub gathered : (net : Net) (node : ℕ) (w v : Kept) (qs rs links : List ℕ) (out : List LinkSense) → IsNetwork net → v ≡ w → qs ≡ v.queues → rs ≡ v.recent → links ≡ entry_links net node → out ≡ map (seen_by net qs rs v.second) links
+    → All (λ l. l < length net.link_names) (entry_links net node) → (arriving : ℕ → ℕ → ℕ) (lines : ℕ → List Green) → Stands net arriving (standing_by lines) w
+    → (let s : Sensed = record { now = v.second; links = out } in s) ≡ sense net (past_of net arriving (standing_by lines) w.second) w.second node
+gathered net node w v qs rs links out network view queues recent entries all below arriving lines stands =
+    let past : ℕ → ℕ → Passed = past_of net arriving (standing_by lines) w.second in
+    let one = queues ∙ ap (λ (k : Kept). k.queues) view in
+    let two = recent ∙ ap (λ (k : Kept). k.recent) view in
+    let now = ap (λ (k : Kept). k.second) view in
+    let senses : out ≡ map (link_sense net past w.second) (entry_links net node) =
+    all ∙ (λ i. map (seen_by net (one i) (two i) (now i)) (entries i)) ∙ senses-same net past w.queues w.recent w.waits w.second (entry_links net node) network stands.keeps below in
+    λ i. record { now = now i; links = senses i }

@@ -1,10 +1,10 @@
 -- What is true of every past: amounts only grow, and no more leaves than reached the end.
-use Rattle.std.proofs.Common.{◌≡◌, ℕ, zero, suc, ◌+◌, ◌-◌, ◌<◌, ◌≤◌, Bool, min, if◌then◌else◌, cond, Option, Some, None, length, refl, sym, ap, subst, ◌∙◌, inl, inr, add-one, arith}
+use Rattle.std.proofs.Common.{◌≡◌, ℕ, zero, suc, ◌+◌, ◌-◌, ◌<◌, ◌≤◌, min, Option, Some, None, length, ap, subst, inl, inr, add-one, arith}
 use Rattle.std.proofs.lemmas.Bool.{cond_both, cases_lt}
 use Rattle.std.proofs.lemmas.Bool.Decides.{eqb_tells}
 use Rattle.net_numbers.specs.Numbers.{Net}
 use Rattle.net_numbers.specs.Outline.{link_at}
-use Rattle.net_simulator.specs.Flow.{Passed, reached, waiting, may_go, discharged_to, discharged, entering, passing, past_of}
+use Rattle.net_simulator.specs.Flow.{Passed, reached, waiting, may_go, discharged_to, passing, past_of}
 use Rattle.net_simulator.proofs.FlowLaws.{past-kept, past-next, past-none}
 
 pub discharged_to-most : (net : Net) (shown : ℕ → Option (ℕ × ℕ)) (past : ℕ → ℕ → Passed) (x l : ℕ) (to : Option ℕ) → discharged_to net shown past x l to ≤ waiting net past x l

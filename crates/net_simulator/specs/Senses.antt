@@ -1,8 +1,7 @@
 -- What a node sees of its entry links.
-use Rattle.std.specs.Prelude.{◌≡◌, ℕ, ◌+◌, ◌-◌, List, map, slice_index}
+use Rattle.std.specs.Prelude.{ℕ, ◌+◌, ◌-◌, List, map, slice_index}
 use Rattle.std.specs.List.{range_with_len}
 use Rattle.net_numbers.specs.Numbers.{Net}
-use Rattle.net_numbers.specs.declared.roads.Link.{Link}
 use Rattle.net_numbers.specs.Outline.{link_at}
 use Rattle.road_net.specs.declared.senses.LinkSense.{LinkSense}
 use Rattle.road_net.specs.declared.senses.Sensed.{Sensed}

@@ -1,8 +1,6 @@
 -- What the code does in one second, by what it keeps.
-use Rattle.std.specs.Prelude.{◌≡◌, ℕ, ◌+◌, ◌-◌, ◌<◌, ◌==◌, min, nat_lt, Bool, true, false, not, ◌&&◌, if◌then◌else◌, List, Option, Some, None, length, slice_index, slice_index_or}
+use Rattle.std.specs.Prelude.{ℕ, ◌+◌, ◌-◌, ◌==◌, min, Bool, false, not, ◌&&◌, if◌then◌else◌, List, Option, Some, None, length, slice_index, slice_index_or}
 use Rattle.phase_plan.specs.Phases.{phase_at}
-use Rattle.phase_plan.specs.declared.Phase.{Phase}
-use Rattle.net_numbers.specs.declared.roads.Link.{Link}
 use Rattle.net_numbers.specs.Numbers.{Net}
 use Rattle.net_numbers.specs.Outline.{link_at, plan_at}
 use Rattle.control_flow.specs.declared.greens.Green.{Green}

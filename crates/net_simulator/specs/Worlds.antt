@@ -6,7 +6,7 @@ use Rattle.control_flow.specs.Greens.{standing}
 use Rattle.net_simulator.specs.Flow.{Passed, queue, past_of}
 use Rattle.net_simulator.specs.Sums.{AreArrivals, link_totals, totals}
 use Rattle.net_simulator.specs.Rows.{cell}
-use Rattle.net_simulator.specs.Counts.{counts_at, IsWhole}
+use Rattle.net_simulator.specs.Counts.{counts_at}
 use Rattle.net_simulator.specs.declared.totals.LinkTotals.{LinkTotals}
 use Rattle.net_simulator.specs.declared.totals.Totals.{Totals}
 

@@ -225,6 +225,7 @@ pub(crate) fn count(
     requires second { second < 18000 }
     ensures counts { (l : ℕ) → l < links → counts_at counts.new l ≡ counted (counts_at counts.old l) (cell recent.now l second) (slice_index leaving.now l) (slice_index queues.now l) }
     ensures waits { result ≡ all_of queues.now links }
+    ensures most { result ≤ links * 4294967295 }
 {
     let mut waits = 0;
     for l in 0..links {

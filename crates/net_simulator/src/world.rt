@@ -1,17 +1,5 @@
 //! The world.
 
-use super::arrivals::Arrivals;
-use super::lights::Lights;
-use super::seconds;
-use super::sensing;
-use super::totals::{LinkTotals, Totals};
-use control_flow::greens::Green;
-use foundation::items::Items;
-use foundation::threads::CrossesThreads;
-use road_net::{Network, Sensed};
-use std::alloc::{AllocError, Global};
-use std::marker::Model;
-
 ghost use Rattle.std.specs.Prelude.{◌≡◌, ℕ, ◌+◌, ◌≤◌, ◌<◌, Option, IfOk, List, length, replicate};
 ghost use Rattle.net_numbers.specs.Numbers.{Net};
 ghost use Rattle.control_flow.specs.declared.greens.Green.{Green};
@@ -23,6 +11,17 @@ ghost use Rattle.net_simulator.specs.Sums.{AreArrivals};
 ghost use Rattle.net_simulator.specs.Worlds.{Kept, Stands, IsWorldOf, standing_by};
 ghost use Rattle.net_simulator.specs.Senses.{sense};
 ghost use Rattle.net_simulator.specs.Arriving.{entering_of};
+
+use super::arrivals::Arrivals;
+use super::lights::Lights;
+use super::totals::{LinkTotals, Totals};
+use super::{seconds, sensing};
+use control_flow::greens::Green;
+use foundation::items::Items;
+use foundation::threads::CrossesThreads;
+use road_net::{Network, Sensed};
+use std::alloc::{AllocError, Global};
+use std::marker::Model;
 
 /// The vehicles on the links of a network, at a second.
 ///

@@ -1,4 +1,4 @@
-use Rattle.std.proofs.Common.{◌≡◌, ◌≢◌, ℕ, ◌+◌, ◌*◌, ◌/◌, ◌%◌, ◌<◌, length}
+use Rattle.std.proofs.Common.{◌≡◌, ◌≢◌, ℕ, ◌*◌, ◌/◌, ◌%◌, length}
 use Rattle.net_numbers.specs.Outline.{turns_at}
 use Rattle.road_net.specs.Joins.{shares_to}
 use Rattle.net_simulator.specs.Rows.{cell}
