@@ -4,6 +4,8 @@
 
 mod boards;
 mod forecasts;
+mod gates;
 
 pub use boards::{BoardEvent, BoardKind, BoardLog, Heard, Seen, Sent};
 pub use forecasts::{Forecast, Row};
+pub use gates::{Gate, OpenGate};
