@@ -1,18 +1,17 @@
 -- Nothing is lost: what arrived is on the links or has left the network.
-use Rattle.std.proofs.Common.{◌≡◌, ◌≢◌, ℕ, zero, suc, ◌+◌, ◌-◌, ◌<◌, ◌≤◌, List, [], ◌∷◌, Option, Some, None, All, AllPairs, length, get_or, sum_by, refl, sym, ap, subst, ◌∙◌, inl, inr, add-one, arith}
-use Rattle.std.proofs.lemmas.Bool.Decides.{eqb_tells}
+use Rattle.std.proofs.Common.{◌≡◌, ℕ, zero, suc, ◌+◌, ◌-◌, ◌<◌, ◌≤◌, List, Option, Some, None, IsSome, length, refl, ap, subst, ◌∙◌, inl, inr, add-one, arith}
 use Rattle.std.proofs.lemmas.Bool.{cases_lt}
-use Rattle.std.proofs.lemmas.List.Sums.{sum_by-cons}
 use Rattle.net_numbers.specs.declared.roads.Link.{Link}
 use Rattle.net_numbers.specs.declared.roads.Turn.{Turn}
 use Rattle.net_numbers.specs.Numbers.{Net}
-use Rattle.net_numbers.specs.Outline.{link_at, turns_at}
+use Rattle.net_numbers.specs.Outline.{link_at, turns_at, AreTurns}
 use Rattle.road_net.specs.Joins.{split_of, HasShares}
-use Rattle.road_net.proofs.Shares.{split-none, parts-whole}
-use Rattle.net_simulator.specs.Flow.{Passed, total, reached, waiting, discharged, entering, past_of}
+use Rattle.road_net.proofs.Everywhere.{everywhere}
+use Rattle.road_net.specs.Totals.{total}
+use Rattle.net_simulator.specs.Flow.{Passed, reached, waiting, discharged, entering, past_of}
 use Rattle.net_simulator.specs.Sums.{outward, arrived, gone, on_road}
-use Rattle.net_simulator.proofs.Sums.{total-same, total-add, total-swap, total-zero, total-part, without, without-here, without-other, total-without}
-use Rattle.net_simulator.proofs.Turning.{no_turn, IsNoExit}
+use Rattle.road_net.proofs.TotalLaws.{total-same, total-add, total-swap, total-zero}
+use Rattle.net_simulator.proofs.Sums.{total-part}
 use Rattle.net_simulator.proofs.FlowLaws.{past-none}
 use Rattle.net_simulator.proofs.Sound.{IsSound, Continues, goes-on}
 
@@ -21,38 +20,10 @@ abbrev pub onward : Option ℕ → ℕ → ℕ
 onward None amount = 0
 onward (Some node) amount = amount
 
-pub sum_by-same : {A : Type 0} (f g : A → ℕ) (ts : List A) → All (λ t. f t ≡ g t) ts → sum_by f ts ≡ sum_by g ts
-sum_by-same f g [] same = refl
-sum_by-same f g (t ∷ ts) same =
-    let head : f t ≡ g t = same 0 t (omega arith) in
-    let rest = sum_by-same f g ts (λ i d h. same (suc i) d (omega arith)) in
-    omega (arith, sum_by-cons f t ts, sum_by-cons g t ts, head, rest)
-
-none-more : (t : Turn) (ts : List Turn) (k : ℕ) → t.exit ≢ k → IsNoExit ts (length ts) k → IsNoExit (t ∷ ts) (length (t ∷ ts)) k
-none-more t ts k other none zero h = other
-none-more t ts k other none (suc i) h = none i (omega arith)
-
--- a sum over all links of what only the exits of these turns get is the sum over the turns
-total-over : (turns : List Turn) (g : ℕ → ℕ) (n : ℕ) → AllPairs (λ s t. s.exit ≢ t.exit) turns → All (λ t. t.exit < n) turns → ((k : ℕ) → IsNoExit turns (length turns) k → g k ≡ 0)
-    → total g n ≡ sum_by (λ t. g t.exit) turns
-total-over [] g n differ below none = total-same g (λ i. 0) n (λ i h. none i (λ j b. absurd (omega arith))) ∙ total-zero n
-total-over (t ∷ ts) g n differ below none =
-    let e = t.exit in
-    let here : e < n = below 0 t (omega arith) in
-    let h = without e g in
-    let rest = total-over ts h n (λ i j d less b. differ (suc i) (suc j) d (omega arith) (omega arith)) (λ i d b. below (suc i) d (omega arith))
-    (λ k no. elim (eqb_tells k e) [
-      | inl p ↦ without-here e g k p.1
-      | inr q ↦ without-other e g k q.1 ∙ none k (none-more t ts k (λ same. q.1 (sym same)) no)
-    ]) in
-    let same = sum_by-same (λ t. h t.exit) (λ t. g t.exit) ts (λ i d b. without-other e g (get_or ts i d).exit (λ w. differ 0 (suc i) d (omega arith) (omega arith) (sym w))) in
-    omega (arith, total-without e g n here, rest, same, sum_by-cons (λ (q : Turn). g q.exit) t ts)
-
--- the parts of what a link discharges
-pub total-parts : (links : List Link) (turns : List Turn) (amount n : ℕ) (to : Option ℕ) → HasShares links turns to → All (λ t. t.exit < n) turns → total (λ l. split_of turns amount l) n ≡ onward to amount
-total-parts links turns amount n None none below = total-same (λ l. split_of turns amount l) (λ i. 0) n (λ l h. ap (λ ts. split_of ts amount l) none) ∙ total-zero n
-total-parts links turns amount n (Some node) shares below =
-    total-over turns (λ l. split_of turns amount l) n shares.differ below (λ k no. split-none turns amount k no_turn no) ∙ parts-whole turns amount shares.differ shares.whole
+-- the parts of what a link discharges, over all links
+pub total-parts : (links : List Link) (turns : List Turn) (amount n : ℕ) (to : Option ℕ) → HasShares links turns to → AreTurns n turns → total (λ l. split_of turns amount l) n ≡ onward to amount
+total-parts links turns amount n None none bounds = total-same (λ l. split_of turns amount l) (λ i. 0) n (λ l h. ap (λ ts. split_of ts amount l) none) ∙ total-zero n
+total-parts links turns amount n (Some node) shares bounds = everywhere links turns n amount (Some node) bounds shares (let some : IsSome (Some node) = refl in some)
 
 onward-add : (to : Option ℕ) (a b : ℕ) → onward to (a + b) ≡ onward to a + onward to b
 onward-add None a b = omega arith
@@ -62,11 +33,7 @@ both-ways : (to : Option ℕ) (a : ℕ) → a ≡ onward to a + outward to a
 both-ways None a = omega arith
 both-ways (Some node) a = omega arith
 
--- how the links of a network share
-pub HasParts : Net → Type 0
-HasParts net = (l : ℕ) → l < length net.link_names → HasShares net.links (turns_at net l) (link_at net l).to × All (λ t. t.exit < length net.link_names) (turns_at net l)
-
-module _ (net : Net) (arriving : ℕ → ℕ → ℕ) (shown : ℕ → ℕ → Option (ℕ × ℕ)) (parts : (l : ℕ) → l < length net.link_names → HasShares net.links (turns_at net l) (link_at net l).to × All (λ t. t.exit < length net.link_names) (turns_at net l)) where
+module _ (net : Net) (arriving : ℕ → ℕ → ℕ) (shown : ℕ → ℕ → Option (ℕ × ℕ)) (parts : (l : ℕ) → l < length net.link_names → HasShares net.links (turns_at net l) (link_at net l).to × AreTurns (length net.link_names) (turns_at net l)) where
   abbrev all : (ℕ → ℕ) → ℕ
   all f = total f (length net.link_names)
 

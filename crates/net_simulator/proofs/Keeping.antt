@@ -9,11 +9,12 @@ use Rattle.net_numbers.specs.Numbers.{Net}
 use Rattle.net_numbers.specs.Outline.{link_at, plan_at, turns_at}
 use Rattle.road_net.specs.Joins.{split_of}
 use Rattle.control_flow.specs.declared.greens.Green.{Green}
-use Rattle.net_simulator.specs.Flow.{Passed, total, queue, waiting, is_lost, may_go, discharged_to, discharged}
+use Rattle.road_net.specs.Totals.{total}
+use Rattle.net_simulator.specs.Flow.{Passed, queue, waiting, is_lost, may_go, discharged_to, discharged}
 use Rattle.net_simulator.specs.Rows.{cell}
 use Rattle.net_simulator.specs.Steps.{is_open, goes, waits_at}
 use Rattle.net_simulator.specs.Worlds.{Keeps}
-use Rattle.net_simulator.proofs.Sums.{total-same}
+use Rattle.road_net.proofs.TotalLaws.{total-same}
 use Rattle.net_simulator.proofs.Sound.{IsSound, Continues}
 
 and-same : (a b c : Bool) → (a ≡ true → b ≡ c) → (a && b) ≡ (a && c)

@@ -1,5 +1,5 @@
 -- A world that stands for its past stands for it one second later.
-use Rattle.std.proofs.Common.{◌≡◌, ◌≢◌, ℕ, zero, suc, ◌+◌, ◌-◌, ◌*◌, ◌%◌, ◌<◌, ◌≤◌, List, [], ◌∷◌, Option, Some, None, IfSome, All, AllPairs, length, sum_by, replicate, get_or, slice_index, slice_index_or, refl, sym, ap, subst, ◌∙◌, inl, inr, add-one, arith, lit≤}
+use Rattle.std.proofs.Common.{◌≡◌, ◌≢◌, ℕ, zero, suc, ◌+◌, ◌-◌, ◌*◌, ◌%◌, ◌<◌, ◌≤◌, List, [], ◌∷◌, Option, Some, None, IfSome, All, AllPairs, length, replicate, get_or, slice_index, slice_index_or, refl, sym, ap, subst, ◌∙◌, inl, inr, add-one, arith}
 use Rattle.std.specs.Option.{option_map}
 use Rattle.std.proofs.lemmas.Bool.{cond_both, and_parts, leb-true}
 use Rattle.std.proofs.lemmas.Bool.Decides.{eqb_tells}
@@ -10,19 +10,21 @@ use Rattle.net_numbers.specs.declared.roads.Link.{Link}
 use Rattle.net_numbers.specs.declared.roads.Turn.{Turn}
 use Rattle.net_numbers.specs.Numbers.{Net, no_link}
 use Rattle.net_numbers.specs.Outline.{link_at, turns_at, IsLink, AreTurns}
-use Rattle.road_net.specs.Joins.{share_of, split_of, HasShares}
+use Rattle.road_net.specs.Joins.{split_of, HasShares}
 use Rattle.road_net.specs.Network.{IsNetwork}
 use Rattle.control_flow.specs.declared.greens.Green.{Green}
 use Rattle.control_flow.specs.Greens.{green_at, covers}
 use Rattle.net_simulator.specs.declared.totals.LinkTotals.{LinkTotals}
 use Rattle.net_simulator.specs.declared.totals.Totals.{Totals}
-use Rattle.net_simulator.specs.Flow.{Passed, passed_in, nothing, history, total, queue, waiting, discharged, entering, past_of}
+use Rattle.road_net.specs.Totals.{total}
+use Rattle.net_simulator.specs.Flow.{Passed, passed_in, nothing, history, queue, waiting, discharged, entering, past_of}
 use Rattle.net_simulator.specs.Sums.{outward, arrived, gone, on_road, delay, link_totals, totals, AreArrivals}
 use Rattle.net_simulator.specs.Rows.{cell}
 use Rattle.net_simulator.specs.Counts.{counts_at, no_totals, counted, IsSmall}
 use Rattle.net_simulator.specs.Steps.{goes, waits_at, goes_out, all_of}
 use Rattle.net_simulator.specs.Worlds.{Kept, HasShape, Keeps, Stands, standing_by}
-use Rattle.net_simulator.proofs.Sums.{total-same, total-add, total-le, total-most, total-of, total-zero}
+use Rattle.road_net.proofs.TotalLaws.{total-same, total-add, total-le, total-zero}
+use Rattle.net_simulator.proofs.Sums.{total-most, total-of}
 use Rattle.net_simulator.proofs.FlowLaws.{past-none, past-kept, history-same}
 use Rattle.net_simulator.proofs.Sound.{IsSound, Continues, goes-on, is-sound}
 use Rattle.net_simulator.proofs.Keeping.{HasBounds, phase_and_begin, waits-same, goes-same, kept-queue, keeps-next}
@@ -61,11 +63,11 @@ bounds-of net network =
           loss-most net.plans node (link_at net l).phase network.outline.plans there (network.served.entries l node h to).0;
     }
 
-pub parts-of : (net : Net) → IsNetwork net → (l : ℕ) → l < length net.link_names → HasShares net.links (turns_at net l) (link_at net l).to × All (λ t. t.exit < length net.link_names) (turns_at net l)
+pub parts-of : (net : Net) → IsNetwork net → (l : ℕ) → l < length net.link_names → HasShares net.links (turns_at net l) (link_at net l).to × AreTurns (length net.link_names) (turns_at net l)
 parts-of net network l h =
     let there : l < length net.turns = (let f = network.outline.turn_count in omega arith) in
     let turns = All-get_or (AreTurns (length net.link_names)) net.turns l [] there network.outline.turns in
-    (network.joins.shares l (let e = network.outline.road_count in omega arith), turns.exits)
+    (network.joins.shares l (let e = network.outline.road_count in omega arith), turns)
 
 same-link : (s t : LinkTotals) → s.entered ≡ t.entered → s.left ≡ t.left → s.delay ≡ t.delay → s ≡ t
 same-link s t a b c = λ i. record { entered = a i; left = b i; delay = c i }
@@ -77,17 +79,13 @@ outward-none : (to : Option ℕ) → outward to 0 ≡ 0
 outward-none None = refl
 outward-none (Some node) = refl
 
--- the turns of a link: their shares are at most the whole, and they lead into links that differ
-pub record AreShares (turns : List Turn) : Type 0 where
-  pub most : sum_by share_of turns ≤ 1000
-  pub differ : AllPairs (λ s t. s.exit ≢ t.exit) turns
+-- the turns of a link lead into links that differ
+differ-in : (links : List Link) (turns : List Turn) (to : Option ℕ) → HasShares links turns to → AllPairs (λ s t. s.exit ≢ t.exit) turns
+differ-in links turns None none = λ i j d less b. absurd (omega (arith, ap length none))
+differ-in links turns (Some node) shares = shares.differ
 
-shares-in : (links : List Link) (turns : List Turn) (to : Option ℕ) → HasShares links turns to → AreShares turns
-shares-in links turns None none = subst AreShares (sym none) (record { most = lit≤ tt; differ = λ i j d less b. absurd (omega arith) })
-shares-in links turns (Some node) shares = record { most = omega (arith, shares.whole); differ = shares.differ }
-
-pub shares-of : (net : Net) → IsNetwork net → (l : ℕ) → l < length net.link_names → AreShares (turns_at net l)
-shares-of net network l h = shares-in net.links (turns_at net l) (link_at net l).to (parts-of net network l h).0
+pub exits-differ : (net : Net) → IsNetwork net → (l : ℕ) → l < length net.link_names → AllPairs (λ s t. s.exit ≢ t.exit) (turns_at net l)
+exits-differ net network l h = differ-in net.links (turns_at net l) (link_at net l).to (parts-of net network l h).0
 
 module _ (net : Net) (network : IsNetwork net) (arriving : ℕ → ℕ → ℕ) (shown : ℕ → ℕ → Option (ℕ × ℕ)) where
   travels : (l : ℕ) → l < length net.link_names → 1 ≤ (link_at net l).travel

@@ -13,14 +13,15 @@ use Rattle.road_net.specs.declared.senses.Sensed.{Sensed}
 use Rattle.road_net.specs.Network.{IsNetwork, entry_links}
 use Rattle.road_net.specs.Senses.{amount, IsSensedOf}
 use Rattle.control_flow.specs.declared.greens.Green.{Green}
-use Rattle.net_simulator.specs.Flow.{Passed, total, past_of}
+use Rattle.road_net.specs.Totals.{total}
+use Rattle.net_simulator.specs.Flow.{Passed, past_of}
 use Rattle.net_simulator.specs.Rows.{cell}
 use Rattle.net_simulator.specs.Senses.{coming, link_sense, sense, seen_by}
 use Rattle.net_simulator.specs.Sums.{on_road}
 use Rattle.net_simulator.specs.Worlds.{Keeps, Stands, Kept, IsWorldOf, standing_by}
 use Rattle.net_simulator.proofs.Sums.{total-without, without, without-other}
 use Rattle.net_simulator.proofs.Sound.{IsSound}
-use Rattle.net_simulator.proofs.Conserving.{sum_by-same, grown, reached-entered}
+use Rattle.net_simulator.proofs.Conserving.{grown, reached-entered}
 use Rattle.net_simulator.proofs.Passing.{bounds-of, sound-at, on-road-most}
 
 range-same : (f g : ℕ → ℕ) (n : ℕ) → ((i : ℕ) → i < n → f i ≡ g i) → map f (range_with_len 0 n) ≡ map g (range_with_len 0 n)
@@ -32,6 +33,13 @@ map-same f g (x ∷ xs) same =
     let head : f x ≡ g x = same 0 x (omega arith) in
     let rest = map-same f g xs (λ i d h. same (suc i) d (omega arith)) in
     λ i. head i ∷ rest i
+
+sum_by-same : {A : Type 0} (f g : A → ℕ) (xs : List A) → All (λ x. f x ≡ g x) xs → sum_by f xs ≡ sum_by g xs
+sum_by-same f g [] same = refl
+sum_by-same f g (x ∷ xs) same =
+    let head : f x ≡ g x = same 0 x (omega arith) in
+    let rest = sum_by-same f g xs (λ i d h. same (suc i) d (omega arith)) in
+    omega (arith, sum_by-cons f x xs, sum_by-cons g x xs, head, rest)
 
 -- what the row of a link tells is what is on its way
 pub seen-same : (net : Net) (past : ℕ → ℕ → Passed) (qs rs ws : List ℕ) (x l : ℕ) → Keeps net past qs rs ws x → l < length net.link_names → (link_at net l).travel ≤ 120 → seen_by net qs rs x l ≡ link_sense net past x l

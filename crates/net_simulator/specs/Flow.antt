@@ -5,11 +5,7 @@ use Rattle.phase_plan.specs.Phases.{phase_at}
 use Rattle.net_numbers.specs.Numbers.{Net}
 use Rattle.net_numbers.specs.Outline.{link_at, plan_at, turns_at}
 use Rattle.road_net.specs.Joins.{split_of}
-
--- the sum of f over the numbers below n
-abbrev pub total : (ℕ → ℕ) → ℕ → ℕ
-total f zero = 0
-total f (suc n) = total f n + f n
+use Rattle.road_net.specs.Totals.{total}
 
 -- all that entered a link and all that left it
 pub record Passed : Type 0 where

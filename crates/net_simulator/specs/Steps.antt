@@ -4,7 +4,8 @@ use Rattle.phase_plan.specs.Phases.{phase_at}
 use Rattle.net_numbers.specs.Numbers.{Net}
 use Rattle.net_numbers.specs.Outline.{link_at, plan_at}
 use Rattle.control_flow.specs.declared.greens.Green.{Green}
-use Rattle.net_simulator.specs.Flow.{is_lost, total}
+use Rattle.road_net.specs.Totals.{total}
+use Rattle.net_simulator.specs.Flow.{is_lost}
 use Rattle.net_simulator.specs.Sums.{outward}
 use Rattle.net_simulator.specs.Rows.{cell}
 

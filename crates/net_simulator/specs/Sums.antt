@@ -2,7 +2,8 @@
 use Rattle.std.specs.Prelude.{ℕ, ◌+◌, ◌-◌, ◌≤◌, Option, None, Some, length}
 use Rattle.net_numbers.specs.Numbers.{Net}
 use Rattle.net_numbers.specs.Outline.{link_at}
-use Rattle.net_simulator.specs.Flow.{Passed, queue, total}
+use Rattle.road_net.specs.Totals.{total}
+use Rattle.net_simulator.specs.Flow.{Passed, queue}
 use Rattle.net_simulator.specs.declared.totals.LinkTotals.{LinkTotals}
 use Rattle.net_simulator.specs.declared.totals.Totals.{Totals}
 

@@ -4,7 +4,7 @@ ghost use Rattle.std.specs.Prelude.{◌≡◌, ◌≢◌, ℕ, ◌+◌, ◌-◌,
 ghost use Rattle.control_flow.specs.Greens.{green_at};
 ghost use Rattle.net_numbers.specs.Outline.{link_at, turns_at};
 ghost use Rattle.road_net.specs.Joins.{split_of};
-ghost use Rattle.net_simulator.specs.Flow.{total};
+ghost use Rattle.road_net.specs.Totals.{total};
 ghost use Rattle.net_simulator.specs.Rows.{cell};
 ghost use Rattle.net_simulator.specs.Sums.{outward};
 ghost use Rattle.net_simulator.specs.Counts.{counts_at, counted, IsSmall};
@@ -16,7 +16,7 @@ use super::lights::Lights;
 use super::rows;
 use super::totals::LinkTotals;
 use control_flow::greens::Green;
-use road_net::Network;
+use road_net::{Network, part_of_turn};
 
 /// Looks once at the light of each node.
 pub(crate) fn look<T: Lights>(greens: &mut [Option<Green>], net: &Network, lights: &T, second: u32)
@@ -163,24 +163,13 @@ fn turn(recent: &mut [u32], net: &Network, l: u32, amount: u32, second: u32)
     if amount == 0 {
         return;
     }
-    let mut shares = 0;
     let mut before = 0;
     for turn in net.turns(l) {
-        shares += turn.share;
-        let turned = through(amount, shares);
+        let part = part_of_turn(amount, before, turn.share);
         let entered = rows::at(recent, turn.exit, second);
-        rows::put(recent, turn.exit, second, entered + (turned - before));
-        before = turned;
+        rows::put(recent, turn.exit, second, entered + part);
+        before += turn.share;
     }
-}
-
-/// What of an amount makes the turns with these shares together.
-fn through(amount: u32, shares: u32) -> u32
-    requires { shares ≤ 1000 }
-    ensures value { result ≡ amount * shares / 1000 }
-    ensures most { result ≤ amount }
-{
-    (u64::from(amount) * u64::from(shares) / 1000) as u32
 }
 
 /// What all links discharge enters the links into which it turns.

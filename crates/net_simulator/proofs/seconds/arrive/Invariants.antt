@@ -1,5 +1,5 @@
 use Rattle.std.proofs.Common.{◌≡◌, ◌≢◌, ℕ, ◌*◌, ◌%◌, ◌<◌, ◌≤◌}
-use Rattle.net_simulator.specs.Flow.{total}
+use Rattle.road_net.specs.Totals.{total}
 use Rattle.net_simulator.specs.Rows.{cell}
 use Rattle.net_simulator.specs.Arriving.{entering_of}
 use Rattle.net_simulator.proofs.seconds.arrive.Given as goal

@@ -1,6 +1,6 @@
 use Rattle.std.proofs.Common.{◌≡◌, ℕ, ◌-◌, ◌*◌, ◌<◌, ◌≤◌, slice_index}
 use Rattle.net_numbers.specs.Outline.{link_at}
-use Rattle.net_simulator.specs.Flow.{total}
+use Rattle.road_net.specs.Totals.{total}
 use Rattle.net_simulator.specs.Sums.{outward}
 use Rattle.net_simulator.specs.Steps.{goes, waits_at}
 use Rattle.net_simulator.proofs.seconds.leave.Given as goal

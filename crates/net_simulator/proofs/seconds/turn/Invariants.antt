@@ -1,4 +1,4 @@
-use Rattle.std.proofs.Common.{◌≡◌, ◌≢◌, ℕ, ◌*◌, ◌/◌, ◌%◌, length}
+use Rattle.std.proofs.Common.{◌≡◌, ◌≢◌, ℕ, ◌%◌, length}
 use Rattle.net_numbers.specs.Outline.{turns_at}
 use Rattle.road_net.specs.Joins.{shares_to}
 use Rattle.net_simulator.specs.Rows.{cell}
@@ -9,6 +9,5 @@ abbrev pub invariant-loop-turn : goal.invariant-loop-turn
 invariant-loop-turn l = record {
   here : AreTurned (turns_at l.net l.l) l.amount l.turn-index l.second (length l.net.link_names) l.initial.recent l.recent;
   others : (k y : ℕ) → y % 128 ≢ l.second % 128 → cell l.recent k y ≡ cell l.initial.recent k y;
-  shares : l.shares ≡ shares_to (turns_at l.net l.l) l.turn-index;
-  before : l.before ≡ l.amount * l.shares / 1000;
+  before : l.before ≡ shares_to (turns_at l.net l.l) l.turn-index;
 }
