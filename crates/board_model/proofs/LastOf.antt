@@ -1,9 +1,11 @@
--- Rising numbers, and one more behind the last.
-use Rattle.std.proofs.Common.{◌≡◌, ℕ, ◌+◌, ◌-◌, ◌<◌, List, [], ◌∷◌, ◌++◌, length, get_or, refl, sym, inl, inr, arith}
+-- Rising numbers: each pair of them, and one more behind the last.
+use Rattle.std.proofs.Common.{◌≡◌, ℕ, ◌+◌, ◌-◌, ◌<◌, List, [], ◌∷◌, ◌++◌, length, map, get_or, refl, sym, inl, inr, arith}
 use Rattle.std.specs.Prelude.{Some, slice_get}
+use Rattle.std.specs.List.{AllPairs}
 use Rattle.std.specs.List.Sorted.{IsStrictlyIncreasing}
 use Rattle.std.proofs.lemmas.Bool.{cases_lt}
-use Rattle.std.proofs.lemmas.List.{get_or_append_left, get_or_push, length_push}
+use Rattle.std.proofs.lemmas.List.{get_or_append_left, get_or_push, get_or-map, length-map, length_push}
+use Rattle.std.proofs.lemmas.List.Kept.{AllPairs-from_increasing}
 use Rattle.std.proofs.lemmas.Option.{slice_get-get_or, slice_get_read}
 use Rattle.board_model.specs.Forecasts.{IsAboveLast}
 
@@ -36,3 +38,9 @@ last-more xs x =
 -- what is above the one that was added is above the last
 pub IsAboveLast-more : (xs : List ℕ) (x n : ℕ) → x < n → IsAboveLast (xs ++ x ∷ []) n
 IsAboveLast-more xs x n below = rw (last-more xs x) below
+
+-- where the numbers of a list rise, each is below all later ones
+pub rising-apart : {X : Type 0} (n : X → ℕ) (xs : List X) → IsStrictlyIncreasing (map n xs) → AllPairs (λ early late. n early < n late) xs
+rising-apart n xs rising i j d before inside =
+    let long : length (map n xs) ≡ length xs = length-map xs n in
+    rw (← get_or-map n xs i d 0 (omega arith), ← get_or-map n xs j d 0 inside) (AllPairs-from_increasing (map n xs) rising i j 0 before (omega arith))

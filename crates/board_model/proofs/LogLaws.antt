@@ -40,7 +40,7 @@ reads-more events event legal read k =
     ]
 
 -- a legal log with one more event that may follow is legal
-IsLegal-more : (events : List BoardEvent) (event : BoardEvent) → IsLegal events → IsAboveLast (stamps events) event.stamp → IsReadOf (version_of events) event.kind → IsLegal (events ++ event ∷ [])
+pub IsLegal-more : (events : List BoardEvent) (event : BoardEvent) → IsLegal events → IsAboveLast (stamps events) event.stamp → IsReadOf (version_of events) event.kind → IsLegal (events ++ event ∷ [])
 IsLegal-more events event legal above read = record {
   rising = rw map-append (rising-more (stamps events) event.stamp legal.rising above);
   reads = reads-more events event legal read;

@@ -1,5 +1,5 @@
 -- The log of a board, as contracts see it.
-use Rattle.std.specs.Prelude.{◌≡◌, ℕ, List, [], ◌∷◌, ◌++◌, length, map, take, IfSome, ⊤, slice_get, slice_index_or}
+use Rattle.std.specs.Prelude.{◌≡◌, ℕ, ◌+◌, nat_le, filter, List, [], ◌∷◌, ◌++◌, length, map, take, IfSome, ⊤, slice_get, slice_index_or}
 use Rattle.std.specs.List.{flat_map}
 use Rattle.std.specs.List.Sorted.{IsStrictlyIncreasing}
 use Rattle.board_model.specs.declared.forecasts.Row.{Row}
@@ -54,3 +54,16 @@ after_read events stamp node = events ++ record { stamp = stamp; node = node; ki
 -- the events with one more: a node published this forecast
 abbrev pub after_publish : List BoardEvent → ℕ → ℕ → List Row → List BoardEvent
 after_publish events stamp node forecast = events ++ record { stamp = stamp; node = node; kind = Publish forecast } ∷ []
+
+-- the version that stands once the event at this place has happened: the one that it read, or made
+abbrev pub version_at : List BoardEvent → ℕ → ℕ
+version_at events place = version_of (take (place + 1) events)
+
+-- what the event at this place tells: a Read carries that version, and the forecast of a Publish is that version's
+abbrev pub Tells : List BoardEvent → ℕ → BoardKind → Type 0
+Tells events place (Read version) = version ≡ version_at events place
+Tells events place (Publish forecast) = forecast ≡ forecast_of events (version_at events place)
+
+-- the events up to a stamp
+abbrev pub up_to : ℕ → List BoardEvent → List BoardEvent
+up_to stamp events = filter (λ event. nat_le event.stamp stamp) events

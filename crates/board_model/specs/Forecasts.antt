@@ -1,7 +1,10 @@
 -- A forecast, as contracts see it: the list of its rows.
-use Rattle.std.specs.Prelude.{ℕ, ◌-◌, ◌<◌, ◌≤◌, ◌==◌, List, length, map, find, All, IfSome, slice_get, unwrap_or}
+use Rattle.std.specs.Prelude.{ℕ, Bool, ◌-◌, ◌<◌, ◌≤◌, ◌==◌, List, length, map, find, All, IfSome, slice_get, unwrap_or}
 use Rattle.std.specs.List.Sorted.{IsStrictlyIncreasing}
 use Rattle.std.specs.Option.{option_map}
+use Rattle.std.specs.Bool.{nat_eq}
+use Rattle.std.specs.Ordering.{on, eq_of_both}
+use Rattle.std.specs.Cmp.Lexicographic.{pointwise}
 use Rattle.board_model.specs.declared.forecasts.Row.{Row}
 
 -- n is above the last of the numbers, where there is one
@@ -27,3 +30,7 @@ pub record IsForecast (rows : List Row) : Type 0 where
 -- the amount of the row with this second, 0 where none has it
 abbrev pub amount_at : List Row → ℕ → ℕ
 amount_at rows second = unwrap_or (option_map (λ row. row.amount) (find (λ row. row.second == second) rows)) 0
+
+-- row by row the same second and the same amount
+abbrev pub have_same_rows : List Row → List Row → Bool
+have_same_rows = pointwise (eq_of_both (on (λ row. row.second) nat_eq) (on (λ row. row.amount) nat_eq))

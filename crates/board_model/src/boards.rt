@@ -7,7 +7,7 @@ use std::marker::Model;
 /// What a reader of a board sees: the newest version, with its forecast.
 ///
 /// docs/RULES.md, "Board".
-#[derive(Drop)]
+#[derive(Debug, PartialEq, Eq, Drop)]
 pub struct Seen {
     /// The version, from 0.
     pub version: u32,
@@ -22,7 +22,7 @@ impl CrossesThreads for Seen {}
 /// What a publisher is told: the version that its forecast became.
 ///
 /// docs/RULES.md, "Board".
-#[derive(Clone, Copy)]
+#[derive(Debug, Clone, Copy, PartialEq, Eq)]
 pub struct Sent {
     /// The version, from 1.
     pub version: u32,
@@ -35,7 +35,7 @@ impl CrossesThreads for Sent {}
 /// What was read of the board of one link.
 ///
 /// docs/RULES.md, "Board".
-#[derive(Drop)]
+#[derive(Debug, PartialEq, Eq, Drop)]
 pub struct Heard {
     /// The number of the link.
     pub link: u32,
@@ -50,7 +50,7 @@ impl CrossesThreads for Heard {}
 /// What a node did at a board.
 ///
 /// docs/RULES.md, "Board".
-#[derive(Drop)]
+#[derive(Debug, PartialEq, Eq, Drop)]
 pub enum BoardKind {
     /// It read this version.
     Read(u32),
@@ -63,7 +63,7 @@ impl CrossesThreads for BoardKind {}
 /// One event of a board's log.
 ///
 /// docs/RULES.md, "Board".
-#[derive(Drop)]
+#[derive(Debug, PartialEq, Eq, Drop)]
 pub struct BoardEvent {
     /// Which event was first: of two events the earlier one has the lower stamp.
     pub stamp: u64,

@@ -1,5 +1,7 @@
 // Forecasts: rows of seconds with amounts.
-ghost use Rattle.std.specs.Prelude.{◌≡◌, [], IfOk};
+ghost use Rattle.std.specs.Prelude.{◌≡◌, ◌<◌, ◌≤◌, [], IfOk, length};
+ghost use Rattle.std.specs.List.Sorted.{IsNonDecreasingBy, IsPartitionPoint};
+ghost use Rattle.board_model.specs.declared.forecasts.Row.{Row};
 
 use foundation::threads::CrossesThreads;
 use std::alloc::{AllocError, Global};
@@ -8,7 +10,7 @@ use std::marker::Model;
 /// One row of a forecast: how much comes in one second.
 ///
 /// docs/RULES.md, "Forecast".
-#[derive(Clone, Copy)]
+#[derive(Debug, Clone, Copy, PartialEq, Eq)]
 pub struct Row {
     /// The second, 0 to 100,000.
     pub second: u32,
@@ -18,11 +20,20 @@ pub struct Row {
 
 impl CrossesThreads for Row {}
 
+// The place of the first row that is not before the second, found by halves.
+fn first_from(rows: &[Row], second: u32) -> usize
+    requires { IsNonDecreasingBy (λ (row : Row). row.second) rows.now }
+    ensures bound { result ≤ length rows.now }
+    ensures split { IsPartitionPoint (λ (row : Row). row.second < second) (λ (row : Row). second ≤ row.second) rows.now result }
+{
+    rows.partition_point(|row| row.second < second)
+}
+
 /// Which vehicles will come, and when: at most 180 rows whose seconds rise strictly, each within its bounds. Contracts
 /// see it as the list of its rows.
 ///
 /// docs/RULES.md, "Forecast".
-#[derive(Drop)]
+#[derive(Debug, Drop)]
 pub struct Forecast {
     rows: Vec<Row>,
 }
@@ -41,6 +52,27 @@ impl Model for Forecast {
 }
 
 impl CrossesThreads for Forecast {}
+
+impl PartialEq for Forecast {
+    ghost use Rattle.std.proofs.Common.{rules};
+    ghost use Rattle.std.specs.Cmp.Rules.{comparing};
+    ghost use Rattle.board_model.specs.Forecasts.{have_same_rows};
+
+    ghost eq = { have_same_rows };
+
+    ghost laws = { Prim.search (comparing, rules) };
+
+    fn eq(&self, other: &Forecast) -> bool {
+        self.rows == other.rows
+    }
+}
+
+impl Eq for Forecast {
+    ghost use Rattle.std.proofs.Common.{rules};
+    ghost use Rattle.std.specs.Cmp.Rules.{comparing};
+
+    ghost laws = { Prim.search (comparing, rules) };
+}
 
 impl Forecast {
     ghost use Rattle.std.specs.Prelude.{◌≡◌, ◌<◌, ◌≤◌, [], ◌∷◌, ◌++◌, IfOk, if◌then◌else◌, is_ok, length};
@@ -91,11 +123,11 @@ impl Forecast {
         ensures value { result ≡ amount_at self.now second }
         ensures bounds { result ≤ 80000 }
     {
-        self.rows
-            .iter()
-            .find(|row| row.second == second)
-            .map(|row| row.amount)
-            .unwrap_or(0)
+        let rows = self.rows.as_slice();
+        match rows.get(first_from(rows, second)) {
+            Some(row) if row.second == second => row.amount,
+            _ => 0,
+        }
     }
 
     /// An equal forecast. An `Err` comes only where memory runs out.

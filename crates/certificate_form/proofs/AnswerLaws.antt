@@ -9,7 +9,7 @@ use Rattle.line_text.specs.Fields.{literal_at, field_at}
 use Rattle.line_text.proofs.Units.{literal_takes, literal_again, field_takes, field_again}
 use Rattle.instance_form.specs.InstanceText.{line}
 use Rattle.instance_form.specs.Reading.{◌>>=◌}
-use Rattle.instance_form.proofs.FormLaws.{same_Ok, some_from_ok}
+use Rattle.foundation.proofs.ResultLaws.{same_Ok, some_from_ok}
 use Rattle.schedule_meaning.specs.declared.planners.Answer.{Answer}
 use Rattle.schedule_meaning.specs.declared.planners.Answer.TheVariants.{Plan, NoPlan}
 use Rattle.certificate_form.specs.CertificateText.{answer_line, IsWritableAnswer}

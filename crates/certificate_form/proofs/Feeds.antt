@@ -13,11 +13,12 @@ use Rattle.line_text.proofs.Digits.{digits}
 use Rattle.phase_plan.specs.declared.Phase.{Phase}
 use Rattle.switch_rules.specs.declared.Head.{Head}
 use Rattle.switch_rules.specs.declared.Cluster.{Cluster}
-use Rattle.instance_form.specs.Faults.{line_feeds}
+use Rattle.line_text.specs.Lines.{line_feeds}
 use Rattle.instance_form.specs.InstanceText.{count_line, phase_line, head_line, cluster_lines, instance_text, line_count, IsWritable, IsWritableCluster}
 use Rattle.instance_form.specs.InstanceText as form
 use Rattle.instance_form.proofs.FormLaws.{regrouped_form, recursion_within}
-use Rattle.instance_form.proofs.FaultLaws.{IsLine, line_feeds-nil, line_feeds-append, line_feeds_once, first_is_line, last_is_line, count_is_line, head_is_line, feeds_in_phases, feeds_in_lists, fronts}
+use Rattle.line_text.proofs.Feeds.{IsTextLine as IsLine, line_feeds-nil, line_feeds-append, line_feeds_once, fronts}
+use Rattle.instance_form.proofs.FaultLaws.{first_is_line, last_is_line, count_is_line, head_is_line, feeds_in_phases, feeds_in_lists}
 use Rattle.schedule_meaning.specs.declared.planners.Answer.{Answer}
 use Rattle.schedule_meaning.specs.declared.planners.Answer.TheVariants.{Plan, NoPlan}
 use Rattle.certificate_form.specs.CertificateText.{answer_line, entry_line, IsWritableAnswer, IsWritableEntry}

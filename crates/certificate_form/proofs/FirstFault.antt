@@ -9,11 +9,13 @@ use Rattle.line_text.proofs.Units.{literal_again}
 use Rattle.phase_plan.specs.declared.Phase.{Phase}
 use Rattle.switch_rules.specs.declared.Head.{Head}
 use Rattle.switch_rules.specs.declared.Cluster.{Cluster}
-use Rattle.instance_form.specs.Faults.{line_feeds, BeginsText, BeginsFront}
+use Rattle.line_text.specs.Lines.{line_feeds}
+use Rattle.instance_form.specs.Faults.{BeginsText, BeginsFront}
 use Rattle.instance_form.specs.Faults as form_fault
 use Rattle.instance_form.specs.InstanceText.{instance_text, line_count, IsWritable, IsWritableCluster}
 use Rattle.instance_form.specs.InstanceText as form
-use Rattle.instance_form.proofs.FaultLaws.{IsLine, last_is_line, line_feeds-nil, line_feeds-append, line_feeds_once, fronts, next_line, spread}
+use Rattle.line_text.proofs.Feeds.{IsTextLine as IsLine, line_feeds-nil, line_feeds-append, line_feeds_once, fronts, next_line, spread}
+use Rattle.instance_form.proofs.FaultLaws.{last_is_line}
 use Rattle.instance_form.proofs.FormLaws.{text_once}
 use Rattle.schedule_meaning.specs.Instances.{Problem}
 use Rattle.schedule_meaning.specs.declared.planners.Answer.{Answer}

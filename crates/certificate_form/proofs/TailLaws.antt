@@ -10,7 +10,7 @@ use Rattle.std.proofs.lemmas.Option.{same_Some}
 use Rattle.line_text.specs.Fields.{literal_at, field_at}
 use Rattle.line_text.proofs.Units.{literal_takes, literal_again}
 use Rattle.instance_form.specs.Reading.{◌>>=◌}
-use Rattle.instance_form.proofs.FormLaws.{same_Ok, same_Err, no_Err, some_from_ok}
+use Rattle.foundation.proofs.ResultLaws.{same_Ok, same_Err, no_Err, some_from_ok}
 use Rattle.schedule_meaning.specs.declared.planners.Answer.{Answer}
 use Rattle.schedule_meaning.specs.declared.planners.Answer.TheVariants.{Plan, NoPlan}
 use Rattle.certificate_form.specs.CertificateText.{answer_line, entry_line, IsWritableAnswer, IsWritableEntry}

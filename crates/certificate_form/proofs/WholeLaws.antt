@@ -8,7 +8,7 @@ use Rattle.instance_form.specs.InstanceText.{line_count}
 use Rattle.instance_form.specs.Reading.{Fails}
 use Rattle.instance_form.specs.declared.form.FormFault.{FormFault}
 use Rattle.instance_form.specs.declared.form.FormFault.TheVariants.{Line, NoMemory}
-use Rattle.instance_form.proofs.FormLaws.{no_Err, same_Ok}
+use Rattle.foundation.proofs.ResultLaws.{no_Err, same_Ok}
 use Rattle.schedule_meaning.specs.Instances.{Problem}
 use Rattle.schedule_meaning.specs.declared.planners.Answer.{Answer}
 use Rattle.certificate_form.specs.CertificateText.{certificate_text, HasText}

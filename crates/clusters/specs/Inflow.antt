@@ -1,5 +1,5 @@
 -- What reaches the end of a link in the seconds that a planning looks ahead, and what leaves there.
-use Rattle.std.specs.Prelude.{◌≡◌, ℕ, ◌+◌, ◌-◌, ◌==◌, nat_lt, if◌then◌else◌, List, [], filter, find, is_some, map, slice_index, unwrap_or}
+use Rattle.std.specs.Prelude.{◌≡◌, ℕ, ◌+◌, ◌-◌, ◌==◌, nat_lt, if◌then◌else◌, List, [], find, map, slice_index, unwrap_or}
 use Rattle.std.specs.List.{range_with_len}
 use Rattle.std.specs.Option.{option_map}
 use Rattle.board_model.specs.declared.boards.Heard.{Heard}
@@ -7,16 +7,12 @@ use Rattle.board_model.specs.declared.forecasts.Row.{Row}
 use Rattle.board_model.specs.Forecasts.{amount_at}
 use Rattle.net_numbers.specs.Numbers.{Net}
 use Rattle.net_numbers.specs.Outline.{link_at}
-use Rattle.road_net.specs.Network.{entry_links}
+use Rattle.road_net.specs.Network.{heard_links}
 use Rattle.road_net.specs.declared.senses.LinkSense.{LinkSense}
 use Rattle.road_net.specs.declared.senses.Sensed.{Sensed}
 use Rattle.clusters.specs.Smoothing.{smoothed}
 
--- the entry links of a node that come from a node, rising
-abbrev pub heard_links : Net → ℕ → List ℕ
-heard_links net node = filter (λ l. is_some (link_at net l).from) (entry_links net node)
-
--- one reading for each of these links, in their order
+-- one reading for each entry link of a node that comes from a node, in their order
 abbrev pub IsHeardOf : Net → ℕ → List Heard → Type 0
 IsHeardOf net node heard = map (λ h. h.link) heard ≡ heard_links net node
 

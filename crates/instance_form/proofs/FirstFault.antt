@@ -1,12 +1,20 @@
 -- Each fault of reading a text is the first line that has not the form of its place.
-use Rattle.std.proofs.Common.{◌≡◌, ℕ, zero, suc, ◌+◌, ◌-◌, ◌^◌, ◌<◌, ◌≤◌, ◌⊎◌, false, List, [], ◌∷◌, ◌++◌, length, Option, Some, None, Result, Ok, Err, refl, sym, ap, subst, ◌∙◌, inl, inr, append_assoc, arith}
+use Rattle.std.proofs.Common.{◌≡◌, ℕ, zero, suc, ◌+◌, ◌-◌, ◌^◌, ◌<◌, ◌≤◌, ◌⊎◌, false, List, [], ◌∷◌, ◌++◌, length, Some, None, Result, Ok, Err, refl, sym, ap, ◌∙◌, inl, inr, append_assoc, arith}
 use Rattle.std.specs.Prelude.{codes, sum_by, replicate, IfErr}
 use Rattle.std.specs.Borrow.{Bor}
 use Rattle.std.specs.List.{flat_map, All, AllByRecursion}
-use Rattle.std.specs.Option.{ok_or, option_map_or}
+use Rattle.std.specs.Option.{ok_or}
 use Rattle.std.proofs.lemmas.List.{append-nil, append_cancel_left, length-append, length-replicate}
 use Rattle.std.proofs.lemmas.List.Concat.{flat_map-append}
 use Rattle.std.proofs.lemmas.List.Elements.{All-from_recursion, recursion_from_All, All-append, All-replicate}
+use Rattle.std.proofs.lemmas.Option.{same_Some}
+use Rattle.foundation.proofs.OptionLaws.{none-and-some}
+use Rattle.foundation.proofs.ResultLaws.{on_err, none_from_err, same_Ok, no_Err, some_from_ok}
+use Rattle.line_text.specs.Lines.{line_feeds}
+use Rattle.line_text.specs.Many.{many_at}
+use Rattle.line_text.proofs.Feeds.{spread, next_line, line_feeds-nil, line_feeds-append, line_feeds_once}
+use Rattle.line_text.proofs.ManyLaws.{many_rest}
+use Rattle.line_text.proofs.FirstLine.{faulty-number}
 use Rattle.line_text.proofs.Units.{literal_takes, literal_again}
 use Rattle.line_text.specs.Fields.{literal_at}
 use Rattle.phase_plan.specs.declared.Phase.{Phase}
@@ -15,32 +23,25 @@ use Rattle.switch_rules.specs.declared.Cluster.{Cluster}
 use Rattle.instance_form.specs.declared.form.Form.{Form}
 use Rattle.instance_form.specs.declared.form.FormFault.{FormFault}
 use Rattle.instance_form.specs.declared.form.FormFault.TheVariants.{Line, NoMemory}
-use Rattle.instance_form.specs.Faults.{line_feeds, BeginsText, BeginsFront, IsFirstFault, IsFaultOf}
+use Rattle.instance_form.specs.Faults.{BeginsText, BeginsFront, IsFirstFault, IsFaultOf}
 use Rattle.instance_form.specs.InstanceText.{line, count_line, phase_line, head_line, cluster_line, cluster_lines, instance_text, line_count, IsWritable, IsWritableHead, IsWritableCluster, HasText}
 use Rattle.instance_form.specs.Lines.{count_line_at, phase_line_at, head_line_at, cluster_line_at}
-use Rattle.instance_form.specs.Reading.{◌>>=◌, Gives, Parts, parts_of, opening_at, phases_at, clusters_at, lists_at, form_at}
-use Rattle.instance_form.proofs.LineLaws.{count_again, phase_takes, phase_again, head_takes, head_again, cluster_takes, cluster_again, cluster_other, cluster_end, cluster_nothing}
-use Rattle.instance_form.proofs.FormLaws.{same_Ok, same_Err, no_Err, some_from_ok, opening_takes, opening_again, phases_take, phases_again, clusters_take, lists_take, later_lines, regrouped_form, text_once, all_within, recursion_within}
-use Rattle.instance_form.proofs.FaultLaws.{NextLine, spread, next_line, fault_from, first_is_line, last_is_line, count_is_line, phase_is_line, head_is_line, cluster_is_line, line_feeds-nil, line_feeds-append, line_feeds_once, feeds_in_phases, feeds_in_lists}
-
-some_is : {A : Type 0} (x y : A) → Some x ≡ Some y → x ≡ y
-some_is x y e = cc
-
--- what cannot be read is not there
-unread : {A : Type 0} (o : Option A) (x : A) → o ≡ None → o ≡ Some x → ⊥
-unread {A} o x none some = let both : ◌≡◌ {A = Option A} None (Some x) = sym none ∙ some in absurd cc
+use Rattle.instance_form.specs.Reading.{Gives, Parts, parts_of, opening_at, phases_at, lists_at, form_at}
+use Rattle.instance_form.proofs.LineLaws.{count_again, phase_takes, phase_again, head_takes, head_again, cluster_takes, cluster_again, cluster_other, cluster_end}
+use Rattle.instance_form.proofs.FormLaws.{opening_takes, opening_again, phases_take, phases_again, clusters_take, lists_take, later_lines, regrouped_form, text_once, all_within, recursion_within}
+use Rattle.instance_form.proofs.FaultLaws.{GoesOnWith, fault_from, first_is_line, last_is_line, count_is_line, phase_is_line, head_is_line, cluster_is_line, feeds_in_phases, feeds_in_lists}
 
 no_phase_at : (R u : List ℕ) (p : Phase) → phase_line_at R ≡ None → IsWritable p → R ≡ phase_line p ++ u → ⊥
-no_phase_at R u p none fits e = unread (phase_line_at R) (p, u) none (ap phase_line_at e ∙ phase_again p u fits)
+no_phase_at R u p none fits e = none-and-some (phase_line_at R) (p, u) none (ap phase_line_at e ∙ phase_again p u fits)
 
 no_head_at : (R u : List ℕ) (h : Head) → head_line_at R ≡ None → IsWritableHead h → R ≡ head_line h ++ u → ⊥
-no_head_at R u h none fits e = unread (head_line_at R) (h, u) none (ap head_line_at e ∙ head_again h u fits)
+no_head_at R u h none fits e = none-and-some (head_line_at R) (h, u) none (ap head_line_at e ∙ head_again h u fits)
 
 no_cluster_at : (k : ℕ) (R u : List ℕ) (c : Cluster) → cluster_line_at k R ≡ None → k < 2 ^ 8 → IsWritableCluster c → R ≡ cluster_line k c ++ u → ⊥
-no_cluster_at k R u c none k_lt fits e = unread (cluster_line_at k R) (c, u) none (ap (cluster_line_at k) e ∙ cluster_again k c u k_lt fits)
+no_cluster_at k R u c none k_lt fits e = none-and-some (cluster_line_at k R) (c, u) none (ap (cluster_line_at k) e ∙ cluster_again k c u k_lt fits)
 
 no_literal_at : (text R u : List ℕ) → literal_at text R ≡ None → R ≡ text ++ u → ⊥
-no_literal_at text R u none e = unread (literal_at text R) u none (ap (literal_at text) e ∙ literal_again text u)
+no_literal_at text R u none e = none-and-some (literal_at text R) u none (ap (literal_at text) e ∙ literal_again text u)
 
 -- ---- texts that go on from what was read
 
@@ -175,7 +176,7 @@ next_phase [] (q ∷ qs) tail T few fits small e = (q, flat_map phase_line qs ++
 next_phase (p ∷ ps) (q ∷ qs) tail T few fits small e =
     let joined : phase_line q ++ (flat_map phase_line qs ++ tail) ≡ phase_line p ++ (flat_map phase_line ps ++ T) =
     sym (append_assoc (phase_line q) (flat_map phase_line qs) tail) ∙ e ∙ append_assoc (phase_line p) (flat_map phase_line ps) T in
-    let same = some_is (q, flat_map phase_line qs ++ tail) (p, flat_map phase_line ps ++ T) (sym (phase_again q (flat_map phase_line qs ++ tail) small.0) ∙ ap phase_line_at joined ∙ phase_again p (flat_map phase_line ps ++ T) fits.0) in
+    let same = same_Some (q, flat_map phase_line qs ++ tail) (p, flat_map phase_line ps ++ T) (sym (phase_again q (flat_map phase_line qs ++ tail) small.0) ∙ ap phase_line_at joined ∙ phase_again p (flat_map phase_line ps ++ T) fits.0) in
     next_phase ps qs tail T (omega arith) fits.1 small.1 (ap (λ (x : Phase × List ℕ). x.1) same)
 
 -- after all phases
@@ -201,22 +202,14 @@ shorter k bytes x h =
     omega (arith, ap length t.spelled, joined)
 
 -- reading of one phase's clusters stops only where none follows
-stops : (most k : ℕ) (bytes : List ℕ) → length bytes ≤ most → cluster_line_at k (clusters_at most k bytes).1 ≡ None
-unfolding clusters_at
-stops zero k [] le = cluster_nothing k
-stops zero k (b ∷ bytes) le = absurd (omega arith)
-stops (suc most) k bytes le = by_line (cluster_line_at k bytes) refl (stops most k)
-  where
-    by_line : (o : Option (Cluster × List ℕ)) → cluster_line_at k bytes ≡ o → ((rest : List ℕ) → length rest ≤ most → cluster_line_at k (clusters_at most k rest).1 ≡ None)
-        → cluster_line_at k (option_map_or {U = List Cluster × List ℕ} (λ first. let others = clusters_at most k first.1 in (first.0 ∷ others.0, others.1)) o ([], bytes)).1 ≡ None
-    by_line None h more = h
-    by_line (Some first) h more = let lt = shorter k bytes first h in more first.1 (omega arith)
+stops : (most k : ℕ) (bytes : List ℕ) → length bytes ≤ most → cluster_line_at k (many_at (cluster_line_at k) most bytes).1 ≡ None
+stops most k bytes le = many_rest (cluster_line_at k) (shorter k) most bytes le
 
 lists_read : (n k : ℕ) (bytes : List ℕ) → Reads k bytes (lists_at n k bytes).0 (lists_at n k bytes).1
 unfolding lists_at
 lists_read zero k bytes = refl
 lists_read (suc n) k bytes =
-    let list = clusters_at (length bytes) k bytes in
+    let list = many_at (cluster_line_at k) (length bytes) bytes in
     (list.1, (clusters_take (length bytes) k bytes).spelled, stops (length bytes) k bytes (omega arith), lists_read n (k + 1) list.1)
 
 -- a cluster's line of an earlier phase is followed by no later phase's
@@ -230,7 +223,7 @@ only_empty k j ((d ∷ ds) ∷ ls) mid R T c t lt few fits read e =
     let tail = flat_map (cluster_line j) ds in
     let regrouped : cluster_lines j ((d ∷ ds) ∷ ls) ++ T ≡ cluster_line j d ++ (tail ++ (cluster_lines (j + 1) ls ++ T)) =
     append_assoc (cluster_line j d ++ tail) (cluster_lines (j + 1) ls) T ∙ append_assoc (cluster_line j d) tail (cluster_lines (j + 1) ls ++ T) in
-    absurd (unread (cluster_line_at k (cluster_line k c ++ t)) (c, t)
+    absurd (none-and-some (cluster_line_at k (cluster_line k c ++ t)) (c, t)
     (ap (cluster_line_at k) (sym e ∙ regrouped) ∙ cluster_other k j d (tail ++ (cluster_lines (j + 1) ls ++ T)) (omega arith) (omega arith)) (cluster_again k c t (omega arith) fits))
 
 -- two runs of one phase's clusters
@@ -240,11 +233,11 @@ heads k [] [] A B k_lt fits small none e = inl e
 heads k [] (d ∷ ds) A B k_lt fits small none e = inr (d, flat_map (cluster_line k) ds ++ B, small.0, sym e ∙ append_assoc (cluster_line k d) (flat_map (cluster_line k) ds) B)
 heads k (c ∷ cs) [] A B k_lt fits small none e =
     let joined = e ∙ append_assoc (cluster_line k c) (flat_map (cluster_line k) cs) A in
-    absurd (unread (cluster_line_at k B) (c, flat_map (cluster_line k) cs ++ A) none (ap (cluster_line_at k) joined ∙ cluster_again k c (flat_map (cluster_line k) cs ++ A) k_lt fits.0))
+    absurd (none-and-some (cluster_line_at k B) (c, flat_map (cluster_line k) cs ++ A) none (ap (cluster_line_at k) joined ∙ cluster_again k c (flat_map (cluster_line k) cs ++ A) k_lt fits.0))
 heads k (c ∷ cs) (d ∷ ds) A B k_lt fits small none e =
     let joined : cluster_line k d ++ (flat_map (cluster_line k) ds ++ B) ≡ cluster_line k c ++ (flat_map (cluster_line k) cs ++ A) =
     sym (append_assoc (cluster_line k d) (flat_map (cluster_line k) ds) B) ∙ e ∙ append_assoc (cluster_line k c) (flat_map (cluster_line k) cs) A in
-    let same = some_is (d, flat_map (cluster_line k) ds ++ B) (c, flat_map (cluster_line k) cs ++ A)
+    let same = same_Some (d, flat_map (cluster_line k) ds ++ B) (c, flat_map (cluster_line k) cs ++ A)
     (sym (cluster_again k d (flat_map (cluster_line k) ds ++ B) k_lt small.0) ∙ ap (cluster_line_at k) joined ∙ cluster_again k c (flat_map (cluster_line k) cs ++ A) k_lt fits.0) in
     heads k cs ds A B k_lt fits.1 small.1 none (ap (λ (x : Cluster × List ℕ). x.1) same)
 
@@ -270,17 +263,8 @@ next_cluster (l ∷ ls) (m ∷ ms) k bytes R T x few len fits small read e =
 
 -- ---- the faults, one after another
 
--- a step that fails, or one after it
-on_err : {A B P : Type 0} (r : Result A ℕ) {f : A → Result B ℕ} {n : ℕ} → (r >>= f) ≡ Err n → (r ≡ Err n → P) → ((x : A) → r ≡ Ok x → f x ≡ Err n → P) → P
-on_err (Ok x) e here later = later x refl e
-on_err (Err m) e here later = here (ap (λ k. Err k) (same_Err m _ e))
-
-none_from_err : {A : Type 0} (o : Option A) (line n : ℕ) → ok_or o line ≡ Err n → (o ≡ None) × (line ≡ n)
-none_from_err (Some x) line n e = absurd cc
-none_from_err None line n e = (refl, same_Err line n e)
-
 at_number : (first m n : ℕ) (bytes : List ℕ) → m ≡ n → IsFirstFault BeginsFront first m bytes → IsFirstFault BeginsFront first n bytes
-at_number first m n bytes e fault = subst (λ k. IsFirstFault BeginsFront first k bytes) e fault
+at_number first m n bytes e fault = faulty-number BeginsText BeginsFront first bytes m n e fault
 
 first_line_fault : (first n : ℕ) (bytes : List ℕ) → literal_at (codes "instance 1\n") bytes ≡ None → first ≡ n → IsFirstFault BeginsFront first n bytes
 first_line_fault first n bytes none is =
@@ -301,7 +285,7 @@ count_line_fault first n bytes rest spelled none is =
       after = tail;
       is_line = count_is_line (length g.plan) g.fits.count.1;
       parts = append_cancel_left (codes "instance 1\n") g.rest (count_line (length g.plan) ++ tail) (sym g.text ∙ regrouped_form g.plan g.head g.lists g.after);
-      apart = λ u e. unread (count_line_at rest) (length g.plan, u) none (ap count_line_at e ∙ count_again (length g.plan) u g.fits.count.0 g.fits.count.1);
+      apart = λ u e. none-and-some (count_line_at rest) (length g.plan, u) none (ap count_line_at e ∙ count_again (length g.plan) u g.fits.count.0 g.fits.count.1);
     }))
 
 opening_fault : (first n : ℕ) (bytes : List ℕ) → opening_at first bytes ≡ Err n → IsFirstFault BeginsFront first n bytes
@@ -415,9 +399,9 @@ last_line_fault first n count bytes R ps h lists clusters low high spelled len e
     let whole : bytes ≡ F ++ R = spelled ∙ sym (opening-append count (flat_map phase_line ps ++ (head_line h ++ (cluster_lines 0 lists ++ R)))) ∙ sym (body-append count ps h lists R) in
     at_number first (first + line_feeds F) n bytes (omega (arith, feeds_in_body count ps h lists high (omega arith) fits small all)) (fault_from first bytes F R whole (begins_body count ps h lists len text) (λ g. follows g))
   where
-    go_on : (plan : List Phase) (k : Head) (queues : List (List Cluster)) (x T : List ℕ) → HasText plan k queues → length plan ≡ count → head_line k ++ (cluster_lines 0 queues ++ (codes "end\n" ++ x)) ≡ head_line h ++ (cluster_lines 0 lists ++ T) → NextLine T R
+    go_on : (plan : List Phase) (k : Head) (queues : List (List Cluster)) (x T : List ℕ) → HasText plan k queues → length plan ≡ count → head_line k ++ (cluster_lines 0 queues ++ (codes "end\n" ++ x)) ≡ head_line h ++ (cluster_lines 0 lists ++ T) → GoesOnWith T R
     go_on plan k queues x T has same e =
-        let heads_same = some_is (k, cluster_lines 0 queues ++ (codes "end\n" ++ x)) (h, cluster_lines 0 lists ++ T)
+        let heads_same = same_Some (k, cluster_lines 0 queues ++ (codes "end\n" ++ x)) (h, cluster_lines 0 lists ++ T)
         (sym (head_again k (cluster_lines 0 queues ++ (codes "end\n" ++ x)) has.head) ∙ ap head_line_at e ∙ head_again h (cluster_lines 0 lists ++ T) small) in
         let tails : cluster_lines 0 queues ++ (codes "end\n" ++ x) ≡ cluster_lines 0 lists ++ T = ap (λ (y : Head × List ℕ). y.1) heads_same in
         let as_many : length queues ≡ length lists = has.each ∙ same ∙ sym each in
@@ -433,7 +417,7 @@ last_line_fault first n count bytes R ps h lists clusters low high spelled len e
           }
         ]
 
-    follows : (g : BeginsFront (body count ps h lists)) → NextLine g.rest R
+    follows : (g : BeginsFront (body count ps h lists)) → GoesOnWith g.rest R
     follows g =
         let clusters_on = cluster_lines 0 lists ++ g.rest in
         let T = flat_map phase_line ps ++ (head_line h ++ clusters_on) in

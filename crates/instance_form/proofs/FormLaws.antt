@@ -1,11 +1,14 @@
 -- Reading a whole text: where it fails at the last line, what it takes, and that what was written is read.
-use Rattle.std.proofs.Common.{◌≡◌, ℕ, zero, suc, ◌+◌, ◌^◌, ◌<◌, ◌≤◌, List, [], ◌∷◌, ◌++◌, length, Option, Some, None, Result, Ok, Err, refl, sym, ap, subst, ◌∙◌, append_assoc, arith}
+use Rattle.std.proofs.Common.{◌≡◌, ℕ, zero, suc, ◌+◌, ◌^◌, ◌<◌, ◌≤◌, List, [], ◌∷◌, ◌++◌, length, Option, None, Result, Ok, Err, refl, sym, ap, subst, ◌∙◌, append_assoc, arith}
 use Rattle.std.specs.Prelude.{codes, sum_by, IfOk, MatchResult}
 use Rattle.std.specs.Borrow.{Bor}
 use Rattle.std.specs.List.{flat_map, concat, All, AllByRecursion}
 use Rattle.std.proofs.lemmas.List.Elements.{All-from_recursion, recursion_from_All}
-use Rattle.std.specs.Option.{ok_or, option_map_or}
+use Rattle.std.specs.Option.{ok_or}
 use Rattle.std.proofs.lemmas.List.{append-nil, length-append}
+use Rattle.foundation.proofs.ResultLaws.{then_ok, same_Ok, no_Err, some_from_ok}
+use Rattle.line_text.specs.Many.{many_at}
+use Rattle.line_text.proofs.ManyLaws.{TakesMany, many_take, many_again, few_texts}
 use Rattle.line_text.proofs.Units.{literal_takes, literal_again}
 use Rattle.line_text.specs.Fields.{literal_at}
 use Rattle.phase_plan.specs.declared.Phase.{Phase}
@@ -18,8 +21,7 @@ use Rattle.instance_form.specs.Lines.{count_line_at, phase_line_at, head_line_at
 use Rattle.instance_form.specs.Answers.{Says, IsWant}
 use Rattle.instance_form.specs.InstanceText.{count_line, phase_line, head_line, cluster_line, cluster_lines, instance_text, line_count, IsWritable, IsWritableCluster, HasText}
 use Rattle.instance_form.proofs.LineLaws.{count_takes, count_again, phase_takes, phase_again, head_takes, head_again, cluster_takes, cluster_again, cluster_other, cluster_end}
-use Rattle.instance_form.proofs.Loops.{clusters_stop}
-use Rattle.instance_form.specs.Reading.{◌>>=◌, Fails, Gives, Parts, parts_of, opening_at, phases_at, clusters_at, lists_at, form_at}
+use Rattle.instance_form.specs.Reading.{◌>>=◌, Fails, Gives, Parts, parts_of, opening_at, phases_at, lists_at, form_at}
 
 -- what fails, fails whatever comes after it
 fails_along : {A B : Type 0} (e : FormFault) (read : Result A ℕ) (f : A → Result B ℕ) → Fails e read → Fails e (read >>= f)
@@ -31,24 +33,6 @@ pub closing_fails : (e : FormFault) (line : ℕ) (bytes : List ℕ) (count : ℕ
     → Fails e (ok_or (literal_at (codes "end\n") lists.1) (line + 2 + count.0 + 1 + sum_by (λ list. length list) lists.0)) → Fails e (form_at line bytes)
 unfolding form_at
 closing_fails e line bytes count plan head lists a b c d h = rw (a, b, c, d) (fails_along e _ _ h)
-
--- a step that did not fail
-then_ok : {A B P : Type 0} (r : Result A ℕ) {f : A → Result B ℕ} {y : B} → (r >>= f) ≡ Ok y → ((x : A) → r ≡ Ok x → f x ≡ Ok y → P) → P
-then_ok (Ok x) e go = go x refl e
-then_ok (Err n) e go = absurd cc
-
-pub same_Ok : {A : Type 0} (x y : A) → ◌≡◌ {A = Result A ℕ} (Ok x) (Ok y) → x ≡ y
-same_Ok x y e = cc
-
-pub same_Err : {A : Type 0} (m n : ℕ) → ◌≡◌ {A = Result A ℕ} (Err m) (Err n) → m ≡ n
-same_Err m n e = cc
-
-pub no_Err : {A : Type 0} {r : Result A ℕ} {x : A} {n : ℕ} → r ≡ Ok x → r ≡ Err n → ⊥
-no_Err {A} {x = x} {n = n} e f = let both : ◌≡◌ {A = Result A ℕ} (Ok x) (Err n) = sym e ∙ f in absurd cc
-
-pub some_from_ok : {A : Type 0} (o : Option A) (n : ℕ) (x : A) → ok_or o n ≡ Ok x → o ≡ Some x
-some_from_ok (Some y) n x e = ap (λ z. Some z) (same_Ok y x e)
-some_from_ok None n x e = absurd cc
 
 -- ---- the opening
 
@@ -87,44 +71,18 @@ phases_again (p ∷ ps) line rest fits =
 
 -- ---- the clusters of one phase
 
-pub record Takes_clusters (k : ℕ) (bytes : List ℕ) (x : List Cluster × List ℕ) : Type 0 where
-  pub spelled : bytes ≡ flat_map (cluster_line k) x.0 ++ x.1
-  pub small : AllByRecursion IsWritableCluster x.0
-
-pub clusters_take : (most k : ℕ) (bytes : List ℕ) → Takes_clusters k bytes (clusters_at most k bytes)
-unfolding clusters_at
-clusters_take zero k bytes = record { spelled = refl; small = tt }
-clusters_take (suc most) k bytes = by_line (cluster_line_at k bytes) refl (clusters_take most k)
-  where
-    by_line : (o : Option (Cluster × List ℕ)) → cluster_line_at k bytes ≡ o → ((rest : List ℕ) → Takes_clusters k rest (clusters_at most k rest))
-        → Takes_clusters k bytes (option_map_or (λ first. let others = clusters_at most k first.1 in (first.0 ∷ others.0, others.1)) o ([], bytes))
-    by_line None h more = record { spelled = refl; small = tt }
-    by_line (Some first) h more =
-        let one = cluster_takes k bytes first h in
-        let others = more first.1 in
-        let tail = clusters_at most k first.1 in
-        record {
-          spelled = one.spelled ∙ ap (λ (y : List ℕ). cluster_line k first.0 ++ y) others.spelled ∙ sym (append_assoc (cluster_line k first.0) (flat_map (cluster_line k) tail.0) tail.1);
-          small = (one.small, others.small);
-        }
-
-clusters_again : (cs : List Cluster) (most k : ℕ) (rest : List ℕ) → length cs ≤ most → k < 2 ^ 8 → AllByRecursion IsWritableCluster cs → cluster_line_at k rest ≡ None
-    → clusters_at most k (flat_map (cluster_line k) cs ++ rest) ≡ (cs, rest)
-unfolding clusters_at
-clusters_again [] most k rest few k_lt fits none = clusters_stop most k rest none
-clusters_again (c ∷ cs) zero k rest few k_lt fits none = absurd (omega arith)
-clusters_again (c ∷ cs) (suc most) k rest few k_lt fits none =
-    let regrouped : flat_map (cluster_line k) (c ∷ cs) ++ rest ≡ cluster_line k c ++ (flat_map (cluster_line k) cs ++ rest) = append_assoc (cluster_line k c) (flat_map (cluster_line k) cs) rest in
-    ap (clusters_at (suc most) k) regrouped ∙ rw (cluster_again k c (flat_map (cluster_line k) cs ++ rest) k_lt fits.0, clusters_again cs most k rest (omega arith) k_lt fits.1 none) refl
+-- the clusters that are read, each with its line
+pub clusters_take : (most k : ℕ) (bytes : List ℕ) → TakesMany (cluster_line k) IsWritableCluster bytes (many_at (cluster_line_at k) most bytes)
+clusters_take most k bytes = many_take (cluster_line_at k) (cluster_line k) IsWritableCluster (λ bytes x h. let one = cluster_takes k bytes x h in (one.spelled, one.small)) most bytes
 
 -- each line has a byte
 few_lines : (k : ℕ) (cs : List Cluster) (rest : List ℕ) → length cs ≤ length (flat_map (cluster_line k) cs ++ rest)
-few_lines k [] rest = omega arith
-few_lines k (c ∷ cs) rest =
-    let more = few_lines k cs rest in
-    let regrouped = ap length (append_assoc (cluster_line k c) (flat_map (cluster_line k) cs) rest) in
-    let sum = length-append (cluster_line k c) (flat_map (cluster_line k) cs ++ rest) in
-    omega (arith, more, regrouped, sum)
+few_lines k cs rest = few_texts (cluster_line k) (λ c. omega (arith, length-append {A = ℕ})) cs rest
+
+clusters_again : (cs : List Cluster) (k : ℕ) (rest : List ℕ) → k < 2 ^ 8 → AllByRecursion IsWritableCluster cs → cluster_line_at k rest ≡ None
+    → many_at (cluster_line_at k) (length (flat_map (cluster_line k) cs ++ rest)) (flat_map (cluster_line k) cs ++ rest) ≡ (cs, rest)
+clusters_again cs k rest k_lt fits none =
+    many_again (cluster_line_at k) (cluster_line k) IsWritableCluster (λ c after h. cluster_again k c after k_lt h) cs (length (flat_map (cluster_line k) cs ++ rest)) rest (few_lines k cs rest) fits none
 
 -- ---- the clusters of each phase
 
@@ -137,7 +95,7 @@ pub lists_take : (n k : ℕ) (bytes : List ℕ) → Takes_lists n k bytes (lists
 unfolding lists_at
 lists_take zero k bytes = record { spelled = refl; each = refl; small = tt }
 lists_take (suc n) k bytes =
-    let list = clusters_at (length bytes) k bytes in
+    let list = many_at (cluster_line_at k) (length bytes) bytes in
     let others = lists_at n (k + 1) list.1 in
     let one = clusters_take (length bytes) k bytes in
     let more = lists_take n (k + 1) list.1 in
@@ -165,7 +123,7 @@ lists_again (cs ∷ ls) k rest few fits none =
     let tail = cluster_lines (k + 1) ls ++ rest in
     let bytes = flat_map (cluster_line k) cs ++ tail in
     let regrouped : cluster_lines k (cs ∷ ls) ++ rest ≡ bytes = append_assoc (flat_map (cluster_line k) cs) (cluster_lines (k + 1) ls) rest in
-    let first : clusters_at (length bytes) k bytes ≡ (cs, tail) = clusters_again cs (length bytes) k tail (few_lines k cs tail) (omega arith) fits.0 (later_lines k (k + 1) ls rest (omega arith) (omega arith) (none k)) in
+    let first : many_at (cluster_line_at k) (length bytes) bytes ≡ (cs, tail) = clusters_again cs k tail (omega arith) fits.0 (later_lines k (k + 1) ls rest (omega arith) (omega arith) (none k)) in
     let more : lists_at (length ls) (k + 1) tail ≡ (ls, rest) = lists_again ls (k + 1) rest (omega arith) fits.1 none in
     let with_more : List Cluster × List ℕ → List (List Cluster) × List ℕ = λ l. (l.0 ∷ (lists_at (length ls) (k + 1) l.1).0, (lists_at (length ls) (k + 1) l.1).1) in
     ap (lists_at (suc (length ls)) k) regrouped ∙ ap with_more first ∙ ap (λ (m : List (List Cluster) × List ℕ). (cs ∷ m.0, m.1)) more

@@ -1,12 +1,14 @@
 -- Reading line after line, as the loops do: what was read before, and what is still read.
-use Rattle.std.proofs.Common.{◌≡◌, ℕ, zero, suc, ◌+◌, ◌-◌, ◌<◌, ◌≤◌, List, [], ◌∷◌, ◌++◌, length, Option, Some, None, Result, Ok, Err, refl, sym, ap, ◌∙◌, append_assoc, arith}
+use Rattle.std.proofs.Common.{◌≡◌, ℕ, suc, ◌+◌, ◌-◌, ◌<◌, ◌≤◌, List, [], ◌∷◌, ◌++◌, length, Option, Some, None, Result, Ok, Err, refl, sym, ap, ◌∙◌, append_assoc, arith}
 use Rattle.std.specs.Option.{ok_or}
 use Rattle.std.proofs.lemmas.List.{append-nil}
+use Rattle.line_text.specs.Many.{many_at}
+use Rattle.line_text.proofs.ManyLaws.{after, regroup}
 use Rattle.phase_plan.specs.declared.Phase.{Phase}
 use Rattle.switch_rules.specs.declared.Cluster.{Cluster}
 use Rattle.instance_form.specs.declared.form.FormFault.{FormFault}
 use Rattle.instance_form.specs.Lines.{phase_line_at, cluster_line_at}
-use Rattle.instance_form.specs.Reading.{◌>>=◌, phases_at, clusters_at, lists_at}
+use Rattle.instance_form.specs.Reading.{◌>>=◌, phases_at, lists_at}
 
 -- the fault in place of a value that is not there
 pub fault_is : {A : Type 0} (o : Option A) (e f : FormFault) → o ≡ None → ◌≡◌ {A = Result A FormFault} (Err e) (ok_or o f) → e ≡ f
@@ -47,34 +49,9 @@ phases_end front count i line bytes total le so_far =
     let one : with_phases front (phases_at (count - i) (line + i) bytes) ≡ Ok (front, bytes) = rw k (ap (λ (ps : List Phase). Ok (ps, bytes)) (append-nil front)) in
     sym so_far ∙ one
 
--- ---- clusters, and their lists
+-- ---- lists of clusters
 
-abbrev pub after : {A : Type 0} → List A → List A × List ℕ → List A × List ℕ
-after front read = (front ++ read.0, read.1)
-
-regroup : {A : Type 0} (front : List A) (x : A) (read : List A × List ℕ) → after front (x ∷ read.0, read.1) ≡ after (front ++ x ∷ []) read
-regroup {A} front x read = ap (λ (xs : List A). (xs, read.1)) (sym (append_assoc front (x ∷ []) read.0))
-
-pub clusters_go_on : (front : List Cluster) (most phase : ℕ) (bytes : List ℕ) (c : Cluster) (rest : List ℕ) (total : List Cluster × List ℕ) → length front < most → cluster_line_at phase bytes ≡ Some (c, rest)
-    → after front (clusters_at (most - length front) phase bytes) ≡ total → after (front ++ c ∷ []) (clusters_at (most - (length front + 1)) phase rest) ≡ total
-unfolding clusters_at
-clusters_go_on front most phase bytes c rest total lt h so_far =
-    let k : most - length front ≡ suc (most - (length front + 1)) = omega arith in
-    let one : after front (clusters_at (most - length front) phase bytes) ≡ after (front ++ c ∷ []) (clusters_at (most - (length front + 1)) phase rest) =
-    rw (k, h) (regroup front c (clusters_at (most - (length front + 1)) phase rest)) in
-    sym one ∙ so_far
-
--- where no line of a cluster follows
-pub clusters_stop : (most phase : ℕ) (bytes : List ℕ) → cluster_line_at phase bytes ≡ None → clusters_at most phase bytes ≡ ([], bytes)
-unfolding clusters_at
-clusters_stop zero phase bytes h = refl
-clusters_stop (suc most) phase bytes h = rw h refl
-
-pub clusters_end : (front : List Cluster) (most phase : ℕ) (bytes : List ℕ) (total : List Cluster × List ℕ) → cluster_line_at phase bytes ≡ None → after front (clusters_at most phase bytes) ≡ total → total ≡ (front, bytes)
-clusters_end front most phase bytes total h so_far =
-    sym so_far ∙ ap (after front) (clusters_stop most phase bytes h) ∙ ap (λ (cs : List Cluster). (cs, bytes)) (append-nil front)
-
-pub lists_go_on : (front : List (List Cluster)) (count phase : ℕ) (bytes : List ℕ) (list : List Cluster) (rest : List ℕ) (total : List (List Cluster) × List ℕ) → phase < count → clusters_at (length bytes) phase bytes ≡ (list, rest)
+pub lists_go_on : (front : List (List Cluster)) (count phase : ℕ) (bytes : List ℕ) (list : List Cluster) (rest : List ℕ) (total : List (List Cluster) × List ℕ) → phase < count → many_at (cluster_line_at phase) (length bytes) bytes ≡ (list, rest)
     → after front (lists_at (count - phase) phase bytes) ≡ total → after (front ++ list ∷ []) (lists_at (count - (phase + 1)) (phase + 1) rest) ≡ total
 unfolding lists_at
 lists_go_on front count phase bytes list rest total lt h so_far =

@@ -1,28 +1,30 @@
 -- The one spelling of an intersection's instance.
 use Rattle.std.specs.Prelude.{◌≡◌, ℕ, ◌+◌, ◌^◌, ◌<◌, ◌≤◌, Bool, true, false, List, [], ◌∷◌, ◌++◌, length, map, sum_by, All, codes}
-use Rattle.std.specs.List.{flat_map, concat, join_with_byte}
+use Rattle.std.specs.List.{flat_map, concat}
 use Rattle.std.specs.Fmt.{decimal}
+pub use Rattle.line_text.specs.Lines.{line}
 use Rattle.phase_plan.specs.declared.Phase.{Phase}
 use Rattle.switch_rules.specs.declared.Head.{Head}
 use Rattle.switch_rules.specs.declared.Cluster.{Cluster}
 
--- the words with one space between each two, and a line feed
-abbrev pub line : List (List ℕ) → List ℕ
-line words = join_with_byte 32 words ++ 10 ∷ []
-
+-- the line that says how many phases there are
 abbrev pub count_line : ℕ → List ℕ
 count_line count = line (codes "phases" ∷ decimal count ∷ [])
 
+-- the line of a phase
 abbrev pub phase_line : Phase → List ℕ
 phase_line p = line (codes "phase" ∷ map decimal (p.least ∷ p.greatest ∷ p.yellow ∷ p.clear ∷ p.loss ∷ p.wait ∷ []))
 
+-- whether the start-up loss is not yet spent
 abbrev pub freshness : Bool → List ℕ
 freshness true = codes "fresh"
 freshness false = codes "kept"
 
+-- the line of a head
 abbrev pub head_line : Head → List ℕ
 head_line h = line (codes "head" ∷ decimal h.phase ∷ decimal h.since ∷ decimal h.at ∷ freshness h.fresh ∷ [])
 
+-- the line of a cluster of this phase
 abbrev pub cluster_line : ℕ → Cluster → List ℕ
 cluster_line phase c = line (codes "cluster" ∷ map decimal (phase ∷ c.size ∷ c.arr ∷ c.len ∷ []))
 

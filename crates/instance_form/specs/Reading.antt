@@ -1,6 +1,8 @@
 -- Reading an instance's text from the front of the bytes, with the number of the first line that is none.
 use Rattle.std.specs.Prelude.{◌≡◌, ℕ, zero, suc, ◌+◌, List, [], ◌∷◌, length, sum_by, Result, Ok, Err, codes}
-use Rattle.std.specs.Option.{ok_or, option_map_or}
+use Rattle.std.specs.Option.{ok_or}
+pub use Rattle.foundation.specs.Results.{◌>>=◌}
+use Rattle.line_text.specs.Many.{many_at}
 use Rattle.line_text.specs.Fields.{literal_at}
 use Rattle.phase_plan.specs.declared.Phase.{Phase}
 use Rattle.switch_rules.specs.declared.Head.{Head}
@@ -19,11 +21,6 @@ pub record Parts : Type 0 where
 abbrev pub parts_of : Form → Parts
 parts_of form = record { plan = form.phases.items; head = form.head; lists = form.lists.items }
 
-infixl 10 ◌>>=◌
-abbrev pub ◌>>=◌ : {A B : Type 0} → Result A ℕ → (A → Result B ℕ) → Result B ℕ
-(Ok x) >>= f = f x
-(Err n) >>= f = Err n
-
 -- what a function returned, seen by view, is what reading gives, unless memory ran out
 abbrev pub Fails : {Y : Type 0} → FormFault → Result Y ℕ → Type 0
 Fails (Line n) read = read ≡ Err n
@@ -41,17 +38,11 @@ phases_at (suc count) line bytes = do
   others ← phases_at count (line + 1) first.1
   Ok (first.0 ∷ others.0, others.1)
 
--- the lines of clusters of a phase, up to so many
-unfoldable pub clusters_at : ℕ → ℕ → List ℕ → List Cluster × List ℕ
-clusters_at zero phase bytes = ([], bytes)
-clusters_at (suc most) phase bytes =
-    option_map_or (λ first. let others = clusters_at most phase first.1 in (first.0 ∷ others.0, others.1)) (cluster_line_at phase bytes) ([], bytes)
-
 -- the lines of clusters of so many phases, from this one on
 unfoldable pub lists_at : ℕ → ℕ → List ℕ → List (List Cluster) × List ℕ
 lists_at zero phase bytes = ([], bytes)
 lists_at (suc count) phase bytes =
-    let list = clusters_at (length bytes) phase bytes in
+    let list = many_at (cluster_line_at phase) (length bytes) bytes in
     let others = lists_at count (phase + 1) list.1 in
     (list.0 ∷ others.0, others.1)
 

@@ -1,7 +1,9 @@
 //! Reading the lines of phases and of clusters.
 
 ghost use Rattle.std.specs.Prelude.{◌≡◌, ◌+◌, ◌^◌, ◌<◌, ◌≤◌, length, sum_by, IfOk};
-ghost use Rattle.instance_form.specs.Reading.{Gives, phases_at, clusters_at, lists_at};
+ghost use Rattle.line_text.specs.Many.{many_at};
+ghost use Rattle.instance_form.specs.Lines.{cluster_line_at};
+ghost use Rattle.instance_form.specs.Reading.{Gives, phases_at, lists_at};
 
 use crate::form::FormFault;
 use crate::lines::{cluster_line, phase_line};
@@ -37,7 +39,7 @@ pub fn phases(
 ///
 /// docs/FORMATS.md, "Instance text".
 pub fn clusters(alloc: Global, phase: u8, bytes: &[u8]) -> Result<(Vec<Cluster>, &[u8]), AllocError>
-    ensures exact { IfOk result (λ x. clusters_at (length bytes.now) phase bytes.now ≡ (x.0.items, x.1.now)) }
+    ensures exact { IfOk result (λ x. many_at (cluster_line_at phase) (length bytes.now) bytes.now ≡ (x.0.items, x.1.now)) }
     ensures few { IfOk result (λ x. length x.0.items + length x.1.now ≤ length bytes.now) }
 {
     let mut list = Vec::new(alloc);

@@ -66,7 +66,7 @@ pub record Ends (i v n : ℕ) (bytes : List ℕ) (s : ℕ) (r : List ℕ) : Type
   pub value : v ≡ n
 
 -- the number goes on here
-pub record GoesOn (i v n : ℕ) (bytes : List ℕ) : Type 0 where
+pub record HasFurtherDigit (i v n : ℕ) (bytes : List ℕ) : Type 0 where
   pub within : i < length bytes
   pub digit : IsAsciiDigit (get_or bytes i 0)
   pub no_zero : 0 < i → 0 < v
@@ -81,7 +81,7 @@ at_rest i c cs bytes e =
     ]
 
 later : (i v n s : ℕ) (bytes r t : List ℕ) → v < 2 ^ 64 → n < 2 ^ 64 → 0 < i → decimal n ≡ decimal v ++ t → drop i bytes ≡ t ++ s ∷ r → AllDigits 10 t
-    → Ends i v n bytes s r ⊎ GoesOn i v n bytes
+    → Ends i v n bytes s r ⊎ HasFurtherDigit i v n bytes
 later i v n s bytes r [] v_lt n_lt some whole rest all =
     let same : decimal v ≡ decimal n = sym (append-nil (decimal v)) ∙ sym whole in
     inl (record { some = some; rest = rest; value = decimal_injective v n v_lt n_lt same })
@@ -96,7 +96,7 @@ later i v n s bytes r (c ∷ cs) v_lt n_lt some whole rest all =
       bound = rw is (at_least v n c cs v_lt n_lt digit whole);
     })
 
-first : (n s : ℕ) (bytes r ds : List ℕ) → n < 2 ^ 64 → decimal n ≡ ds → 0 < length ds → AllDigits 10 ds → bytes ≡ decimal n ++ s ∷ r → GoesOn 0 0 n bytes
+first : (n s : ℕ) (bytes r ds : List ℕ) → n < 2 ^ 64 → decimal n ≡ ds → 0 < length ds → AllDigits 10 ds → bytes ≡ decimal n ++ s ∷ r → HasFurtherDigit 0 0 n bytes
 first n s bytes r [] n_lt is some all e = absurd (omega arith)
 first n s bytes r (c ∷ cs) n_lt is some all e =
     let spelled : bytes ≡ c ∷ (cs ++ s ∷ r) = e ∙ ap (λ (x : List ℕ). x ++ s ∷ r) is in
@@ -115,7 +115,7 @@ first n s bytes r (c ∷ cs) n_lt is some all e =
 
 -- Wherever reading has come to in a number before its separator, the number ends there or has a further digit.
 pub next_is : (i v n s : ℕ) (bytes r : List ℕ) → v < 2 ^ 64 → n < 2 ^ 64 → ¬ IsAsciiDigit s → IsFront i v bytes → bytes ≡ decimal n ++ s ∷ r
-    → Ends i v n bytes s r ⊎ GoesOn i v n bytes
+    → Ends i v n bytes s r ⊎ HasFurtherDigit i v n bytes
 next_is i v n s bytes r v_lt n_lt apart front e =
     elim (cases_lt 0 i) [
       | inl some ↦
@@ -169,7 +169,7 @@ pub record Reading (i v m s : ℕ) (bytes : List ℕ) : Type 0 where
   pub wide : m < 2 ^ 64
   pub apart : ¬ IsAsciiDigit s
 
-cases : (i v m s : ℕ) (bytes : List ℕ) → Reading i v m s bytes → (n : ℕ) (r : List ℕ) → n ≤ m → bytes ≡ decimal n ++ s ∷ r → Ends i v n bytes s r ⊎ GoesOn i v n bytes
+cases : (i v m s : ℕ) (bytes : List ℕ) → Reading i v m s bytes → (n : ℕ) (r : List ℕ) → n ≤ m → bytes ≡ decimal n ++ s ∷ r → Ends i v n bytes s r ⊎ HasFurtherDigit i v n bytes
 cases i v m s bytes h n r le e =
     let bound = h.bound in
     let wide = h.wide in
@@ -185,7 +185,7 @@ at_separator i v m s bytes h here n r le e =
 
 -- where no further digit can be read
 pub at_other : (i v m s : ℕ) (bytes : List ℕ) → Reading i v m s bytes → (0 < i → get_or bytes i 0 ≡ s → ⊥)
-    → (n : ℕ) (r : List ℕ) → n ≤ m → bytes ≡ decimal n ++ s ∷ r → GoesOn i v n bytes
+    → (n : ℕ) (r : List ℕ) → n ≤ m → bytes ≡ decimal n ++ s ∷ r → HasFurtherDigit i v n bytes
 at_other i v m s bytes h other n r le e =
     elim (cases i v m s bytes h n r le e) [
       | inl ends ↦ absurd (other ends.some (at_rest i s r bytes ends.rest).1)

@@ -1,2 +1,5 @@
 pub mod Digits
+pub mod Feeds
+pub mod FirstLine
+pub mod ManyLaws
 pub mod Units

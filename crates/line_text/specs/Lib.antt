@@ -1,2 +1,3 @@
--- The definitions of the crate.
 pub mod Fields
+pub mod Lines
+pub mod Many

@@ -1,11 +1,12 @@
 use foundation::items::Items;
 use foundation::text::Text;
+use foundation::threads::CrossesThreads;
 use phase_plan::Phase;
 
 /// How a network is run, in seconds and rounds (docs/RULES.md, "Road network").
 ///
 /// In a `Draft` a number may be out of its bounds; they are tested when the network is made.
-#[derive(Clone, Copy)]
+#[derive(Debug, Clone, Copy, PartialEq, Eq)]
 pub struct Run {
     /// The seconds of a round, 1 to 30 and at most `look`.
     pub step: u32,
@@ -16,6 +17,8 @@ pub struct Run {
     /// The number of rounds, 1 to 600.
     pub rounds: u32,
 }
+
+impl CrossesThreads for Run {}
 
 /// A road network by names, in the order of its file (docs/FORMATS.md, "Network file").
 ///

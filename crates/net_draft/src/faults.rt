@@ -1,7 +1,8 @@
+use foundation::threads::CrossesThreads;
 use std::alloc::{AllocError, AllocFailed};
 
 /// The parts of a network file: each is a kind of table (docs/FORMATS.md, "Places and faults").
-#[derive(Clone, Copy)]
+#[derive(Debug, Clone, Copy, PartialEq, Eq)]
 pub enum Part {
     /// The table of the whole file.
     Top,
@@ -19,8 +20,10 @@ pub enum Part {
     Conflict,
 }
 
+impl CrossesThreads for Part {}
+
 /// A table of a network file. A number past the greatest u32 stands as that one.
-#[derive(Clone, Copy)]
+#[derive(Debug, Clone, Copy, PartialEq, Eq)]
 pub struct Place {
     /// The kind of table.
     pub part: Part,
@@ -30,11 +33,13 @@ pub struct Place {
     pub sub: u32,
 }
 
+impl CrossesThreads for Place {}
+
 /// Why a file or draft is no network (docs/FORMATS.md, "Places and faults").
 ///
 /// `Shape` to `Unknown` name a place. `Ends` to `Clash` name links, from 0 to 319, and nodes, from 0 to 63,
 /// by their numbers in the order of the file.
-#[derive(Clone, Copy)]
+#[derive(Debug, Clone, Copy, PartialEq, Eq)]
 pub enum NetFault {
     /// Memory ran out. It says nothing of the file or draft.
     NoMemory,
@@ -61,6 +66,8 @@ pub enum NetFault {
     /// The links of a conflict are the same, do not end at one node or are in one phase.
     Clash { a: u32, b: u32 },
 }
+
+impl CrossesThreads for NetFault {}
 
 impl From<AllocError> for NetFault {
     ghost use Rattle.std.specs.Prelude.{◌≡◌};

@@ -1,7 +1,9 @@
+use foundation::threads::CrossesThreads;
+
 /// A one-way road, by numbers.
 ///
 /// docs/RULES.md, "Links".
-#[derive(Clone, Copy)]
+#[derive(Debug, Clone, Copy, PartialEq, Eq)]
 pub struct Link {
     /// The node that it comes from; `None` where it comes from outside.
     pub from: Option<u32>,
@@ -15,13 +17,17 @@ pub struct Link {
     pub phase: u8,
 }
 
+impl CrossesThreads for Link {}
+
 /// A turn from the end of a link into another one.
 ///
 /// docs/RULES.md, "Turning".
-#[derive(Clone, Copy)]
+#[derive(Debug, Clone, Copy, PartialEq, Eq)]
 pub struct Turn {
     /// The link that is entered.
     pub exit: u32,
     /// The share of the vehicles that turn so, 0 to 1000 thousandths.
     pub share: u32,
 }
+
+impl CrossesThreads for Turn {}

@@ -51,7 +51,7 @@ module _ (P : ℕ → Type 0) (k : ℕ) (xs : List ℕ) where
   upto-more true here _ so_far = upto-yes (here refl) so_far
   upto-more false _ there so_far = rw append-nil (upto-no (λ p. false≢true (there p)) so_far)
 
-is_node-true : (node : ℕ) (o : Option ℕ) → is_node node o ≡ true → o ≡ Some node
+pub is_node-true : (node : ℕ) (o : Option ℕ) → is_node node o ≡ true → o ≡ Some node
 is_node-true node None h = absurd (false≢true h)
 is_node-true node (Some n) h = elim (eqb_tells n node) [ inl e ↦ ap Some e.1 | inr q ↦ absurd (false≢true (sym q.0 ∙ h)) ]
 

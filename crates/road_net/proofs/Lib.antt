@@ -5,5 +5,9 @@ pub mod Ends
 pub mod FirstFaults
 pub mod Joining
 pub mod Served
+pub mod Apart
+pub mod Everywhere
+pub mod PartsAtMost
 pub mod Serving
 pub mod Shares
+pub mod TotalLaws

@@ -117,10 +117,20 @@ pub record AreByNode (side : Side) (links : List Link) (nodes : ℕ) (lists : Li
 abbrev pub shares_to : List Turn → ℕ → ℕ
 shares_to turns k = sum_by share_of (take k turns)
 
+-- the part of an amount that lies between two shares, in thousandths: what is up to `through`, less what is up to `before`
+abbrev pub part_between : ℕ → ℕ → ℕ → ℕ
+part_between amount before through = amount * through / 1000 - amount * before / 1000
+
 -- the part of an amount that makes the turn with the number k: what the turns up to it get, less what those before it get
 abbrev pub part : List Turn → ℕ → ℕ → ℕ
-part turns amount k = amount * shares_to turns (k + 1) / 1000 - amount * shares_to turns k / 1000
+part turns amount k = part_between amount (shares_to turns k) (shares_to turns (k + 1))
 
 -- the part of an amount that turns into the link `exit`; 0 where no turn leads there
 abbrev pub split_of : List Turn → ℕ → ℕ → ℕ
 split_of turns amount exit = option_map_or (part turns amount) (position (λ t. t.exit == exit) turns) 0
+
+-- what is true of the turns of each link: their shares are at most the whole, and the part of an amount that turns into the
+-- exit of one of them is the part of that turn
+pub record AreParts (turns : List Turn) : Type 0 where
+  pub shares : (k : ℕ) → shares_to turns k ≤ 1000
+  pub each : (amount k : ℕ) (d : Turn) → k < length turns → split_of turns amount (slice_index_or turns k d).exit ≡ part turns amount k

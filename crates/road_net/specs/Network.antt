@@ -1,5 +1,5 @@
 -- Which network a draft and a text stand for, and what is true of every network.
-use Rattle.std.specs.Prelude.{◌≡◌, ◌≢◌, ℕ, ◌<◌, List, Some, IsUtf8, length, slice_index, All, AllPairs, Contains, None}
+use Rattle.std.specs.Prelude.{◌≡◌, ◌≢◌, ℕ, ◌+◌, ◌<◌, ◌≤◌, List, Some, IsUtf8, length, filter, is_some, slice_index, All, AllPairs, Contains, None}
 use Rattle.toml.specs.Data.{Members}
 use Rattle.toml.specs.Parse.{parse_document}
 use Rattle.net_draft.specs.Table.{draft_of}
@@ -74,6 +74,19 @@ entry_links net n = joins.links_of_node To net.links n
 
 abbrev pub exit_links : Net → ℕ → List ℕ
 exit_links net n = joins.links_of_node From net.links n
+
+-- the links on which a node hears another one, and those on which it tells one: its entry links that come from a node, and its
+-- exit links that end at one, rising
+abbrev pub heard_links : Net → ℕ → List ℕ
+heard_links net n = filter (λ l. is_some (link_at net l).from) (entry_links net n)
+
+abbrev pub told_links : Net → ℕ → List ℕ
+told_links net n = filter (λ l. is_some (link_at net l).to) (exit_links net n)
+
+-- The entry and exit links of a node: none is both, so it hears and tells on no more links than there are.
+pub record AreApart (net : Net) (n : ℕ) : Type 0 where
+  pub apart : (l : ℕ) → Contains (entry_links net n) l → Contains (exit_links net n) l → ⊥
+  pub few : length (heard_links net n) + length (told_links net n) ≤ length net.link_names
 
 -- How phases serve links. A link that a phase serves ends at its node, has this phase, and stands there once; a link
 -- that ends at a node is served by its phase there.

@@ -25,7 +25,7 @@ use net_numbers::{Parts, check_bounds, numbered};
 pub use net_numbers::{Link, Turn};
 use phase_plan::PhasePlan;
 pub use senses::{LinkSense, Sensed};
-pub use splits::parts_are_the_whole;
+pub use splits::{part_of_turn, parts_are_the_whole};
 use std::alloc::Global;
 use std::marker::Model;
 
@@ -55,11 +55,12 @@ impl Model for Network {
 impl CrossesThreads for Network {}
 
 impl Network {
-    ghost use Rattle.std.specs.Prelude.{◌≡◌, ◌<◌, ◌↔◌, Some, IsSome, IsNone, IfSome, Contains, sum_by, slice_get, length};
+    ghost use Rattle.std.specs.Prelude.{◌≡◌, ◌≤◌, ◌<◌, ◌↔◌, Some, IsSome, IsNone, IfSome, Contains, sum_by, slice_get, length};
     ghost use Rattle.net_numbers.specs.Numbers.{number_of};
-    ghost use Rattle.road_net.specs.Joins.{split_of, AreLinksAt};
+    ghost use Rattle.road_net.specs.Joins.{split_of, AreLinksAt, AreParts};
     ghost use Rattle.net_numbers.specs.Outline.{link_at, turns_at, plan_at, phases_at, phase_links_at, node_name_at, link_name_at};
-    ghost use Rattle.road_net.specs.Network.{IsNetwork, entry_links, exit_links};
+    ghost use Rattle.road_net.specs.Network.{IsNetwork, entry_links, exit_links, AreApart};
+    ghost use Rattle.road_net.specs.Totals.{total};
 
     /// How the network is run.
     ///
@@ -116,6 +117,7 @@ impl Network {
         requires { node < length self.now.node_names }
         ensures value { result.now ≡ entry_links self.now node }
         ensures links { AreLinksAt Side.To self.now.links node result.now }
+        ensures apart { AreApart self.now node }
         ensures network { IsNetwork self.now }
     {
         self.entry_links[node as usize].as_slice()
@@ -142,23 +144,30 @@ impl Network {
         self.parts.links[l as usize]
     }
 
-    /// The turns of a link, at most 16, in the order of the file; none where it ends at no node.
+    /// The turns of a link, at most 16, in the order of the file; none where it ends at no node. What turns into the exit
+    /// of each is `part_of_turn` of its share, behind the shares of those before it.
+    ///
+    /// docs/RULES.md, "Turning".
     pub fn turns(&self, l: u32) -> &[Turn]
         requires { l < length self.now.link_names }
         ensures value { result.now ≡ turns_at self.now l }
+        ensures parts { AreParts (turns_at self.now l) }
         ensures network { IsNetwork self.now }
     {
         self.parts.turns[l as usize].as_slice()
     }
 
     /// The part of an amount, in thousandths of a vehicle, that turns at the end of link `l` into the link
-    /// `exit`; 0 where no turn leads there. Where the link ends at a node, the parts of its turns are the amount.
+    /// `exit`; 0 where no turn leads there. Where the link ends at a node, the parts of its turns are the amount, and so
+    /// are those of all links: nothing is lost and nothing comes from nowhere.
     ///
     /// docs/RULES.md, "Turning".
     pub fn split(&self, l: u32, amount: u32, exit: u32) -> u32
         requires { l < length self.now.link_names }
         ensures value { result ≡ split_of (turns_at self.now l) amount exit }
+        ensures bounds { result ≤ amount }
         ensures whole { IsSome (link_at self.now l).to → sum_by (λ t. split_of (turns_at self.now l) amount t.exit) (turns_at self.now l) ≡ amount }
+        ensures everywhere { IsSome (link_at self.now l).to → total (split_of (turns_at self.now l) amount) (length self.now.link_names) ≡ amount }
         ensures network { IsNetwork self.now }
     {
         splits::split(self.turns(l), amount, exit)
@@ -197,6 +206,7 @@ impl Network {
         ensures value { result ≡ number_of self.now.node_names name.now }
         ensures none { IsNone result ↔ ¬ Contains self.now.node_names name.now }
         ensures found { IfSome result (λ number. slice_get self.now.node_names number ≡ Some name.now) }
+        ensures below { IfSome result (λ number. number < length self.now.node_names) }
         ensures network { IsNetwork self.now }
     {
         self.parts.node_names.find(name)
@@ -207,6 +217,7 @@ impl Network {
         ensures value { result ≡ number_of self.now.link_names name.now }
         ensures none { IsNone result ↔ ¬ Contains self.now.link_names name.now }
         ensures found { IfSome result (λ number. slice_get self.now.link_names number ≡ Some name.now) }
+        ensures below { IfSome result (λ number. number < length self.now.link_names) }
         ensures network { IsNetwork self.now }
     {
         self.parts.link_names.find(name)

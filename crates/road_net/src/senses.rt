@@ -1,4 +1,5 @@
 use foundation::items::Items;
+use foundation::threads::CrossesThreads;
 
 /// What a node sees of one of its entry links.
 ///
@@ -24,3 +25,7 @@ pub struct Sensed {
     /// One for each entry link of the node, in the order of the links' numbers.
     pub links: Items<LinkSense>,
 }
+
+impl CrossesThreads for LinkSense {}
+
+impl CrossesThreads for Sensed {}

@@ -1,11 +1,13 @@
 use Rattle.std.proofs.Common.{◌≡◌, ◌+◌, ◌-◌, ◌≤◌, length}
-use Rattle.instance_form.specs.Reading.{clusters_at}
-use Rattle.instance_form.proofs.Loops.{after}
+use Rattle.line_text.specs.Many.{many_at}
+use Rattle.line_text.proofs.ManyLaws.{after}
+use Rattle.instance_form.specs.Lines.{cluster_line_at}
 use Rattle.instance_form.proofs.lists.clusters.Given as goal
 
+-- what was read and what is still read is the whole
 abbrev pub invariant-loop-cluster : goal.invariant-loop-cluster
 invariant-loop-cluster l = record {
-  read : after l.list.items (clusters_at (length l.bytes - length l.list.items) l.phase l.rest) ≡ clusters_at (length l.bytes) l.phase l.bytes;
+  read : after l.list.items (many_at (cluster_line_at l.phase) (length l.bytes - length l.list.items) l.rest) ≡ many_at (cluster_line_at l.phase) (length l.bytes) l.bytes;
   few : length l.list.items + length l.rest ≤ length l.bytes;
 }
 

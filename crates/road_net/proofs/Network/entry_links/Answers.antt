@@ -1,4 +1,6 @@
-use Rattle.std.proofs.Common.{◌≡◌, ◌<◌, length, ap, arith}
+use Rattle.std.proofs.Common.{◌≡◌, ◌<◌, length, ap, subst, arith}
+use Rattle.road_net.specs.Network.{AreApart}
+use Rattle.road_net.proofs.Apart.{apart}
 use Rattle.road_net.specs.declared.joins.Side.TheVariants.{To}
 use Rattle.road_net.proofs.AtSide.{links_of_node-are, by_node-at}
 use Rattle.road_net.proofs.Network.entry_links.Goals as goal
@@ -11,3 +13,6 @@ returns-clause-links c =
     let node : c.args.node < length stored.parts.node_names = omega (arith, nodes, c.requires) in
     let at = by_node-at To stored.parts.links.items (length stored.parts.node_names) c.args.node stored.entry_links.items c.index.result.now c.self.invariant.entries node c.index.ensures in
     rw (← links, c.as_slice.ensures, at) (links_of_node-are To c.args.node stored.parts.links.items)
+
+pub returns-clause-apart : goal.returns-clause-apart
+returns-clause-apart c = subst (λ net. AreApart net c.args.node) c.self.view_is (apart _ c.args.node c.self.invariant.network)

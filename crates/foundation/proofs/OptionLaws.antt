@@ -1,0 +1,25 @@
+-- What is known of an option's value.
+use Rattle.std.proofs.Common.{◌≡◌, Option, Some, None, IfSome, IsSomeAnd, refl, sym, subst, ◌∙◌}
+use Rattle.std.proofs.lemmas.Option.{none-some}
+
+-- the value of which something holds
+pub some-and : {X : Type 0} (P : X → Type 0) (o : Option X) → IsSomeAnd o P → (x : X) × (o ≡ Some x) × P x
+some-and P None h = absurd h
+some-and P (Some x) h = (x, refl, h)
+
+-- something holds of the value, as it holds of this one
+pub and-some : {X : Type 0} (P : X → Type 0) (o : Option X) (x : X) → o ≡ Some x → P x → IsSomeAnd o P
+and-some P o x e h = subst (λ o. IsSomeAnd o P) (sym e) h
+
+-- what holds of the value, where there is one, holds of this one
+pub if-some : {X : Type 0} (P : X → Type 0) (o : Option X) (x : X) → o ≡ Some x → IfSome o P → P x
+if-some P o x e h = subst (λ o. IfSome o P) e h
+
+-- what holds of each value that there may be holds where there is one
+pub if-each : {X : Type 0} (P : X → Type 0) (o : Option X) → ((x : X) → o ≡ Some x → P x) → IfSome o P
+if-each P None h = tt
+if-each P (Some x) h = h x refl
+
+-- an option has no value, or a value, and not both
+pub none-and-some : {A : Type 0} (o : Option A) (x : A) → o ≡ None → o ≡ Some x → ⊥
+none-and-some o x none some = none-some x (sym none ∙ some)
