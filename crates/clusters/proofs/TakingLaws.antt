@@ -1,7 +1,7 @@
 -- The steps of taking platoons into a window.
 use Rattle.std.proofs.Common.{◌≡◌, ◌≢◌, ℕ, zero, suc, ◌+◌, ◌-◌, ◌*◌, ◌<◌, ◌≤◌, ◌⊎◌, List, [], ◌∷◌, ◌++◌, Option, Some, None, All, length, get_or, set, take, map, min, sum, replicate, refl, sym, ap, subst, ◌∙◌, inl, inr, arith, add-one, length-set, get_or-set_other, get_or-set_same}
 use Rattle.std.proofs.lemmas.List.{get_or-map, length-map, get_or_past, get_or-replicate, length-replicate, length-take, get_or-take, take-map, ext_get_or, take_all}
-use Rattle.std.proofs.lemmas.List.Elements.{All-get_or, All-take, All-from_get_or, All-map}
+use Rattle.std.proofs.lemmas.List.Elements.{All-get_or, All-take, All-from_get_or, All-map, All-weaker}
 use Rattle.std.proofs.lemmas.List.Folds.{sum_by-replicate}
 use Rattle.std.proofs.lemmas.List.Sums.{sum_by-cons, sum_by-set, sum_by_more}
 use Rattle.std.proofs.lemmas.Grind.{get_or_default_zero}
@@ -15,7 +15,7 @@ use Rattle.net_numbers.specs.Outline.{phase_links_at}
 use Rattle.clusters.specs.declared.shapes.Platoon.{Platoon}
 use Rattle.clusters.specs.declared.shapes.Window.{Window}
 use Rattle.clusters.specs.Platoons.{platoons_at}
-use Rattle.clusters.specs.Sound.{AreOfNode, AreSpacedClusters, IsPlatoon, IsSpaced, cluster_at, cluster_lists, clusters_of}
+use Rattle.clusters.specs.Sound.{AreOfNode, ArePlannable, AreSpacedClusters, IsPlatoon, IsSpaced, cluster_at, cluster_lists, clusters_of}
 use Rattle.clusters.specs.Windows.{ComesFirst, IsFront, IsLongest, IsRising, IsSmall, IsWindow, arrival, arrivals, counts_of}
 use Rattle.clusters.specs.Taking.{AreFronts, IsEarlier, IsFirstAmong, IsFirstOf}
 use Rattle.clusters.proofs.WindowLaws.{front-grows, full-longest, more_of, stuck-longest, whole-longest}
@@ -269,7 +269,7 @@ spaced-take n list h =
         (h.spaced k (omega (arith, lt, length-take n (clusters_of list))));
     })
 
-pub fronts-clusters : (lists : List (List Platoon)) (counts : List ℕ) (fronts : List (List Platoon)) → AreFronts lists counts fronts
+fronts-clusters : (lists : List (List Platoon)) (counts : List ℕ) (fronts : List (List Platoon)) → AreFronts lists counts fronts
     → All AreSpacedClusters (cluster_lists lists) → All AreSpacedClusters (cluster_lists fronts)
 fronts-clusters lists counts fronts h all =
     All-map AreSpacedClusters clusters_of fronts
@@ -280,6 +280,24 @@ fronts-clusters lists counts fronts h all =
       let one : AreSpacedClusters (get_or (cluster_lists lists) k []) = All-get_or AreSpacedClusters (cluster_lists lists) k [] (omega (arith, length-map lists clusters_of)) all in
       let same : get_or (cluster_lists lists) k [] ≡ clusters_of (platoons_at lists k) = get_or-map clusters_of lists k [] [] there in
       subst P (sym (h.each k)) (spaced-take (get_or counts k 0) (platoons_at lists k) (subst Q same one))))
+
+clusters-counts : (lists : List (List Platoon)) → map (λ (list : List Cluster). length list) (cluster_lists lists) ≡ counts_of lists
+clusters-counts [] = refl
+clusters-counts (list ∷ lists) =
+    ap (λ n. n ∷ map (λ (list : List Cluster). length list) (cluster_lists lists)) (length-map list (λ (p : Platoon). p.cluster))
+    ∙ ap (λ ns. length list ∷ ns) (clusters-counts lists)
+
+pub fronts-plannable : (lists : List (List Platoon)) (counts : List ℕ) (fronts : List (List Platoon)) → AreFronts lists counts fronts → IsLongest lists counts
+    → All AreSpacedClusters (cluster_lists lists) → ArePlannable (cluster_lists fronts)
+fronts-plannable lists counts fronts h longest all =
+    let each : All AreSpacedClusters (cluster_lists fronts) = fronts-clusters lists counts fronts h all in
+    let same : map (λ (list : List Cluster). length list) (cluster_lists fronts) ≡ counts = clusters-counts fronts ∙ fronts-counts lists counts fronts h longest.front in
+    record {
+      clusters = All-weaker AreSpacedClusters (All IsCluster) (λ list s. s.each) (cluster_lists fronts) each;
+      spaced = All-weaker AreSpacedClusters IsSpaced (λ list s. s.spaced) (cluster_lists fronts) each;
+      few = omega (arith, ap sum same, longest.small.clusters);
+      orders = omega (arith, ap (λ ns. length (orders ns)) same, longest.small.orders);
+    }
 
 pub fronts-node : (net : Net) (node now : ℕ) (lists : List (List Platoon)) (counts : List ℕ) (fronts : List (List Platoon)) → AreFronts lists counts fronts
     → AreOfNode net node now lists → AreOfNode net node now fronts

@@ -1,5 +1,6 @@
 -- What planning and forecasting ask of platoons.
-use Rattle.std.specs.Prelude.{◌≡◌, ℕ, ◌+◌, ◌<◌, ◌≤◌, List, All, length, map, slice_index_or}
+use Rattle.std.specs.Prelude.{◌≡◌, ℕ, ◌+◌, ◌<◌, ◌≤◌, List, All, length, map, sum, slice_index_or}
+use Rattle.switch_rules.specs.Orders.{orders}
 use Rattle.switch_rules.specs.Serving.{IsCluster}
 use Rattle.switch_rules.specs.declared.Cluster.{Cluster}
 use Rattle.net_numbers.specs.Numbers.{Net}
@@ -50,6 +51,13 @@ IsSpaced list = (k : ℕ) → k + 1 < length list → (cluster_at list k).arr + 
 pub record AreSpacedClusters (list : List Cluster) : Type 0 where
   pub each : All IsCluster list
   pub spaced : IsSpaced list
+
+-- lists of clusters as those of an instance have to be: spaced, at most 40 in all, in at most 50,000 orders
+pub record ArePlannable (lists : List (List Cluster)) : Type 0 where
+  pub clusters : All (All IsCluster) lists
+  pub spaced : All IsSpaced lists
+  pub few : sum (map length lists) ≤ 40
+  pub orders : length (orders (map length lists)) ≤ 50000
 
 -- the platoons of a phase of a node, with what planning and forecasting ask of them
 pub record AreOfPhase (net : Net) (node phase : ℕ) (sensed : Sensed) (heard : List Heard) (list : List Platoon) : Type 0 where

@@ -2,7 +2,7 @@
 ghost use Rattle.std.specs.Prelude.{◌≡◌, ◌+◌, ◌<◌, ◌≤◌, ℕ, All, IfOk, length, take, slice_index, sum, map, vec_len};
 ghost use Rattle.net_numbers.specs.Numbers.{Net};
 ghost use Rattle.clusters.specs.Platoons.{platoons_at};
-ghost use Rattle.clusters.specs.Sound.{AreOfNode, AreSpacedClusters, cluster_lists};
+ghost use Rattle.clusters.specs.Sound.{AreOfNode, ArePlannable, AreSpacedClusters, cluster_lists};
 ghost use Rattle.clusters.specs.Taking.{AreFronts, IsEarlier, IsFirstOf, IsNextArrival};
 ghost use Rattle.clusters.specs.Windows.{IsLongest, IsRising, IsWindow, counts_of};
 
@@ -19,6 +19,9 @@ const MOST_CLUSTERS: u32 = 40;
 /// planned at once, phase by phase; and how many platoons wait. There are at most 4 lists, each of at most 180 platoons
 /// that arrive one after another.
 ///
+/// Where the clusters of the lists are spaced and within their bounds, those of the window make an instance with any head;
+/// and where the lists are those of a node, so are the window's.
+///
 /// An `Err` comes only where memory runs out.
 ///
 /// docs/RULES.md, "Window".
@@ -26,7 +29,7 @@ pub fn window(alloc: Global, lists: Vec<Items<Platoon>>) -> Result<Window, Alloc
     requires phases { vec_len lists ≤ 4 }
     requires rising { All IsRising lists.items }
     ensures window { IfOk result (IsWindow lists.items) }
-    ensures clusters { All AreSpacedClusters (cluster_lists lists.items) → IfOk result (λ window. All AreSpacedClusters (cluster_lists window.lists)) }
+    ensures clusters { All AreSpacedClusters (cluster_lists lists.items) → IfOk result (λ window. ArePlannable (cluster_lists window.lists)) }
     ensures node { (net : Net) (node now : ℕ) → AreOfNode net node now lists.items → IfOk result (λ window. AreOfNode net node now window.lists) }
 {
     let counts = taken(alloc, lists.as_slice())?;

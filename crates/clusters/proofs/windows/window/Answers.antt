@@ -1,4 +1,4 @@
-use Rattle.clusters.proofs.TakingLaws.{fronts-clusters, fronts-node, window-made}
+use Rattle.clusters.proofs.TakingLaws.{fronts-plannable, fronts-node, window-made}
 use Rattle.clusters.proofs.windows.window.Goals as goal
 
 pub returns-clause-window : goal.returns-clause-window
@@ -10,7 +10,9 @@ returns-clause-window c =
 
 pub returns-clause-clusters : goal.returns-clause-clusters
 returns-clause-clusters c = λ all.
-    rw c.from_vec.ensures (fronts-clusters c.args.lists.items c.as_slice-4.result.now c.fronts-lists.result.items c.fronts-lists.ensures all)
+    rw c.from_vec.ensures
+    (fronts-plannable c.args.lists.items c.as_slice-4.result.now c.fronts-lists.result.items c.fronts-lists.ensures
+      (rw c.as_slice-4.ensures.value (rw c.as_slice.ensures.value at c.in_ok-counts.ensures)) all)
 
 pub returns-clause-node : goal.returns-clause-node
 returns-clause-node c = λ net node now all.
