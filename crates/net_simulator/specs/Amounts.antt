@@ -1,5 +1,5 @@
 -- A stand-in.
-use Rattle.std.specs.Prelude.{◌≡◌, ℕ, ◌+◌, ◌*◌, ◌≤◌, ◌<◌, nat_lt, ◌&&◌, if◌then◌else◌, List, length, slice_index}
+use Rattle.std.specs.Prelude.{◌≡◌, ℕ, ◌+◌, ◌*◌, ◌≤◌, nat_lt, ◌&&◌, if◌then◌else◌, List, length, slice_index}
 use Rattle.net_numbers.specs.Numbers.{Net}
 use Rattle.road_net.specs.Totals.{total}
 
