@@ -68,7 +68,7 @@ at-past f [] n d past = refl
 at-past f (x ∷ xs) zero d past = absurd (omega arith)
 at-past f (x ∷ xs) (suc n) d past = at-past f xs n d (omega arith)
 
-all-if : {X : Type 0} (P : X → Type 0) (xs : List X) → ((k : ℕ) → IfSome (slice_get xs k) P) → All P xs
+pub all-if : {X : Type 0} (P : X → Type 0) (xs : List X) → ((k : ℕ) → IfSome (slice_get xs k) P) → All P xs
 all-if P [] each = All-nil P
 all-if P (x ∷ xs) each = All-cons P x xs (each 0) (all-if P xs (λ k. each (suc k)))
 
