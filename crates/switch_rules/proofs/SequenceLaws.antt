@@ -3,17 +3,20 @@ use Rattle.std.proofs.Common.{◌≡◌, ℕ, ◌-◌, ◌<◌, ◌==◌, List, 
 use Rattle.std.specs.Option.{option_map, option_and_then}
 use Rattle.std.proofs.lemmas.Bool.{cases_lt}
 use Rattle.std.proofs.lemmas.List.{get_or_past}
-use Rattle.std.proofs.lemmas.Option.{slice_get_within, get_or_from_slice_get, none-some}
+use Rattle.std.proofs.lemmas.Option.{slice_get_within, get_or_from_slice_get, same_Some, cond_some}
 use Rattle.foundation.proofs.OptionLaws.{option-cases}
 use Rattle.foundation.proofs.ResultLaws.{result-cases}
+use Rattle.phase_plan.specs.Phases.{IsPlan}
 use Rattle.phase_plan.specs.declared.Phase.{Phase}
+use Rattle.phase_plan.proofs.RingLaws.{phase-bounds}
 use Rattle.switch_rules.specs.Orders.{one_less}
-use Rattle.switch_rules.specs.Sequences.{list_at, next_cluster, timed_from}
-use Rattle.switch_rules.specs.Serving.{IsCluster, serving}
+use Rattle.switch_rules.specs.Sequences.{AreNextServings, IsNextServing, list_at, next_cluster, timed_from}
+use Rattle.switch_rules.specs.Serving.{IsCluster, IsHead, head_behind, serving}
 use Rattle.switch_rules.specs.declared.Head.{Head}
 use Rattle.switch_rules.specs.declared.Served.{Served}
 use Rattle.switch_rules.specs.declared.Cluster.{Cluster}
 use Rattle.switch_rules.specs.declared.Unfit.{Unfit}
+use Rattle.switch_rules.proofs.ServingLaws.{serving-keeps}
 
 bind-some : {A B : Type 0} (g : A → B) (o : Option A) → option_and_then (λ x. Some (g x)) o ≡ option_map g o
 bind-some g None = refl
@@ -60,3 +63,31 @@ next-within P lists left k c all e =
       | inr past ↦ absurd (omega (arith, inside, ap length (get_or_past lists k [] past)))
     ] in
     (listed, subst P (get_or_from_slice_get list index c c e) (all k [] listed index c inside))
+
+-- the servings of a sequence that is timed are those of the next clusters
+pub timed-next : (plan : List Phase) (lists : List (List Cluster)) → IsPlan plan → length lists ≡ length plan → All (All IsCluster) lists → (ks left : List ℕ) (head : Head) (t : List Served × Head) → IsHead plan head
+    → timed_from plan lists left head ks ≡ Some t → AreNextServings plan lists left head ks t.0
+timed-next plan lists p each bounds [] left head t h e =
+    let over : ([], head) ≡ t = (cond_some (sum left == 0) ([], head) t e).1 in
+    subst (λ (r : List Served × Head). AreNextServings plan lists left head [] r.0) over tt
+timed-next plan lists p each bounds (k ∷ ks) left head t h e = timed-begins plan lists left head k ks t e (λ c s rest ec es er.
+    let within = next-within IsCluster lists left k c bounds ec in
+    let below : k < length plan = omega (arith, each, within.0) in
+    let keeps = serving-keeps plan head k c s.0 s.1 below (phase-bounds plan k p below) h within.1 es in
+    let one : IsNextServing plan lists left head k s.0 = record { cluster = c; next = ec; fit = es ∙ ap (λ (n : Head). Ok (s.0, n)) keeps.behind } in
+    let others = timed-next plan lists p each bounds ks (one_less left k) (head_behind k s.0) rest (subst (IsHead plan) keeps.behind keeps.bounds.head)
+    (subst (λ (n : Head). timed_from plan lists (one_less left k) n ks ≡ Some rest) keeps.behind er) in
+    let whole : List Served × Head = (s.0 ∷ rest.0, rest.1) in
+    let both : Some t ≡ Some whole = sym e ∙ timed-fit plan lists left head k ks c s ec es ∙ ap (option_map (λ (r : List Served × Head). (s.0 ∷ r.0, r.1))) er in
+    let same : t ≡ whole = same_Some t whole both in
+    subst (λ (r : List Served × Head). AreNextServings plan lists left head (k ∷ ks) r.0) (sym same) (one, others))
+
+-- the same of a list of what the sequence serves
+pub listed-next : (plan : List Phase) (lists : List (List Cluster)) → IsPlan plan → length lists ≡ length plan → All (All IsCluster) lists → (ks left : List ℕ) (head : Head) (list : List Served) → IsHead plan head
+    → option_map (λ t. t.0) (timed_from plan lists left head ks) ≡ Some list → AreNextServings plan lists left head ks list
+listed-next plan lists p each bounds ks left head list h e =
+    option-cases (timed_from plan lists left head ks)
+    (λ none. let gone = ap (option_map (λ (t : List Served × Head). t.0)) none in absurd (cc))
+    (λ t et.
+    let both : Some t.0 ≡ Some list = sym (ap (option_map (λ (r : List Served × Head). r.0)) et) ∙ e in
+    subst (AreNextServings plan lists left head ks) (same_Some t.0 list both) (timed-next plan lists p each bounds ks left head t h et))
