@@ -5,7 +5,7 @@ use Rattle.std.proofs.lemmas.Bool.{cond_below, cond_above, cond_both, ltb-true}
 use Rattle.std.proofs.lemmas.List.{map-append}
 use Rattle.std.proofs.lemmas.List.Sums.{sum_by-append}
 use Rattle.std.proofs.lemmas.List.Elements.{All-get_or}
-use Rattle.phase_plan.specs.Phases.{IsPhase, IsPlan, next_phase, no_phase, passed, passed_numbers, passing, phase_at}
+use Rattle.phase_plan.specs.Phases.{IsPhase, IsPlan, next_phase, no_phase, passed_numbers, passing, phase_at}
 use Rattle.phase_plan.specs.declared.Phase.{Phase}
 
 -- the phases of a plan are within their bounds

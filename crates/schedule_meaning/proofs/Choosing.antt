@@ -94,12 +94,6 @@ pub reaches-unfit : (p : Problem) (prefix left : List ℕ) (head : Head) (delay 
 reaches-unfit p prefix left head delay k c why reached e f order =
     delay-timing p (prefix ++ k ∷ order) ∙ ap (option_map (λ (x : ℕ × Head). x.0)) (reached (k ∷ order) ∙ ap (option_map (onward delay)) (timed-unfit p left head k order c why e f))
 
-pub reaches-end : (p : Problem) (prefix left : List ℕ) (head : Head) (delay : ℕ) (answer : Answer) → Reaches p prefix left head delay → sum left ≡ 0 → better answer prefix (Some delay) ≡ best_behind p prefix answer (orders left)
-reaches-end p prefix left head delay answer reached over =
-    let e : delay_of p prefix ≡ Some delay =
-    ap (delay_of p) (sym (append-nil prefix)) ∙ delay-timing p (prefix ++ []) ∙ ap (option_map (λ (x : ℕ × Head). x.0)) (reached [] ∙ timing-end p left head delay over) in
-    ap (better answer prefix) (sym e) ∙ ap (λ s. better answer s (delay_of p s)) (sym (append-nil prefix)) ∙ ap (best_behind p prefix answer) (sym (orders-none left over))
-
 -- the best of more sequences
 best-none : (p : Problem) (all : List (List ℕ)) (order : List ℕ) (answer : Answer) → delay_of p order ≡ None → IsBestAmong p all answer → IsBestAmong p (all ++ order ∷ []) answer
 best-none p all order NoPlan e h = All-push (λ s. delay_of p s ≡ None) all order h e

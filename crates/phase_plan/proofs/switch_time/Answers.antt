@@ -1,4 +1,4 @@
-use Rattle.std.proofs.Common.{sym, arith}
+use Rattle.std.proofs.Common.{arith}
 use Rattle.phase_plan.proofs.RingLaws.{passed-up, passed-round}
 use Rattle.phase_plan.proofs.switch_time.Goals as goal
 use Rattle.phase_plan.proofs.switch_time.Goals.{then-s-j, else-s-j}
