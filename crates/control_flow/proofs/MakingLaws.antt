@@ -4,20 +4,22 @@ use Rattle.std.specs.List.{range_with_len}
 use Rattle.std.proofs.lemmas.List.{drop_more, drop_all, get_or-append-add}
 use Rattle.std.proofs.lemmas.Bool.{cases_lt, cond_below, cond_above, cond_both, ltb-true, ltb-false}
 use Rattle.std.proofs.lemmas.List.Elements.{All-nil, All-cons, All-head, All-tail, All-append, All-weaker}
-use Rattle.phase_plan.specs.Phases.{IsPlan, phase_at, passing, switch_time}
+use Rattle.phase_plan.specs.Phases.{IsPlan, next_phase, passed_numbers, phase_at, passing, switch_time}
 use Rattle.phase_plan.specs.declared.Phase.{Phase}
-use Rattle.switch_rules.specs.Serving.{IsHead, earliest_green}
+use Rattle.switch_rules.specs.Serving.{IsHead, earliest_end, earliest_green, head_behind}
 use Rattle.switch_rules.specs.declared.Head.{Head}
 use Rattle.switch_rules.specs.declared.Served.{Served}
 use Rattle.control_flow.specs.declared.greens.Green.{Green}
-use Rattle.control_flow.specs.Greens.{no_green, row_at, end_of, next_phase, IsGreen, IsLawful, GoesOn, BeginBy}
-use Rattle.control_flow.specs.Timelines.{head_behind, IsServingOf, AreServings, IsGreenOf, HasGreens, passed_numbers, shortest_greens, begin_behind, earliest_end, last_end, left_for, green_behind, turning, turned, line_of, rotation_of}
+use Rattle.control_flow.specs.Greens.{no_green, row_at, end_of, IsGreen, IsLawful, GoesOn, BeginBy}
+use Rattle.control_flow.specs.Timelines.{IsServingOf, AreServings, IsGreenOf, HasGreens, shortest_greens, begin_behind, last_end, left_for, green_behind, turning, turned, line_of, rotation_of}
 use Rattle.control_flow.proofs.RowLaws.{lawful-nil, lawful-cons, end_of-last}
-use Rattle.control_flow.proofs.RingLaws.{IsWalk, phase-bounds, next_phase-below, walk-passed, begin_behind-append, begin_behind-later, begin_behind-passed}
-use Rattle.control_flow.proofs.ServingLaws.{Keeps, IsServingOf-keeps, IsServingOf-head}
+use Rattle.foundation.proofs.RangeLaws.{range-more}
+use Rattle.phase_plan.proofs.RingLaws.{IsWalk, phase-bounds, next_phase-below, walk-passed}
+use Rattle.control_flow.proofs.RingLaws.{begin_behind-append, begin_behind-later, begin_behind-passed}
+use Rattle.control_flow.proofs.ServingLaws.{IsAnyServing, IsServingOf-keeps, IsServingOf-head}
 
 -- what the timelines from a head have in common
-pub record IsLine (plan : List Phase) (head : Head) (until : ℕ) (rows : List Green) : Type 0 where
+pub record IsLineFrom (plan : List Phase) (head : Head) (until : ℕ) (rows : List Green) : Type 0 where
   pub lawful : IsLawful plan rows
   pub begin : GoesOn head rows
   pub end : until < end_of rows
@@ -87,10 +89,6 @@ turning-step plan until s to p h =
     ∙ sym (cond_above until to [] (next ∷ turning plan m until next.phase next.to) (next ∷ turning plan m until next.phase next.to) h refl)
     ∙ ap (λ (rows : List Green). next ∷ rows) (turning-enough plan until m (until + 1 - next.to) next.phase next.to p (omega (arith, later)) (omega arith))
 
--- and none where it does
-pub turning-over : (plan : List Phase) (until s to : ℕ) → until < to → turning plan (until + 1 - to) until s to ≡ []
-turning-over plan until s to h = let none : until + 1 - to ≡ 0 = omega arith in ap (λ most. turning plan most until s to) none
-
 -- the begin of the turning
 pub turned-is : (plan : List Phase) (head : Head) (to until : ℕ) → IsPlan plan
     → turned plan head to until ≡ record { phase = head.phase; from = head.since; to = to } ∷ turning plan (until + 1 - to) until head.phase to
@@ -100,7 +98,7 @@ turned-is plan head to until p =
 
 -- a green of a head that is held up to a second within its bounds
 turned-line : (plan : List Phase) (head : Head) (to until : ℕ) → IsPlan plan → IsHead plan head → head.at ≤ 104000 → head.since + (phase_at plan head.phase).least ≤ to
-    → to ≤ head.since + (phase_at plan head.phase).greatest → head.at ≤ to → IsLine plan head until (turned plan head to until)
+    → to ≤ head.since + (phase_at plan head.phase).greatest → head.at ≤ to → IsLineFrom plan head until (turned plan head to until)
 turned-line plan head to until p h reach least greatest spent =
     let row : Green = record { phase = head.phase; from = head.since; to = to } in
     let green : IsGreen plan row = record { phase = h.phase; least = least; greatest = greatest } in
@@ -117,7 +115,7 @@ turned-by plan head to until n p h since last =
     All-cons (λ (r : Green). r.from ≤ n) row (turning plan (until + 1) until head.phase to) since
     (All-weaker (λ (r : Green). r.from ≤ until + 20) (λ (r : Green). r.from ≤ n) more (turning plan (until + 1) until head.phase to) (turning-by plan until (until + 1) head.phase to p h))
 
-pub rotation_of-line : (plan : List Phase) (head : Head) (until : ℕ) → IsPlan plan → IsHead plan head → head.at ≤ 104000 → IsLine plan head until (rotation_of plan head until)
+pub rotation_of-line : (plan : List Phase) (head : Head) (until : ℕ) → IsPlan plan → IsHead plan head → head.at ≤ 104000 → IsLineFrom plan head until (rotation_of plan head until)
 rotation_of-line plan head until p h reach =
     let times = phase-bounds plan head.phase p h.phase in
     turned-line plan head (earliest_end plan head) until p h reach (omega arith) (omega (arith, h.within, times.greatest)) (omega arith)
@@ -160,7 +158,7 @@ shortest-lawful plan (k ∷ ks) row j b rest p green walk time others =
 -- a green that goes on
 
 kept-line : (plan : List Phase) (head : Head) (k : ℕ) (s : Served) (until : ℕ) (rows : List Green) → (k ≡ head.phase) × (s.green ≡ head.since) × (head.at ≤ s.finish)
-    → IsLine plan (head_behind k s) until rows → IsLine plan head until rows
+    → IsLineFrom plan (head_behind k s) until rows → IsLineFrom plan head until rows
 kept-line plan head k s until rows stood line = record {
   lawful = line.lawful;
   begin = record { some = line.begin.some; phase = line.begin.phase ∙ stood.0; begin = line.begin.begin ∙ stood.1; spent = omega (arith, stood.2, line.begin.spent) };
@@ -175,11 +173,11 @@ left-short : (plan : List Phase) (head : Head) (k b : ℕ) → IsHead plan head 
 left-short plan head k b h below earliest =
     let to = last_end plan head k b in
     let in_time : to + switch_time plan head.phase k ≤ b = omega (arith, earliest) in
-    omega (arith, begin_behind-passed plan to head.phase k h.phase below, in_time)
+    omega (arith, begin_behind-passed plan to head.phase k, in_time)
 
-left-line : (plan : List Phase) (head : Head) (k : ℕ) (s : Served) (until : ℕ) (rest : List Green) → IsPlan plan → IsHead plan head → head.at ≤ 104000 → k < length plan → Keeps plan head k s
-    → earliest_green plan head k ≤ s.green → IsLine plan (head_behind k s) until rest
-    → IsLine plan head until (left_for plan head (last_end plan head k s.green) (passed_numbers plan head.phase k) ++ rest)
+left-line : (plan : List Phase) (head : Head) (k : ℕ) (s : Served) (until : ℕ) (rest : List Green) → IsPlan plan → IsHead plan head → head.at ≤ 104000 → k < length plan → IsAnyServing plan head k s
+    → earliest_green plan head k ≤ s.green → IsLineFrom plan (head_behind k s) until rest
+    → IsLineFrom plan head until (left_for plan head (last_end plan head k s.green) (passed_numbers plan head.phase k) ++ rest)
 left-line plan head k s until rest p h reach below keeps earliest line =
     let times = phase-bounds plan head.phase p h.phase in
     let to = last_end plan head k s.green in
@@ -196,7 +194,7 @@ left-line plan head k s until rest p h reach below keeps earliest line =
     }
 
 pub line_of-line : (plan : List Phase) (ks : List ℕ) (ss : List Served) (head : Head) (until : ℕ) → IsPlan plan → IsHead plan head → head.at ≤ 104000 → AreServings plan head ks ss
-    → IsLine plan head until (line_of plan head ks ss until)
+    → IsLineFrom plan head until (line_of plan head ks ss until)
 line_of-line plan [] [] head until p h reach servings =
     let times = phase-bounds plan head.phase p h.phase in
     turned-line plan head (head.since + (phase_at plan head.phase).greatest) until p h reach (omega (arith, times.greatest)) (omega arith) h.within
@@ -208,7 +206,7 @@ line_of-line plan (k ∷ ks) (s ∷ ss) head until p h reach servings =
     let next = head_behind k s in
     let rest = line_of plan next ks ss until in
     let line = line_of-line plan ks ss next until p (IsServingOf-head plan head k s p h one) (omega (arith, keeps.reach)) servings.1 in
-    cond_both s.kept rest (left_for plan head (last_end plan head k s.green) (passed_numbers plan head.phase k) ++ rest) (IsLine plan head until)
+    cond_both s.kept rest (left_for plan head (last_end plan head k s.green) (passed_numbers plan head.phase k) ++ rest) (IsLineFrom plan head until)
     (λ e. kept-line plan head k s until rest (keeps.stood e) line)
     (λ e. left-line plan head k s until rest p h reach one.phase keeps (keeps.anew e) line)
 
@@ -283,19 +281,6 @@ shortest-append : (plan : List Phase) (from : ℕ) (ks ls : List ℕ) → shorte
 shortest-append plan from [] ls = refl
 shortest-append plan from (k ∷ ks) ls =
     ap (λ (rows : List Green). record { phase = k; from = from; to = from + (phase_at plan k).least } ∷ rows) (shortest-append plan (from + passing (phase_at plan k)) ks ls)
-
-range-push : (low count : ℕ) → range_with_len low (count + 1) ≡ range_with_len low count ++ (low + count) ∷ []
-range-push low zero = let e : low ≡ low + 0 = omega arith in ap (λ (k : ℕ). k ∷ []) e
-range-push low (suc count) =
-    let one : suc count + 1 ≡ suc (count + 1) = omega arith in
-    let e : low + 1 + count ≡ low + suc count = omega arith in
-    ap (range_with_len low) one ∙ ap (λ (ks : List ℕ). low ∷ ks) (range-push (low + 1) count ∙ ap (λ (k : ℕ). range_with_len (low + 1) count ++ k ∷ []) e)
-
-range-more : (low k : ℕ) → low ≤ k → range_with_len low (k + 1 - low) ≡ range_with_len low (k - low) ++ k ∷ []
-range-more low k h =
-    let one : k + 1 - low ≡ k - low + 1 = omega arith in
-    let e : low + (k - low) ≡ k = omega arith in
-    ap (range_with_len low) one ∙ range-push low (k - low) ∙ ap (λ (j : ℕ). range_with_len low (k - low) ++ j ∷ []) e
 
 pub shortest-more : (plan : List Phase) (from low k at : ℕ) (p : Phase) (old rows : List Green) → low ≤ k → rows ≡ old ++ shortest_greens plan from (range_with_len low (k - low)) → at ≡ begin_behind plan from (range_with_len low (k - low))
     → p ≡ phase_at plan k → rows ++ record { phase = k; from = at; to = at + p.least } ∷ [] ≡ old ++ shortest_greens plan from (range_with_len low (k + 1 - low))
