@@ -9,7 +9,7 @@ use Rattle.std.proofs.lemmas.List.Elements.{All-cons, All-nil, All-tail}
 use mathlib.Core.Option.{some, some-injective, some-ne-none}
 use lib.ListN.{get_elem?}
 use Rattle.atomic_table.specs.Table.{opening}
-use Rattle.board_model.specs.Boards.{Log, IsLegal}
+use Rattle.board_model.specs.Boards.{IsLegal}
 use Rattle.board_rule.specs.declared.views.Terms.{Terms}
 use Rattle.board_rule.specs.declared.views.View.{View}
 use Rattle.board_rule.specs.Views.{entry, first_view}
