@@ -2,7 +2,6 @@ pub mod Flow
 pub mod Sums
 pub mod Rows
 pub mod Steps
-pub mod Amounts
 pub mod Arriving
 pub mod Counts
 pub mod Worlds

@@ -4,7 +4,7 @@ use Rattle.net_numbers.specs.Numbers.{Net}
 use Rattle.control_flow.specs.declared.greens.Green.{Green}
 use Rattle.control_flow.specs.Greens.{standing}
 use Rattle.net_simulator.specs.Flow.{Passed, queue, past_of}
-use Rattle.net_simulator.specs.Amounts.{Amounts, AreArrivals}
+use Rattle.arrivals.specs.Amounts.{Amounts, AreArrivals}
 use Rattle.net_simulator.specs.Arriving.{arriving_of}
 use Rattle.net_simulator.specs.Sums.{link_totals, totals}
 use Rattle.net_simulator.specs.Rows.{cell}

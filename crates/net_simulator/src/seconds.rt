@@ -11,10 +11,10 @@ ghost use Rattle.net_simulator.specs.Counts.{counts_at, counted, IsSmall};
 ghost use Rattle.net_simulator.specs.Arriving.{arriving_of};
 ghost use Rattle.net_simulator.specs.Steps.{is_open, goes, waits_at, goes_out, all_of};
 
-use super::arrivals::Arrivals;
 use super::lights::Lights;
 use super::rows;
 use super::totals::LinkTotals;
+use arrivals::Arrivals;
 use control_flow::greens::Green;
 use road_net::{Network, part_of_turn};
 

@@ -7,15 +7,15 @@ ghost use Rattle.control_flow.specs.Greens.{standing};
 ghost use Rattle.road_net.specs.Senses.{IsSensedOf};
 ghost use Rattle.net_simulator.specs.Flow.{past_of};
 ghost use Rattle.net_simulator.specs.Counts.{counts_at, no_totals, IsWhole};
-ghost use Rattle.net_simulator.specs.Amounts.{Amounts, AreArrivals};
+ghost use Rattle.arrivals.specs.Amounts.{Amounts, AreArrivals};
 ghost use Rattle.net_simulator.specs.Worlds.{Kept, Stands, IsWorldOf, standing_by};
 ghost use Rattle.net_simulator.specs.Senses.{sense};
 ghost use Rattle.net_simulator.specs.Arriving.{arriving_of};
 
-use super::arrivals::Arrivals;
 use super::lights::Lights;
 use super::totals::{LinkTotals, Totals};
 use super::{seconds, sensing};
+use arrivals::Arrivals;
 use control_flow::greens::Green;
 use foundation::items::Items;
 use foundation::threads::CrossesThreads;
