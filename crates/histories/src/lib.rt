@@ -1,0 +1,9 @@
+//! Histories of a network: who does which board step, one after another. Which are lawful, the turn order, and the history
+//! that the logs of the boards tell.
+#![tactic(auto)]
+
+mod history;
+mod steps;
+
+pub use history::History;
+pub use steps::{BoardStep, node_steps, step_count};
