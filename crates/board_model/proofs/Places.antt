@@ -1,5 +1,5 @@
 -- What the event at a place of a log tells.
-use Rattle.std.proofs.Common.{◌≡◌, ℕ, zero, suc, ◌+◌, ◌<◌, ◌≤◌, List, [], ◌∷◌, ◌++◌, take, drop, refl, sym, ap, subst, ◌∙◌, arith, le_refl}
+use Rattle.std.proofs.Common.{◌≡◌, ℕ, zero, suc, ◌+◌, ◌<◌, ◌≤◌, List, [], ◌∷◌, ◌++◌, take, drop, refl, sym, ap, subst, ◌∙◌, inl, arith, le_refl}
 use Rattle.std.specs.Prelude.{Some, IfSome, All, slice_get, unwrap_or}
 use Rattle.std.specs.List.{AllPairs}
 use Rattle.std.proofs.lemmas.Bool.{le-leb, lt-leb}
@@ -11,6 +11,7 @@ use Rattle.board_model.specs.declared.boards.BoardEvent.{BoardEvent}
 use Rattle.board_model.specs.declared.boards.BoardKind.{BoardKind}
 use Rattle.board_model.specs.declared.boards.BoardKind.TheVariants.{Read, Publish}
 use Rattle.board_model.specs.Boards.{IsLegal, IsReadOf, version_of, forecast_of, newest, version_at, Tells, up_to}
+use Rattle.board_model.specs.Calls.{IsBefore}
 use Rattle.board_model.proofs.ForBoards.{version_of-more}
 use Rattle.board_model.proofs.ForCallers.{forecast_of-kept, version_of-read}
 use Rattle.board_model.proofs.LastOf.{rising-apart}
@@ -77,3 +78,7 @@ up_to-suc (e ∷ es) rising (suc place) event there =
 -- the events up to the stamp of one are those up to its place
 pub up_to-place : (events : List BoardEvent) → IsLegal events → (place : ℕ) (event : BoardEvent) → slice_get events place ≡ Some event → up_to event.stamp events ≡ take (place + 1) events
 up_to-place events legal place event there = let e : place + 1 ≡ suc place = omega arith in rw e (up_to-suc events (rising-apart (λ (e : BoardEvent). e.stamp) events legal.rising) place event there)
+
+-- the events of a legal log stand in order of (stamp, node)
+pub legal-ordered : (log : List BoardEvent) → IsLegal log → AllPairs IsBefore log
+legal-ordered log legal i j d before inside = inl (rising-apart (λ (e : BoardEvent). e.stamp) log legal.rising i j d before inside)

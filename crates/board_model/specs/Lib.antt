@@ -1,3 +1,4 @@
 pub mod Boards
+pub mod Calls
 pub mod Forecasts
 pub mod Stored

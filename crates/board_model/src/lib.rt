@@ -3,9 +3,11 @@
 #![tactic(auto)]
 
 mod boards;
+mod calls;
 mod forecasts;
 mod gates;
 
 pub use boards::{BoardEvent, BoardKind, BoardLog, Heard, Seen, Sent};
+pub use calls::Call;
 pub use forecasts::{Forecast, Row};
 pub use gates::{Gate, OpenGate};

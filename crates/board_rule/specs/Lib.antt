@@ -1,0 +1,5 @@
+pub mod Gathered
+pub mod Passes
+pub mod Plays
+pub mod Rule
+pub mod Views

@@ -1,0 +1,108 @@
+-- Nothing is lost: what arrived is on the links or has left the network.
+use Rattle.std.proofs.Common.{◌≡◌, ℕ, zero, suc, ◌+◌, ◌-◌, ◌<◌, ◌≤◌, List, Option, Some, None, IsSome, length, refl, ap, subst, ◌∙◌, inl, inr, add-one, arith}
+use Rattle.std.proofs.lemmas.Bool.{cases_lt}
+use Rattle.net_numbers.specs.declared.roads.Link.{Link}
+use Rattle.net_numbers.specs.declared.roads.Turn.{Turn}
+use Rattle.net_numbers.specs.Numbers.{Net}
+use Rattle.net_numbers.specs.Outline.{link_at, turns_at, AreTurns}
+use Rattle.road_net.specs.Joins.{split_of, HasShares}
+use Rattle.road_net.proofs.Everywhere.{everywhere}
+use Rattle.road_net.specs.Totals.{total}
+use Rattle.net_simulator.specs.Flow.{Passed, reached, waiting, discharged, entering, past_of}
+use Rattle.net_simulator.specs.Sums.{outward, arrived, gone, on_road}
+use Rattle.road_net.proofs.TotalLaws.{total-same, total-add, total-swap, total-zero}
+use Rattle.net_simulator.proofs.Sums.{total-part}
+use Rattle.net_simulator.proofs.FlowLaws.{past-none}
+use Rattle.net_simulator.proofs.Sound.{IsSound, Continues, goes-on}
+
+-- what a link discharges into other links: all of it, where it ends at a node
+abbrev pub onward : Option ℕ → ℕ → ℕ
+onward None amount = 0
+onward (Some node) amount = amount
+
+-- the parts of what a link discharges, over all links
+pub total-parts : (links : List Link) (turns : List Turn) (amount n : ℕ) (to : Option ℕ) → HasShares links turns to → AreTurns n turns → total (λ l. split_of turns amount l) n ≡ onward to amount
+total-parts links turns amount n None none bounds = total-same (λ l. split_of turns amount l) (λ i. 0) n (λ l h. ap (λ ts. split_of ts amount l) none) ∙ total-zero n
+total-parts links turns amount n (Some node) shares bounds = everywhere links turns n amount (Some node) bounds shares (let some : IsSome (Some node) = refl in some)
+
+onward-add : (to : Option ℕ) (a b : ℕ) → onward to (a + b) ≡ onward to a + onward to b
+onward-add None a b = omega arith
+onward-add (Some node) a b = refl
+
+both-ways : (to : Option ℕ) (a : ℕ) → a ≡ onward to a + outward to a
+both-ways None a = omega arith
+both-ways (Some node) a = omega arith
+
+module _ (net : Net) (arriving : ℕ → ℕ → ℕ) (shown : ℕ → ℕ → Option (ℕ × ℕ)) (parts : (l : ℕ) → l < length net.link_names → HasShares net.links (turns_at net l) (link_at net l).to × AreTurns (length net.link_names) (turns_at net l)) where
+  abbrev all : (ℕ → ℕ) → ℕ
+  all f = total f (length net.link_names)
+
+  conserved-next : (x : ℕ) (before after : ℕ → ℕ → Passed) → Continues net (arriving x) (shown x) x before after
+      → all (λ l. (before x l).entered) ≡ arrived net arriving x + all (λ l. onward (link_at net l).to (before x l).left)
+      → all (λ l. (after (x + 1) l).entered) ≡ arrived net arriving (suc x) + all (λ l. onward (link_at net l).to (after (x + 1) l).left)
+  conserved-next x before after on was =
+      let d : ℕ → ℕ = discharged net (shown x) before x in
+      let one = total-same (λ l. (after (x + 1) l).entered) (λ l. (before x l).entered + entering net (arriving x) (shown x) before x l) (length net.link_names) (λ l h. ap (λ (q : Passed). q.entered) (on.next l h)) in
+      let two = total-add (λ l. (before x l).entered) (λ l. entering net (arriving x) (shown x) before x l) (length net.link_names) in
+      let three = total-add (arriving x) (λ l. total (λ k. split_of (turns_at net k) (d k) l) (length net.link_names)) (length net.link_names) in
+      let four = total-swap (λ l k. split_of (turns_at net k) (d k) l) (length net.link_names) (length net.link_names) in
+      let five = total-same (λ k. total (λ l. split_of (turns_at net k) (d k) l) (length net.link_names)) (λ k. onward (link_at net k).to (d k)) (length net.link_names) (λ k h. total-parts net.links (turns_at net k) (d k) (length net.link_names) (link_at net k).to (parts k h).0 (parts k h).1) in
+      let six = total-same (λ l. onward (link_at net l).to (after (x + 1) l).left) (λ l. onward (link_at net l).to (before x l).left + onward (link_at net l).to (d l)) (length net.link_names) (λ l h. ap (λ (q : Passed). onward (link_at net l).to q.left) (on.next l h) ∙ onward-add (link_at net l).to (before x l).left (d l)) in
+      let seven = total-add (λ l. onward (link_at net l).to (before x l).left) (λ l. onward (link_at net l).to (d l)) (length net.link_names) in
+      omega (arith, was, one, two, three, four, five, six, seven)
+
+  pub conserved : (n : ℕ) → all (λ l. (past_of net arriving shown n n l).entered) ≡ arrived net arriving n + all (λ l. onward (link_at net l).to (past_of net arriving shown n n l).left)
+  conserved zero =
+      let one = total-same (λ l. (past_of net arriving shown 0 0 l).entered) (λ l. 0) (length net.link_names) (λ l h. ap (λ (q : Passed). q.entered) (past-none net arriving shown 0 l)) in
+      let two = total-same (λ l. onward (link_at net l).to (past_of net arriving shown 0 0 l).left) (λ l. 0) (length net.link_names) (λ l h. ap (λ (q : Passed). onward (link_at net l).to q.left) (past-none net arriving shown 0 l) ∙ nothing-on (link_at net l).to) in
+      omega (arith, one, two, total-zero (length net.link_names))
+    where
+      nothing-on : (to : Option ℕ) → onward to 0 ≡ 0
+      nothing-on None = refl
+      nothing-on (Some node) = refl
+  conserved (suc x) =
+      let P = past_of net arriving shown (suc x) in
+      subst (λ n. all (λ l. (P n l).entered) ≡ arrived net arriving (suc x) + all (λ l. onward (link_at net l).to (P n l).left)) (add-one x)
+      (conserved-next x (past_of net arriving shown x) P (goes-on net arriving shown x) (conserved x))
+
+  -- what is on the links and what has left the network is what arrived
+  pub none-lost : (n : ℕ) → ((l : ℕ) → l < length net.link_names → (past_of net arriving shown n n l).left ≤ (past_of net arriving shown n n l).entered) → on_road net (past_of net arriving shown n) n + gone net (past_of net arriving shown n) n ≡ arrived net arriving n
+  none-lost n below =
+      let P = past_of net arriving shown n in
+      let one = total-add (λ l. (P n l).entered - (P n l).left) (λ l. onward (link_at net l).to (P n l).left + outward (link_at net l).to (P n l).left) (length net.link_names) in
+      let two = total-add (λ l. onward (link_at net l).to (P n l).left) (λ l. outward (link_at net l).to (P n l).left) (length net.link_names) in
+      let three = total-same (λ l. (P n l).entered) (λ l. ((P n l).entered - (P n l).left) + (onward (link_at net l).to (P n l).left + outward (link_at net l).to (P n l).left)) (length net.link_names) (λ l h. omega (arith, both-ways (link_at net l).to (P n l).left, below l h)) in
+      omega (arith, one, two, three, conserved n)
+
+module _ (net : Net) (past : ℕ → ℕ → Passed) (n : ℕ) (sound : IsSound net past n) where
+  -- amounts grow
+  pub grown : (l j d : ℕ) → l < length net.link_names → j + d ≤ n → (past j l).entered ≤ (past (j + d) l).entered
+  grown l j zero inside h = omega (arith, ap (λ i. (past i l).entered) (let e : j + zero ≡ j = omega arith in e))
+  grown l j (suc d) inside h =
+      let e : j + suc d ≡ (j + d) + 1 = omega arith in
+      omega (arith, ap (λ i. (past i l).entered) e, grown l j d inside (omega arith), sound.grows (j + d) l (omega arith) inside)
+
+  -- what reached the end entered before
+  pub reached-entered : (l k : ℕ) → l < length net.link_names → k ≤ n → reached net past k l ≤ (past k l).entered
+  reached-entered l k inside h = elim (cases_lt k (link_at net l).travel) [
+    | inl less ↦
+        let e : k - (link_at net l).travel ≡ 0 = omega arith in
+        omega (arith, ap (λ i. (past i l).entered) e, ap (λ i. (past i l).entered) (let z : 0 + k ≡ k = omega arith in z), grown l 0 k inside (omega arith))
+    | inr more ↦
+        let e : (k - (link_at net l).travel) + (link_at net l).travel ≡ k = omega arith in
+        omega (arith, ap (λ i. (past i l).entered) e, grown l (k - (link_at net l).travel) (link_at net l).travel inside (omega arith))
+  ]
+
+  -- what is on a link is on the road
+  pub on-link : (l : ℕ) → l < length net.link_names → (past n l).entered - (past n l).left ≤ on_road net past n
+  on-link l inside = total-part (λ k. (past n k).entered - (past n k).left) (length net.link_names) l inside
+
+  -- what left a link had entered it
+  pub left-entered : (l k : ℕ) → l < length net.link_names → k ≤ n → (past k l).left ≤ (past k l).entered
+  left-entered l k inside h = omega (arith, sound.within k l h inside, reached-entered l k inside h)
+
+  -- and so is what waits
+  pub waiting-on : (l : ℕ) → l < length net.link_names → 1 ≤ (link_at net l).travel → waiting net past n l ≤ on_road net past n
+  waiting-on l inside some =
+      let e : (n + 1 - (link_at net l).travel) + (n - (n + 1 - (link_at net l).travel)) ≡ n = omega arith in
+      omega (arith, on-link l inside, ap (λ i. (past i l).entered) e, grown l (n + 1 - (link_at net l).travel) (n - (n + 1 - (link_at net l).travel)) inside (omega arith))

@@ -1,0 +1,171 @@
+-- One second of the code is one second of the past.
+use Rattle.std.proofs.Common.{◌≡◌, ◌≢◌, ℕ, ◌+◌, ◌-◌, ◌*◌, ◌%◌, ◌<◌, ◌≤◌, Bool, true, false, not, ◌&&◌, eqb, ltb, min, cond, List, Option, Some, None, IfSome, length, slice_index, slice_index_or, refl, sym, ap, ◌∙◌, inl, inr, arith}
+use Rattle.std.specs.Option.{option_map}
+use Rattle.std.proofs.Math.Nat.{add-mod_right}
+use Rattle.std.proofs.lemmas.Bool.{ltb-true}
+use Rattle.std.proofs.lemmas.Bool.Decides.{eqb_tells}
+use Rattle.phase_plan.specs.Phases.{phase_at}
+use Rattle.net_numbers.specs.Numbers.{Net}
+use Rattle.net_numbers.specs.Outline.{link_at, plan_at, turns_at}
+use Rattle.road_net.specs.Joins.{split_of}
+use Rattle.control_flow.specs.declared.greens.Green.{Green}
+use Rattle.road_net.specs.Totals.{total}
+use Rattle.net_simulator.specs.Flow.{Passed, queue, waiting, is_lost, may_go, discharged_to, discharged}
+use Rattle.net_simulator.specs.Rows.{cell}
+use Rattle.net_simulator.specs.Steps.{is_open, goes, waits_at}
+use Rattle.net_simulator.specs.Worlds.{Keeps}
+use Rattle.road_net.proofs.TotalLaws.{total-same}
+use Rattle.net_simulator.proofs.Sound.{IsSound, Continues}
+
+and-same : (a b c : Bool) → (a ≡ true → b ≡ c) → (a && b) ≡ (a && c)
+and-same true b c same = same refl
+and-same false b c same = refl
+
+abbrev pub phase_and_begin : Green → ℕ × ℕ
+phase_and_begin g = (g.phase, g.from)
+
+-- one turn of the row later the cell is the same
+cell-turn : (rows : List ℕ) (l y z : ℕ) → y ≡ z + 128 → cell rows l y ≡ cell rows l z
+cell-turn rows l y z e = ap (λ i. slice_index rows (l * 128 + i % 128)) e ∙ ap (λ m. slice_index rows (l * 128 + m)) (add-mod_right z 128)
+
+apart : (x d : ℕ) → 1 ≤ d → d ≤ 127 → (x + 128 - d) % 128 ≢ x % 128
+apart x d some most same = omega arith
+
+-- what holds of a network here
+pub record HasBounds (net : Net) : Type 0 where
+  pub some : (l : ℕ) → l < length net.link_names → 1 ≤ (link_at net l).travel
+  pub most : (l : ℕ) → l < length net.link_names → (link_at net l).travel ≤ 120
+  pub ends : (l node : ℕ) → l < length net.link_names → (link_at net l).to ≡ Some node → node < length net.node_names
+  pub losses : (l node : ℕ) → l < length net.link_names → (link_at net l).to ≡ Some node → (phase_at (plan_at net node) (link_at net l).phase).loss ≤ 10
+
+module _ (net : Net) (arriving : ℕ → ℕ) (shown : ℕ → Option (ℕ × ℕ)) (x : ℕ) (before after : ℕ → ℕ → Passed) (qs rs ws : List ℕ)
+    (bounds : HasBounds net) (sound : IsSound net before x) (on : Continues net arriving shown x before after) (keeps : Keeps net before qs rs ws x) where
+  -- what waits
+  pub waits-same : (arrived : List ℕ) → ((l y : ℕ) → y % 128 ≢ x % 128 → cell arrived l y ≡ cell rs l y) → (l : ℕ) → l < length net.link_names → waits_at net qs arrived x l ≡ waiting net before x l
+  waits-same arrived others l h =
+      let t = (link_at net l).travel in
+      let some : 1 ≤ t = bounds.some l h in
+      let most : t ≤ 120 = bounds.most l h in
+      let same = others l (x + 128 - t) (apart x t some (omega arith)) in
+      let kept = keeps.recent l t h some most in
+      let here = keeps.queues l h in
+      let within = sound.within x l (omega arith) h in
+      let grown : (before (x - t) l).entered ≤ (before (x + 1 - t) l).entered = elim (eqb_tells (x - t) (x + 1 - t)) [
+        | inl p ↦ omega (arith, ap (λ i. (before i l).entered) p.1)
+        | inr q ↦
+            let e : x + 1 - t ≡ (x - t) + 1 = (let ne = q.1 in omega arith) in
+            omega (arith, ap (λ i. (before i l).entered) e, sound.grows (x - t) l (omega arith) h)
+      ] in
+      omega (arith, same, kept, here, within, grown)
+
+  -- whether it may go
+  lost-same : (l from loss : ℕ) → l < length net.link_names → from ≤ x → loss ≤ 10 → is_lost loss from x (cell ws l from) ≡ is_lost loss from x (queue net before from l)
+  lost-same l from loss h begun small = and-same (ltb x (from + loss)) (ltb 0 (cell ws l from)) (ltb 0 (queue net before from l)) (λ e.
+      let less = ltb-true x (from + loss) e in
+      let d : x - (x - from) ≡ from = omega arith in
+      let kept = keeps.waits l (x - from) h (omega arith) in
+      let turned = cell-turn ws l (x + 128 - (x - from)) from (omega arith) in
+      ap (ltb 0) (sym turned ∙ kept ∙ ap (λ n. queue net before n l) d))
+
+  open-same : (l node : ℕ) (green : Option Green) → l < length net.link_names → (link_at net l).to ≡ Some node → IfSome green (λ g. g.from ≤ x)
+      → is_open net ws x l node green ≡ may_go net before x l node (option_map phase_and_begin green)
+  open-same l node None h to begun = refl
+  open-same l node (Some green) h to begun =
+      let loss = (phase_at (plan_at net node) green.phase).loss in
+      and-same (eqb green.phase (link_at net l).phase) (not (is_lost loss green.from x (cell ws l green.from))) (not (is_lost loss green.from x (queue net before green.from l))) (λ e.
+      elim (eqb_tells green.phase (link_at net l).phase) [
+        | inl p ↦
+            let small : loss ≤ 10 = omega (arith, bounds.losses l node h to, ap (λ k. (phase_at (plan_at net node) k).loss) p.1) in
+            ap not (lost-same l green.from loss h begun small)
+        | inr q ↦ let impossible : true ≡ false = sym e ∙ q.0 in let r : not (is_lost loss green.from x (cell ws l green.from)) ≡ not (is_lost loss green.from x (queue net before green.from l)) = cc in r
+      ])
+
+  goes-to : (greens : List (Option Green)) (l w : ℕ) (to : Option ℕ) → l < length net.link_names → (link_at net l).to ≡ to
+      → ((n : ℕ) → n < length net.node_names → IfSome (slice_index_or greens n None) (λ g. g.from ≤ x)) → ((n : ℕ) → n < length net.node_names → shown n ≡ option_map phase_and_begin (slice_index_or greens n None)) → w ≡ waiting net before x l
+      → goes net greens ws x l w to ≡ discharged_to net shown before x l to
+  goes-to greens l w None h to begun seen same = same
+  goes-to greens l w (Some node) h to begun seen same =
+      let there = bounds.ends l node h to in
+      let may = open-same l node (slice_index_or greens node None) h to (begun node there) ∙ ap (may_go net before x l node) (sym (seen node there)) in
+      ap (λ b. cond b (min (link_at net l).sat w) 0) may ∙ ap (λ n. cond (may_go net before x l node (shown node)) (min (link_at net l).sat n) 0) same
+
+  pub goes-same : (greens : List (Option Green)) (l w : ℕ) → l < length net.link_names
+      → ((n : ℕ) → n < length net.node_names → IfSome (slice_index_or greens n None) (λ g. g.from ≤ x)) → ((n : ℕ) → n < length net.node_names → shown n ≡ option_map phase_and_begin (slice_index_or greens n None)) → w ≡ waiting net before x l
+      → goes net greens ws x l w (link_at net l).to ≡ discharged net shown before x l
+  goes-same greens l w h begun seen same = goes-to greens l w (link_at net l).to h refl begun seen same
+
+  -- the queues behind the second
+  pub queue-next : (l : ℕ) → l < length net.link_names → queue net after (x + 1) l ≡ waiting net before x l - discharged net shown before x l
+  queue-next l h =
+      let t = (link_at net l).travel in
+      let some : 1 ≤ t = bounds.some l h in
+      let left = ap (λ (q : Passed). q.left) (on.next l h) in
+      let back = ap (λ (q : Passed). q.entered) (on.kept ((x + 1) - t) l (omega arith)) in
+      omega (arith, left, back)
+
+  recent-next : (lv rs2 : List ℕ)
+      → ((l : ℕ) → l < length net.link_names → slice_index lv l ≡ discharged net shown before x l)
+      → ((l : ℕ) → l < length net.link_names → cell rs2 l x ≡ arriving l + total (λ k. split_of (turns_at net k) (slice_index lv k) l) (length net.link_names))
+      → ((l y : ℕ) → y % 128 ≢ x % 128 → cell rs2 l y ≡ cell rs l y)
+      → (l d : ℕ) → l < length net.link_names → 1 ≤ d → d ≤ 120 → cell rs2 l (x + 1 + 128 - d) ≡ (after (x + 1 + 1 - d) l).entered - (after (x + 1 - d) l).entered
+  recent-next lv rs2 leaves entered others l d h some most = elim (eqb_tells d 1) [
+    | inl p ↦
+        let turned = cell-turn rs2 l (x + 1 + 128 - d) x (let e = p.1 in omega arith) in
+        let next = ap (λ (q : Passed). q.entered) (on.next l h) in
+        let kept = ap (λ (q : Passed). q.entered) (on.kept x l (omega arith)) in
+        let parts = total-same (λ k. split_of (turns_at net k) (slice_index lv k) l) (λ k. split_of (turns_at net k) (discharged net shown before x k) l) (length net.link_names) (λ k b. ap (λ a. split_of (turns_at net k) a l) (leaves k b)) in
+        let one : x + 1 + 1 - d ≡ x + 1 = (let e = p.1 in omega arith) in
+        let two : x + 1 - d ≡ x = (let e = p.1 in omega arith) in
+        rw (one, two) (omega (arith, turned, entered l h, next, kept, parts))
+    | inr q ↦
+        let more : 2 ≤ d = (let ne = q.1 in omega arith) in
+        let place : x + 1 + 128 - d ≡ x + 128 - (d - 1) = omega arith in
+        let other = others l (x + 128 - (d - 1)) (apart x (d - 1) (omega arith) (omega arith)) in
+        let was = keeps.recent l (d - 1) h (omega arith) (omega arith) in
+        let up : x + 1 + 1 - d ≡ x + 1 - (d - 1) = omega arith in
+        let to : x + 1 - d ≡ x - (d - 1) = omega arith in
+        let one = ap (λ (q : Passed). q.entered) (on.kept (x + 1 - (d - 1)) l (omega arith)) in
+        let two = ap (λ (q : Passed). q.entered) (on.kept (x - (d - 1)) l (omega arith)) in
+        rw (place, up, to) (omega (arith, other, was, one, two))
+  ]
+
+  pub kept-queue : (n l : ℕ) → n ≤ x → queue net after n l ≡ queue net before n l
+  kept-queue n l h =
+      let one = ap (λ (q : Passed). q.entered) (on.kept (n - (link_at net l).travel) l (omega arith)) in
+      let two = ap (λ (q : Passed). q.left) (on.kept n l h) in
+      omega (arith, one, two)
+
+  waits-next : (qs' ws' : List ℕ)
+      → ((l : ℕ) → l < length net.link_names → slice_index qs' l ≡ queue net after (x + 1) l)
+      → ((l : ℕ) → l < length net.link_names → cell ws' l (x + 1) ≡ slice_index qs' l)
+      → ((l y : ℕ) → y % 128 ≢ (x + 1) % 128 → cell ws' l y ≡ cell ws l y)
+      → (l d : ℕ) → l < length net.link_names → d ≤ 120 → cell ws' l (x + 1 + 128 - d) ≡ queue net after (x + 1 - d) l
+  waits-next qs' ws' now here others l d h most = elim (eqb_tells d 0) [
+    | inl p ↦
+        let turned = cell-turn ws' l (x + 1 + 128 - d) (x + 1) (let e = p.1 in omega arith) in
+        let to : x + 1 - d ≡ x + 1 = (let e = p.1 in omega arith) in
+        turned ∙ here l h ∙ now l h ∙ ap (λ n. queue net after n l) (sym to)
+    | inr q ↦
+        let more : 1 ≤ d = (let ne = q.1 in omega arith) in
+        let place : x + 1 + 128 - d ≡ x + 128 - (d - 1) = omega arith in
+        let other = others l (x + 1 + 128 - d) (apart (x + 1) d more (omega arith)) in
+        let was = keeps.waits l (d - 1) h (omega arith) in
+        let to : x + 1 - d ≡ x - (d - 1) = omega arith in
+        other ∙ ap (cell ws l) place ∙ was ∙ sym (kept-queue (x - (d - 1)) l (omega arith)) ∙ ap (λ n. queue net after n l) (sym to)
+  ]
+
+  pub keeps-next : (lv qs' rs2 ws' : List ℕ)
+      → ((l : ℕ) → l < length net.link_names → slice_index lv l ≡ discharged net shown before x l)
+      → ((l : ℕ) → l < length net.link_names → slice_index qs' l ≡ waiting net before x l - slice_index lv l)
+      → ((l : ℕ) → l < length net.link_names → cell rs2 l x ≡ arriving l + total (λ k. split_of (turns_at net k) (slice_index lv k) l) (length net.link_names))
+      → ((l y : ℕ) → y % 128 ≢ x % 128 → cell rs2 l y ≡ cell rs l y)
+      → ((l : ℕ) → l < length net.link_names → cell ws' l (x + 1) ≡ slice_index qs' l)
+      → ((l y : ℕ) → y % 128 ≢ (x + 1) % 128 → cell ws' l y ≡ cell ws l y)
+      → Keeps net after qs' rs2 ws' (x + 1)
+  keeps-next lv qs' rs2 ws' leaves queues' entered others waits' others' =
+      let lines-up : (l : ℕ) → l < length net.link_names → slice_index qs' l ≡ queue net after (x + 1) l = λ l h. queues' l h ∙ ap (λ n. waiting net before x l - n) (leaves l h) ∙ sym (queue-next l h) in
+      record {
+        queues = lines-up;
+        recent = recent-next lv rs2 leaves entered others;
+        waits = waits-next qs' ws' lines-up waits' others';
+      }

@@ -1,0 +1,9 @@
+pub mod FlowLaws
+pub mod Sums
+pub mod Turning
+pub mod Sound
+pub mod Keeping
+pub mod Conserving
+pub mod Passing
+pub mod Seeing
+mod WorkedRow

@@ -1,0 +1,22 @@
+use Rattle.std.proofs.Common.{ℕ, ◌*◌, length, refl, ap, ◌∙◌}
+use Rattle.std.proofs.lemmas.List.{length-replicate}
+use Rattle.net_simulator.specs.Counts.{no_totals}
+use Rattle.net_simulator.proofs.Passing.{stands-new, zeros}
+use Rattle.net_simulator.proofs.world.World.new.Goals as goal
+
+pub returns-clause-stands : goal.returns-clause-stands
+returns-clause-stands c arriving shown =
+    let links = c.links-links.ensures.value in
+    stands-new c.args.net.now arriving shown _ refl
+    (record {
+      nodes = c.in_ok-greens.ensures ∙ c.nodes.ensures.value;
+      queues = ap length c.in_ok-queues.ensures ∙ length-replicate _ 0 ∙ links;
+      recent = ap length c.in_ok-recent.ensures ∙ length-replicate _ 0 ∙ ap (λ (n : ℕ). n * 128) links;
+      waits = ap length c.in_ok-waits.ensures ∙ length-replicate _ 0 ∙ ap (λ (n : ℕ). n * 128) links;
+      counts = ap length c.in_ok-counts.ensures ∙ length-replicate _ no_totals ∙ links;
+    })
+    (λ k. rw c.in_ok-queues.ensures (zeros _ k 0))
+    (λ k. rw c.in_ok-recent.ensures (zeros _ k 0))
+    (λ k. rw c.in_ok-waits.ensures (zeros _ k 0))
+    (λ k. rw c.in_ok-counts.ensures (zeros _ k no_totals))
+    refl

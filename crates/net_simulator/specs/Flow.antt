@@ -1,0 +1,70 @@
+-- What enters the links of a network and leaves them, second by second.
+use Rattle.std.specs.Prelude.{ℕ, zero, suc, ◌+◌, ◌-◌, ◌==◌, min, nat_lt, Bool, false, not, ◌&&◌, if◌then◌else◌, List, [], ◌∷◌, ◌++◌, Option, Some, None, map, length, slice_index_or}
+use Rattle.std.specs.List.{range_with_len}
+use Rattle.phase_plan.specs.Phases.{phase_at}
+use Rattle.net_numbers.specs.Numbers.{Net}
+use Rattle.net_numbers.specs.Outline.{link_at, plan_at, turns_at}
+use Rattle.road_net.specs.Joins.{split_of}
+use Rattle.road_net.specs.Totals.{total}
+
+-- all that entered a link and all that left it
+pub record Passed : Type 0 where
+  pub entered : ℕ
+  pub left : ℕ
+
+abbrev pub nothing : Passed
+nothing = record { entered = 0; left = 0 }
+
+-- what passed a link in the first n seconds, from a row of all links for each n
+abbrev pub passed_in : List (List Passed) → ℕ → ℕ → Passed
+passed_in history n l = slice_index_or (slice_index_or history n []) l nothing
+
+-- Below, `past n l` is what passed link l in the first n seconds. All that reached the end of the link in them.
+abbrev pub reached : Net → (ℕ → ℕ → Passed) → ℕ → ℕ → ℕ
+reached net past n l = (past (n - (link_at net l).travel) l).entered
+
+-- the queue behind the first n seconds
+abbrev pub queue : Net → (ℕ → ℕ → Passed) → ℕ → ℕ → ℕ
+queue net past n l = reached net past n l - (past n l).left
+
+-- what waits at the end of the link in second x
+abbrev pub waiting : Net → (ℕ → ℕ → Passed) → ℕ → ℕ → ℕ
+waiting net past x l = reached net past (x + 1) l - (past x l).left
+
+-- whether a second is lost at the begin of a green since `from`, where this queue was there before it
+abbrev pub is_lost : ℕ → ℕ → ℕ → ℕ → Bool
+is_lost loss from x before = nat_lt x (from + loss) && nat_lt 0 before
+
+-- whether a link may discharge in second x, where its node shows this green: a phase, and its begin
+abbrev pub may_go : Net → (ℕ → ℕ → Passed) → ℕ → ℕ → ℕ → Option (ℕ × ℕ) → Bool
+may_go net past x l node None = false
+may_go net past x l node (Some green) = (green.0 == (link_at net l).phase) && not (is_lost (phase_at (plan_at net node) green.0).loss green.1 x (queue net past green.1 l))
+
+-- what a link discharges in second x, where the nodes show these greens: all that waits, where it ends at no node
+abbrev pub discharged_to : Net → (ℕ → Option (ℕ × ℕ)) → (ℕ → ℕ → Passed) → ℕ → ℕ → Option ℕ → ℕ
+discharged_to net shown past x l None = waiting net past x l
+discharged_to net shown past x l (Some node) = if may_go net past x l node (shown node) then min (link_at net l).sat (waiting net past x l) else 0
+
+abbrev pub discharged : Net → (ℕ → Option (ℕ × ℕ)) → (ℕ → ℕ → Passed) → ℕ → ℕ → ℕ
+discharged net shown past x l = discharged_to net shown past x l (link_at net l).to
+
+-- what enters a link in second x: what arrives, and its part of what each link discharges
+abbrev pub entering : Net → (ℕ → ℕ) → (ℕ → Option (ℕ × ℕ)) → (ℕ → ℕ → Passed) → ℕ → ℕ → ℕ
+entering net arriving shown past x l = arriving l + total (λ k. split_of (turns_at net k) (discharged net shown past x k) l) (length net.link_names)
+
+-- what passed a link in the first x + 1 seconds
+abbrev pub passing : Net → (ℕ → ℕ) → (ℕ → Option (ℕ × ℕ)) → (ℕ → ℕ → Passed) → ℕ → ℕ → Passed
+passing net arriving shown past x l = record { entered = (past x l).entered + entering net arriving shown past x l; left = (past x l).left + discharged net shown past x l }
+
+-- a further row behind those of the first x seconds
+abbrev pub longer : Net → (ℕ → ℕ) → (ℕ → Option (ℕ × ℕ)) → ℕ → List (List Passed) → List (List Passed)
+longer net arriving shown x history = history ++ map (passing net arriving shown (passed_in history) x) (range_with_len 0 (length net.link_names)) ∷ []
+
+-- the rows of the first 0, 1, .., n seconds, where `arriving x l` comes from outside and `shown x node` is green
+unfoldable pub history : Net → (ℕ → ℕ → ℕ) → (ℕ → ℕ → Option (ℕ × ℕ)) → ℕ → List (List Passed)
+history net arriving shown zero = [] ∷ []
+history net arriving shown (suc x) = longer net (arriving x) (shown x) x (history net arriving shown x)
+
+-- what passed each link in the first n seconds, for n up to `now`
+abbrev pub past_of : Net → (ℕ → ℕ → ℕ) → (ℕ → ℕ → Option (ℕ × ℕ)) → ℕ → ℕ → ℕ → Passed
+past_of net arriving shown now = passed_in (history net arriving shown now)

@@ -1,0 +1,30 @@
+-- What a node sees of its entry links.
+use Rattle.std.specs.Prelude.{ℕ, ◌+◌, ◌-◌, List, map, slice_index}
+use Rattle.std.specs.List.{range_with_len}
+use Rattle.net_numbers.specs.Numbers.{Net}
+use Rattle.net_numbers.specs.Outline.{link_at}
+use Rattle.road_net.specs.declared.senses.LinkSense.{LinkSense}
+use Rattle.road_net.specs.declared.senses.Sensed.{Sensed}
+use Rattle.road_net.specs.Network.{entry_links}
+use Rattle.net_simulator.specs.Flow.{Passed, queue}
+use Rattle.net_simulator.specs.Rows.{cell}
+
+-- what reaches the end of a link in i seconds from second n: what entered it one travel time before
+abbrev pub coming : Net → (ℕ → ℕ → Passed) → ℕ → ℕ → ℕ → ℕ
+coming net past n l i = (past (n + i + 1 - (link_at net l).travel) l).entered - (past (n + i - (link_at net l).travel) l).entered
+
+-- what is seen of a link in second n: the queue behind the second before, and what is on its way
+abbrev pub link_sense : Net → (ℕ → ℕ → Passed) → ℕ → ℕ → LinkSense
+link_sense net past n l = record { link = l; queue = queue net past n l; coming = map (coming net past n l) (range_with_len 0 (link_at net l).travel) }
+
+-- what a node sees in second n
+abbrev pub sense : Net → (ℕ → ℕ → Passed) → ℕ → ℕ → Sensed
+sense net past n node = record { now = n; links = map (link_sense net past n) (entry_links net node) }
+
+-- the same by what a world keeps: the queues and the row of what entered
+abbrev pub seen_by : Net → List ℕ → List ℕ → ℕ → ℕ → LinkSense
+seen_by net queues recent n l = record {
+  link = l;
+  queue = slice_index queues l;
+  coming = map (λ i. cell recent l (n + 128 - (link_at net l).travel + i)) (range_with_len 0 (link_at net l).travel);
+}

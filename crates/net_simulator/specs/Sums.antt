@@ -1,0 +1,45 @@
+-- Sums over the links of a network.
+use Rattle.std.specs.Prelude.{ℕ, ◌+◌, ◌-◌, ◌≤◌, Option, None, Some, length}
+use Rattle.net_numbers.specs.Numbers.{Net}
+use Rattle.net_numbers.specs.Outline.{link_at}
+use Rattle.road_net.specs.Totals.{total}
+use Rattle.net_simulator.specs.Flow.{Passed, queue}
+use Rattle.net_simulator.specs.declared.totals.LinkTotals.{LinkTotals}
+use Rattle.net_simulator.specs.declared.totals.Totals.{Totals}
+
+-- what a link discharges out of the network: all of it, where it ends at no node
+abbrev pub outward : Option ℕ → ℕ → ℕ
+outward None amount = amount
+outward (Some node) amount = 0
+
+-- all that arrives in the first n seconds
+abbrev pub arrived : Net → (ℕ → ℕ → ℕ) → ℕ → ℕ
+arrived net arriving n = total (λ x. total (arriving x) (length net.link_names)) n
+
+-- arrivals of a network: all together are at most 2,000,000,000
+abbrev pub AreArrivals : Net → (ℕ → ℕ → ℕ) → Type 0
+AreArrivals net arriving = (n : ℕ) → arrived net arriving n ≤ 2000000000
+
+-- all that left the network in the first n seconds, and all that is in it then
+abbrev pub gone : Net → (ℕ → ℕ → Passed) → ℕ → ℕ
+gone net past n = total (λ l. outward (link_at net l).to (past n l).left) (length net.link_names)
+
+abbrev pub on_road : Net → (ℕ → ℕ → Passed) → ℕ → ℕ
+on_road net past n = total (λ l. (past n l).entered - (past n l).left) (length net.link_names)
+
+-- the delay of a link in the first n seconds: the sum of its queues behind each of them
+abbrev pub delay : Net → (ℕ → ℕ → Passed) → ℕ → ℕ → ℕ
+delay net past n l = total (λ x. queue net past (x + 1) l) n
+
+-- what the first n seconds have counted of a link
+abbrev pub link_totals : Net → (ℕ → ℕ → Passed) → ℕ → ℕ → LinkTotals
+link_totals net past n l = record { entered = (past n l).entered; left = (past n l).left; delay = delay net past n l }
+
+-- and of the whole network
+abbrev pub totals : Net → (ℕ → ℕ → ℕ) → (ℕ → ℕ → Passed) → ℕ → Totals
+totals net arriving past n = record {
+  entered = arrived net arriving n;
+  left = gone net past n;
+  on = on_road net past n;
+  delay = total (delay net past n) (length net.link_names);
+}

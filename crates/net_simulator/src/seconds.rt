@@ -1,0 +1,231 @@
+//! What happens in one second.
+
+ghost use Rattle.std.specs.Prelude.{◌≡◌, ◌≢◌, ℕ, ◌+◌, ◌-◌, ◌*◌, ◌/◌, ◌%◌, ◌≤◌, ◌<◌, ◌^◌, None, Some, IfSome, length, slice_index, slice_index_or};
+ghost use Rattle.control_flow.specs.Greens.{green_at};
+ghost use Rattle.net_numbers.specs.Outline.{link_at, turns_at};
+ghost use Rattle.road_net.specs.Joins.{split_of};
+ghost use Rattle.road_net.specs.Totals.{total};
+ghost use Rattle.net_simulator.specs.Rows.{cell};
+ghost use Rattle.net_simulator.specs.Sums.{outward};
+ghost use Rattle.net_simulator.specs.Counts.{counts_at, counted, IsSmall};
+ghost use Rattle.net_simulator.specs.Arriving.{entering_of};
+ghost use Rattle.net_simulator.specs.Steps.{is_open, goes, waits_at, goes_out, all_of};
+
+use super::arrivals::Arrivals;
+use super::lights::Lights;
+use super::rows;
+use super::totals::LinkTotals;
+use control_flow::greens::Green;
+use road_net::{Network, part_of_turn};
+
+/// Looks once at the light of each node.
+pub(crate) fn look<T: Lights>(greens: &mut [Option<Green>], net: &Network, lights: &T, second: u32)
+    requires { length greens.old ≡ length net.now.node_names }
+    ensures { (n : ℕ) → n < length net.now.node_names → slice_index_or greens.new n None ≡ green_at (T.lines lights.now n) second }
+{
+    for node in 0..net.nodes() {
+        greens[node as usize] = lights.green(node, second);
+    }
+}
+
+/// Begins a second: what comes from outside enters. Tells how much that is.
+pub(crate) fn arrive(recent: &mut [u32], links: u32, arrivals: &Arrivals, second: u32) -> u64
+    requires { length recent.old ≡ links * 128 }
+    ensures here { (l : ℕ) → l < links → cell recent.new l second ≡ entering_of arrivals.now second l }
+    ensures others { (l y : ℕ) → y % 128 ≢ second % 128 → cell recent.new l y ≡ cell recent.old l y }
+    ensures all { result ≡ total (λ l. entering_of arrivals.now second l) links }
+{
+    let mut all = 0;
+    for l in 0..links {
+        let amount = arrivals.entering(l, second);
+        rows::put(recent, l, second, amount);
+        all += u64::from(amount);
+    }
+    all
+}
+
+/// Whether link `l` of a node may discharge in this second.
+fn is_open(
+    net: &Network,
+    waits: &[u32],
+    second: u32,
+    l: u32,
+    node: u32,
+    green: Option<Green>,
+) -> bool
+    requires link { l < length net.now.link_names }
+    requires node { (link_at net.now l).to ≡ Some node }
+    requires waits { length waits.now ≡ length net.now.link_names * 128 }
+    requires begun { IfSome green (λ g. g.from ≤ second) }
+    ensures { result ≡ is_open net.now waits.now second l node green }
+{
+    let Some(green) = green else {
+        return false;
+    };
+    if green.phase != net.link(l).phase {
+        return false;
+    }
+    let loss = net.plan(node).phase(green.phase).loss;
+    second - green.from >= loss || rows::at(waits, l, green.from) == 0
+}
+
+/// What link `l` discharges in this second of what waits at its end.
+fn goes(
+    net: &Network,
+    waits: &[u32],
+    second: u32,
+    l: u32,
+    waiting: u32,
+    greens: &[Option<Green>],
+) -> u32
+    requires link { l < length net.now.link_names }
+    requires greens { length greens.now ≡ length net.now.node_names }
+    requires begun { (n : ℕ) → n < length net.now.node_names → IfSome (slice_index_or greens.now n None) (λ g. g.from ≤ second) }
+    requires waits { length waits.now ≡ length net.now.link_names * 128 }
+    ensures value { result ≡ goes net.now greens.now waits.now second l waiting (link_at net.now l).to }
+    ensures most { result ≤ waiting }
+{
+    let Some(node) = net.link(l).to else {
+        return waiting;
+    };
+    if is_open(net, waits, second, l, node, greens[node as usize]) {
+        waiting.min(net.link(l).sat)
+    } else {
+        0
+    }
+}
+
+/// What waits at the end of link `l`: its queue, and what entered it one travel time ago.
+fn waiting(net: &Network, queues: &[u32], recent: &[u32], second: u32, l: u32) -> u32
+    requires link { l < length net.now.link_names }
+    requires queues { length queues.now ≡ length net.now.link_names }
+    requires recent { length recent.now ≡ length net.now.link_names * 128 }
+    requires second { second < 18000 }
+    requires room { slice_index queues.now l + cell recent.now l (second + 128 - (link_at net.now l).travel) < 2 ^ 32 }
+    ensures { result ≡ slice_index queues.now l + cell recent.now l (second + 128 - (link_at net.now l).travel) }
+{
+    let travel = net.link(l).travel;
+    queues[l as usize] + rows::at(recent, l, second + 128 - travel)
+}
+
+/// What of an amount that a link discharges leaves the network.
+fn outward(to: Option<u32>, amount: u32) -> u32
+    ensures value { result ≡ outward to amount }
+    ensures most { result ≤ amount }
+{
+    match to {
+        None => amount,
+        Some(_) => 0,
+    }
+}
+
+/// Each link discharges what it may of what waits at its end. Tells how much leaves the network.
+pub(crate) fn leave(
+    leaving: &mut [u32],
+    queues: &mut [u32],
+    net: &Network,
+    recent: &[u32],
+    waits: &[u32],
+    greens: &[Option<Green>],
+    second: u32,
+) -> u64
+    requires leaving { length leaving.old ≡ length net.now.link_names }
+    requires queues { length queues.old ≡ length net.now.link_names }
+    requires recent { length recent.now ≡ length net.now.link_names * 128 }
+    requires waits { length waits.now ≡ length net.now.link_names * 128 }
+    requires greens { length greens.now ≡ length net.now.node_names }
+    requires begun { (n : ℕ) → n < length net.now.node_names → IfSome (slice_index_or greens.now n None) (λ g. g.from ≤ second) }
+    requires second { second < 18000 }
+    requires room { (l : ℕ) → l < length net.now.link_names → waits_at net.now queues.old recent.now second l < 2 ^ 32 }
+    ensures leaving { (l : ℕ) → l < length net.now.link_names → slice_index leaving.new l ≡ goes net.now greens.now waits.now second l (waits_at net.now queues.old recent.now second l) (link_at net.now l).to }
+    ensures queues { (l : ℕ) → l < length net.now.link_names → slice_index queues.new l ≡ waits_at net.now queues.old recent.now second l - slice_index leaving.new l }
+    ensures out { result ≡ goes_out net.now leaving.new }
+{
+    let mut out = 0;
+    for l in 0..net.links() {
+        let waiting = waiting(net, queues, recent, second, l);
+        let amount = goes(net, waits, second, l, waiting, greens);
+        leaving[l as usize] = amount;
+        queues[l as usize] = waiting - amount;
+        out += u64::from(outward(net.link(l).to, amount));
+    }
+    out
+}
+
+/// What link `l` discharges enters the links into which it turns.
+fn turn(recent: &mut [u32], net: &Network, l: u32, amount: u32, second: u32)
+    requires link { l < length net.now.link_names }
+    requires recent { length recent.old ≡ length net.now.link_names * 128 }
+    requires room { (k : ℕ) → k < length net.now.link_names → cell recent.old k second + split_of (turns_at net.now l) amount k < 2 ^ 32 }
+    ensures here { (k : ℕ) → k < length net.now.link_names → cell recent.new k second ≡ cell recent.old k second + split_of (turns_at net.now l) amount k }
+    ensures others { (k y : ℕ) → y % 128 ≢ second % 128 → cell recent.new k y ≡ cell recent.old k y }
+{
+    if amount == 0 {
+        return;
+    }
+    let mut before = 0;
+    for turn in net.turns(l) {
+        let part = part_of_turn(amount, before, turn.share);
+        let entered = rows::at(recent, turn.exit, second);
+        rows::put(recent, turn.exit, second, entered + part);
+        before += turn.share;
+    }
+}
+
+/// What all links discharge enters the links into which it turns.
+pub(crate) fn enter(recent: &mut [u32], net: &Network, leaving: &[u32], second: u32)
+    requires recent { length recent.old ≡ length net.now.link_names * 128 }
+    requires leaving { length leaving.now ≡ length net.now.link_names }
+    requires room { (k : ℕ) → k < length net.now.link_names → cell recent.old k second + total (λ l. split_of (turns_at net.now l) (slice_index leaving.now l) k) (length net.now.link_names) < 2 ^ 32 }
+    ensures here { (k : ℕ) → k < length net.now.link_names → cell recent.new k second ≡ cell recent.old k second + total (λ l. split_of (turns_at net.now l) (slice_index leaving.now l) k) (length net.now.link_names) }
+    ensures others { (k y : ℕ) → y % 128 ≢ second % 128 → cell recent.new k y ≡ cell recent.old k y }
+{
+    for l in 0..net.links() {
+        turn(recent, net, l, leaving[l as usize], second);
+    }
+}
+
+/// Keeps the queues behind this second.
+pub(crate) fn remember(waits: &mut [u32], queues: &[u32], links: u32, behind: u32)
+    requires waits { length waits.old ≡ links * 128 }
+    requires queues { length queues.now ≡ links }
+    ensures here { (l : ℕ) → l < links → cell waits.new l behind ≡ slice_index queues.now l }
+    ensures others { (l y : ℕ) → y % 128 ≢ behind % 128 → cell waits.new l y ≡ cell waits.old l y }
+{
+    for l in 0..links {
+        rows::put(waits, l, behind, queues[l as usize]);
+    }
+}
+
+/// Counts what passed each link in this second. Tells how much waits behind it.
+pub(crate) fn count(
+    counts: &mut [LinkTotals],
+    recent: &[u32],
+    leaving: &[u32],
+    queues: &[u32],
+    links: u32,
+    second: u32,
+) -> u64
+    requires counts { length counts.old ≡ links }
+    requires recent { length recent.now ≡ links * 128 }
+    requires leaving { length leaving.now ≡ links }
+    requires queues { length queues.now ≡ links }
+    requires room { (l : ℕ) → l < links → IsSmall second (counts_at counts.old l) }
+    requires second { second < 18000 }
+    ensures counts { (l : ℕ) → l < links → counts_at counts.new l ≡ counted (counts_at counts.old l) (cell recent.now l second) (slice_index leaving.now l) (slice_index queues.now l) }
+    ensures waits { result ≡ all_of queues.now links }
+    ensures most { result ≤ links * 4294967295 }
+{
+    let mut waits = 0;
+    for l in 0..links {
+        let count = counts[l as usize];
+        let queue = u64::from(queues[l as usize]);
+        counts[l as usize] = LinkTotals {
+            entered: count.entered + u64::from(rows::at(recent, l, second)),
+            left: count.left + u64::from(leaving[l as usize]),
+            delay: count.delay + queue,
+        };
+        waits += queue;
+    }
+    waits
+}

@@ -1,0 +1,257 @@
+//! The world.
+
+ghost use Rattle.std.specs.Prelude.{◌≡◌, ℕ, ◌+◌, ◌≤◌, ◌<◌, Option, IfOk, List, length, replicate};
+ghost use Rattle.net_numbers.specs.Numbers.{Net};
+ghost use Rattle.control_flow.specs.declared.greens.Green.{Green};
+ghost use Rattle.control_flow.specs.Greens.{standing};
+ghost use Rattle.road_net.specs.Senses.{IsSensedOf};
+ghost use Rattle.net_simulator.specs.Flow.{past_of};
+ghost use Rattle.net_simulator.specs.Counts.{counts_at, no_totals, IsWhole};
+ghost use Rattle.net_simulator.specs.Sums.{AreArrivals};
+ghost use Rattle.net_simulator.specs.Worlds.{Kept, Stands, IsWorldOf, standing_by};
+ghost use Rattle.net_simulator.specs.Senses.{sense};
+ghost use Rattle.net_simulator.specs.Arriving.{entering_of};
+
+use super::arrivals::Arrivals;
+use super::lights::Lights;
+use super::totals::{LinkTotals, Totals};
+use super::{seconds, sensing};
+use control_flow::greens::Green;
+use foundation::items::Items;
+use foundation::threads::CrossesThreads;
+use road_net::{Network, Sensed};
+use std::alloc::{AllocError, Global};
+use std::marker::Model;
+
+/// The vehicles on the links of a network, at a second.
+///
+/// A world stands for a network, arrivals and timelines: all that it keeps is what the rules give for them over the seconds
+/// below its own.
+///
+/// docs/RULES.md, "World".
+#[derive(Drop)]
+pub struct World {
+    second: u32,
+    queues: Vec<u32>,
+    recent: Vec<u32>,
+    waits: Vec<u32>,
+    greens: Vec<Option<Green>>,
+    leaving: Vec<u32>,
+    counts: Vec<LinkTotals>,
+    totals: Totals,
+}
+
+impl Model for World {
+    ghost use Rattle.std.specs.Prelude.{◌≡◌, length};
+    ghost use Rattle.net_simulator.specs.Counts.{IsWhole};
+    ghost use Rattle.net_simulator.specs.Worlds.{Kept};
+
+    ghost Value = { Kept };
+
+    ghost view = { λ w. record { second = w.second; nodes = length w.greens.items; queues = w.queues.items; recent = w.recent.items; waits = w.waits.items; counts = w.counts.items; totals = w.totals } };
+
+    ghost invariant = { λ w. (length w.leaving.items ≡ length w.queues.items) × IsWhole w.totals };
+}
+
+impl CrossesThreads for World {}
+
+impl World {
+    /// The empty world of a network, at second 0, with all the room that it will need.
+    ///
+    /// docs/RULES.md, "World".
+    pub fn new(alloc: Global, net: &Network) -> Result<World, AllocError>
+        ensures second { IfOk result (λ w. w.second ≡ 0) }
+        ensures stands { (arriving : ℕ → ℕ → ℕ) (shown : ℕ → ℕ → Option (ℕ × ℕ)) → IfOk result (λ w. Stands net.now arriving shown w) }
+    {
+        let links = net.links() as usize;
+        let queues = zeros(alloc, links)?;
+        let recent = zeros(alloc, links * 128)?;
+        let waits = zeros(alloc, links * 128)?;
+        let leaving = zeros(alloc, links)?;
+        let counts = no_counts(alloc, links)?;
+        let greens = no_greens(alloc, net.nodes() as usize)?;
+        Ok(World {
+            second: 0,
+            queues,
+            recent,
+            waits,
+            greens,
+            leaving,
+            counts,
+            totals: Totals {
+                entered: 0,
+                left: 0,
+                on: 0,
+                delay: 0,
+            },
+        })
+    }
+
+    /// The second up to which the world has moved.
+    pub fn now(&self) -> u32
+        ensures { result ≡ self.now.second }
+    {
+        self.second
+    }
+
+    /// What is counted of a link.
+    ///
+    /// docs/RULES.md, "World".
+    pub fn link_totals(&self, l: u32) -> LinkTotals
+        requires { l < length self.now.counts }
+        ensures { result ≡ counts_at self.now.counts l }
+    {
+        self.counts[l as usize]
+    }
+
+    /// What is counted of the whole network: what entered it has left it or is on its links.
+    ///
+    /// docs/RULES.md, "World".
+    pub fn totals(&self) -> Totals
+        ensures value { result ≡ self.now.totals }
+        ensures whole { IsWhole result }
+    {
+        self.totals
+    }
+
+    /// What a node of the network sees of its entry links: their queues, and what is on its way to their ends.
+    ///
+    /// docs/RULES.md, "What a node sees".
+    pub fn sense(&self, alloc: Global, net: &Network, node: u32) -> Result<Sensed, AllocError>
+        requires node { node < length net.now.node_names }
+        requires world { IsWorldOf net.now self.now }
+        ensures sensed { IfOk result (IsSensedOf net.now node) }
+        ensures value { (arriving : ℕ → ℕ → ℕ) (lines : ℕ → List Green) → Stands net.now arriving (standing_by lines) self.now
+            → IfOk result (λ s. s ≡ sense net.now (past_of net.now arriving (standing_by lines) self.now.second) self.now.second node) }
+    {
+        let links = sensing::sense_links(
+            alloc,
+            net,
+            net.entry_links(node),
+            self.queues.as_slice(),
+            self.recent.as_slice(),
+            self.second,
+        )?;
+        Ok(Sensed {
+            now: self.second,
+            links: Items::from_vec(links),
+        })
+    }
+
+    /// Moves by so many seconds under these lights, up to second 18,000.
+    ///
+    /// docs/RULES.md, "World".
+    pub fn advance<T: Lights>(
+        &mut self,
+        net: &Network,
+        lights: &T,
+        arrivals: &Arrivals,
+        seconds: u32,
+    )
+        requires second { self.old.second + seconds ≤ 18000 }
+        requires arrivals { AreArrivals net.now (entering_of arrivals.now) }
+        requires stands { Stands net.now (entering_of arrivals.now) (standing_by (T.lines lights.now)) self.old }
+        ensures second { self.new.second ≡ self.old.second + seconds }
+        ensures stands { Stands net.now (entering_of arrivals.now) (standing_by (T.lines lights.now)) self.new }
+    {
+        for _i in 0..seconds {
+            self.pass(net, lights, arrivals);
+        }
+    }
+
+    /// Moves by one second.
+    fn pass<T: Lights>(&mut self, net: &Network, lights: &T, arrivals: &Arrivals)
+        requires second { self.old.second < 18000 }
+        requires arrivals { AreArrivals net.now (entering_of arrivals.now) }
+        requires stands { Stands net.now (entering_of arrivals.now) (standing_by (T.lines lights.now)) self.old }
+        ensures second { self.new.second ≡ self.old.second + 1 }
+        ensures stands { Stands net.now (entering_of arrivals.now) (standing_by (T.lines lights.now)) self.new }
+    {
+        let x = self.second;
+        self.totals = second(
+            self.queues.as_mut_slice(),
+            self.recent.as_mut_slice(),
+            self.waits.as_mut_slice(),
+            self.greens.as_mut_slice(),
+            self.leaving.as_mut_slice(),
+            self.counts.as_mut_slice(),
+            &self.totals,
+            net,
+            lights,
+            arrivals,
+            x,
+        );
+        self.second = x + 1;
+    }
+}
+
+/// What happens in one second. Answers what is counted then of the whole network.
+fn second<T: Lights>(
+    queues: &mut [u32],
+    recent: &mut [u32],
+    waits: &mut [u32],
+    greens: &mut [Option<Green>],
+    leaving: &mut [u32],
+    counts: &mut [LinkTotals],
+    totals: &Totals,
+    net: &Network,
+    lights: &T,
+    arrivals: &Arrivals,
+    x: u32,
+) -> Totals
+    requires second { x < 18000 }
+    requires leaving { length leaving.old ≡ length queues.old }
+    requires arrivals { AreArrivals net.now (entering_of arrivals.now) }
+    requires stands { Stands net.now (entering_of arrivals.now) (standing_by (T.lines lights.now)) (record { second = x; nodes = length greens.old; queues = queues.old; recent = recent.old; waits = waits.old; counts = counts.old; totals = totals.now }) }
+    ensures whole { IsWhole result }
+    ensures stands { Stands net.now (entering_of arrivals.now) (standing_by (T.lines lights.now)) (record { second = x + 1; nodes = length greens.new; queues = queues.new; recent = recent.new; waits = waits.new; counts = counts.new; totals = result }) }
+{
+    let links = net.links();
+    seconds::look(greens, net, lights, x);
+    let arriving = seconds::arrive(recent, links, arrivals, x);
+    let out = seconds::leave(leaving, queues, net, recent, waits, greens, x);
+    seconds::enter(recent, net, leaving, x);
+    seconds::remember(waits, queues, links, x + 1);
+    let waiting = seconds::count(counts, recent, leaving, queues, links, x);
+    let entered = totals.entered + arriving;
+    let left = totals.left + out;
+    Totals {
+        entered,
+        left,
+        on: entered - left,
+        delay: totals.delay + waiting,
+    }
+}
+
+/// A timeline counts for a world only by what it shows in the seconds below the world's: which phase is green, and since
+/// when. So a world goes on under timelines that are spliced from its second on.
+///
+/// docs/RULES.md, "World".
+pub fn law_of_lights()
+    ensures { (net : Net) (arriving : ℕ → ℕ → ℕ) (lines others : ℕ → List Green) (w : Kept) → Stands net arriving (standing_by lines) w
+        → ((x node : ℕ) → x < w.second → standing (lines node) x ≡ standing (others node) x) → Stands net arriving (standing_by others) w }
+{}
+
+fn zeros(alloc: Global, n: usize) -> Result<Vec<u32>, AllocError>
+    ensures { IfOk result (λ v. v.items ≡ replicate n 0) }
+{
+    vec![in alloc; 0; n]
+}
+
+fn no_counts(alloc: Global, n: usize) -> Result<Vec<LinkTotals>, AllocError>
+    ensures { IfOk result (λ v. v.items ≡ replicate n no_totals) }
+{
+    let nothing = LinkTotals {
+        entered: 0,
+        left: 0,
+        delay: 0,
+    };
+    vec![in alloc; nothing; n]
+}
+
+fn no_greens(alloc: Global, n: usize) -> Result<Vec<Option<Green>>, AllocError>
+    ensures { IfOk result (λ v. length v.items ≡ n) }
+{
+    let none: Option<Green> = None;
+    vec![in alloc; none; n]
+}
