@@ -1,1 +1,5 @@
+pub mod Counts
+pub mod Rounds
 pub mod StepLaws
+pub mod TurnOrder
+pub mod Progress

@@ -5,5 +5,5 @@
 mod history;
 mod steps;
 
-pub use history::History;
+pub use history::{History, lawful, turn_order};
 pub use steps::{BoardStep, node_steps, step_count};
