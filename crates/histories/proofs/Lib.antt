@@ -1,4 +1,5 @@
 pub mod Counts
+pub mod Ordered
 pub mod Rounds
 pub mod StepLaws
 pub mod TurnOrder

@@ -5,6 +5,10 @@ use Rattle.board_model.specs.declared.boards.BoardEvent.{BoardEvent}
 use Rattle.board_model.specs.Boards.{Log}
 use Rattle.board_model.specs.Calls.{IsBefore}
 
+-- the stamp and the node of an event
+abbrev pub stamp_and_node : BoardEvent → ℕ × ℕ
+stamp_and_node event = (event.stamp, event.node)
+
 -- all events of all logs, log by log
 abbrev pub all_events : List Log → List BoardEvent
 all_events logs = flat_map (λ log. log.events) logs

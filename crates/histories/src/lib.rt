@@ -3,7 +3,9 @@
 #![tactic(auto)]
 
 mod history;
+mod merging;
 mod steps;
 
 pub use history::{History, lawful, turn_order};
+pub use merging::merge;
 pub use steps::{BoardStep, node_steps, step_count};
