@@ -1,5 +1,7 @@
 pub mod Counts
+pub mod Lists
 pub mod Ordered
+pub mod Players
 pub mod Rounds
 pub mod StepLaws
 pub mod TurnOrder

@@ -1,8 +1,7 @@
 -- Board steps: what a node does at the boards in each round.
-use Rattle.std.specs.Prelude.{◌≡◌, ℕ, ◌==◌, Bool, false, List, [], ◌∷◌, ◌++◌, Option, Some, None, map, filter, slice_index_or, if◌then◌else◌}
+use Rattle.std.specs.Prelude.{◌≡◌, ℕ, ◌≤◌, ◌==◌, Bool, false, List, [], ◌∷◌, ◌++◌, Option, Some, None, is_some, length, map, filter, if◌then◌else◌}
 use Rattle.net_numbers.specs.Numbers.{Net}
 use Rattle.net_numbers.specs.Outline.{link_at}
-use Rattle.net_numbers.specs.declared.roads.Link.{Link}
 use Rattle.road_net.specs.Network.{heard_links, told_links}
 use Rattle.histories.specs.declared.steps.BoardStep.{BoardStep}
 use Rattle.histories.specs.declared.steps.BoardStep.TheVariants.{Read, Publish}
@@ -26,10 +25,15 @@ abbrev pub step_if : Option ℕ → ℕ → BoardStep → List BoardStep
 step_if None node step = []
 step_if (Some n) node step = if n == node then step ∷ [] else []
 
--- Each link between two nodes has one node that publishes on it, which is that at its begin, and one that reads it, which is
--- that at its end: each once in a round. A link with one end alone has none.
+-- Who plays on a link, each once in a round: on one that comes from a node and ends at one, the node at its begin publishes
+-- and the node at its end reads. On any other link nobody does.
 pub record IsPlayedByEnds (net : Net) (link : ℕ) : Type 0 where
-  pub publishes : (node to : ℕ) → (link_at net link).to ≡ Some to → filter (is_publish_of link) (board_steps net node) ≡ step_if (link_at net link).from node (Publish link)
-  pub reads : (node from : ℕ) → (link_at net link).from ≡ Some from → filter (is_read_of link) (board_steps net node) ≡ step_if (link_at net link).to node (Read link)
-  pub none : (node : ℕ) → (link_at net link).to ≡ None → filter (is_publish_of link) (board_steps net node) ≡ []
-  pub unheard : (node : ℕ) → (link_at net link).from ≡ None → filter (is_read_of link) (board_steps net node) ≡ []
+  pub publishes : (node : ℕ) → filter (is_publish_of link) (board_steps net node) ≡ (if is_some (link_at net link).to then step_if (link_at net link).from node (Publish link) else [])
+  pub reads : (node : ℕ) → filter (is_read_of link) (board_steps net node) ≡ (if is_some (link_at net link).from then step_if (link_at net link).to node (Read link) else [])
+
+-- What is true of the steps of every network: there are none past the last node, a node has few, and the ends of each link
+-- play on it.
+pub record AreSteps (net : Net) : Type 0 where
+  pub beyond : (node : ℕ) → length net.node_names ≤ node → board_steps net node ≡ []
+  pub few : (node : ℕ) → length (board_steps net node) ≤ 320
+  pub players : (link : ℕ) → IsPlayedByEnds net link

