@@ -72,9 +72,7 @@ fn run_refused<R: Threads + Wait + Sync>(rt: &R, alloc: Global) -> Result<Refuse
     let left = passes[0].calls_left();
     let logs = match boards.close(alloc, passes) {
         Ok(logs) => logs,
-        Err((boards, passes, _)) => boards
-            .close(alloc, passes)
-            .map_err(|refused| refused.2)?,
+        Err((boards, passes, _)) => boards.close(alloc, passes).map_err(|refused| refused.2)?,
     };
     let events = match logs.first() {
         Some(log) => events_told(alloc, log)?,
@@ -91,6 +89,8 @@ fn a_refused_call_leaves_all_as_it_was(rt: HostRuntime) -> Result<(), Fail> {
     };
     assert!(rt; refused.told.as_slice() == [(1, 0), (1, 1), (1, 2)].as_slice());
     assert_eq!(rt; refused.left, 7);
-    assert!(rt; refused.events.as_slice() == [(0, 0, 0, 22), (1, 0, 1, 0), (2, 0, 1, 0)].as_slice());
+    assert!(rt;
+        refused.events.as_slice() == [(0, 0, 0, 22), (1, 0, 1, 0), (2, 0, 1, 0)].as_slice()
+    );
     Ok(())
 }
