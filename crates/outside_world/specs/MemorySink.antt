@@ -1,6 +1,7 @@
 -- A sink in memory, as contracts see it.
-use Rattle.std.specs.Prelude.{ℕ, ◌-◌, ◌<◌, ◌==◌, min, List, length, take, Option, find, IsSome, unwrap_or, ◌⊎◌}
+use Rattle.std.specs.Prelude.{ℕ, ◌-◌, ◌<◌, ◌==◌, min, List, length, take, Option, Some, find, IsSome, unwrap_or, ◌⊎◌}
 use Rattle.std.specs.Option.{option_map}
+use Rattle.outside_world.specs.Sink.{SinkState}
 use Rattle.outside_world.specs.declared.memory_sink.SinkFail.{SinkFail}
 
 -- the bytes written, how many there may be, the calls that fail, how many calls there were, how many failed
@@ -10,6 +11,10 @@ pub record SinkInMemory : Type 0 where
   pub fails : List SinkFail
   pub calls : ℕ
   pub faults : ℕ
+
+-- what any sink shows of itself
+abbrev pub sink_seen : SinkInMemory → SinkState
+sink_seen sink = record { written = Some sink.bytes; faults = sink.faults }
 
 -- how many bytes of its piece the call of this number keeps, if it is named; the first naming counts
 abbrev pub kept_at : List SinkFail → ℕ → Option ℕ

@@ -3,6 +3,15 @@ use Rattle.std.specs.Prelude.{◌≡◌, ℕ, List, [], ◌∷◌, ◌++◌, Opt
 use Rattle.std.specs.Option.{option_map}
 use Rattle.std.specs.Str.{bytes_eq}
 
+-- the files that a shelf tells, each a name and a content
+abbrev pub Files : Type 0
+Files = Option (List (List ℕ × List ℕ))
+
+-- a shelf as contracts see it: its files, where it tells them, and the names whose fetch failed, the oldest first
+pub record ShelfState : Type 0 where
+  pub files : Files
+  pub failed : List (List ℕ)
+
 -- the content of the file with this name, the first where there are several
 abbrev pub file_of : List (List ℕ × List ℕ) → List ℕ → Option (List ℕ)
 file_of files name = option_map (λ file. file.1) (find (λ file. bytes_eq file.0 name) files)

@@ -2,6 +2,11 @@
 use Rattle.std.specs.Prelude.{◌≡◌, ℕ, ◌+◌, ◌-◌, ◌^◌, ◌≤◌, min, List, take, Option}
 use Rattle.std.specs.Io.KnownBytes.{append_known}
 
+-- a sink as contracts see it: the bytes written so far, where it tells them, and how often it failed
+pub record SinkState : Type 0 where
+  pub written : Option (List ℕ)
+  pub faults : ℕ
+
 -- one more, as far as 64 bits go
 abbrev pub one_more : ℕ → ℕ
 one_more count = min (count + 1) (2 ^ 64 - 1)
@@ -10,10 +15,12 @@ one_more count = min (count + 1) (2 ^ 64 - 1)
 abbrev pub Rose : ℕ → ℕ → Type 0
 Rose before now = one_more before ≤ now
 
--- what is written grew by these bytes, where it is told
-abbrev pub Gains : Option (List ℕ) → Option (List ℕ) → List ℕ → Type 0
-Gains old new piece = new ≡ append_known old piece
+-- these bytes were written, and nothing else changed
+abbrev pub Gains : SinkState → SinkState → List ℕ → Type 0
+Gains old new piece = new ≡ record { written = append_known old.written piece; faults = old.faults }
 
--- what is written grew by some front of these bytes, where it is told
-abbrev pub GainsFront : Option (List ℕ) → Option (List ℕ) → List ℕ → Type 0
-GainsFront old new piece = (count : ℕ) × Gains old new (take count piece)
+-- some front of these bytes was written, and the count of faults has risen
+pub record Breaks (old new : SinkState) (piece : List ℕ) : Type 0 where
+  pub rose : Rose old.faults new.faults
+  pub count : ℕ
+  pub front : new.written ≡ append_known old.written (take count piece)

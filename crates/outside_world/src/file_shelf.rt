@@ -1,4 +1,4 @@
-// The shelf of the files that a runtime reaches.
+//! The shelf of the files that a runtime reaches.
 ghost use Rattle.std.specs.Prelude.{◌≡◌, ◌≤◌, ℕ, List, [], ◌∷◌, ◌++◌, None, length, take, IfOk, OnOk, IfSome, IsErrOf};
 ghost use Rattle.outside_world.specs.Shelf.{Continues};
 
@@ -40,9 +40,7 @@ impl<F: Files> FileShelf<F> {
 }
 
 impl<F: Files> Shelf for FileShelf<F> {
-    ghost files = { λ _. None };
-
-    ghost failed = { λ names. names };
+    ghost state = { λ names. record { files = None; failed = names } };
 
     /// As the trait says, the name being a path. `Failed` comes where the file can't be opened or a
     /// read fails, and the list then has the name more.

@@ -1,8 +1,8 @@
-// A shelf in memory, which fails at the calls that it is told.
+//! A shelf in memory, which fails at the calls that it is told.
 ghost use Rattle.std.specs.Prelude.{◌≡◌, ◌≤◌, ◌↔◌, [], ◌∷◌, ◌++◌, Some, length, take, Contains, IsTrue, IfOk, OnOk, OnErr, IsErrOf};
 ghost use Rattle.std.specs.Option.{option_map};
 ghost use Rattle.outside_world.specs.Shelf.{file_of, front_of, Continues};
-ghost use Rattle.outside_world.specs.MemoryShelf.{ShelfInMemory, FailsAt};
+ghost use Rattle.outside_world.specs.MemoryShelf.{ShelfInMemory, FailsAt, shelf_seen};
 ghost use Rattle.outside_world.specs.Sink.{one_more};
 
 use crate::shelf::{Shelf, ShelfFault};
@@ -61,9 +61,7 @@ impl MemoryShelf {
 }
 
 impl Shelf for MemoryShelf {
-    ghost files = { λ shelf. Some shelf.files };
-
-    ghost failed = { λ shelf. shelf.failed };
+    ghost state = { λ shelf. shelf_seen shelf };
 
     /// As the trait says. Besides, it fails exactly where this call is one of those that were named
     /// to fail or the name is absent, as far as there is memory.

@@ -1,14 +1,14 @@
-// A sink in memory, which fails at the calls that it is told and where its room ends.
+//! A sink in memory, which fails at the calls that it is told and where its room ends.
 ghost use Rattle.std.specs.Prelude.{◌≡◌, ◌≤◌, ◌↔◌, [], ◌++◌, if◌then◌else◌, Some, length, vec_capacity, is_ok, IsErr, OnOk, OnErr, IfOk};
-ghost use Rattle.outside_world.specs.Sink.{one_more, GainsFront};
-ghost use Rattle.outside_world.specs.MemorySink.{SinkInMemory, kept_at, taken_at, RefusesAt};
+ghost use Rattle.outside_world.specs.Sink.{one_more, Gains, Breaks};
+ghost use Rattle.outside_world.specs.MemorySink.{SinkInMemory, sink_seen, kept_at, taken_at, RefusesAt};
 
 use crate::sink::{Failed, Sink};
 use std::alloc::{AllocError, Global};
 use std::marker::Model;
 
 /// A call of `put` that is to fail.
-#[derive(Clone, Copy)]
+#[derive(Debug, Clone, Copy, PartialEq, Eq)]
 pub struct SinkFail {
     /// The number of the call, the first being 1.
     pub call: u32,
@@ -66,9 +66,7 @@ impl MemorySink {
 }
 
 impl Sink for MemorySink {
-    ghost written = { λ sink. Some sink.bytes };
-
-    ghost faults = { λ sink. sink.faults };
+    ghost state = { λ sink. sink_seen sink };
 
     /// As the trait says. Besides, it fails exactly where this call is one of those that were named
     /// to fail or the piece passes the room, and the bytes that it appends are told.
@@ -79,8 +77,8 @@ impl Sink for MemorySink {
         ensures room { self.new.room ≡ self.old.room }
         ensures fails { self.new.fails ≡ self.old.fails }
 
-        ensures ok { OnOk result (self.new.bytes ≡ self.old.bytes ++ piece.now) }
-        ensures err { OnErr result (GainsFront (Some self.old.bytes) (Some self.new.bytes) piece.now) }
+        ensures ok { OnOk result (Gains (sink_seen self.old) (sink_seen self.new) piece.now) }
+        ensures err { OnErr result (Breaks (sink_seen self.old) (sink_seen self.new) piece.now) }
         ensures later { self.old.faults ≤ self.new.faults }
         ensures faults { self.new.faults ≡ (if is_ok result then self.old.faults else one_more self.old.faults) }
     {

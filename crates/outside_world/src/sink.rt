@@ -1,28 +1,23 @@
-// A sink: bytes that are appended, and a count of faults.
-ghost use Rattle.std.specs.Prelude.{◌≡◌, ◌≤◌, ℕ, List, Option, OnOk, OnErr};
-ghost use Rattle.outside_world.specs.Sink.{Rose, Gains, GainsFront};
+//! A sink: bytes that are appended, and a count of faults.
+ghost use Rattle.std.specs.Prelude.{◌≤◌, OnOk, OnErr};
+ghost use Rattle.outside_world.specs.Sink.{SinkState, Gains, Breaks};
 
 /// A put failed. The sink's count of faults has risen.
-#[derive(Clone, Copy)]
+#[derive(Debug, Clone, Copy, PartialEq, Eq)]
 pub struct Failed;
 
 /// What bytes are written to.
 pub trait Sink {
-    /// The bytes written so far, where the sink tells them.
-    ghost written: { Self → Option (List ℕ) };
-
-    /// How often the sink has failed, as a u64 that stays at its last value.
-    ghost faults: { Self → ℕ };
+    /// The sink as contracts see it: the bytes written so far, where it tells them, and how often it has failed, as a
+    /// u64 that stays at its last value.
+    ghost state: { Self → SinkState };
 
     /// Appends the piece. It takes no memory.
     ///
-    /// `Failed` comes only where the count of faults rose in this call, or stands at the last value
-    /// of u64. A front of the piece was then appended.
+    /// `Failed` comes only where the count of faults rose in this call, or stands at the last value of u64. A front of
+    /// the piece was then appended.
     fn put(&mut self, piece: &[u8]) -> Result<(), Failed>
-        ensures ok { OnOk result (Gains (written self.old) (written self.new) piece.now) }
-        ensures err { OnErr result (GainsFront (written self.old) (written self.new) piece.now) }
-
-        ensures later { faults self.old ≤ faults self.new }
-        ensures counted { OnOk result (faults self.new ≡ faults self.old) }
-        ensures cause { OnErr result (Rose (faults self.old) (faults self.new)) };
+        ensures ok { OnOk result (Gains (state self.old) (state self.new) piece.now) }
+        ensures err { OnErr result (Breaks (state self.old) (state self.new) piece.now) }
+        ensures later { (state self.old).faults ≤ (state self.new).faults };
 }

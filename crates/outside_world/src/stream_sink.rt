@@ -32,9 +32,7 @@ impl<W: Write> StreamSink<W> {
 }
 
 impl<W: Write> Sink for StreamSink<W> {
-    ghost written = { λ _. None };
-
-    ghost faults = { λ sink. sink.faults };
+    ghost state = { λ sink. record { written = None; faults = sink.faults } };
 
     /// As the trait says. Besides, the stream is given the piece, or a front of it at `Failed`, where
     /// it tells what it holds, and the count rises by one at `Failed`.

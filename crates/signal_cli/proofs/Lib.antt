@@ -1,3 +1,3 @@
-pub mod Certifying
 pub mod Fetching
-pub mod Saying
+pub mod Outcomes
+pub mod TextLaws

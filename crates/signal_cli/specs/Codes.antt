@@ -55,7 +55,3 @@ code_of (Fault (Plan fault)) = plan_code fault
 code_of (Fault (Instance fault)) = instance_code fault
 code_of (Fault NoMemory) = []
 code_of (Certificate fault) = cert_code fault
-
--- the line that a bad text is refused with
-abbrev pub bad_line : BadText → List ℕ
-bad_line why = codes "signal: bad 1 " ++ code_of why ++ 10 ∷ []

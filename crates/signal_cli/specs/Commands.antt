@@ -1,49 +1,73 @@
--- The commands: their words, and what each promises.
-use Rattle.std.specs.Prelude.{◌≡◌, ℕ, List, [], ◌∷◌, Option, codes}
-use Rattle.schedule_meaning.specs.Instances.{Problem}
+-- The commands: their words, the texts that they read, and what they write.
+use Rattle.std.specs.Prelude.{◌≡◌, ℕ, List, [], ◌∷◌, codes}
+use Rattle.schedule_meaning.specs.Best.{IsBest, IsLeast}
+use Rattle.schedule_meaning.specs.declared.planners.Answer.{Answer}
 use Rattle.dp_certificate.specs.Certificates.{Claim}
 use Rattle.dp_certificate.specs.Proves.{Proves}
-use Rattle.signal_cli.specs.Jobs.{IsBad, IsBadCertificate, IsDone, IsRejected, Reads, ReadsCertificate, RefusesCertFile, RefusesFile, WritesAcceptance, WritesBest, WritesVerdict, WritesWhole}
-use Rattle.signal_cli.specs.declared.commands.Command.{Command}
-use Rattle.signal_cli.specs.declared.commands.Command.TheVariants.{Plan, Certify, Check}
-use Rattle.signal_cli.specs.declared.status.Status.{Status}
+use Rattle.dp_certificate.specs.Whole.{IsWhole}
+use Rattle.certificate_form.specs.CertificateText.{certificate_text}
+use Rattle.cert_checker.specs.Verdicts.{IsWhy}
+use Rattle.cert_checker.specs.declared.Why.{Why}
+use Rattle.signal_cli.specs.Answers.{answer_text}
+use Rattle.signal_cli.specs.Texts.{AllSaid, CertificateText, InstanceText, Next, NoMore, Texts}
+use Rattle.signal_cli.specs.Verdicts.{accepted_line, rejected_line}
+use Rattle.signal_cli.specs.declared.commands.Command.{Command as Told}
+use Rattle.signal_cli.specs.declared.commands.Command.TheVariants as told
+use Rattle.signal_cli.specs.declared.refusals.Named.{Named}
 
--- the word that a command has
-abbrev pub word_of : Command → List ℕ
-word_of Plan = codes "plan"
-word_of Certify = codes "certify"
-word_of Check = codes "check"
+-- a command with its further words
+pub data Call : Type 0 where
+  Plan : (file : List ℕ) → Call
+  Certify : (file : List ℕ) → Call
+  Check : (file : List ℕ) → Call
 
--- the words of a command with its file: `plan FILE`, `certify FILE` or `check FILE`
-abbrev pub IsCommandOf : List (List ℕ) → Command → List ℕ → Type 0
-IsCommandOf words command file = words ≡ word_of command ∷ file ∷ []
+-- the words of a command; a number stands in its one form, in decimal
+abbrev pub words_of : Call → List (List ℕ)
+words_of (Plan file) = codes "plan" ∷ file ∷ []
+words_of (Certify file) = codes "certify" ∷ file ∷ []
+words_of (Check file) = codes "check" ∷ file ∷ []
 
--- what `out` gained where the work is done: the best answer, a certificate, or that a certificate is accepted
-abbrev pub Writes : Command → (Option (List ℕ) → Option (List ℕ) → List ℕ → Type 0) → Option (List (List ℕ × List ℕ)) → List ℕ → Option (List ℕ) → Option (List ℕ) → Type 0
-Writes Plan = WritesBest
-Writes Certify = WritesWhole
-Writes Check = WritesAcceptance
+-- the numbers of a command are within their bounds; none has a number yet
+abbrev pub IsWithin : Call → Type 0
+IsWithin call = Unit {0}
 
--- what could not be written whole: the best answer, a certificate, or the verdict on one
-abbrev pub WritesPart : Command → (Option (List ℕ) → Option (List ℕ) → List ℕ → Type 0) → Option (List (List ℕ × List ℕ)) → List ℕ → Option (List ℕ) → Option (List ℕ) → Type 0
-WritesPart Plan = WritesBest
-WritesPart Certify = WritesWhole
-WritesPart Check = WritesVerdict
+-- these are the words of this command
+pub record IsCall (words : List (List ℕ)) (call : Call) : Type 0 where
+  pub spelled : words ≡ words_of call
+  pub within : IsWithin call
 
--- the file's text is no instance's, or for `check` no certificate's, and the line that was written has its fault's code
-abbrev pub Refuses : Command → Option (List (List ℕ × List ℕ)) → List ℕ → Option (List ℕ) → Option (List ℕ) → ℕ → ℕ → Type 0
-Refuses Plan = RefusesFile
-Refuses Certify = RefusesFile
-Refuses Check = RefusesCertFile
+-- the texts that it reads, in the order of its words
+abbrev pub texts_of : Call → Texts
+texts_of (Plan file) = Next InstanceText file (λ said. NoMore)
+texts_of (Certify file) = Next InstanceText file (λ said. NoMore)
+texts_of (Check file) = Next CertificateText file (λ said. NoMore)
 
--- a text that a command refuses: it is no instance's, or for `check` no certificate's
-abbrev pub IsBadFor : Command → List ℕ → Type 0
-IsBadFor Plan = IsBad
-IsBadFor Certify = IsBad
-IsBadFor Check = IsBadCertificate
+-- what is written where the work is done
+abbrev pub IsTextOf : (call : Call) → AllSaid (texts_of call) → List ℕ → Type 0
+IsTextOf (Plan file) said bytes = (answer : Answer) × IsBest said.0 answer × IsLeast said.0 answer × (bytes ≡ answer_text answer)
+IsTextOf (Certify file) said bytes = (c : Claim) × (c.problem ≡ said.0) × IsWhole c.problem c.entries × IsBest c.problem c.answer × Proves c × (bytes ≡ certificate_text c)
+IsTextOf (Check file) said bytes = Proves said.0 × IsLeast said.0.problem said.0.answer × (bytes ≡ accepted_line)
 
--- how a text that is read is answered: done for an instance's, and for a certificate's by whether it proves its answer
-abbrev pub Answers : Command → List ℕ → Status → Type 0
-Answers Plan text status = (p : Problem) → Reads text p → IsDone status
-Answers Certify text status = (p : Problem) → Reads text p → IsDone status
-Answers Check text status = (c : Claim) → ReadsCertificate text c → (Proves c → IsDone status) × (¬ Proves c → IsRejected status)
+-- the verdict of a command goes against its texts; only `check` judges
+abbrev pub IsAgainst : (call : Call) → AllSaid (texts_of call) → Type 0
+IsAgainst (Check file) said = ¬ Proves said.0
+IsAgainst _ said = ⊥
+
+-- what is written where the verdict goes against the texts
+abbrev pub IsRejectionOf : (call : Call) → AllSaid (texts_of call) → List ℕ → Type 0
+IsRejectionOf (Check file) said bytes = (why : Why) × (¬ Proves said.0) × IsWhy said.0 why × (bytes ≡ rejected_line why)
+IsRejectionOf _ said bytes = ⊥
+
+-- what a word of the command names is not in its texts; no command has such a word yet
+abbrev pub IsMissing : (call : Call) → AllSaid (texts_of call) → Named → Type 0
+IsMissing call said what = ⊥
+
+-- whatever the words of a command name is in its texts
+abbrev pub MissesNothing : (call : Call) → AllSaid (texts_of call) → Type 0
+MissesNothing call said = (what : Named) → ¬ IsMissing call said what
+
+-- a command of the program, as contracts see it
+abbrev pub seen : Told → Call
+seen (told.Plan file) = Plan file.now
+seen (told.Certify file) = Certify file.now
+seen (told.Check file) = Check file.now

@@ -1,7 +1,14 @@
-use Rattle.std.specs.Prelude.{◌≡◌, ℕ, List, Option, ◌⊎◌, codes, []}
-use Rattle.outside_world.specs.Sink.{Gains, GainsFront, Rose}
-use Rattle.signal_cli.specs.Codes.{bad_line}
-use Rattle.signal_cli.specs.declared.bad_texts.BadText.{BadText}
+-- Why a command is refused, and the line that says so.
+use Rattle.std.specs.Prelude.{ℕ, List, [], ◌∷◌, ◌++◌, ◌⊎◌, codes}
+use Rattle.std.specs.Fmt.{decimal}
+use Rattle.outside_world.specs.Sink.{Breaks, Gains, SinkState}
+use Rattle.signal_cli.specs.Codes.{code_of}
+use Rattle.signal_cli.specs.declared.refusals.Named.{Named}
+use Rattle.signal_cli.specs.declared.refusals.Named.TheVariants.{Node, Round}
+use Rattle.signal_cli.specs.declared.refusals.Place.{Place}
+use Rattle.signal_cli.specs.declared.refusals.Place.TheVariants.{First, Second, Third}
+use Rattle.signal_cli.specs.declared.refusals.Refusal.{Refusal}
+use Rattle.signal_cli.specs.declared.refusals.Refusal.TheVariants as refusal
 use Rattle.signal_cli.specs.declared.status.Status.{Status}
 use Rattle.signal_cli.specs.declared.status.Status.TheVariants.{Done, Rejected, Usage, BadInput, ReadFault, WriteFault, NoMemory}
 
@@ -15,37 +22,45 @@ exit_status ReadFault = 4
 exit_status WriteFault = 5
 exit_status NoMemory = 6
 
--- the line that a refusal writes, other than that of a bad text, which has a code
-abbrev pub line_of : Status → List ℕ
-line_of Done = []
-line_of Rejected = []
-line_of Usage = codes "signal: usage\n"
-line_of BadInput = []
-line_of ReadFault = codes "signal: cannot read 1\n"
-line_of WriteFault = codes "signal: cannot write\n"
-line_of NoMemory = codes "signal: no memory\n"
+-- the number of a text, from 1
+abbrev pub number_of : Place → ℕ
+number_of First = 1
+number_of Second = 2
+number_of Third = 3
 
--- the line was written, or a front of it where the sink's count of faults rose
-abbrev pub Says : List ℕ → Option (List ℕ) → Option (List ℕ) → ℕ → ℕ → Type 0
-Says line old new before now = Gains old new line ⊎ (Rose before now × GainsFront old new line)
+-- the line for a text that cannot be read
+abbrev pub unread_line : Place → List ℕ
+unread_line First = codes "signal: cannot read 1\n"
+unread_line Second = codes "signal: cannot read 2\n"
+unread_line Third = codes "signal: cannot read 3\n"
 
--- what the sink of refusals gained: nothing where the work was done, and else the refusal's line; which code a bad text
--- has stands with the text's fault
-abbrev pub Reports : Status → Option (List ℕ) → Option (List ℕ) → ℕ → ℕ → Type 0
-Reports Done old new before now = (new ≡ old) × (now ≡ before)
-Reports Rejected old new before now = (new ≡ old) × (now ≡ before)
-Reports Usage old new before now = Says (line_of Usage) old new before now
-Reports BadInput old new before now = (why : BadText) × Says (bad_line why) old new before now
-Reports ReadFault old new before now = Says (line_of ReadFault) old new before now
-Reports WriteFault old new before now = Says (line_of WriteFault) old new before now
-Reports NoMemory old new before now = Says (line_of NoMemory) old new before now
+-- the line for a word that names nothing
+abbrev pub missing_line : Named → List ℕ
+missing_line Node = codes "signal: bad node\n"
+missing_line Round = codes "signal: bad round\n"
 
--- what a bad text was answered with: its line, or that of want of memory
-abbrev pub RefusesText : BadText → Status → Option (List ℕ) → Option (List ℕ) → ℕ → ℕ → Type 0
-RefusesText why Done old new before now = ⊥
-RefusesText why Rejected old new before now = ⊥
-RefusesText why Usage old new before now = ⊥
-RefusesText why BadInput old new before now = Says (bad_line why) old new before now
-RefusesText why ReadFault old new before now = ⊥
-RefusesText why WriteFault old new before now = ⊥
-RefusesText why NoMemory old new before now = Says (line_of NoMemory) old new before now
+-- the line of a refusal
+abbrev pub line_of : Refusal → List ℕ
+line_of refusal.Usage = codes "signal: usage\n"
+line_of (refusal.Bad text why) = codes "signal: bad " ++ (decimal (number_of text) ++ 32 ∷ code_of why) ++ 10 ∷ []
+line_of (refusal.Missing what) = missing_line what
+line_of (refusal.Unread text) = unread_line text
+line_of refusal.Unwritten = codes "signal: cannot write\n"
+line_of refusal.NoMemory = codes "signal: no memory\n"
+
+-- the status of a refusal
+abbrev pub status_of : Refusal → Status
+status_of refusal.Usage = Usage
+status_of (refusal.Bad text why) = BadInput
+status_of (refusal.Missing what) = BadInput
+status_of (refusal.Unread text) = ReadFault
+status_of refusal.Unwritten = WriteFault
+status_of refusal.NoMemory = NoMemory
+
+-- a line was written, or a front of it where the sink's count of faults rose
+abbrev pub Writes : List ℕ → SinkState → SinkState → Type 0
+Writes line old new = Gains old new line ⊎ Breaks old new line
+
+-- the line of a refusal was written, or a front of it where the sink's count of faults rose
+abbrev pub Says : Refusal → SinkState → SinkState → Type 0
+Says why old new = Writes (line_of why) old new

@@ -1,3 +1,4 @@
+//! The text that `plan` writes.
 ghost use Rattle.std.specs.Prelude.{◌≡◌, IfOk, string_bytes};
 ghost use Rattle.signal_cli.specs.Answers.{answer_text};
 

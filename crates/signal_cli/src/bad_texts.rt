@@ -1,11 +1,9 @@
+//! What is wrong with a text, and its code.
 ghost use Rattle.std.specs.Prelude.{◌≡◌, IfOk, string_bytes};
-ghost use Rattle.signal_cli.specs.Codes.{bad_line, cert_code, code_of, field_name, instance_code, plan_code};
-ghost use Rattle.signal_cli.specs.Refusals.{RefusesText};
+ghost use Rattle.signal_cli.specs.Codes.{cert_code, code_of, field_name, instance_code, plan_code};
 
-use super::status::{Status, say};
 use certificate_form::CertText;
 use dp_certificate::CertFault;
-use outside_world::Sink;
 use phase_plan::{Field, PlanFault};
 use schedule_meaning::{InstanceFault, TextFault};
 use std::alloc::{AllocError, Global};
@@ -23,59 +21,8 @@ pub enum BadText {
     Certificate(CertText),
 }
 
-/// Why there is no answer for the text of a file.
-///
-/// docs/FORMATS.md, "Exit statuses and lines of refusal".
-#[derive(Clone, Copy)]
-pub enum Refusal {
-    /// The text is refused.
-    Bad(BadText),
-    /// The file can't be read.
-    ReadFault,
-    /// Memory ran out.
-    NoMemory,
-}
-
-impl From<AllocError> for Refusal {
-    ghost use Rattle.std.specs.Prelude.{◌≡◌};
-    ghost use Rattle.signal_cli.specs.declared.bad_texts.Refusal.TheVariants.{NoMemory};
-
-    ghost from_gives = { λ fault e. e ≡ NoMemory };
-
-    fn from(_: AllocError) -> Refusal {
-        Refusal::NoMemory
-    }
-}
-
-/// Writes the line of a bad text, or that of want of memory where there is none for the line, and answers the status
-/// that goes with it. Where the sink fails, the status stays.
-///
-/// docs/FORMATS.md, "Exit statuses and lines of refusal".
-pub fn refuse_text<E: Sink>(alloc: Global, why: BadText, err: &mut E) -> Status
-    ensures { RefusesText why result (E.written err.old) (E.written err.new) (E.faults err.old) (E.faults err.new) }
-{
-    match bad_line(alloc, why) {
-        Ok(line) => {
-            say(line.as_bytes(), err);
-            Status::BadInput
-        }
-        Err(AllocError) => {
-            Status::NoMemory.report(err);
-            Status::NoMemory
-        }
-    }
-}
-
-// The line that a bad text is refused with. An `Err` comes where memory runs out.
-fn bad_line(alloc: Global, why: BadText) -> Result<String, AllocError>
-    ensures { IfOk result (λ line. string_bytes line ≡ bad_line why) }
-{
-    let code = code_of(alloc, why)?;
-    format!(in alloc; "signal: bad 1 {code}\n")
-}
-
-// The code of what is wrong with a text.
-fn code_of(alloc: Global, why: BadText) -> Result<String, AllocError>
+/// The code of what is wrong with a text. An `Err` comes where memory runs out.
+pub fn code_of(alloc: Global, why: BadText) -> Result<String, AllocError>
     ensures { IfOk result (λ code. string_bytes code ≡ code_of why) }
 {
     match why {

@@ -1,47 +1,43 @@
-ghost use Rattle.std.specs.Prelude.{◌≡◌, ◌≢◌, ℕ, List, IfSome, IfNone};
-ghost use Rattle.signal_cli.specs.Commands.{IsCommandOf, word_of};
-ghost use Rattle.signal_cli.specs.declared.commands.Command.{Command};
+//! The commands, and the words that each has.
+ghost use Rattle.std.specs.Prelude.{◌≡◌, ◌≢◌, ℕ, List, [], ◌∷◌, IfSome, IfNone};
+ghost use Rattle.signal_cli.specs.Commands.{Call, IsCall, seen};
 
 use foundation::text::Text;
 
-/// What the program can be told to do with a file.
+/// What the program can be told to do, with the further words.
 ///
 /// docs/FORMATS.md, "Words".
 #[derive(Clone, Copy)]
-pub enum Command {
+pub enum Command<'a> {
     /// Writes the best answer of an instance.
-    Plan,
+    Plan { file: &'a str },
     /// Writes the certificate of an instance.
-    Certify,
+    Certify { file: &'a str },
     /// Writes the verdict on a certificate.
-    Check,
+    Check { file: &'a str },
 }
 
-/// The command that the words are, and its file.
-///
-/// docs/FORMATS.md, "Words".
-pub fn command_of(words: &[Text]) -> Option<(Command, &str)>
-    ensures some { IfSome result (λ told. IsCommandOf words.now told.0 told.1.now) }
-    ensures none { IfNone result ((command : Command) (file : List ℕ) → ¬ IsCommandOf words.now command file) }
+/// The command that the words are.
+pub fn command_of(words: &[Text]) -> Option<Command<'_>>
+    ensures some { IfSome result (λ command. IsCall words.now (seen command)) }
+    ensures none { IfNone result ((call : Call) → ¬ IsCall words.now call) }
 {
-    let [word, file] = words else {
-        return None;
-    };
-    match command_named(word.as_str()) {
-        Some(command) => Some((command, file.as_str())),
-        None => None,
+    let (word, rest) = words.split_first()?;
+    match word.as_str() {
+        "plan" => Some(Command::Plan { file: one(rest)? }),
+        "certify" => Some(Command::Certify { file: one(rest)? }),
+        "check" => Some(Command::Check { file: one(rest)? }),
+        _ => None,
     }
 }
 
-/// The command with this word.
-fn command_named(word: &str) -> Option<Command>
-    ensures some { IfSome result (λ command. word.now ≡ word_of command) }
-    ensures none { IfNone result ((command : Command) → word.now ≢ word_of command) }
+// The word, where there is one.
+fn one(words: &[Text]) -> Option<&str>
+    ensures some { IfSome result (λ word. words.now ≡ word.now ∷ []) }
+    ensures none { IfNone result ((word : List ℕ) → words.now ≢ word ∷ []) }
 {
-    match word {
-        "plan" => Some(Command::Plan),
-        "certify" => Some(Command::Certify),
-        "check" => Some(Command::Check),
+    match words {
+        [word] => Some(word.as_str()),
         _ => None,
     }
 }

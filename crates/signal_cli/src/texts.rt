@@ -1,31 +1,85 @@
-ghost use Rattle.std.specs.Prelude.{◌≡◌, ℕ, ◌<◌, ◌≤◌, List, IfOk, IfErr, OnOk, Some, IsSome, length};
-ghost use Rattle.outside_world.specs.Shelf.{Continues, GainsLast};
-ghost use Rattle.signal_cli.specs.Jobs.{CheckFails, PlanFails, text_of};
+//! The texts of a command, fetched from the shelf and read.
+ghost use Rattle.std.specs.Prelude.{◌≡◌, ◌≤◌, IfOk, IfErr, OnOk, IsSome, Some, length};
+ghost use Rattle.signal_cli.specs.Ending.{StopsAt};
+ghost use Rattle.signal_cli.specs.Limits.{most_bytes};
+ghost use Rattle.signal_cli.specs.Texts.{CertificateText, InstanceText, IsIn, Kind, text_of};
 
-use super::bad_texts::{BadText, Refusal};
+use super::bad_texts::BadText;
+use super::refusals::{Place, Refusal};
+use certificate_form::{CertText, read_certificate};
+use dp_certificate::Certificate;
 use outside_world::{Shelf, ShelfFault};
+use schedule_meaning::{Instance, TextFault, read_instance};
 use std::alloc::Global;
 
 /// The greatest length of a text, in bytes.
 ///
 /// docs/FORMATS.md, "Numbers and lines".
-pub const MOST_BYTES: usize = 100_663_296;
+const MOST_BYTES: usize = 100_663_296;
 
-/// The text of a file, where it is within the limit.
-///
-/// docs/FORMATS.md, "Exit statuses and lines of refusal".
-pub fn fetch_text<S: Shelf>(alloc: Global, shelf: &mut S, file: &str) -> Result<Vec<u8>, Refusal>
-    ensures files { S.files shelf.new ≡ S.files shelf.old }
-    ensures limit { IfOk result (λ text. length text.items ≤ MOST_BYTES) }
-    ensures told { IfOk result (λ text. IsSome (S.files shelf.old) → text_of (S.files shelf.old) file.now ≡ Some text.items) }
-    ensures ok { OnOk result (S.failed shelf.new ≡ S.failed shelf.old) }
-    ensures err { IfErr result (PlanFails (S.files shelf.old) (S.failed shelf.old) (S.failed shelf.new) file.now) }
-    ensures err_check { IfErr result (CheckFails (S.files shelf.old) (S.failed shelf.old) (S.failed shelf.new) file.now) }
+// The text of a file, where it is within the limit. `place` is its place among the texts of the command.
+fn fetch_text<S: Shelf>(
+    alloc: Global,
+    shelf: &mut S,
+    place: Place,
+    file: &str,
+) -> Result<Vec<u8>, Refusal>
+    ensures limit { IfOk result (λ text. length text.items ≤ most_bytes) }
+    ensures told { IfOk result (λ text. IsSome (S.state shelf.old).files → text_of (S.state shelf.old).files file.now ≡ Some text.items) }
+    ensures ok { OnOk result (S.state shelf.new ≡ S.state shelf.old) }
+    ensures err { IfErr result (λ why. (kind : Kind) → StopsAt why place kind file.now (S.state shelf.old) (S.state shelf.new)) }
 {
     match shelf.fetch(alloc, file, MOST_BYTES + 1) {
-        Ok(text) if text.len() > MOST_BYTES => Err(Refusal::Bad(BadText::Long)),
+        Ok(text) if text.len() > MOST_BYTES => Err(Refusal::Bad {
+            text: place,
+            why: BadText::Long,
+        }),
         Ok(text) => Ok(text),
-        Err(ShelfFault::Failed) => Err(Refusal::ReadFault),
+        Err(ShelfFault::Failed) => Err(Refusal::Unread { text: place }),
         Err(ShelfFault::NoMemory) => Err(Refusal::NoMemory),
+    }
+}
+
+/// The instance that the text at this place spells.
+pub fn fetch_instance<S: Shelf>(
+    alloc: Global,
+    shelf: &mut S,
+    place: Place,
+    file: &str,
+) -> Result<Instance, Refusal>
+    ensures told { IfOk result (IsIn (S.state shelf.old).files file.now InstanceText) }
+    ensures ok { OnOk result (S.state shelf.new ≡ S.state shelf.old) }
+    ensures err { IfErr result (λ why. StopsAt why place InstanceText file.now (S.state shelf.old) (S.state shelf.new)) }
+{
+    let text = fetch_text(alloc, shelf, place, file)?;
+    match read_instance(alloc, &text) {
+        Ok(instance) => Ok(instance),
+        Err(TextFault::NoMemory) => Err(Refusal::NoMemory),
+        Err(fault) => Err(Refusal::Bad {
+            text: place,
+            why: BadText::Fault(fault),
+        }),
+    }
+}
+
+/// The certificate that the text at this place spells.
+pub fn fetch_certificate<S: Shelf>(
+    alloc: Global,
+    shelf: &mut S,
+    place: Place,
+    file: &str,
+) -> Result<Certificate, Refusal>
+    ensures told { IfOk result (IsIn (S.state shelf.old).files file.now CertificateText) }
+    ensures ok { OnOk result (S.state shelf.new ≡ S.state shelf.old) }
+    ensures err { IfErr result (λ why. StopsAt why place CertificateText file.now (S.state shelf.old) (S.state shelf.new)) }
+{
+    let text = fetch_text(alloc, shelf, place, file)?;
+    match read_certificate(alloc, &text) {
+        Ok(certificate) => Ok(certificate),
+        Err(CertText::NoMemory) => Err(Refusal::NoMemory),
+        Err(fault) => Err(Refusal::Bad {
+            text: place,
+            why: BadText::Certificate(fault),
+        }),
     }
 }

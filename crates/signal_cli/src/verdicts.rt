@@ -1,3 +1,4 @@
+//! The lines that `check` writes.
 ghost use Rattle.std.specs.Prelude.{◌≡◌, IfOk, string_bytes};
 ghost use Rattle.signal_cli.specs.Verdicts.{rejected_line, sequence_text, unfit_name, why_text};
 

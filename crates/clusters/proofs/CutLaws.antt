@@ -1,0 +1,141 @@
+-- Runs grow second by second, and a series is cut run by run.
+use Rattle.std.proofs.Common.{◌≡◌, ℕ, zero, suc, ◌+◌, ◌-◌, ◌*◌, ◌<◌, ◌≤◌, ◌⊎◌, Bool, true, false, cond, nat_lt, List, [], ◌∷◌, ◌++◌, All, length, get_or, take, filter, refl, sym, ap, subst, ◌∙◌, inl, inr, ⊎_elim, arith, add-one, length-append, append_assoc}
+use Rattle.std.specs.List.{concat, range_with_len}
+use Rattle.std.proofs.lemmas.List.Elements.{filter-append, All-get_or, All-push}
+use Rattle.std.proofs.lemmas.Bool.{cases_lt, cond_below, cond_above}
+use Rattle.road_net.proofs.Ends.{concat-push}
+use Rattle.clusters.specs.Cuts.{filled_from, filled, first_of, last_of, IsRun, CannotJoin, run_at, IsCut}
+use Rattle.clusters.specs.Steps.{IsEmpty, IsNext, IsRunUpTo, IsClosed}
+use Rattle.clusters.proofs.ListLaws.{range-append, get_or-push-last, get_or-push-at, get_or-push-other, length-push}
+
+abbrev is_filled : List ℕ → ℕ → Bool
+is_filled series x = nat_lt 0 (get_or series x 0)
+
+pub filled-append : (series : List ℕ) (a n m : ℕ) → filled_from series a (n + m) ≡ filled_from series a n ++ filled_from series (a + n) m
+unfolding filled_from
+filled-append series a n m =
+    ap (filter (is_filled series)) (range-append a n m) ∙ filter-append (is_filled series) (range_with_len a n) (range_with_len (a + n) m)
+
+pub filled-none : (series : List ℕ) (a n : ℕ) → ((k : ℕ) → a ≤ k → k < a + n → get_or series k 0 ≡ 0) → filled_from series a n ≡ []
+unfolding filled_from
+filled-none series a zero h = refl
+filled-none series a (suc n) h =
+    sym (cond_above 0 (get_or series a 0) (a ∷ filter (is_filled series) (range_with_len (a + 1) n)) (filter (is_filled series) (range_with_len (a + 1) n)) _ (let e : get_or series a 0 ≡ 0 = h a (omega arith) (omega arith) in omega (arith, e)) refl)
+    ∙ filled-none series (a + 1) n (λ k lo hi. h k (omega arith) (omega arith))
+
+pub filled-one : (series : List ℕ) (x : ℕ) → 1 ≤ get_or series x 0 → filled_from series x 1 ≡ x ∷ []
+unfolding filled_from
+filled-one series x h = sym (cond_below 0 (get_or series x 0) (x ∷ []) [] (omega arith))
+
+-- the seconds from a to x, where those from e on are empty and x is not
+pub filled-to : (series : List ℕ) (a e x : ℕ) → a ≤ e → e ≤ x → IsEmpty series e x → 1 ≤ get_or series x 0
+    → filled_from series a (x + 1 - a) ≡ filled_from series a (e - a) ++ x ∷ []
+filled-to series a e x le le2 empty filled =
+    let total : x + 1 - a ≡ (e - a) + ((x - e) + 1) = omega arith in
+    let start : a + (e - a) ≡ e = omega arith in
+    let stop : e + (x - e) ≡ x = omega arith in
+    let gap : filled_from series e (x - e) ≡ [] = filled-none series e (x - e) (λ k lo hi. empty k lo (omega arith)) in
+    ap (filled_from series a) total
+    ∙ filled-append series a (e - a) ((x - e) + 1)
+    ∙ ap (λ s. filled_from series a (e - a) ++ filled_from series s ((x - e) + 1)) start
+    ∙ ap (λ ys. filled_from series a (e - a) ++ ys)
+    (filled-append series e (x - e) 1 ∙ ap (λ ys. ys ++ filled_from series (e + (x - e)) 1) gap ∙ ap (λ s. filled_from series s 1) stop ∙ filled-one series x filled)
+
+-- a run grows by a second that can join it
+pub run-single : (gap most x : ℕ) → 1 ≤ most → IsRun gap most (x ∷ [])
+run-single gap most x h = record {
+  some = omega arith;
+  near = λ k lt. absurd (omega arith);
+  span = omega arith;
+}
+
+pub run-grows : (gap most : ℕ) (run : List ℕ) (x : ℕ) → IsRun gap most run → x ≤ last_of run + gap + 1 → x + 1 ≤ first_of run + most
+    → IsRun gap most (run ++ x ∷ [])
+run-grows gap most run x h near span = record {
+  some = omega (arith, length-push run x);
+  near = λ k lt. elim (cases_lt (k + 1) (length run)) [
+    | inl below ↦ rw (get_or-push-other run x 0 (k + 1) below, get_or-push-other run x 0 k (omega arith)) (h.near k below)
+    | inr past ↦
+        let at : k + 1 ≡ length run = omega (arith, length-push run x, lt) in
+        let e : k ≡ length run - 1 = omega arith in
+        rw (get_or-push-at run x 0 (k + 1) at, get_or-push-other run x 0 k (omega arith), e) near
+  ];
+  span =
+    let some = h.some in
+    let end : length (run ++ x ∷ []) - 1 ≡ length run = omega (arith, length-push run x) in
+    rw (end, get_or-push-last run x 0, get_or-push-other run x 0 0 (omega arith)) span;
+}
+
+pub first-grows : (run : List ℕ) (x : ℕ) → 1 ≤ length run → first_of (run ++ x ∷ []) ≡ first_of run
+first-grows run x h = get_or-push-other run x 0 0 (omega arith)
+
+pub last-grows : (run : List ℕ) (x : ℕ) → last_of (run ++ x ∷ []) ≡ x
+last-grows run x = get_or-push-at run x 0 (length (run ++ x ∷ []) - 1) (omega (arith, length-push run x))
+
+-- A run that goes up to `end`, behind which all is empty so far.
+pub record IsGrowing (gap most : ℕ) (series : List ℕ) (first end x : ℕ) : Type 0 where
+  pub run : IsRunUpTo gap most series first end
+  pub passed : end ≤ x
+  pub empty : IsEmpty series end x
+
+pub growing-none : (gap most : ℕ) (series : List ℕ) (first : ℕ) → first < length series → 1 ≤ get_or series first 0 → 1 ≤ most
+    → IsGrowing gap most series first (first + 1) (first + 1)
+growing-none gap most series first lt filled some =
+    let one : first + 1 - first ≡ 1 = omega arith in
+    let run : filled_from series first (first + 1 - first) ≡ first ∷ [] = ap (filled_from series first) one ∙ filled-one series first filled in
+    record {
+      run = record {
+        some = omega arith;
+        there = omega arith;
+        run = rw run (run-single gap most first some);
+        begins = rw run refl;
+        ends = rw run refl;
+      };
+      passed = omega arith;
+      empty = λ k lo hi. absurd (omega arith);
+    }
+
+pub growing-skip : (gap most : ℕ) (series : List ℕ) (first end x : ℕ) → IsGrowing gap most series first end x → get_or series x 0 ≡ 0
+    → IsGrowing gap most series first end (x + 1)
+growing-skip gap most series first end x h none = record {
+  run = h.run;
+  passed = omega (arith, h.passed);
+  empty = λ k lo hi. elim (cases_lt k x) [
+    | inl below ↦ h.empty k lo below
+    | inr past ↦ let e : k ≡ x = omega arith in rw e none
+  ];
+}
+
+pub growing-take : (gap most : ℕ) (series : List ℕ) (first end x : ℕ) → IsGrowing gap most series first end x → x < length series
+    → 1 ≤ get_or series x 0 → x ≤ end + gap → x < first + most → IsGrowing gap most series first (x + 1) (x + 1)
+growing-take gap most series first end x h lt filled near within =
+    let r = h.run in
+    let some : first < end = r.some in
+    let passed : end ≤ x = h.passed in
+    let e : filled_from series first (x + 1 - first) ≡ filled_from series first (end - first) ++ x ∷ [] = filled-to series first end x (omega arith) passed h.empty filled in
+    record {
+      run = record {
+        some = omega arith;
+        there = omega arith;
+        run = rw e (run-grows gap most (filled_from series first (end - first)) x r.run (omega (arith, r.ends)) (omega (arith, r.begins)));
+        begins = rw e (first-grows (filled_from series first (end - first)) x r.run.some ∙ r.begins);
+        ends = rw e (ap (λ k. k + 1) (last-grows (filled_from series first (end - first)) x));
+      };
+      passed = omega arith;
+      empty = λ k lo hi. absurd (omega arith);
+    }
+
+-- the run is closed where the next second lies too far behind, or behind the last second that could belong to it
+pub growing-far : (gap most : ℕ) (series : List ℕ) (first end x : ℕ) → IsGrowing gap most series first end x → end + gap < x
+    → IsClosed gap most series first end
+growing-far gap most series first end x h far = λ y lo filled. elim (cases_lt y x) [
+  | inl below ↦ let e : get_or series y 0 ≡ 0 = h.empty y lo below in absurd (omega (arith, e, filled))
+  | inr past ↦ inl (omega arith)
+]
+
+pub growing-done : (gap most : ℕ) (series : List ℕ) (first end x : ℕ) → IsGrowing gap most series first end x
+    → ((y : ℕ) → x ≤ y → 1 ≤ get_or series y 0 → first + most ≤ y) → IsClosed gap most series first end
+growing-done gap most series first end x h all = λ y lo filled. elim (cases_lt y x) [
+  | inl below ↦ let e : get_or series y 0 ≡ 0 = h.empty y lo below in absurd (omega (arith, e, filled))
+  | inr past ↦ inr (omega (arith, all y past filled))
+]

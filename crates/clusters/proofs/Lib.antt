@@ -1,0 +1,10 @@
+pub mod CutLaws
+pub mod ForecastLaws
+pub mod GatherLaws
+pub mod ListLaws
+pub mod PlatoonLaws
+pub mod SeenLaws
+pub mod SmoothLaws
+pub mod TakingLaws
+pub mod TogetherLaws
+pub mod WindowLaws

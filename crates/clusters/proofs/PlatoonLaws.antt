@@ -1,0 +1,260 @@
+-- The platoons of a phase are what planning and forecasting ask.
+use Rattle.std.proofs.Common.{◌≡◌, ◌≢◌, ℕ, suc, ◌+◌, ◌-◌, ◌*◌, ◌<◌, ◌≤◌, List, [], ◌∷◌, ◌++◌, All, length, get_or, take, map, sum, sum_by, min, refl, sym, ap, subst, ◌∙◌, inl, inr, arith, add-one}
+use Rattle.std.specs.List.{range_with_len, slice_range}
+use Rattle.std.specs.List.Sorted.{IsStrictlyIncreasing}
+use Rattle.std.proofs.lemmas.List.{get_or-map, length-map, get_or_past}
+use Rattle.std.proofs.lemmas.Simd.{map-map}
+use Rattle.board_model.specs.declared.forecasts.Row.{Row}
+use Rattle.std.proofs.lemmas.List.FromFn.{get_or-map-range_with_len, length-map-range_with_len}
+use Rattle.std.proofs.lemmas.List.Elements.{All-get_or, All-from_get_or, All-map, All-weaker}
+use Rattle.std.proofs.lemmas.Bool.{cases_lt}
+use Rattle.phase_plan.specs.declared.Phase.{Phase}
+use Rattle.phase_plan.specs.Phases.{IsPhase, phase_at}
+use Rattle.switch_rules.specs.Serving.{IsCluster}
+use Rattle.switch_rules.specs.declared.Cluster.{Cluster}
+use Rattle.board_model.specs.declared.boards.Heard.{Heard}
+use Rattle.net_numbers.specs.Numbers.{Net, no_link}
+use Rattle.net_numbers.specs.Outline.{IsOutline, IsLink, ArePhaseLinks, link_at, phases_at, phase_links_at, plan_at}
+use Rattle.net_numbers.specs.declared.roads.Link.{Link}
+use Rattle.road_net.specs.Network.{IsNetwork}
+use Rattle.road_net.specs.declared.senses.Sensed.{Sensed}
+use Rattle.clusters.specs.declared.shapes.Part.{Part}
+use Rattle.clusters.specs.declared.shapes.Platoon.{Platoon}
+use Rattle.clusters.specs.Smoothing.{smoothed, left_by}
+use Rattle.clusters.specs.Inflow.{inflow, inflow_at, leaving, sense_of, forecast_of}
+use Rattle.clusters.specs.Cuts.{first_of, last_of, run_at, IsRun, IsCut}
+use Rattle.clusters.specs.Platoons.{ArePlatoons, ArePlatoonsOf, most_of, platoons_at, part_of, platoon_of, platoon_within, streams_of, together, whole_of}
+use Rattle.clusters.specs.Sound.{IsPart, IsPlatoon, AreOfNode, AreOfPhase, cluster_lists, AreSpacedClusters, IsSpaced, cluster_at, clusters_of}
+use Rattle.clusters.specs.Windows.{IsRising, arrivals}
+use Rattle.clusters.specs.Steps.{AreGathered, AreStreams, IsRunBefore}
+use Rattle.net_draft.specs.declared.drafts.Run.{Run}
+use Rattle.clusters.proofs.ListLaws.{get_or-push-at, get_or-push-other, length-push}
+use Rattle.clusters.proofs.SmoothLaws.{left-more}
+use Rattle.clusters.proofs.TogetherLaws.{AreSmall, brought, length-slice_range, All-slice_range, whole-some, whole-few}
+
+-- no more leaves in a second than can
+left-le : (sat : ℕ) (amounts : List ℕ) (k : ℕ) → left_by sat amounts (k + 1) - left_by sat amounts k ≤ sat
+left-le sat amounts k = rw (add-one k) (omega (arith, left-more sat amounts k))
+
+pub length-smoothed : (sat : ℕ) (amounts : List ℕ) → length (smoothed sat amounts) ≡ length amounts
+unfolding smoothed
+length-smoothed sat amounts = length-map-range_with_len (λ k. left_by sat amounts (k + 1) - left_by sat amounts k) 0 (length amounts)
+
+pub smoothed-le : (sat : ℕ) (amounts : List ℕ) → All (λ x. x ≤ sat) (smoothed sat amounts)
+unfolding smoothed
+smoothed-le sat amounts =
+    All-map (λ x. x ≤ sat) (λ k. left_by sat amounts (k + 1) - left_by sat amounts k) (range_with_len 0 (length amounts))
+    (λ k d lt. left-le sat amounts (get_or (range_with_len 0 (length amounts)) k d))
+
+length-inflow : (now look travel queue : ℕ) (coming : List ℕ) (rows : List Row) → length (inflow now look travel queue coming rows) ≡ look
+unfolding inflow
+length-inflow now look travel queue coming rows = length-map-range_with_len (inflow_at now travel queue coming rows) now look
+
+pub leaving-part : (net : Net) (sensed : Sensed) (heard : List Heard) (l : ℕ) → IsPart net net.run.look (record { link = l; amounts = leaving net sensed heard l })
+unfolding leaving
+leaving-part net sensed heard l =
+    let inflows : List ℕ = inflow sensed.now net.run.look (link_at net l).travel (sense_of sensed l).queue (sense_of sensed l).coming (forecast_of heard l) in
+    record {
+      count = length-smoothed (link_at net l).sat inflows ∙ length-inflow sensed.now net.run.look (link_at net l).travel (sense_of sensed l).queue (sense_of sensed l).coming (forecast_of heard l);
+      amounts = smoothed-le (link_at net l).sat inflows;
+    }
+
+sat-le : (net : Net) (l : ℕ) → IsOutline net → (link_at net l).sat ≤ 5000
+sat-le net l h = elim (cases_lt l (length net.links)) [
+  | inl below ↦ (All-get_or (IsLink (length net.node_names)) net.links l no_link below h.links).sat.1
+  | inr past ↦ let e : link_at net l ≡ no_link = get_or_past net.links l no_link past in rw e (omega arith)
+]
+
+streams-parts : (net : Net) (sensed : Sensed) (heard : List Heard) (links : List ℕ) → All (IsPart net net.run.look) (streams_of net sensed heard links)
+streams-parts net sensed heard links =
+    All-map (IsPart net net.run.look) (λ l. record { link = l; amounts = leaving net sensed heard l }) links
+    (λ k d lt. leaving-part net sensed heard (get_or links k d))
+
+streams-links : (net : Net) (sensed : Sensed) (heard : List Heard) (links : List ℕ) → map (λ part. part.link) (streams_of net sensed heard links) ≡ links
+streams-links net sensed heard [] = refl
+streams-links net sensed heard (l ∷ links) = ap (λ ls. l ∷ ls) (streams-links net sensed heard links)
+
+links-few : (net : Net) (node phase : ℕ) → IsOutline net → node < length net.node_names → phase < length (plan_at net node) → length (phase_links_at net node phase) ≤ 16
+links-few net node phase h there exists =
+    let phases : All (ArePhaseLinks (length net.link_names)) (phases_at net node) =
+        All-get_or (λ ps. All (ArePhaseLinks (length net.link_names)) ps) net.phase_links node [] (omega (arith, h.phases_count)) h.phase_links in
+    (All-get_or (ArePhaseLinks (length net.link_names)) (phases_at net node) phase [] (omega (arith, h.phase_counts node there)) phases).count
+
+part-small : (net : Net) (look : ℕ) (s : Part) → IsOutline net → IsPart net look s → All (λ amount. amount ≤ 5000) s.amounts
+part-small net look s h p = All-weaker (λ amount. amount ≤ (link_at net s.link).sat) (λ amount. amount ≤ 5000) (λ amount le. omega (arith, le, sat-le net s.link h)) s.amounts p.amounts
+
+pub streams-sound : (net : Net) (node phase : ℕ) (sensed : Sensed) (heard : List Heard) (links : List ℕ) (streams : List Part) (look : ℕ)
+    → IsNetwork net → node < length net.node_names → phase < length (plan_at net node) → links ≡ phase_links_at net node phase
+    → look ≡ net.run.look → streams ≡ streams_of net sensed heard links → AreStreams look streams
+streams-sound net node phase sensed heard links streams look h there exists l r e =
+    let P : List Part → Type 0 = λ ss. AreStreams look ss in
+    subst P (sym e) (rw r (record {
+      few = omega (arith, length-map links (λ k. let p : Part = record { link = k; amounts = leaving net sensed heard k } in p), ap length l, links-few net node phase h.outline there exists);
+      long = All-weaker (IsPart net net.run.look) (λ s. length s.amounts ≡ net.run.look) (λ s p. p.count) (streams_of net sensed heard links) (streams-parts net sensed heard links);
+      small = All-weaker (IsPart net net.run.look) (λ s. All (λ amount. amount ≤ 5000) s.amounts) (λ s p. part-small net net.run.look s h.outline p) (streams_of net sensed heard links) (streams-parts net sensed heard links);
+    }))
+
+-- one platoon
+platoon-parts : (net : Net) (look now first end : ℕ) (streams : List Part) (links : List ℕ)
+    → All (IsPart net look) streams → map (λ part. part.link) streams ≡ links → end ≤ look → IsPlatoon net now links (platoon_within now streams first end)
+platoon-parts net look now first end streams links h order le = record {
+  arr = omega arith;
+  order = map-map (λ part. part.link) (part_of first end) streams ∙ order;
+  parts =
+    All-map (IsPart net (end - first)) (part_of first end) streams
+    (All-weaker (IsPart net look) (λ s. IsPart net (end - first) (part_of first end s))
+      (λ s p. record {
+        count = length-slice_range s.amounts first end (omega (arith, p.count));
+        amounts = All-slice_range (λ amount. amount ≤ (link_at net s.link).sat) s.amounts first end p.amounts;
+      })
+      streams h);
+  whole = refl;
+}
+
+platoon-cluster : (look now first end : ℕ) (streams : List Part) → AreStreams look streams → now ≤ 18000 → look ≤ 180 → first < end → end ≤ look
+    → 1 ≤ sum_by (brought first) streams → IsCluster (platoon_within now streams first end).cluster
+platoon-cluster look now first end streams h early short lt le filled =
+    let long : All (λ s. end ≤ length s.amounts) streams = All-weaker (λ s. length s.amounts ≡ look) (λ s. end ≤ length s.amounts) (λ s e. omega (arith, e)) streams h.long in
+    let most : whole_of (map (part_of first end) streams) ≤ 900000 * length streams = whole-few streams first end h.small (omega arith) in
+    record {
+      size = (omega (arith, whole-some streams first end lt long), omega (arith, most, h.few));
+      arr = omega arith;
+      len = (omega arith, omega arith);
+    }
+
+-- the platoons of runs, by their places
+platoon-at : (now : ℕ) (streams : List Part) (runs : List (List ℕ)) (k : ℕ) (d : Platoon) → k < length runs
+    → get_or (map (platoon_of now streams) runs) k d ≡ platoon_of now streams (run_at runs k)
+platoon-at now streams runs k d lt = get_or-map (platoon_of now streams) runs k [] d lt
+
+cluster-at : (now : ℕ) (streams : List Part) (runs : List (List ℕ)) (k : ℕ) → k < length runs
+    → cluster_at (clusters_of (map (platoon_of now streams) runs)) k ≡ (platoon_of now streams (run_at runs k)).cluster
+cluster-at now streams runs k lt =
+    let d : Platoon = platoon_of now streams [] in
+    get_or-map (λ p. p.cluster) (map (platoon_of now streams) runs) k d _ (omega (arith, length-map runs (platoon_of now streams)))
+    ∙ ap (λ p. p.cluster) (platoon-at now streams runs k d lt)
+
+arrival-at : (now : ℕ) (streams : List Part) (runs : List (List ℕ)) (k : ℕ) → k < length runs
+    → get_or (arrivals (map (platoon_of now streams) runs)) k 0 ≡ now + first_of (run_at runs k)
+arrival-at now streams runs k lt =
+    let d : Platoon = platoon_of now streams [] in
+    get_or-map (λ p. p.cluster.arr) (map (platoon_of now streams) runs) k d 0 (omega (arith, length-map runs (platoon_of now streams)))
+    ∙ ap (λ p. p.cluster.arr) (platoon-at now streams runs k d lt)
+
+each-run : (gap most : ℕ) (series : List ℕ) (runs : List (List ℕ)) (k : ℕ) → k < length runs → All (IsRunBefore gap most series (length series)) runs
+    → IsRunBefore gap most series (length series) (run_at runs k)
+each-run gap most series runs k lt h = All-get_or (IsRunBefore gap most series (length series)) runs k [] lt h
+
+pub phase-made : (net : Net) (node phase : ℕ) (sensed : Sensed) (heard : List Heard) (series : List ℕ) (streams : List Part) (list : List Platoon)
+    → IsNetwork net → sensed.now ≤ 18000 → streams ≡ streams_of net sensed heard (phase_links_at net node phase) → AreStreams net.run.look streams
+    → series ≡ together streams net.run.look → AreGathered net.run.gap (most_of net node phase) sensed.now series streams list
+    → AreOfPhase net node phase sensed heard list
+unfolding together
+phase-made net node phase sensed heard series streams list h early are sound brings made =
+    let look : ℕ = net.run.look in
+    let now : ℕ = sensed.now in
+    let links : List ℕ = phase_links_at net node phase in
+    let runs : List (List ℕ) = made.runs in
+    let short : net.run.look ≤ 180 = h.outline.run.look.1 in
+    let count : length series ≡ net.run.look = ap length brings ∙ length-map-range_with_len (λ x. sum_by (brought x) streams) 0 net.run.look in
+    let each : (k : ℕ) → k < length made.runs → IsRunBefore net.run.gap (most_of net node phase) series (length series) (run_at made.runs k) =
+        λ k lt. each-run net.run.gap (most_of net node phase) series made.runs k lt made.each in
+    let parts : All (IsPart net net.run.look) streams = let P : List Part → Type 0 = λ ss. All (IsPart net net.run.look) ss in subst P (sym are) (streams-parts net sensed heard (phase_links_at net node phase)) in
+    let order : map (λ part. part.link) streams ≡ phase_links_at net node phase = ap (map (λ (part : Part). part.link)) are ∙ streams-links net sensed heard (phase_links_at net node phase) in
+    let filled : (x : ℕ) → x < net.run.look → get_or series x 0 ≡ sum_by (brought x) streams =
+        λ x lt. ap (λ xs. get_or xs x 0) brings ∙ get_or-map-range_with_len (λ y. sum_by (brought y) streams) 0 net.run.look x x 0 lt (omega arith) in
+    let platoons : List Platoon = map (platoon_of now streams) runs in
+    let size : length list ≡ length made.runs = ap length made.made ∙ length-map made.runs (platoon_of sensed.now streams) in
+    record {
+      platoons = record {
+        runs = made.runs;
+        cut = let P : List ℕ → Type 0 = λ xs. IsCut net.run.gap (most_of net node phase) xs made.runs in let Q : List Part → Type 0 = λ ss. IsCut net.run.gap (most_of net node phase) (together ss net.run.look) made.runs in subst Q are (subst P brings made.cut);
+        each = made.made ∙ ap (λ ss. map (platoon_of sensed.now ss) made.runs) are;
+      };
+      parts =
+        let P : List Platoon → Type 0 = All (IsPlatoon net sensed.now (phase_links_at net node phase)) in
+        subst P (sym made.made)
+        (All-map (IsPlatoon net sensed.now (phase_links_at net node phase)) (platoon_of sensed.now streams) made.runs
+          (All-weaker (IsRunBefore net.run.gap (most_of net node phase) series (length series)) (λ run. IsPlatoon net sensed.now (phase_links_at net node phase) (platoon_of sensed.now streams run))
+            (λ run r. platoon-parts net net.run.look sensed.now (first_of run) (last_of run + 1) streams (phase_links_at net node phase) parts order (omega (arith, r.before, count)))
+            made.runs made.each));
+      clusters =
+        let P : List Platoon → Type 0 = λ ps. AreSpacedClusters (clusters_of ps) in
+        subst P (sym made.made)
+        (record {
+          each =
+            All-map IsCluster (λ p. p.cluster) (map (platoon_of sensed.now streams) made.runs)
+            (All-map (λ p. IsCluster p.cluster) (platoon_of sensed.now streams) made.runs
+              (All-weaker (IsRunBefore net.run.gap (most_of net node phase) series (length series)) (λ run. IsCluster (platoon_of sensed.now streams run).cluster)
+                (λ run r. platoon-cluster net.run.look sensed.now (first_of run) (last_of run + 1) streams sound early short (omega (arith, r.order)) (omega (arith, r.before, count))
+                  (omega (arith, r.filled, filled (first_of run) (omega (arith, r.order, r.before, count)))))
+                made.runs made.each));
+          spaced = λ k lt.
+            let below : k + 1 < length made.runs = omega (arith, lt, length-map (map (platoon_of sensed.now streams) made.runs) (λ (p : Platoon). p.cluster), length-map made.runs (platoon_of sensed.now streams)) in
+            rw (cluster-at sensed.now streams made.runs k (omega arith), cluster-at sensed.now streams made.runs (k + 1) below)
+            (omega (arith, made.order k below, (each k (omega arith)).order));
+        });
+      rising = record {
+        few = omega (arith, size, made.few, count);
+        rising =
+          let P : List Platoon → Type 0 = λ ps. IsStrictlyIncreasing (arrivals ps) in
+          subst P (sym made.made)
+          (λ k lt.
+            let below : k + 1 < length made.runs = omega (arith, lt, length-map (map (platoon_of sensed.now streams) made.runs) (λ (p : Platoon). p.cluster.arr), length-map made.runs (platoon_of sensed.now streams)) in
+            rw (arrival-at sensed.now streams made.runs k (omega arith), arrival-at sensed.now streams made.runs (k + 1) below)
+            (omega (arith, made.order k below, (each k (omega arith)).order)));
+      };
+    }
+
+pub phase-from : (net : Net) (node phase : ℕ) (sensed : Sensed) (heard : List Heard) (run : Run) (times : Phase) (plan : List Phase) (links series : List ℕ) (streams : List Part) (list : List Platoon)
+    → IsNetwork net → sensed.now ≤ 18000 → run ≡ net.run → plan ≡ plan_at net node → times ≡ phase_at plan phase → links ≡ phase_links_at net node phase
+    → streams ≡ streams_of net sensed heard links → AreStreams run.look streams → series ≡ together streams run.look
+    → AreGathered run.gap (times.greatest - times.loss) sensed.now series streams list → AreOfPhase net node phase sensed heard list
+phase-from net node phase sensed heard run times plan links series streams list h early r p t l s sound brings made =
+    let look : run.look ≡ net.run.look = ap (λ (q : Run). q.look) r in
+    let times_are : times ≡ phase_at (plan_at net node) phase = t ∙ ap (λ ps. phase_at ps phase) p in
+    let P : ℕ → Type 0 = λ n. AreStreams n streams in
+    let Q : Run → Type 0 = λ q. AreGathered q.gap (times.greatest - times.loss) sensed.now series streams list in
+    let R : Phase → Type 0 = λ q. AreGathered net.run.gap (q.greatest - q.loss) sensed.now series streams list in
+    phase-made net node phase sensed heard series streams list h early (s ∙ ap (streams_of net sensed heard) l) (subst P look sound) (brings ∙ ap (together streams) look)
+    (subst R times_are (subst Q r made))
+
+-- The platoons of the first i phases.
+pub record ArePhases (net : Net) (node : ℕ) (sensed : Sensed) (heard : List Heard) (lists : List (List Platoon)) (i : ℕ) : Type 0 where
+  pub count : length lists ≡ i
+  pub each : (k : ℕ) → k < i → AreOfPhase net node k sensed heard (platoons_at lists k)
+
+pub phases-none : (net : Net) (node : ℕ) (sensed : Sensed) (heard : List Heard) → ArePhases net node sensed heard [] 0
+phases-none net node sensed heard = record { count = refl; each = λ k lt. absurd (omega arith); }
+
+pub phases-more : (net : Net) (node : ℕ) (sensed : Sensed) (heard : List Heard) (lists more : List (List Platoon)) (list : List Platoon) (i : ℕ)
+    → ArePhases net node sensed heard lists i → AreOfPhase net node i sensed heard list → more ≡ lists ++ list ∷ [] → ArePhases net node sensed heard more (i + 1)
+phases-more net node sensed heard lists more list i h one pushed =
+    let P : List (List Platoon) → Type 0 = λ ls. ArePhases net node sensed heard ls (i + 1) in
+    subst P (sym pushed)
+    (record {
+      count = omega (arith, length-push lists list, h.count);
+      each = λ k lt. elim (cases_lt k i) [
+        | inl below ↦ rw (get_or-push-other lists list [] k (omega (arith, h.count))) (h.each k below)
+        | inr past ↦
+            let at : k ≡ i = omega arith in
+            rw (get_or-push-at lists list [] k (omega (arith, h.count)), at) one
+      ];
+    })
+
+pub phases-platoons : (net : Net) (node : ℕ) (sensed : Sensed) (heard : List Heard) (lists : List (List Platoon)) (i : ℕ) → ArePhases net node sensed heard lists i → i ≡ length (plan_at net node)
+    → ArePlatoonsOf net node sensed heard lists
+phases-platoons net node sensed heard lists i h e = record { count = omega (arith, h.count, e); each = λ k lt. (h.each k (omega (arith, h.count))).platoons; }
+
+pub phases-node : (net : Net) (node : ℕ) (sensed : Sensed) (heard : List Heard) (lists : List (List Platoon)) (i : ℕ) → ArePhases net node sensed heard lists i → i ≡ length (plan_at net node)
+    → AreOfNode net node sensed.now lists
+phases-node net node sensed heard lists i h e = record { count = omega (arith, h.count, e); each = λ k lt. (h.each k (omega (arith, h.count))).parts; }
+
+pub phases-clusters : (net : Net) (node : ℕ) (sensed : Sensed) (heard : List Heard) (lists : List (List Platoon)) (i : ℕ) → ArePhases net node sensed heard lists i
+    → All AreSpacedClusters (cluster_lists lists)
+phases-clusters net node sensed heard lists i h =
+    All-map AreSpacedClusters clusters_of lists (All-from_get_or (λ list. AreSpacedClusters (clusters_of list)) lists [] (λ k lt. (h.each k (omega (arith, h.count))).clusters))
+
+pub phases-rising : (net : Net) (node : ℕ) (sensed : Sensed) (heard : List Heard) (lists : List (List Platoon)) (i : ℕ) → ArePhases net node sensed heard lists i
+    → All IsRising lists
+phases-rising net node sensed heard lists i h = All-from_get_or IsRising lists [] (λ k lt. (h.each k (omega (arith, h.count))).rising)

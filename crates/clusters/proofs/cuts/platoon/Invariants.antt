@@ -1,0 +1,5 @@
+use Rattle.clusters.proofs.TogetherLaws.{IsSizing}
+use Rattle.clusters.proofs.cuts.platoon.Given as goal
+
+abbrev pub invariant-loop-stream : goal.invariant-loop-stream
+invariant-loop-stream l = IsSizing l.first l.end l.streams l.parts.items l.stream-index l.size

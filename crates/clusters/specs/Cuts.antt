@@ -1,0 +1,39 @@
+-- How a series of amounts, one for each second, is cut into runs. Seconds are counted from the first one of the series, 0.
+use Rattle.std.specs.Prelude.{◌≡◌, ℕ, ◌+◌, ◌-◌, ◌<◌, ◌≤◌, ◌⊎◌, nat_lt, List, [], All, filter, length, slice_index, slice_index_or}
+use Rattle.std.specs.List.{concat, range_with_len}
+
+-- the seconds that are not empty, in order, among n seconds from this one on
+unfoldable pub filled_from : List ℕ → ℕ → ℕ → List ℕ
+filled_from series first n = filter (λ x. nat_lt 0 (slice_index series x)) (range_with_len first n)
+
+-- and among all
+abbrev pub filled : List ℕ → List ℕ
+filled series = filled_from series 0 (length series)
+
+-- the first second of a run, and the last one
+abbrev pub first_of : List ℕ → ℕ
+first_of run = slice_index run 0
+
+abbrev pub last_of : List ℕ → ℕ
+last_of run = slice_index run (length run - 1)
+
+-- A run has a second at least; between neighbours in it there are at most `gap` empty seconds; and it spans at most `most`
+-- seconds, its first and its last one included.
+pub record IsRun (gap most : ℕ) (run : List ℕ) : Type 0 where
+  pub some : 1 ≤ length run
+  pub near : (k : ℕ) → k + 1 < length run → slice_index run (k + 1) ≤ slice_index run k + gap + 1
+  pub span : last_of run + 1 ≤ first_of run + most
+
+-- a second behind a run could not have joined it: more than `gap` empty seconds lie before it, or the span would pass `most`
+abbrev pub CannotJoin : ℕ → ℕ → List ℕ → ℕ → Type 0
+CannotJoin gap most run x = (last_of run + gap + 1 < x) ⊎ (first_of run + most < x + 1)
+
+-- the run with this number
+abbrev pub run_at : List (List ℕ) → ℕ → List ℕ
+run_at runs k = slice_index_or runs k []
+
+-- the runs divide the seconds that are not empty, in their order, and the first second of each next run could not have joined
+pub record IsCut (gap most : ℕ) (series : List ℕ) (runs : List (List ℕ)) : Type 0 where
+  pub all : concat runs ≡ filled series
+  pub each : All (IsRun gap most) runs
+  pub apart : (k : ℕ) → k + 1 < length runs → CannotJoin gap most (run_at runs k) (first_of (run_at runs (k + 1)))

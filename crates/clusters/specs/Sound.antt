@@ -1,0 +1,67 @@
+-- What planning and forecasting ask of platoons.
+use Rattle.std.specs.Prelude.{◌≡◌, ℕ, ◌+◌, ◌<◌, ◌≤◌, List, All, length, map, sum, slice_index_or}
+use Rattle.switch_rules.specs.Orders.{orders}
+use Rattle.switch_rules.specs.Serving.{IsCluster}
+use Rattle.switch_rules.specs.declared.Cluster.{Cluster}
+use Rattle.net_numbers.specs.Numbers.{Net}
+use Rattle.net_numbers.specs.Outline.{link_at, phase_links_at, plan_at}
+use Rattle.clusters.specs.declared.shapes.Part.{Part}
+use Rattle.clusters.specs.declared.shapes.Platoon.{Platoon}
+use Rattle.board_model.specs.declared.boards.Heard.{Heard}
+use Rattle.road_net.specs.declared.senses.Sensed.{Sensed}
+use Rattle.clusters.specs.Platoons.{ArePlatoons, most_of, platoons_at, streams_of, whole_of}
+use Rattle.clusters.specs.Windows.{IsRising}
+
+-- a part of a platoon of so many seconds: an amount for each, at most what can leave its link in a second
+pub record IsPart (net : Net) (len : ℕ) (part : Part) : Type 0 where
+  pub count : length part.amounts ≡ len
+  pub amounts : All (λ amount. amount ≤ (link_at net part.link).sat) part.amounts
+
+-- a platoon of these links that does not arrive before now: a part for each link, in their order, that add up to its size
+pub record IsPlatoon (net : Net) (now : ℕ) (links : List ℕ) (p : Platoon) : Type 0 where
+  pub arr : now ≤ p.cluster.arr
+  pub order : map (λ part. part.link) p.parts ≡ links
+  pub parts : All (IsPart net p.cluster.len) p.parts
+  pub whole : whole_of p.parts ≡ p.cluster.size
+
+-- each list has the platoons of a phase of the node
+pub record AreOfNode (net : Net) (node now : ℕ) (lists : List (List Platoon)) : Type 0 where
+  pub count : length lists ≡ length (plan_at net node)
+  pub each : (k : ℕ) → k < length lists → All (IsPlatoon net now (phase_links_at net node k)) (platoons_at lists k)
+
+-- the clusters of platoons
+abbrev pub clusters_of : List Platoon → List Cluster
+clusters_of list = map (λ p. p.cluster) list
+
+abbrev pub cluster_lists : List (List Platoon) → List (List Cluster)
+cluster_lists lists = map clusters_of lists
+
+-- what stands where a list has no cluster
+abbrev pub no_cluster : Cluster
+no_cluster = record { size = 0; arr = 0; len = 0 }
+
+abbrev pub cluster_at : List Cluster → ℕ → Cluster
+cluster_at list k = slice_index_or list k no_cluster
+
+-- no cluster arrives before the one before it has arrived whole
+abbrev pub IsSpaced : List Cluster → Type 0
+IsSpaced list = (k : ℕ) → k + 1 < length list → (cluster_at list k).arr + (cluster_at list k).len ≤ (cluster_at list (k + 1)).arr
+
+-- no cluster arrives before the one before it has arrived whole, and each is within its bounds
+pub record AreSpacedClusters (list : List Cluster) : Type 0 where
+  pub each : All IsCluster list
+  pub spaced : IsSpaced list
+
+-- lists of clusters as those of an instance have to be: spaced, at most 40 in all, in at most 50,000 orders
+pub record ArePlannable (lists : List (List Cluster)) : Type 0 where
+  pub clusters : All (All IsCluster) lists
+  pub spaced : All IsSpaced lists
+  pub few : sum (map length lists) ≤ 40
+  pub orders : length (orders (map length lists)) ≤ 50000
+
+-- the platoons of a phase of a node, with what planning and forecasting ask of them
+pub record AreOfPhase (net : Net) (node phase : ℕ) (sensed : Sensed) (heard : List Heard) (list : List Platoon) : Type 0 where
+  pub platoons : ArePlatoons net.run.gap (most_of net node phase) sensed.now net.run.look (streams_of net sensed heard (phase_links_at net node phase)) list
+  pub parts : All (IsPlatoon net sensed.now (phase_links_at net node phase)) list
+  pub clusters : AreSpacedClusters (clusters_of list)
+  pub rising : IsRising list

@@ -1,0 +1,53 @@
+-- The window: the platoons that one planning takes up.
+use Rattle.std.specs.Prelude.{◌≡◌, ℕ, ◌+◌, ◌<◌, ◌≤◌, ◌⊎◌, List, [], length, map, slice_index, slice_index_or, sum, take}
+use Rattle.std.specs.List.Sorted.{IsStrictlyIncreasing}
+use Rattle.switch_rules.specs.Orders.{orders}
+use Rattle.clusters.specs.declared.shapes.Platoon.{Platoon}
+use Rattle.clusters.specs.declared.shapes.Window.{Window}
+use Rattle.clusters.specs.Platoons.{platoons_at}
+
+-- when platoons arrive
+abbrev pub arrivals : List Platoon → List ℕ
+arrivals list = map (λ p. p.cluster.arr) list
+
+-- when the platoon with this place in the list of phase k arrives
+abbrev pub arrival : List (List Platoon) → ℕ → ℕ → ℕ
+arrival lists k place = slice_index (arrivals (platoons_at lists k)) place
+
+-- of two platoons that one comes first which arrives first, and of two that arrive together the one of the lower phase; those of
+-- one phase keep their order
+abbrev pub ComesFirst : ℕ → ℕ → ℕ → ℕ → Type 0
+ComesFirst arr phase other_arr other_phase = (arr < other_arr) ⊎ ((arr ≡ other_arr) × (phase ≤ other_phase))
+
+-- So many of each phase are a front of all platoons: each of them comes before each of the others.
+pub record IsFront (lists : List (List Platoon)) (counts : List ℕ) : Type 0 where
+  pub phases : length counts ≡ length lists
+  pub there : (k : ℕ) → slice_index counts k ≤ length (platoons_at lists k)
+  pub before : (j k taken waiting : ℕ) → taken < slice_index counts j → slice_index counts k ≤ waiting → waiting < length (platoons_at lists k)
+      → ComesFirst (arrival lists j taken) j (arrival lists k waiting) k
+
+-- so many clusters can be planned at once: at most 40 in all, and in at most 50,000 orders
+pub record IsSmall (counts : List ℕ) : Type 0 where
+  pub clusters : sum counts ≤ 40
+  pub orders : length (orders counts) ≤ 50000
+
+-- how many platoons each phase has
+abbrev pub counts_of : List (List Platoon) → List ℕ
+counts_of lists = map length lists
+
+-- so many of each phase are the longest front that can be planned at once
+pub record IsLongest (lists : List (List Platoon)) (counts : List ℕ) : Type 0 where
+  pub front : IsFront lists counts
+  pub small : IsSmall counts
+  pub longest : (more : List ℕ) → IsFront lists more → IsSmall more → sum more ≤ sum counts
+
+-- The window is the longest front that can be planned at once, phase by phase; the others wait.
+pub record IsWindow (lists : List (List Platoon)) (window : Window) : Type 0 where
+  pub longest : IsLongest lists (counts_of window.lists)
+  pub taken : (k : ℕ) → platoons_at window.lists k ≡ take (slice_index (counts_of window.lists) k) (platoons_at lists k)
+  pub waiting : window.waiting + sum (counts_of window.lists) ≡ sum (counts_of lists)
+
+-- a list of platoons that can be cut to a window: at most 180, each later than the one before it
+pub record IsRising (list : List Platoon) : Type 0 where
+  pub few : length list ≤ 180
+  pub rising : IsStrictlyIncreasing (arrivals list)

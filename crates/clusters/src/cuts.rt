@@ -1,0 +1,145 @@
+//! How what comes is cut into platoons.
+ghost use Rattle.std.specs.Prelude.{◌≡◌, ◌+◌, ◌*◌, ◌<◌, ◌≤◌, ◌^◌, ℕ, All, IfOk, IfNone, IfSome, length, slice_index, sum, sum_by, map, vec_len};
+ghost use Rattle.clusters.specs.Platoons.{part_of, platoon_within, together};
+ghost use Rattle.clusters.specs.Steps.{AreGathered, AreStreams, IsEmpty, IsNext, IsRunUpTo, IsClosed};
+
+use crate::shapes::{Part, Platoon};
+use foundation::items::Items;
+use std::alloc::{AllocError, Global};
+use switch_rules::Cluster;
+
+/// What the streams bring together, in each of so many seconds.
+pub(crate) fn together(alloc: Global, streams: &[Part], look: u32) -> Result<Vec<u32>, AllocError>
+    requires { AreStreams look streams.now }
+    ensures value { IfOk result (λ series. series.items ≡ together streams.now look) }
+    ensures count { IfOk result (λ series. vec_len series ≡ look) }
+{
+    let mut series = vec![in alloc; 0; look as usize]?;
+    for stream in streams {
+        add_to(series.as_mut_slice(), stream.amounts.as_slice());
+    }
+    Ok(series)
+}
+
+/// Adds each amount to that of its second.
+fn add_to(series: &mut [u32], amounts: &[u32])
+    requires same { length amounts.now ≡ length series.old }
+    requires fits { (k : ℕ) → slice_index series.old k + slice_index amounts.now k < 2 ^ 32 }
+    ensures { (k : ℕ) → slice_index series.new k ≡ slice_index series.old k + slice_index amounts.now k }
+{
+    for (k, amount) in amounts.iter().enumerate() {
+        series[k] += *amount;
+    }
+}
+
+/// The first second from this one on that is not empty.
+fn next_filled(series: &[u32], from: usize) -> Option<usize>
+    ensures none { IfNone result (IsEmpty series.now from (length series.now)) }
+    ensures some { IfSome result (IsNext series.now from) }
+{
+    for x in from..series.len() {
+        if series[x] > 0 {
+            return Some(x);
+        }
+    }
+    None
+}
+
+/// Where the run ends that begins with this second, which is not empty: behind its last second.
+fn run_end(series: &[u32], first: usize, gap: u32, most: u32) -> usize
+    requires there { first < length series.now }
+    requires filled { 1 ≤ slice_index series.now first }
+    requires gap { gap ≤ 10 }
+    requires most { (1 ≤ most) × (most ≤ 240) }
+    ensures run { IsRunUpTo gap most series.now first result }
+    ensures closed { IsClosed gap most series.now first result }
+{
+    let mut end = first + 1;
+    for x in first + 1..series.len().min(first + most as usize) {
+        if x > end + gap as usize {
+            return end;
+        }
+        if series[x] > 0 {
+            end = x + 1;
+        }
+    }
+    end
+}
+
+/// How a series is cut: the second of its first amount, how many empty seconds a run may have between its vehicles, and
+/// how many seconds a run may span.
+#[derive(Clone, Copy)]
+pub(crate) struct Cutting {
+    pub now: u32,
+    pub gap: u32,
+    pub most: u32,
+}
+
+/// The platoons of the streams, whose series is what they bring together.
+pub(crate) fn gathered(
+    alloc: Global,
+    cutting: Cutting,
+    series: &[u32],
+    streams: &[Part],
+) -> Result<Vec<Platoon>, AllocError>
+    requires now { cutting.now ≤ 18000 }
+    requires gap { cutting.gap ≤ 10 }
+    requires most { (1 ≤ cutting.most) × (cutting.most ≤ 240) }
+    requires look { length series.now ≤ 180 }
+    requires streams { AreStreams (length series.now) streams.now }
+    ensures { IfOk result (λ platoons. AreGathered cutting.gap cutting.most cutting.now series.now streams.now platoons.items) }
+{
+    let mut platoons = Vec::new(alloc);
+    let mut from = 0;
+    while let Some(first) = next_filled(series, from) {
+        let end = run_end(series, first, cutting.gap, cutting.most);
+        platoons.push(platoon(alloc, cutting.now, streams, first, end)?)?;
+        from = end;
+    }
+    Ok(platoons)
+}
+
+/// The platoon of what the streams bring from the place `first` on, before the place `end`.
+fn platoon(
+    alloc: Global,
+    now: u32,
+    streams: &[Part],
+    first: usize,
+    end: usize,
+) -> Result<Platoon, AllocError>
+    requires now { now ≤ 18000 }
+    requires order { first ≤ end }
+    requires end { end ≤ 180 }
+    requires few { length streams.now ≤ 16 }
+    requires long { All (λ s. end ≤ length s.amounts) streams.now }
+    requires amounts { All (λ s. All (λ amount. amount ≤ 5000) s.amounts) streams.now }
+    ensures { IfOk result (λ platoon. platoon ≡ platoon_within now streams.now first end) }
+{
+    let mut parts = Vec::with_capacity(alloc, streams.len())?;
+    let mut size = 0;
+    for stream in streams {
+        let amounts = &stream.amounts.as_slice()[first..end];
+        size += total(amounts);
+        parts.push(Part {
+            link: stream.link,
+            amounts: Items::from_vec(Vec::from_slice(alloc, amounts)?),
+        })?;
+    }
+    let cluster = Cluster {
+        size,
+        arr: now + first as u32,
+        len: (end - first) as u32,
+    };
+    Ok(Platoon {
+        cluster,
+        parts: Items::from_vec(parts),
+    })
+}
+
+/// All these amounts.
+fn total(amounts: &[u32]) -> u32
+    requires { sum amounts.now < 2 ^ 32 }
+    ensures { result ≡ sum amounts.now }
+{
+    amounts.iter().sum()
+}

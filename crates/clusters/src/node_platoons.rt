@@ -1,0 +1,75 @@
+//! The platoons that a node expects.
+ghost use Rattle.std.specs.Prelude.{◌≡◌, ◌+◌, ◌<◌, ◌≤◌, All, IfOk, length};
+ghost use Rattle.net_numbers.specs.Outline.{phase_links_at, plan_at};
+ghost use Rattle.road_net.specs.Senses.{IsSensedOf};
+ghost use Rattle.clusters.specs.Inflow.{IsHeardOf};
+ghost use Rattle.clusters.specs.Platoons.{ArePlatoons, ArePlatoonsOf, most_of, streams_of};
+ghost use Rattle.clusters.specs.Sound.{AreOfNode, AreOfPhase, AreSpacedClusters, cluster_lists};
+ghost use Rattle.clusters.specs.Windows.{IsRising};
+
+use crate::cuts::{Cutting, gathered, together};
+use crate::inflows::streams;
+use crate::shapes::Platoon;
+use board_model::Heard;
+use foundation::items::Items;
+use road_net::{Network, Sensed};
+use std::alloc::{AllocError, Global};
+
+/// The platoons that a node expects, phase by phase, by what it senses and what it has heard: one reading for each of
+/// its entry links that comes from a node, in link order.
+///
+/// What leaves a link in a second is smoothed by its `sat`; what the links of a phase bring together is cut into runs.
+/// Each platoon arrives at `sensed.now` or later, has a part for each link of its phase, in their order, and is a
+/// cluster within the bounds of an instance; none arrives before the one before it has arrived whole.
+///
+/// An `Err` comes only where memory runs out.
+///
+/// docs/RULES.md, "Platoons".
+pub fn platoons(
+    alloc: Global,
+    net: &Network,
+    node: u32,
+    sensed: &Sensed,
+    heard: &[Heard],
+) -> Result<Vec<Items<Platoon>>, AllocError>
+    requires node { node < length net.now.node_names }
+    requires sensed { IsSensedOf net.now node sensed.now }
+    requires heard { IsHeardOf net.now node heard.now }
+    ensures platoons { IfOk result (λ lists. ArePlatoonsOf net.now node sensed.entry.now heard.now lists.items) }
+    ensures node { IfOk result (λ lists. AreOfNode net.now node sensed.entry.now.now lists.items) }
+    ensures clusters { IfOk result (λ lists. All AreSpacedClusters (cluster_lists lists.items)) }
+    ensures rising { IfOk result (λ lists. All IsRising lists.items) }
+{
+    let mut lists = Vec::with_capacity(alloc, net.plan(node).count() as usize)?;
+    for phase in 0..net.plan(node).count() {
+        let list = platoons_of(alloc, net, node, phase, sensed, heard)?;
+        lists.push(Items::from_vec(list))?;
+    }
+    Ok(lists)
+}
+
+/// The platoons of one phase.
+fn platoons_of(
+    alloc: Global,
+    net: &Network,
+    node: u32,
+    phase: u8,
+    sensed: &Sensed,
+    heard: &[Heard],
+) -> Result<Vec<Platoon>, AllocError>
+    requires node { node < length net.now.node_names }
+    requires phase { phase < length (plan_at net.now node) }
+    requires sensed { IsSensedOf net.now node sensed.now }
+    ensures { IfOk result (λ list. AreOfPhase net.now node phase sensed.entry.now heard.now list.items) }
+{
+    let times = net.plan(node).phase(phase);
+    let run = net.run();
+    let streams = streams(alloc, net, net.phase_links(node, phase), sensed, heard)?;
+    let series = together(alloc, streams.as_slice(), run.look)?;
+    let cutting = Cutting {
+        now: sensed.now,
+        gap: run.gap,
+        most: times.greatest - times.loss,
+    };
+    gathered(alloc, cutting, series.as_slice(), streams.as_slice())
+}

@@ -1,0 +1,5 @@
+use Rattle.signal_cli.proofs.Outcomes.{outcome}
+use Rattle.signal_cli.proofs.plan.plan_job.Goals as goal
+
+pub returns : goal.returns
+returns g c = outcome _ _ _ _ _ c.planned.ensures c.end.ensures

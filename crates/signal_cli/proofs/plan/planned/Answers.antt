@@ -1,0 +1,13 @@
+use Rattle.signal_cli.proofs.plan.planned.Goals as goal
+
+pub returns : goal.returns
+returns g c =
+    let said = c.in_ok-instance in
+    let best = c.in_ok-answer in (
+      said.ensures.ok,
+      (
+        (said.instance, tt),
+        (said.ensures.told, tt),
+        (((best.answer, best.ensures.best, best.ensures.least, rw c.into_bytes.ensures.value c.in_ok-text.ensures), λ against. against), λ what missing. missing),
+      ),
+    )

@@ -1,0 +1,56 @@
+-- How a command ends: each status with its cause, and what it leaves.
+use Rattle.std.specs.Prelude.{◌≡◌, ◌≢◌, ℕ, List, ◌⊎◌}
+use Rattle.outside_world.specs.Shelf.{Files, GainsLast, ShelfState}
+use Rattle.outside_world.specs.Sink.{Breaks, Gains, Rose, SinkState}
+use Rattle.signal_cli.specs.Commands.{Call, IsAgainst, IsMissing, IsRejectionOf, IsTextOf, MissesNothing, texts_of}
+use Rattle.signal_cli.specs.Refusals.{Says}
+use Rattle.signal_cli.specs.Texts.{AllSaid, AreIn, At, IsBad, Tells, TellsBad}
+use Rattle.signal_cli.specs.declared.refusals.Named.{Named}
+use Rattle.signal_cli.specs.declared.refusals.Place.{Place}
+use Rattle.signal_cli.specs.declared.refusals.Refusal.{Refusal}
+use Rattle.signal_cli.specs.declared.refusals.Refusal.TheVariants as refusal
+use Rattle.signal_cli.specs.declared.status.Status.{Status}
+use Rattle.signal_cli.specs.declared.status.Status.TheVariants.{Done, Rejected, Usage, BadInput, ReadFault, WriteFault, NoMemory}
+
+-- the shelf and the two sinks at a moment
+pub record Outside : Type 0 where
+  pub shelf : ShelfState
+  pub out : SinkState
+  pub err : SinkState
+
+-- the texts of the command are read as something of which this is so
+abbrev pub Read : (call : Call) → Files → (AllSaid (texts_of call) → Type 0) → Type 0
+Read call files holds = (said : AllSaid (texts_of call)) × AreIn files (texts_of call) said × holds said
+
+-- the text at this place could not be read, and all texts before it are read
+abbrev pub IsUnread : Call → ShelfState → ShelfState → Place → Type 0
+IsUnread call old new place = At (λ kind name. GainsLast old.failed new.failed name) old.files (texts_of call) place
+
+-- the input is bad: the text at this place is refused for this fault, and all texts before it are read; or all texts are
+-- read, and a word names what is not in them
+abbrev pub IsBadInput : Call → Files → Refusal → Type 0
+IsBadInput call files (refusal.Bad place why) = At (IsBad files why) files (texts_of call) place
+IsBadInput call files (refusal.Missing what) = Read call files (λ said. IsMissing call said what)
+IsBadInput call files _ = ⊥
+
+-- How a command ends. `done` to `no_memory` say of each status when it comes, what it writes, and the line of a refusal;
+-- `shelf` to `err` that nothing else changes; `refused` to `against` when an answer has to come.
+pub record Outcome (call : Call) (old new : Outside) (status : Status) : Type 0 where
+  pub done : status ≡ Done → Read call old.shelf.files (λ said. (bytes : List ℕ) × IsTextOf call said bytes × Gains old.out new.out bytes)
+  pub rejected : status ≡ Rejected → Read call old.shelf.files (λ said. (bytes : List ℕ) × IsRejectionOf call said bytes × Gains old.out new.out bytes)
+  pub usage : status ≢ Usage
+  pub bad_input : status ≡ BadInput → (why : Refusal) × IsBadInput call old.shelf.files why × Says why old.err new.err
+  pub read_fault : status ≡ ReadFault → (place : Place) × IsUnread call old.shelf new.shelf place × Says (refusal.Unread place) old.err new.err
+  pub write_fault : status ≡ WriteFault → Says refusal.Unwritten old.err new.err
+      × Read call old.shelf.files (λ said. (bytes : List ℕ) × (IsTextOf call said bytes ⊎ IsRejectionOf call said bytes) × Breaks old.out new.out bytes)
+  pub no_memory : status ≡ NoMemory → Says refusal.NoMemory old.err new.err
+  pub shelf : status ≢ ReadFault → new.shelf ≡ old.shelf
+  pub out : status ≢ Done → status ≢ Rejected → status ≢ WriteFault → new.out ≡ old.out
+  pub err : (status ≡ Done) ⊎ (status ≡ Rejected) → new.err ≡ old.err
+  pub refused : (place : Place) → TellsBad old.shelf.files (texts_of call) place → new.shelf ≡ old.shelf → (status ≡ BadInput) ⊎ (status ≡ NoMemory)
+  pub missing : (said : AllSaid (texts_of call)) → Tells old.shelf.files (texts_of call) said → (what : Named) → IsMissing call said what
+      → new.shelf ≡ old.shelf → (status ≡ BadInput) ⊎ (status ≡ NoMemory)
+  pub complete : (said : AllSaid (texts_of call)) → Tells old.shelf.files (texts_of call) said → MissesNothing call said → ¬ IsAgainst call said
+      → new.shelf ≡ old.shelf → ¬ Rose old.out.faults new.out.faults → (status ≡ Done) ⊎ (status ≡ NoMemory)
+  pub against : (said : AllSaid (texts_of call)) → Tells old.shelf.files (texts_of call) said → MissesNothing call said → IsAgainst call said
+      → new.shelf ≡ old.shelf → ¬ Rose old.out.faults new.out.faults → (status ≡ Rejected) ⊎ (status ≡ NoMemory)
