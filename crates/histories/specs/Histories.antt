@@ -1,5 +1,5 @@
 -- Histories: lists of nodes, one for each board step. Which are lawful, and which step and version stand at a place.
-use Rattle.std.specs.Prelude.{◌≡◌, ℕ, zero, suc, ◌+◌, ◌/◌, ◌%◌, ◌==◌, ◌<◌, ◌≤◌, ◌⊎◌, List, [], ◌++◌, length, take, replicate, count_by, slice_index, slice_index_or}
+use Rattle.std.specs.Prelude.{◌≡◌, ℕ, zero, suc, ◌/◌, ◌%◌, ◌==◌, ◌<◌, ◌≤◌, List, [], ◌++◌, length, take, replicate, count_by, slice_index, slice_index_or}
 use Rattle.std.specs.List.{concat, flat_map, range_with_len}
 use Rattle.net_numbers.specs.Numbers.{Net}
 use Rattle.histories.specs.declared.steps.BoardStep.{BoardStep}
@@ -9,6 +9,10 @@ use Rattle.histories.specs.Steps.{board_steps, is_publish_of}
 -- how often a node stands in a history
 abbrev pub count : ℕ → List ℕ → ℕ
 count node history = count_by (λ n. n == node) history
+
+-- how often the node at a place stands before it
+abbrev pub earlier : List ℕ → ℕ → ℕ
+earlier history place = count (slice_index history place) (take place history)
 
 -- the nodes below a number each do all their steps, in number order
 abbrev pub turns : (ℕ → List BoardStep) → ℕ → List ℕ
@@ -40,10 +44,6 @@ module _ (steps : ℕ → List BoardStep) where
   -- A history can go on to one with so many rounds.
   abbrev pub CanGoOn : ℕ → List ℕ → Type 0
   CanGoOn rounds history = (rest : List ℕ) × HasRounds rounds (history ++ rest)
-
-  -- the steps of the node at a place before it, in this history
-  abbrev pub earlier : List ℕ → ℕ → ℕ
-  earlier history place = count (slice_index history place) (take place history)
 
   -- the round of a place, and the step there: each node does its steps in their order, round by round
   abbrev pub round_at : List ℕ → ℕ → ℕ
