@@ -86,7 +86,7 @@ fn text(alloc: Global, [gap, most, sat]: &[u32; 3]) -> Result<String, AllocError
         .replace(alloc, "SAT", sat.as_str())
 }
 
-/// What the platoons of the first node of this text are; nothing where it is no network.
+/// What the platoons of the first node of this text are; nothing where it is long or no network.
 fn seen_in(
     alloc: Global,
     text: &str,
@@ -96,6 +96,9 @@ fn seen_in(
 ) -> Result<Option<Vec<u32>>, AllocError>
     requires { now ≤ 18000 }
 {
+    if text.len() > 10_000 {
+        return Ok(None);
+    }
     match read_network(alloc, text.as_bytes()) {
         Ok(net) => Ok(Some(seen(alloc, &net, now, numbers, rows)?)),
         Err(_) => Ok(None),
