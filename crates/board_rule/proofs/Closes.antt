@@ -10,7 +10,6 @@ use lib.ListN.{get_elem?}
 use Rattle.atomic_table.specs.Table.{State, Final, Seen}
 use Rattle.board_model.specs.declared.boards.BoardEvent.{BoardEvent}
 use Rattle.board_model.specs.Boards.{Log}
-use Rattle.board_model.specs.declared.calls.Call.{Call}
 use Rattle.board_rule.specs.declared.views.Entry.{Entry}
 use Rattle.board_rule.specs.declared.views.Terms.{Terms}
 use Rattle.board_rule.specs.declared.views.View.{View}
@@ -68,7 +67,7 @@ at-past f [] n d past = refl
 at-past f (x ∷ xs) zero d past = absurd (omega arith)
 at-past f (x ∷ xs) (suc n) d past = at-past f xs n d (omega arith)
 
-all-if : {X : Type 0} (P : X → Type 0) (xs : List X) → ((k : ℕ) → IfSome (slice_get xs k) P) → All P xs
+pub all-if : {X : Type 0} (P : X → Type 0) (xs : List X) → ((k : ℕ) → IfSome (slice_get xs k) P) → All P xs
 all-if P [] each = All-nil P
 all-if P (x ∷ xs) each = All-cons P x xs (each 0) (all-if P xs (λ k. each (suc k)))
 
@@ -100,15 +99,15 @@ module _ {S : Type 0} (stands : S → List BoardEvent → Type 0) where
     -- so no turn is taken
     all-free : (l : ℕ) → l < length s.homes → get_or s.words (l + 1) 0 ≡ 0
     all-free l within = dite (ℕ_discrete (get_or s.words (l + 1) 0) 0) (λ z. z) (λ nz. absurd (
-      let t = (h.links l within).taken nz in
-      let n : ℕ = number_of t.1.entries in
-      let theirs = h.seats t.0 t.1 t.3 in
-      let theirs-is : h.owner n ≡ Some t.0 = owner-of terms s.words h.logs h.owner h.history t.0 t.1 theirs (theirs.flies t.2 t.4).numbered in
-      dite (dec_le (length passes) n)
-      (λ past. none-some t.0 (sym (h.unmade n (subst (λ k. k ≤ n) count past)).0 ∙ theirs-is))
-      (λ before.
-      let same : t.0 ≡ id = some-one t.0 id (sym theirs-is ∙ (stands-for n (lt_of_not-le before)).0) in
-      none-some t.2 (sym down ∙ (ap (λ (u : View). u.flight) (same-view s.views id t.0 v t.1 (sym same) final.1.1 t.3) ∙ t.4)))))
+        let t = (h.links l within).taken nz in
+        let n : ℕ = number_of t.1.entries in
+        let theirs = h.seats t.0 t.1 t.3 in
+        let theirs-is : h.owner n ≡ Some t.0 = owner-of terms s.words h.logs h.owner h.history t.0 t.1 theirs (theirs.flies t.2 t.4).numbered in
+        dite (dec_le (length passes) n)
+        (λ past. none-some t.0 (sym (h.unmade n (subst (λ k. k ≤ n) count past)).0 ∙ theirs-is))
+        (λ before.
+        let same : t.0 ≡ id = some-one t.0 id (sym theirs-is ∙ (stands-for n (lt_of_not-le before)).0) in
+        none-some t.2 (sym down ∙ (ap (λ (u : View). u.flight) (same-view s.views id t.0 v t.1 (sym same) final.1.1 t.3) ∙ t.4)))))
 
     closed : (l : ℕ) → IsClosed passes l (h.logs l)
     closed l = let logged : IsLogged (get_or s.words 0 0) h.history l (h.logs l) = h.logged l in record {
@@ -135,8 +134,8 @@ pub all-closed : (links : ℕ) (passes : List PassView) (logs : List Log) → le
     → AreLogsOfPasses links passes logs
 all-closed links passes logs count each beyond =
     let one : (l : ℕ) → IsClosed passes l (log_at logs l) = λ l. dite (dec_le (length logs) l)
-        (λ past. subst (IsClosed passes l) (sym (at-past (λ (log : Log). log.events) logs l [] past)) (beyond l (subst (λ n. n ≤ l) count past)))
-        (λ before. at-inside (λ (log : Log). log.events) (IsClosed passes l) logs l [] (lt_of_not-le before) (each l)) in
+    (λ past. subst (IsClosed passes l) (sym (at-past (λ (log : Log). log.events) logs l [] past)) (beyond l (subst (λ n. n ≤ l) count past)))
+    (λ before. at-inside (λ (log : Log). log.events) (IsClosed passes l) logs l [] (lt_of_not-le before) (each l)) in
     record {
       count = count;
       nodes = all-if (λ (log : Log). All (λ event. event.node < length passes) log.events) logs (λ l. some-weaker (slice_get logs l) (λ log. IsClosed passes l log.events) (λ log. All (λ event. event.node < length passes) log.events) (each l) (λ log closed. closed.nodes));

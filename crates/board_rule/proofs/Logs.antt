@@ -1,19 +1,16 @@
 -- A link's log, and the log with one event more.
-use Rattle.std.proofs.Common.{◌≡◌, ◌≢◌, ℕ, zero, suc, ◌+◌, ◌-◌, ◌<◌, ◌≤◌, eqb, cond, Bool, true, false, List, [], ◌∷◌, ◌++◌, map, length, get_or, sym, refl, ap, ◌∙◌, subst, arith, eq-eqb, ne_eqb, le-leb, length-append, append-nil, le_refl}
-use Rattle.std.specs.Prelude.{All, filter, nat_le, IfSome, slice_get}
-use Rattle.std.specs.List.Sorted.{IsStrictlyIncreasing}
+use Rattle.std.proofs.Common.{◌≡◌, ◌≢◌, ℕ, ◌+◌, ◌<◌, ◌≤◌, eqb, cond, Bool, true, false, List, [], ◌∷◌, ◌++◌, map, length, get_or, sym, refl, ap, ◌∙◌, subst, arith, eq-eqb, ne_eqb, le-leb, length-append, append-nil, le_refl}
+use Rattle.std.specs.Prelude.{All, filter, nat_le}
 use Rattle.std.proofs.lemmas.Bool.{lt-leb}
 use Rattle.std.proofs.lemmas.List.{map-append, length-map}
 use Rattle.std.proofs.lemmas.List.Elements.{All-append, All-filter, All-map, All-weaker, All-cons, All-nil, All-tail, filter-append}
 use mathlib.Core.Logic.{dite}
 use native.Mathlib.Decide.{ℕ_discrete}
 use Rattle.board_model.specs.declared.boards.BoardEvent.{BoardEvent}
-use Rattle.board_model.specs.declared.boards.BoardKind.{BoardKind}
-use Rattle.board_model.specs.declared.boards.BoardKind.TheVariants.{Read, Publish}
 use Rattle.board_model.specs.Forecasts.{IsAboveLast}
 use Rattle.board_model.specs.Boards.{IsLegal, IsReadOf, stamps, published, published_by, version_of, forecast_of, up_to}
 use Rattle.board_model.proofs.LogLaws.{IsLegal-more}
-use Rattle.board_model.proofs.ForBoards.{version_of-few, rising-few, above-all}
+use Rattle.board_model.proofs.ForBoards.{rising-few, above-all}
 use Rattle.board_model.proofs.ForCallers.{forecast_of-kept}
 use Rattle.board_model.specs.declared.calls.Call.{Call}
 use Rattle.board_model.specs.Calls.{calls_at, event_of, events_by, Agrees}
@@ -41,7 +38,6 @@ version_of-part p (e ∷ es) = case (version_of-part p es) (p e)
     case : version_of (filter p es) ≤ version_of es → (b : Bool) → version_of (cond b (e ∷ filter p es) (filter p es)) ≤ version_of (e ∷ es)
     case r true = omega (arith, length-append (published_by e.kind) (published (filter p es)), length-append (published_by e.kind) (published es))
     case r false = omega (arith, length-append (published_by e.kind) (published es))
-
 
 -- the stamps of events below n are below n
 stamps-below : (events : List BoardEvent) (n : ℕ) → All (λ e. e.stamp < n) events → All (λ k. k < n) (stamps events)

@@ -1,19 +1,21 @@
 -- The rule holds of boards that are made.
 use Rattle.board_model.specs.declared.boards.BoardEvent.{BoardEvent}
 use Rattle.std.proofs.Common.{◌≡◌, ℕ, zero, suc, ◌+◌, ◌<◌, ◌≤◌, List, [], ◌∷◌, ◌++◌, map, length, get_or, replicate, sym, refl, ap, ◌∙◌, subst, arith}
-use Rattle.std.specs.Prelude.{Option, Some, None, All}
+use Rattle.std.specs.Prelude.{Option, Some, None, All, IfSome, slice_get}
+use Rattle.std.proofs.lemmas.List.FromFn.{length-map-range_with_len}
 use Rattle.std.proofs.lemmas.Option.{none-some}
 use Rattle.std.proofs.lemmas.List.{length-replicate, get_or-replicate}
 use Rattle.std.proofs.lemmas.List.Elements.{All-cons, All-nil, All-tail}
 use mathlib.Core.Option.{some, some-injective, some-ne-none}
 use lib.ListN.{get_elem?}
 use Rattle.atomic_table.specs.Table.{opening}
-use Rattle.board_model.specs.Boards.{Log, IsLegal}
+use Rattle.board_model.specs.Boards.{IsLegal}
 use Rattle.board_rule.specs.declared.views.Terms.{Terms}
 use Rattle.board_rule.specs.declared.views.View.{View}
 use Rattle.board_rule.specs.Views.{entry, first_view}
 use Rattle.atomic_table.specs.Seated.{TableId}
-use Rattle.board_rule.specs.Passes.{fresh_pass, fresh_passes}
+use Rattle.board_rule.specs.Passes.{BoardsView, PassView, AreAllPasses, fresh_pass, fresh_passes}
+use Rattle.board_rule.proofs.Closes.{all-if, some-weaker}
 use Rattle.board_model.specs.Calls.{Agrees}
 use Rattle.board_rule.specs.Rule.{Owns, IsSeated, Holds}
 use Rattle.board_rule.proofs.Lists.{changed, changed-else}
@@ -76,3 +78,20 @@ fresh-more id calls a n b m there long = subst (λ (z : ℕ × ℕ). fresh_passe
     more : (a n : ℕ) → fresh_passes id calls a n ++ fresh_pass id calls (a + n) ∷ [] ≡ fresh_passes id calls a (suc n)
     more a zero = let e : a + 0 ≡ a = omega arith in ap (λ k. fresh_pass id calls k ∷ []) e
     more a (suc n) = let e : a + suc n ≡ (a + 1) + n = omega arith in ap (λ k. fresh_pass id calls a ∷ (fresh_passes id calls (a + 1) n ++ fresh_pass id calls k ∷ [])) e ∙ ap (λ l. fresh_pass id calls a ∷ l) (more (a + 1) n)
+
+-- the fresh passes have the numbers from the first one on
+fresh-each : (id : TableId) (calls from count k n : ℕ) → from + k ≡ n → IfSome (slice_get (fresh_passes id calls from count) k) (λ p. (p.boards ≡ id) × (p.number ≡ n))
+fresh-each id calls from zero k n there = tt
+fresh-each id calls from (suc count) zero n there = let same : from ≡ n = omega arith in (refl, same)
+fresh-each id calls from (suc count) (suc k) n there = fresh-each id calls (from + 1) count k n (omega arith)
+
+-- they are all passes of boards that have so many
+pub fresh-all : (boards : BoardsView) (calls : ℕ) → AreAllPasses boards (fresh_passes boards.id calls 0 boards.passes)
+fresh-all boards calls = record {
+  count = length-map-range_with_len (fresh_pass boards.id calls) 0 boards.passes;
+  each = λ k. fresh-each boards.id calls 0 boards.passes k k (omega arith);
+}
+
+-- all passes of the boards are of the boards
+pub all-of-boards : (boards : BoardsView) (passes : List PassView) → AreAllPasses boards passes → All (λ p. p.boards ≡ boards.id) passes
+all-of-boards boards passes all = all-if (λ p. p.boards ≡ boards.id) passes (λ k. some-weaker (slice_get passes k) (λ p. (p.boards ≡ boards.id) × (p.number ≡ k)) (λ p. p.boards ≡ boards.id) (all.each k) (λ p t. t.0))

@@ -1,5 +1,5 @@
 -- Kinds 4 to 7: passes are made, couriers sent and heard, passes ended. No word changes.
-use Rattle.std.proofs.Common.{◌≡◌, ◌≢◌, ◌⊎◌, ℕ, zero, suc, ◌+◌, ◌-◌, ◌<◌, ◌≤◌, max, eqb, cond, true, false, true≢false, List, [], ◌∷◌, ◌++◌, length, get_or, set, sym, refl, ap, ◌∙◌, subst, ⊎_elim, inl, inr, arith, eq-eqb, ne_eqb, le_refl}
+use Rattle.std.proofs.Common.{◌≡◌, ◌≢◌, ◌⊎◌, ℕ, zero, suc, ◌+◌, ◌<◌, ◌≤◌, eqb, cond, true, false, true≢false, List, [], ◌∷◌, ◌++◌, length, get_or, set, sym, refl, ap, ◌∙◌, subst, ⊎_elim, inl, inr, arith, eq-eqb, ne_eqb, le_refl}
 use Rattle.std.specs.Prelude.{Option, Some, None}
 use Rattle.std.proofs.lemmas.Option.{none-some}
 use Rattle.std.proofs.lemmas.List.Elements.{All-cons, All-nil, All-append}
@@ -10,12 +10,11 @@ use lib.ListN.{get_elem?}
 use Rattle.atomic_table.specs.Table.{State, Splits, Joins}
 use Rattle.atomic_table.proofs.Lists.{set_here, set_else, at_longer, at_set}
 use Rattle.board_model.specs.declared.boards.BoardEvent.{BoardEvent}
-use Rattle.board_model.specs.declared.calls.Call.{Call}
 use Rattle.board_rule.specs.declared.views.Flight.{Flight}
 use Rattle.board_rule.specs.declared.views.Terms.{Terms}
 use Rattle.board_rule.specs.declared.views.View.{View}
 use Rattle.board_rule.specs.Views.{entry, dealt, newcomer, courier, spent, informed, ended}
-use Rattle.board_rule.specs.Rule.{total, Owns, IsUnmade, IsDealing, IsSeated, Holds}
+use Rattle.board_rule.specs.Rule.{total, Owns, IsDealing, IsSeated, Holds}
 use Rattle.board_rule.proofs.Lists.{inside, same-view, seats_set, total_set, total_push, changed, changed-here, changed-else}
 
 -- a view at a place of the longer list stood there, or is the one that was added

@@ -7,5 +7,7 @@ mod rule;
 mod views;
 
 pub use rule::{
-    Asked, BoardRule, DealPass, DrawPublish, DrawRead, EndPass, GiveTurn, HearCourier, SendCourier, Stands, TakeTurn};
+    Asked, BoardRule, DealPass, DrawPublish, DrawRead, EndPass, GiveTurn, HearCourier, SendCourier,
+    Stands, TakeTurn,
+};
 pub use views::{Entry, Flight, Terms, View};

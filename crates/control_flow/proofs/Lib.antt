@@ -1,6 +1,9 @@
-pub mod LineLaws
+pub mod ApartLaws
+pub mod MakingLaws
+pub mod OrderLaws
 pub mod RingLaws
 pub mod RowLaws
+pub mod SequenceLaws
 pub mod ServingLaws
 pub mod SpliceLaws
 mod WorkedRows

@@ -71,25 +71,3 @@ row_after-some P (first ∷ rows) now row all e = elim (cases_lt now first.to) [
       subst (λ (r : Green). P r × (now < r.to)) same (All-head P first rows all, h)
   | inr h ↦ row_after-some P rows now row (All-tail P first rows all) (cond_above now first.to (Some first) (row_after rows now) (row_after rows now) h refl ∙ e)
 ]
-
--- the loop over the rows that begin before a second
-
-pub rows_before-more : (rows : List Green) (second index : ℕ) → index < length rows → (row_at rows index).from < second
-    → rows_before rows second ≡ take index rows ++ rows_before (drop index rows) second → rows_before rows second ≡ take (index + 1) rows ++ rows_before (drop (index + 1) rows) second
-rows_before-more rows second index h early so_far =
-    let row = row_at rows index in
-    let rest = rows_before (drop (index + 1) rows) second in
-    so_far
-    ∙ ap (λ (rs : List Green). take index rows ++ rows_before rs second) (drop_more rows index no_green h)
-    ∙ ap (λ (rs : List Green). take index rows ++ rs) (sym (cond_below row.from second (row ∷ rest) [] early))
-    ∙ sym (append_assoc (take index rows) (row ∷ []) rest)
-    ∙ ap (λ (rs : List Green). rs ++ rest) (sym (take_more rows index no_green h))
-
-pub rows_before-here : (rows : List Green) (second index : ℕ) → index < length rows → second ≤ (row_at rows index).from
-    → rows_before rows second ≡ take index rows ++ rows_before (drop index rows) second → rows_before rows second ≡ take index rows
-rows_before-here rows second index h late so_far =
-    let row = row_at rows index in
-    so_far
-    ∙ ap (λ (rs : List Green). take index rows ++ rows_before rs second) (drop_more rows index no_green h)
-    ∙ ap (λ (rs : List Green). take index rows ++ rs) (sym (cond_above row.from second (row ∷ rows_before (drop (index + 1) rows) second) [] [] late refl))
-    ∙ append-nil (take index rows)

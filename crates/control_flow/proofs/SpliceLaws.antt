@@ -1,5 +1,5 @@
 -- A timeline that is continued from the head that it has at a second.
-use Rattle.std.proofs.Common.{◌≡◌, ℕ, ◌+◌, ◌<◌, ◌≤◌, Bool, true, false, ◌==◌, ◌&&◌, ◌||◌, cond, ltb, leb, List, [], ◌∷◌, ◌++◌, All, Option, Some, None, refl, sym, ap, subst, ◌∙◌, inl, inr, arith}
+use Rattle.std.proofs.Common.{◌≡◌, ℕ, ◌+◌, ◌<◌, ◌≤◌, Bool, true, false, ◌==◌, ◌&&◌, ◌||◌, cond, ltb, leb, List, [], ◌∷◌, ◌++◌, All, Option, Some, None, Result, Ok, Err, OnOk, refl, sym, ap, subst, ◌∙◌, inl, inr, arith}
 use Rattle.std.specs.Option.{option_map}
 use Rattle.std.specs.List.{list_any}
 use Rattle.std.proofs.lemmas.Bool.{cases_lt, cases_Bool, cond_below, cond_above, cond_both, and_from, and_left, and_right, lt-ltb, le-leb, lt-leb, leb-false}
@@ -9,9 +9,10 @@ use Rattle.phase_plan.specs.declared.Phase.{Phase}
 use Rattle.switch_rules.specs.declared.Head.{Head}
 use Rattle.control_flow.specs.declared.greens.Green.{Green}
 use Rattle.control_flow.specs.declared.greens.Colour.TheVariants as colours
-use Rattle.control_flow.specs.Greens.{row_at, end_of, IsGreen, Follows, IsLawful, GoesOn, BeginBy, covers, covers_yellow, green_at, is_green, is_yellow, colour_at, standing, row_after, head_in, head_at, rows_before, spliced}
+use Rattle.control_flow.specs.Greens.{row_at, end_of, IsGreen, Follows, IsLawful, GoesOn, BeginBy, IsContinued, Joins, covers, covers_yellow, green_at, is_green, is_yellow, colour_at, standing, row_after, head_in, head_at, rows_before, spliced}
+use Rattle.control_flow.proofs.OrderLaws.{green-length, row_after-has}
 use Rattle.control_flow.proofs.RowLaws.{lawful-cons, lawful-tail, lawful-first, lawful-next, end_of-append, row_after-some}
-use Rattle.control_flow.proofs.RingLaws.{phase-bounds}
+use Rattle.phase_plan.proofs.RingLaws.{phase-bounds}
 
 -- the head of a row: its phase and begin, and a time that is not before now
 
@@ -51,9 +52,6 @@ pub row-of-head : (plan : List Phase) (rows : List Green) (now : ℕ) (head : He
 row-of-head plan rows now head e = row-of-some plan rows now head (row_after rows now) refl e
 
 -- in a lawful timeline, rows begin behind those before them
-
-green-length : (plan : List Phase) (row : Green) → IsPlan plan → IsGreen plan row → row.from + 1 ≤ row.to
-green-length plan row p green = let times = phase-bounds plan row.phase p green.phase in omega (arith, times.least, green.least)
 
 begins-later : (plan : List Phase) (first : Green) (rows : List Green) (now : ℕ) (row : Green) → IsLawful plan (first ∷ rows) → row_after rows now ≡ Some row → first.to ≤ row.from
 begins-later plan first [] now row lawful e = let impossible : first.to ≤ row.from = cc in impossible
@@ -267,16 +265,22 @@ kept-by (r ∷ rs) second n h =
     (λ e. All-cons (λ (g : Green). g.from ≤ n) r (rows_before rs second) (All-head (λ (g : Green). g.from ≤ n) r rs h) (kept-by rs second n (All-tail (λ (g : Green). g.from ≤ n) r rs h)))
     (λ e. All-nil (λ (g : Green). g.from ≤ n))
 
--- what a continued timeline keeps
-pub record IsContinued (plan : List Phase) (old : List Green) (now : ℕ) (next : List Green) : Type 0 where
-  pub lawful : IsLawful plan (spliced old next)
-  pub past : (second : ℕ) → second < now → standing (spliced old next) second ≡ standing old second
-  pub colours : (k second : ℕ) → second < now → colour_at plan (spliced old next) k second ≡ colour_at plan old k second
-  pub end : end_of (spliced old next) ≡ end_of next
-  pub by : (n : ℕ) → BeginBy n old → BeginBy n next → BeginBy n (spliced old next)
+-- where a line has this head, one that goes on in the head joins it
+pub joins-head : (plan : List Phase) (rows : List Green) (now : ℕ) (head : Head) (next : List Green) → head_at plan rows now ≡ Some head → GoesOn head next → Joins rows next
+joins-head plan rows now head [] e begin = tt
+joins-head plan rows now head (first ∷ rest) e begin =
+    let of = row-of-head plan rows now head e in
+    let has = row_after-has rows now of.row of.found in
+    record {
+      index = has.index;
+      below = has.below;
+      same_phase = has.same_phase ∙ sym (begin.phase ∙ of.phase);
+      same_begin = has.same_begin ∙ sym (begin.begin ∙ of.since);
+    }
 
+-- what a continued timeline keeps
 pub continued : (plan : List Phase) (old : List Green) (now : ℕ) (head : Head) (next : List Green) → IsPlan plan → IsLawful plan old → head_at plan old now ≡ Some head → IsLawful plan next → GoesOn head next
-    → IsContinued plan old now next
+    → IsContinued plan old now next (spliced old next)
 continued plan old now head [] p lawful e next begin = absurd (omega (arith, begin.some))
 continued plan old now head (first ∷ rest) p lawful e next begin =
     let of = row-of-head plan old now head e in
@@ -286,5 +290,11 @@ continued plan old now head (first ∷ rest) p lawful e next begin =
       past = splice-standing plan old now of.row first rest p lawful of.found same (omega (arith, of.later, begin.spent)) next;
       colours = splice-colours plan old now of.row first rest p lawful of.found same (omega (arith, of.later, begin.spent)) next;
       end = end_of-append (rows_before old first.from) first rest;
-      by = λ n a b. All-append (λ (g : Green). g.from ≤ n) (rows_before old first.from) (first ∷ rest) (kept-by old first.from n a) b;
+      begins_by = λ n a b. All-append (λ (g : Green). g.from ≤ n) (rows_before old first.from) (first ∷ rest) (kept-by old first.from n a) b;
     }
+
+-- the same where the splice was done
+pub answered-continued : {E : Type 0} (r : Result (Unit {0}) E) (plan : List Phase) (old next new : List Green) (now : ℕ) (head : Head) → IsPlan plan → IsLawful plan old → head_at plan old now ≡ Some head → IsLawful plan next → GoesOn head next
+    → OnOk r (new ≡ spliced old next) → OnOk r (IsContinued plan old now next new)
+answered-continued (Ok x) plan old next new now head p lawful e others begin done = subst (IsContinued plan old now next) (sym done) (continued plan old now head next p lawful e others begin)
+answered-continued (Err e) plan old next new now head p lawful found others begin done = tt

@@ -1,14 +1,15 @@
 -- Small timelines, worked out by hand and computed here from the definitions.
 use Rattle.std.proofs.Common.{◌≡◌, ℕ, true, false, List, [], ◌∷◌, Some, None, Ok, refl}
 use Rattle.phase_plan.specs.declared.Phase.{Phase}
-use Rattle.switch_rules.specs.Serving.{serving}
+use Rattle.phase_plan.specs.Phases.{passed_numbers}
+use Rattle.switch_rules.specs.Serving.{head_behind, serving}
 use Rattle.switch_rules.specs.declared.Cluster.{Cluster}
 use Rattle.switch_rules.specs.declared.Head.{Head}
 use Rattle.switch_rules.specs.declared.Served.{Served}
 use Rattle.control_flow.specs.declared.greens.Green.{Green}
 use Rattle.control_flow.specs.declared.greens.Colour.TheVariants as colours
 use Rattle.control_flow.specs.Greens.{green_at, standing, colour_at, head_at, spliced, end_of}
-use Rattle.control_flow.specs.Timelines.{head_behind, passed_numbers, line_of, rotation_of}
+use Rattle.control_flow.specs.Timelines.{line_of, rotation_of}
 
 abbrev usual : Phase
 usual = record { least = 5; greatest = 30; yellow = 3; clear = 2; loss = 2; wait = 120 }

@@ -1,9 +1,8 @@
 -- Which greens may follow one another, whatever made them, and what a signal shows at a second.
-use Rattle.std.specs.Prelude.{◌≡◌, ℕ, ◌+◌, ◌<◌, ◌≤◌, List, length, slice_index_or, All, find}
-use Rattle.std.specs.Prelude.{Bool, ◌==◌, ◌&&◌, nat_le, nat_lt, true, if◌then◌else◌, Option, [], ◌∷◌, ◌++◌}
+use Rattle.std.specs.Prelude.{◌≡◌, ℕ, ◌+◌, ◌<◌, ◌≤◌, List, length, slice_index_or, All, find, Bool, IsTrue, ◌==◌, ◌&&◌, nat_le, nat_lt, true, if◌then◌else◌, Option, [], ◌∷◌, ◌++◌}
 use Rattle.std.specs.List.{list_any}
 use Rattle.std.specs.Option.{option_map}
-use Rattle.phase_plan.specs.Phases.{phase_at}
+use Rattle.phase_plan.specs.Phases.{next_phase, phase_at}
 use Rattle.phase_plan.specs.declared.Phase.{Phase}
 use Rattle.switch_rules.specs.declared.Head.{Head}
 use Rattle.control_flow.specs.declared.greens.Green.{Green}
@@ -24,9 +23,10 @@ end_of [] = 0
 end_of (row ∷ []) = row.to
 end_of (row ∷ next ∷ rows) = end_of (next ∷ rows)
 
--- the phase that follows phase s on the ring
-abbrev pub next_phase : List Phase → ℕ → ℕ
-next_phase plan s = if nat_lt (s + 1) (length plan) then s + 1 else 0
+-- each row ends behind its begin, and begins no earlier than the row before it ends
+pub record IsInOrder (rows : List Green) : Type 0 where
+  pub long : All (λ row. row.from < row.to) rows
+  pub order : (k : ℕ) → k + 1 < length rows → (row_at rows k).to ≤ (row_at rows (k + 1)).from
 
 -- a green of a phase of the plan that lasts at least its least and at most its greatest time
 pub record IsGreen (plan : List Phase) (row : Green) : Type 0 where
@@ -44,7 +44,7 @@ pub record IsLawful (plan : List Phase) (rows : List Green) : Type 0 where
   pub greens : All (IsGreen plan) rows
   pub order : (k : ℕ) → k + 1 < length rows → Follows plan (row_at rows k) (row_at rows (k + 1))
 
--- the first row is the green of this head, and does not end before its time is spent
+-- the first row of a line is the green of this head, and does not end before its time is spent
 pub record GoesOn (head : Head) (rows : List Green) : Type 0 where
   pub some : 0 < length rows
   pub phase : (row_at rows 0).phase ≡ head.phase
@@ -62,6 +62,12 @@ covers row second = nat_le row.from second && nat_lt second row.to
 -- whether the yellow behind a row, of so many seconds, covers a second
 abbrev pub covers_yellow : Green → ℕ → ℕ → Bool
 covers_yellow row yellow second = nat_le row.to second && nat_lt second (row.to + yellow)
+
+-- between the end of a row and the begin of each later one lie at least the yellow and all-red of its phase, so that at most
+-- one row covers a second
+pub record AreApart (plan : List Phase) (rows : List Green) : Type 0 where
+  pub apart : (i j : ℕ) → i < j → j < length rows → (row_at rows i).to + (phase_at plan (row_at rows i).phase).yellow + (phase_at plan (row_at rows i).phase).clear ≤ (row_at rows j).from
+  pub one : (i j second : ℕ) → i < length rows → j < length rows → IsTrue (covers (row_at rows i) second) → IsTrue (covers (row_at rows j) second) → i ≡ j
 
 -- the first row that covers a second
 abbrev pub green_at : List Green → ℕ → Option Green
@@ -97,6 +103,19 @@ head_in plan now row =
 abbrev pub head_at : List Phase → List Green → ℕ → Option Head
 head_at plan rows now = option_map (head_in plan now) (row_after rows now)
 
+-- some row is of this phase and begins at this second
+pub record HasRow (rows : List Green) (phase from : ℕ) : Type 0 where
+  pub index : ℕ
+  pub below : index < length rows
+  pub same_phase : (row_at rows index).phase ≡ phase
+  pub same_begin : (row_at rows index).from ≡ from
+
+-- another line can take the place of this one's rows from one of them on: it has no row, or some row has the phase and the
+-- begin of its first
+abbrev pub Joins : List Green → List Green → Type 0
+Joins old [] = Unit {0}
+Joins old (first ∷ rest) = HasRow old first.phase first.from
+
 -- the timeline's rows up to the first that does not begin before a second
 abbrev pub rows_before : List Green → ℕ → List Green
 rows_before [] second = []
@@ -106,3 +125,13 @@ rows_before (row ∷ rows) second = if nat_lt row.from second then row ∷ rows_
 abbrev pub spliced : List Green → List Green → List Green
 spliced old [] = old
 spliced old (row ∷ rows) = rows_before old row.from ++ row ∷ rows
+
+-- what a line keeps that is spliced from the second `now` on: it is lawful; in every second before `now` the same phase is
+-- green in it, since the same second, and every phase shows the same colour; it ends as the new rows do; and its rows begin
+-- by a second by which those of both begin
+pub record IsContinued (plan : List Phase) (old : List Green) (now : ℕ) (next rows : List Green) : Type 0 where
+  pub lawful : IsLawful plan rows
+  pub past : (second : ℕ) → second < now → standing rows second ≡ standing old second
+  pub colours : (k second : ℕ) → second < now → colour_at plan rows k second ≡ colour_at plan old k second
+  pub end : end_of rows ≡ end_of next
+  pub begins_by : (n : ℕ) → BeginBy n old → BeginBy n next → BeginBy n rows

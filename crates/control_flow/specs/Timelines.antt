@@ -1,18 +1,14 @@
 -- The timeline of a plan of servings, and that of no plan.
 use Rattle.std.specs.Prelude.{◌≡◌, ℕ, zero, suc, false, ◌+◌, ◌-◌, ◌<◌, ◌≤◌, max, min, nat_lt, if◌then◌else◌, List, [], ◌∷◌, ◌++◌, length, Ok}
 use Rattle.std.specs.List.{range_with_len}
-use Rattle.phase_plan.specs.Phases.{phase_at, passing, switch_time}
+use Rattle.phase_plan.specs.Phases.{next_phase, passed_numbers, phase_at, passing, switch_time}
 use Rattle.phase_plan.specs.declared.Phase.{Phase}
-use Rattle.switch_rules.specs.Serving.{IsCluster, serving}
+use Rattle.switch_rules.specs.Serving.{IsCluster, earliest_end, head_behind, serving}
 use Rattle.switch_rules.specs.declared.Head.{Head}
 use Rattle.switch_rules.specs.declared.Cluster.{Cluster}
 use Rattle.switch_rules.specs.declared.Served.{Served}
-use Rattle.control_flow.specs.Greens.{next_phase, row_at}
+use Rattle.control_flow.specs.Greens.{row_at}
 use Rattle.control_flow.specs.declared.greens.Green.{Green}
-
--- the head behind a serving of phase k
-abbrev pub head_behind : ℕ → Served → Head
-head_behind k s = record { phase = k; since = s.green; at = s.finish; fresh = false }
 
 -- a serving of phase k from a head: that of a cluster within its bounds, which is fit
 pub record IsServingOf (plan : List Phase) (head : Head) (k : ℕ) (s : Served) : Type 0 where
@@ -42,10 +38,6 @@ HasGreens rows [] served = Unit {0}
 HasGreens rows (k ∷ ks) [] = Unit {0}
 HasGreens rows (k ∷ ks) (s ∷ ss) = IsGreenOf rows k s × HasGreens rows ks ss
 
--- the phases that the ring passes from phase s to a wanted green of phase j, all others where j is s
-abbrev pub passed_numbers : List Phase → ℕ → ℕ → List ℕ
-passed_numbers plan s j = if nat_lt s j then range_with_len (s + 1) (j - (s + 1)) else range_with_len (s + 1) (length plan - (s + 1)) ++ range_with_len 0 j
-
 -- greens of these phases, each of its least length, the first from this second, each next one behind yellow and all-red
 abbrev pub shortest_greens : List Phase → ℕ → List ℕ → List Green
 shortest_greens plan from [] = []
@@ -56,10 +48,6 @@ shortest_greens plan from (k ∷ ks) =
 abbrev pub begin_behind : List Phase → ℕ → List ℕ → ℕ
 begin_behind plan from [] = from
 begin_behind plan from (k ∷ ks) = begin_behind plan (from + passing (phase_at plan k)) ks
-
--- when the green of a head ends, if nothing more is served in it: it lasts its least time and until its time is spent
-abbrev pub earliest_end : List Phase → Head → ℕ
-earliest_end plan head = max head.at (head.since + (phase_at plan head.phase).least)
 
 -- when the green of a head ends for a wanted green of phase j that begins at b: as late as it may
 abbrev pub last_end : List Phase → Head → ℕ → ℕ → ℕ

@@ -1,5 +1,8 @@
 //! What a timeline is made of.
 
+ghost use Rattle.std.specs.Prelude.{◌≡◌, OnErr, OnOk};
+ghost use Rattle.control_flow.specs.Greens.{IsInOrder, spliced};
+
 use super::splicing::count_before;
 use foundation::threads::CrossesThreads;
 use std::alloc::AllocError;
@@ -8,7 +11,7 @@ use std::marker::Model;
 /// A green of a phase, from a second up to another one.
 ///
 /// docs/RULES.md, "Timeline".
-#[derive(Clone, Copy)]
+#[derive(Debug, Clone, Copy, PartialEq, Eq)]
 pub struct Green {
     /// The phase, from 0.
     pub phase: u8,
@@ -21,14 +24,15 @@ pub struct Green {
 /// What a phase shows at a second.
 ///
 /// docs/RULES.md, "Colours".
-#[derive(Clone, Copy)]
+#[derive(Debug, Clone, Copy, PartialEq, Eq)]
 pub enum Colour {
     Green,
     Yellow,
     Red,
 }
 
-/// The greens of a signal, one after another. Contracts see it as the list of its rows.
+/// The greens of a signal, one after another: each ends behind its begin, and begins no earlier than the one before it
+/// ends. Contracts see it as the list of its rows.
 ///
 /// docs/RULES.md, "Timeline".
 #[derive(Drop)]
@@ -42,15 +46,25 @@ impl Model for Timeline {
 
     ghost Value = { List Green };
 
+    ghost use Rattle.control_flow.specs.Greens.{IsInOrder};
+
     ghost view = { λ line. line.rows.items };
+
+    ghost invariant = { λ line. IsInOrder line.rows.items };
 }
 
 impl Timeline {
-    ghost use Rattle.std.specs.Prelude.{◌≡◌, OnErr, OnOk};
-    ghost use Rattle.control_flow.specs.Greens.{spliced};
+    ghost use Rattle.std.specs.Prelude.{◌≡◌, ℕ, Some, List, OnErr, OnOk};
+    ghost use Rattle.phase_plan.specs.Phases.{IsPlan};
+    ghost use Rattle.phase_plan.specs.declared.Phase.{Phase};
+    ghost use Rattle.switch_rules.specs.declared.Head.{Head};
+    ghost use Rattle.control_flow.specs.Greens.{GoesOn, IsContinued, IsInOrder, IsLawful, Joins, head_at, spliced};
 
-    /// The timeline of these rows.
-    pub(crate) fn from_rows(rows: Vec<Green>) -> Self
+    /// The timeline of these rows, each of which ends behind its begin, and begins no earlier than the one before it ends.
+    ///
+    /// docs/RULES.md, "Timeline".
+    pub fn from_rows(rows: Vec<Green>) -> Self
+        requires { IsInOrder rows.items }
         ensures { result ≡ rows.items }
     {
         Timeline { rows }
@@ -60,30 +74,46 @@ impl Timeline {
     ///
     /// docs/RULES.md, "Timeline".
     pub fn rows(&self) -> &[Green]
-        ensures { result.now ≡ self.now }
+        ensures value { result.now ≡ self.now }
+        ensures order { IsInOrder self.now }
     {
         self.rows.as_slice()
     }
 
-    /// Replaces the rows from the begin of the first row of `next` on by `next`; an empty one replaces nothing. Where
-    /// memory is wanting, all is as before.
+    /// Replaces the rows from the begin of the first row of `next` on by `next`; an empty one replaces nothing. Some row
+    /// has the phase and the begin of that first row. Where memory is wanting, all is as before.
     ///
-    /// `law_of_splicing` says what this keeps, where `next` continues the timeline.
+    /// Where the timeline is lawful for a plan, and `next` is and goes on in the head that the timeline has at a second
+    /// `now`, the new timeline is lawful too; in every second before `now` the same phase is green in it, since the same
+    /// second, and every phase shows the same colour; and it ends as `next` does.
     ///
     /// docs/RULES.md, "Timeline".
     pub fn splice(&mut self, next: Timeline) -> Result<(), AllocError>
+        requires { Joins self.old next }
         ensures ok { OnOk result (self.new ≡ spliced self.old next) }
-        ensures err { OnErr result (self.new ≡ self.old) }
+        ensures refused { OnErr result (self.new ≡ self.old) }
+        ensures law { (plan : List Phase) (now : ℕ) (head : Head)
+            → IsPlan plan → IsLawful plan self.old → head_at plan self.old now ≡ Some head → IsLawful plan next → GoesOn head next
+            → OnOk result (IsContinued plan self.old now next self.new) }
     {
-        let Some(first) = next.rows.first() else {
-            return Ok(());
-        };
-        let kept = count_before(self.rows(), first.from);
-        let freed = self.rows.len() - kept;
-        self.rows.reserve(next.rows.len().saturating_sub(freed))?;
-        self.rows.truncate(kept);
-        self.rows.extend_from_slice(&next.rows)
+        replace(&mut self.rows, &next.rows)
     }
+}
+
+/// Replaces the rows from the begin of the first new one on by the new ones; where memory is wanting, all is as before.
+fn replace(rows: &mut Vec<Green>, next: &[Green]) -> Result<(), AllocError>
+    requires { IsInOrder rows.old.items }
+    ensures ok { OnOk result (rows.new.items ≡ spliced rows.old.items next.now) }
+    ensures refused { OnErr result (rows.new.items ≡ rows.old.items) }
+{
+    let Some(first) = next.first() else {
+        return Ok(());
+    };
+    let kept = count_before(rows, first.from);
+    let freed = rows.len() - kept;
+    rows.reserve(next.len().saturating_sub(freed))?;
+    rows.truncate(kept);
+    rows.extend_from_slice(next)
 }
 
 impl CrossesThreads for Green {}

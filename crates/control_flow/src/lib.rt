@@ -8,4 +8,3 @@ mod splicing;
 
 pub use making::{rotation, timeline};
 pub use seconds::{colour, green_at, head_at};
-pub use splicing::law_of_splicing;

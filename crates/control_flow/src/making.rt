@@ -2,15 +2,16 @@
 
 ghost use Rattle.std.specs.Prelude.{◌≡◌, ℕ, ◌+◌, ◌-◌, ◌<◌, ◌≤◌, ◌++◌, length, All, OnOk, IfOk};
 ghost use Rattle.std.specs.List.{range_with_len};
-ghost use Rattle.phase_plan.specs.Phases.{IsPlan};
+ghost use Rattle.phase_plan.specs.Phases.{IsPlan, passed_numbers};
+ghost use Rattle.switch_rules.specs.Bounds.{latest_time};
 ghost use Rattle.switch_rules.specs.Serving.{IsHead, earliest_green};
-ghost use Rattle.control_flow.specs.Greens.{BeginBy, GoesOn, IsLawful, end_of};
-ghost use Rattle.control_flow.specs.Timelines.{AreServings, HasGreens, line_of, rotation_of, turned, left_for, earliest_end, last_end, passed_numbers, shortest_greens, begin_behind, green_behind};
+ghost use Rattle.control_flow.specs.Greens.{AreApart, BeginBy, GoesOn, IsLawful, end_of};
+ghost use Rattle.control_flow.specs.Timelines.{AreServings, HasGreens, line_of, rotation_of, turned, left_for, last_end, shortest_greens, begin_behind, green_behind};
 
 use super::greens::{Green, Timeline};
 use phase_plan::PhasePlan;
 use std::alloc::{AllocError, Global};
-use switch_rules::{Head, Served};
+use switch_rules::{Head, Served, earliest_end};
 
 /// The timeline of servings, one after another from a head: each serving has its green, the first row is the green of
 /// the head, and the last row ends behind second `until`.
@@ -28,15 +29,16 @@ pub fn timeline(
     until: u32,
 ) -> Result<Timeline, AllocError>
     requires head { IsHead plan.now head.now }
-    requires reach { head.now.at ≤ 104000 }
-    requires until { until ≤ 104000 }
+    requires reach { head.now.at ≤ latest_time }
+    requires until { until ≤ latest_time }
     requires servings { AreServings plan.now head.now phases.now served.now }
     ensures value { IfOk result (λ line. line ≡ line_of plan.now head.now phases.now served.now until) }
     ensures greens { IfOk result (λ line. HasGreens line phases.now served.now) }
     ensures lawful { IfOk result (λ line. IsLawful plan.now line) }
+    ensures apart { IfOk result (λ line. AreApart plan.now line) }
     ensures begin { IfOk result (λ line. GoesOn head.now line) }
     ensures end { IfOk result (λ line. until < end_of line) }
-    ensures by { (n : ℕ) → head.now.since ≤ n → until + 20 ≤ n → All (λ s. s.green ≤ n) served.now → IfOk result (BeginBy n) }
+    ensures begins_by { (n : ℕ) → head.now.since ≤ n → until + 20 ≤ n → All (λ s. s.green ≤ n) served.now → IfOk result (BeginBy n) }
 {
     learn(plan);
     let mut rows = Vec::new(alloc);
@@ -71,13 +73,14 @@ pub fn rotation(
     until: u32,
 ) -> Result<Timeline, AllocError>
     requires head { IsHead plan.now head.now }
-    requires reach { head.now.at ≤ 104000 }
-    requires until { until ≤ 104000 }
+    requires reach { head.now.at ≤ latest_time }
+    requires until { until ≤ latest_time }
     ensures value { IfOk result (λ line. line ≡ rotation_of plan.now head.now until) }
     ensures lawful { IfOk result (λ line. IsLawful plan.now line) }
+    ensures apart { IfOk result (λ line. AreApart plan.now line) }
     ensures begin { IfOk result (λ line. GoesOn head.now line) }
     ensures end { IfOk result (λ line. until < end_of line) }
-    ensures by { (n : ℕ) → head.now.since ≤ n → until + 20 ≤ n → IfOk result (BeginBy n) }
+    ensures begins_by { (n : ℕ) → head.now.since ≤ n → until + 20 ≤ n → IfOk result (BeginBy n) }
 {
     learn(plan);
     let mut rows = Vec::new(alloc);
@@ -93,16 +96,6 @@ fn learn(plan: &PhasePlan)
     let _ = plan.count();
 }
 
-/// When the green of a head ends, if nothing more is served in it.
-fn earliest_end(plan: &PhasePlan, head: &Head) -> u32
-    requires head { IsHead plan.now head.now }
-    requires reach { head.now.at ≤ 104000 }
-    ensures value { result ≡ earliest_end plan.now head.now }
-    ensures bounds { result ≤ 104240 }
-{
-    head.at.max(head.since + plan.phase(head.phase).least)
-}
-
 /// Adds the green of a head that is left for a wanted green of a phase from `begin` on, and greens of the phases that
 /// the ring passes on the way.
 fn leave(
@@ -114,7 +107,7 @@ fn leave(
 ) -> Result<(), AllocError>
     requires plan { IsPlan plan.now }
     requires head { IsHead plan.now head.now }
-    requires reach { head.now.at ≤ 104000 }
+    requires reach { head.now.at ≤ latest_time }
     requires phase { phase < length plan.now }
     requires begin { earliest_green plan.now head.now phase ≤ begin }
     ensures { OnOk result (rows.new.items ≡ rows.old.items
@@ -200,7 +193,7 @@ fn turn(
     requires plan { IsPlan plan.now }
     requires phase { head.now.phase < length plan.now }
     requires to { to ≤ 105000 }
-    requires until { until ≤ 104000 }
+    requires until { until ≤ latest_time }
     ensures { OnOk result (rows.new.items ≡ rows.old.items ++ turned plan.now head.now to until) }
 {
     let mut last = Green {
@@ -220,7 +213,7 @@ fn turn(
 fn green_behind(plan: &PhasePlan, row: &Green) -> Green
     requires plan { IsPlan plan.now }
     requires phase { row.now.phase < length plan.now }
-    requires to { row.now.to ≤ 104000 }
+    requires to { row.now.to ≤ latest_time }
     ensures value { result ≡ green_behind plan.now row.now.phase row.now.to }
     ensures phase { result.phase < length plan.now }
     ensures later { row.now.to < result.to }

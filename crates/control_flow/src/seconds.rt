@@ -1,9 +1,10 @@
 //! What a timeline shows at a second.
 
-ghost use Rattle.std.specs.Prelude.{◌≡◌, ℕ, ◌<◌, ◌≤◌, length, Some};
+ghost use Rattle.std.specs.Prelude.{◌≡◌, ℕ, ◌<◌, ◌≤◌, List, length, slice_get, Some};
 ghost use Rattle.switch_rules.specs.Serving.{IsHead};
+ghost use Rattle.control_flow.specs.declared.greens.Green.{Green};
 ghost use Rattle.control_flow.specs.Greens as spec;
-ghost use Rattle.control_flow.specs.Greens.{BeginBy, IsGreen, IsLawful, covers, covers_yellow, end_of, head_in, is_green, is_yellow, colour_at, row_after};
+ghost use Rattle.control_flow.specs.Greens.{AreApart, BeginBy, GoesOn, IsGreen, IsInOrder, IsLawful, Joins, covers, covers_yellow, end_of, head_in, is_green, is_yellow, colour_at, row_after};
 
 use super::greens::{Colour, Green, Timeline};
 use phase_plan::PhasePlan;
@@ -22,19 +23,33 @@ pub fn head_at(plan: &PhasePlan, line: &Timeline, now: u32) -> Head
     requires end { now < end_of line.now }
     ensures value { spec.head_at plan.now line.now now ≡ Some result }
     ensures head { IsHead plan.now result }
-    ensures by { (n : ℕ) → now ≤ n → BeginBy n line.now → result.at ≤ n }
+    ensures begins_by { (n : ℕ) → now ≤ n → BeginBy n line.now → result.at ≤ n }
+    // So a line that goes on in this head can be spliced in.
+    ensures joins { (next : List Green) → GoesOn result next → Joins line.now next }
+    ensures apart { AreApart plan.now line.now }
 {
+    let _ = plan.count();
     let Some(row) = row_after(line, now) else {
         unreachable!()
     };
     head_in(plan, now, &row)
 }
 
-/// The first row that ends behind a second.
+/// The first row that ends behind a second. It searches by halves.
 fn row_after(line: &Timeline, now: u32) -> Option<Green>
-    ensures { result ≡ row_after line.now now }
+    ensures value { result ≡ row_after line.now now }
+    ensures order { IsInOrder line.now }
 {
-    line.rows().iter().find(|row| now < row.to).copied()
+    let rows = line.rows();
+    rows.get(rows_by(rows, now)).copied()
+}
+
+/// How many rows end by a second.
+fn rows_by(rows: &[Green], second: u32) -> usize
+    requires { IsInOrder rows.now }
+    ensures { row_after rows.now second ≡ slice_get rows.now result }
+{
+    rows.partition_point(|row| row.to <= second)
 }
 
 /// The state of the signal at a second, by a row that ends behind it.
@@ -61,13 +76,17 @@ fn head_in(plan: &PhasePlan, now: u32, row: &Green) -> Head
     }
 }
 
-/// The first row that covers a second, if any does.
+/// The row that covers a second, if any does; no two do. The time does not grow with what is past: it searches by halves.
 ///
 /// docs/RULES.md, "Timeline".
 pub fn green_at(line: &Timeline, second: u32) -> Option<Green>
-    ensures { result ≡ spec.green_at line.now second }
+    ensures value { result ≡ spec.green_at line.now second }
+    ensures order { IsInOrder line.now }
 {
-    line.rows().iter().find(|row| covers(row, second)).copied()
+    let Some(row) = row_after(line, second) else {
+        return None;
+    };
+    if row.from <= second { Some(row) } else { None }
 }
 
 /// Whether a row covers a second.

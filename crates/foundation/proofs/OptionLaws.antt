@@ -23,3 +23,8 @@ if-each P (Some x) h = h x refl
 -- an option has no value, or a value, and not both
 pub none-and-some : {A : Type 0} (o : Option A) (x : A) → o ≡ None → o ≡ Some x → ⊥
 none-and-some o x none some = none-some x (sym none ∙ some)
+
+-- an option is none, or has a value
+pub option-cases : {X P : Type 0} (o : Option X) → (o ≡ None → P) → ((x : X) → o ≡ Some x → P) → P
+option-cases None f g = f refl
+option-cases (Some x) f g = g x refl

@@ -31,3 +31,8 @@ then_ok (Err d) e go = absurd cc
 pub on_err : {A B E P : Type 0} (r : Result A E) {f : A → Result B E} {e : E} → (r >>= f) ≡ Err e → (r ≡ Err e → P) → ((x : A) → r ≡ Ok x → f x ≡ Err e → P) → P
 on_err (Ok x) h failed go = go x refl h
 on_err {A} {B} (Err d) {e = e} h failed go = failed (ap (λ k. Err k) (same_Err {A = B} d e h))
+
+-- a result is a value, or a fault
+pub result-cases : {X E P : Type 0} (r : Result X E) → ((x : X) → r ≡ Ok x → P) → ((e : E) → r ≡ Err e → P) → P
+result-cases (Ok x) f g = f x refl
+result-cases (Err e) f g = g e refl

@@ -1,3 +1,5 @@
+//! A list inside public types.
+
 ghost use Rattle.std.specs.Prelude.{◌≡◌, length};
 
 use std::marker::Model;

@@ -1,3 +1,5 @@
+//! A counter of steps.
+
 ghost use Rattle.std.specs.Prelude.{◌≡◌, ◌+◌};
 
 use std::marker::Model;

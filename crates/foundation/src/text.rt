@@ -1,3 +1,5 @@
+//! A text inside public types.
+
 ghost use Rattle.std.specs.Prelude.{◌≡◌, string_bytes};
 
 use std::marker::Model;

@@ -71,14 +71,14 @@ feeds_in_lists k (cs ∷ ls) few fits =
 -- ---- the line after a front
 
 -- a line with which a text that begins so goes on, and the bytes do not
-pub record GoesOnWith (T R : List ℕ) : Type 0 where
+pub record NextOfText (T R : List ℕ) : Type 0 where
   pub text : List ℕ
   pub after : List ℕ
   pub is_line : IsTextLine text
   pub parts : T ≡ text ++ after
   pub apart : (u : List ℕ) → R ≡ text ++ u → ⊥
 
-pub fault_from : (first : ℕ) (bytes F R : List ℕ) → bytes ≡ F ++ R → BeginsText F → ((g : BeginsFront F) → GoesOnWith g.rest R) → IsFirstFault BeginsFront first (first + line_feeds F) bytes
+pub fault_from : (first : ℕ) (bytes F R : List ℕ) → bytes ≡ F ++ R → BeginsText F → ((g : BeginsFront F) → NextOfText g.rest R) → IsFirstFault BeginsFront first (first + line_feeds F) bytes
 fault_from first bytes F R parts begins follows = faulty-here BeginsText BeginsFront first bytes F R parts begins (λ mid g.
     let met : BeginsFront F = record { plan = g.plan; head = g.head; lists = g.lists; after = g.after; rest = mid ++ g.rest; fits = g.fits; text = g.text ∙ append_assoc F mid g.rest } in
     let n = follows met in

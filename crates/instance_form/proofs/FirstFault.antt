@@ -29,7 +29,7 @@ use Rattle.instance_form.specs.Lines.{count_line_at, phase_line_at, head_line_at
 use Rattle.instance_form.specs.Reading.{Gives, Parts, parts_of, opening_at, phases_at, lists_at, form_at}
 use Rattle.instance_form.proofs.LineLaws.{count_again, phase_takes, phase_again, head_takes, head_again, cluster_takes, cluster_again, cluster_other, cluster_end}
 use Rattle.instance_form.proofs.FormLaws.{opening_takes, opening_again, phases_take, phases_again, clusters_take, lists_take, later_lines, regrouped_form, text_once, all_within, recursion_within}
-use Rattle.instance_form.proofs.FaultLaws.{GoesOnWith, fault_from, first_is_line, last_is_line, count_is_line, phase_is_line, head_is_line, cluster_is_line, feeds_in_phases, feeds_in_lists}
+use Rattle.instance_form.proofs.FaultLaws.{NextOfText, fault_from, first_is_line, last_is_line, count_is_line, phase_is_line, head_is_line, cluster_is_line, feeds_in_phases, feeds_in_lists}
 
 no_phase_at : (R u : List ℕ) (p : Phase) → phase_line_at R ≡ None → IsWritable p → R ≡ phase_line p ++ u → ⊥
 no_phase_at R u p none fits e = none-and-some (phase_line_at R) (p, u) none (ap phase_line_at e ∙ phase_again p u fits)
@@ -399,7 +399,7 @@ last_line_fault first n count bytes R ps h lists clusters low high spelled len e
     let whole : bytes ≡ F ++ R = spelled ∙ sym (opening-append count (flat_map phase_line ps ++ (head_line h ++ (cluster_lines 0 lists ++ R)))) ∙ sym (body-append count ps h lists R) in
     at_number first (first + line_feeds F) n bytes (omega (arith, feeds_in_body count ps h lists high (omega arith) fits small all)) (fault_from first bytes F R whole (begins_body count ps h lists len text) (λ g. follows g))
   where
-    go_on : (plan : List Phase) (k : Head) (queues : List (List Cluster)) (x T : List ℕ) → HasText plan k queues → length plan ≡ count → head_line k ++ (cluster_lines 0 queues ++ (codes "end\n" ++ x)) ≡ head_line h ++ (cluster_lines 0 lists ++ T) → GoesOnWith T R
+    go_on : (plan : List Phase) (k : Head) (queues : List (List Cluster)) (x T : List ℕ) → HasText plan k queues → length plan ≡ count → head_line k ++ (cluster_lines 0 queues ++ (codes "end\n" ++ x)) ≡ head_line h ++ (cluster_lines 0 lists ++ T) → NextOfText T R
     go_on plan k queues x T has same e =
         let heads_same = same_Some (k, cluster_lines 0 queues ++ (codes "end\n" ++ x)) (h, cluster_lines 0 lists ++ T)
         (sym (head_again k (cluster_lines 0 queues ++ (codes "end\n" ++ x)) has.head) ∙ ap head_line_at e ∙ head_again h (cluster_lines 0 lists ++ T) small) in
@@ -417,7 +417,7 @@ last_line_fault first n count bytes R ps h lists clusters low high spelled len e
           }
         ]
 
-    follows : (g : BeginsFront (body count ps h lists)) → GoesOnWith g.rest R
+    follows : (g : BeginsFront (body count ps h lists)) → NextOfText g.rest R
     follows g =
         let clusters_on = cluster_lines 0 lists ++ g.rest in
         let T = flat_map phase_line ps ++ (head_line h ++ clusters_on) in

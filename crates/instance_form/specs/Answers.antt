@@ -8,7 +8,7 @@ use Rattle.instance_form.specs.declared.form.FormFault.{FormFault}
 use Rattle.instance_form.specs.declared.form.FormFault.TheVariants.{Line, NoMemory}
 
 -- the form has these phases, this head and these lists
-pub record Says (form : Form) (plan : List Phase) (h : Head) (lists : List (List Cluster)) : Type 0 where
+pub record HasParts (form : Form) (plan : List Phase) (h : Head) (lists : List (List Cluster)) : Type 0 where
   pub phases : form.phases.items ≡ plan
   pub head : form.head ≡ h
   pub each : form.lists.items ≡ lists

@@ -1,4 +1,4 @@
--- Reading one line from the front of the bytes: its values, and the bytes after it.
+-- No public clause names these: reading one line from the front of the bytes, its values and the bytes after it.
 use Rattle.std.specs.Prelude.{ℕ, ◌^◌, Bool, true, false, ◌&&◌, ◌==◌, nat_le, List, Option, Some, None, if◌then◌else◌, codes}
 use Rattle.std.specs.Borrow.{Bor}
 use Rattle.std.specs.Option.{option_map, option_or}

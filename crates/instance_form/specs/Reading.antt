@@ -1,4 +1,4 @@
--- Reading an instance's text from the front of the bytes, with the number of the first line that is none.
+-- No public clause names these: reading an instance's text from the front of the bytes, with the number of the first line that is none.
 use Rattle.std.specs.Prelude.{◌≡◌, ℕ, zero, suc, ◌+◌, List, [], ◌∷◌, length, sum_by, Result, Ok, Err, codes}
 use Rattle.std.specs.Option.{ok_or}
 pub use Rattle.foundation.specs.Results.{◌>>=◌}

@@ -18,7 +18,9 @@ use Rattle.net_simulator.specs.declared.totals.LinkTotals.{LinkTotals}
 use Rattle.net_simulator.specs.declared.totals.Totals.{Totals}
 use Rattle.road_net.specs.Totals.{total}
 use Rattle.net_simulator.specs.Flow.{Passed, passed_in, nothing, history, queue, waiting, discharged, entering, past_of}
-use Rattle.net_simulator.specs.Sums.{outward, arrived, gone, on_road, delay, link_totals, totals, AreArrivals}
+use Rattle.arrivals.specs.Amounts.{Amounts, AreArrivals, entering as entering_at}
+use Rattle.net_simulator.specs.Arriving.{arriving_of}
+use Rattle.net_simulator.specs.Sums.{outward, arrived, gone, on_road, delay, link_totals, totals, AreFew}
 use Rattle.net_simulator.specs.Rows.{cell}
 use Rattle.net_simulator.specs.Counts.{counts_at, no_totals, counted, IsSmall}
 use Rattle.net_simulator.specs.Steps.{goes, waits_at, goes_out, all_of}
@@ -29,6 +31,10 @@ use Rattle.net_simulator.proofs.FlowLaws.{past-none, past-kept, history-same}
 use Rattle.net_simulator.proofs.Sound.{IsSound, Continues, goes-on, is-sound}
 use Rattle.net_simulator.proofs.Keeping.{HasBounds, phase_and_begin, waits-same, goes-same, kept-queue, keeps-next}
 use Rattle.net_simulator.proofs.Conserving.{none-lost, grown, left-entered, reached-entered, on-link, waiting-on}
+
+-- the bound on arrivals, over the links by name
+pub few-of : (net : Net) → IsNetwork net → (a : Amounts) → AreArrivals net a → AreFew net (arriving_of a)
+few-of net network a enter n = subst (λ k. total (λ x. total (λ l. entering_at a l x) k) n ≤ 2000000000) network.outline.road_count (enter.few n)
 
 -- a green that covers a second has begun
 pub green_at-begun : (rows : List Green) (x : ℕ) → IfSome (green_at rows x) (λ g. g.from ≤ x)
@@ -113,7 +119,7 @@ module _ (net : Net) (network : IsNetwork net) (arriving : ℕ → ℕ → ℕ) 
       let two = ap (λ (q : Passed). q.left) (past-same n k l h) in
       omega (arith, one, two)
 
-module _ (net : Net) (network : IsNetwork net) (arriving : ℕ → ℕ → ℕ) (shown : ℕ → ℕ → Option (ℕ × ℕ)) (arrivals : AreArrivals net arriving) where
+module _ (net : Net) (network : IsNetwork net) (arriving : ℕ → ℕ → ℕ) (shown : ℕ → ℕ → Option (ℕ × ℕ)) (arrivals : AreFew net arriving) where
   -- what is on the links at any time
   pub on-road-most : (n : ℕ) → on_road net (past_of net arriving shown n) n ≤ 2000000000
   on-road-most n = let most = arrivals n in omega (arith, whole-at net network arriving shown n, most)
@@ -209,7 +215,7 @@ pub record IsStep (net : Net) (arriving : ℕ → ℕ) (x : ℕ) (greens : List 
   pub delay : v.totals.delay ≡ w.totals.delay + all_of v.queues (length net.link_names)
   pub on : v.totals.on ≡ v.totals.entered - v.totals.left
 
-module _ (net : Net) (network : IsNetwork net) (arriving : ℕ → ℕ → ℕ) (lines : ℕ → List Green) (arrivals : AreArrivals net arriving) (w : Kept) (stands : Stands net arriving (standing_by lines) w) where
+module _ (net : Net) (network : IsNetwork net) (arriving : ℕ → ℕ → ℕ) (lines : ℕ → List Green) (arrivals : AreFew net arriving) (w : Kept) (stands : Stands net arriving (standing_by lines) w) where
   abbrev before : ℕ → ℕ → Passed
   before = past_of net arriving (standing_by lines) w.second
 

@@ -16,13 +16,14 @@ use Rattle.control_flow.specs.declared.greens.Green.{Green}
 use Rattle.road_net.specs.Totals.{total}
 use Rattle.net_simulator.specs.Flow.{Passed, past_of}
 use Rattle.net_simulator.specs.Rows.{cell}
+use Rattle.net_simulator.specs.Arriving.{arriving_of}
 use Rattle.net_simulator.specs.Senses.{coming, link_sense, sense, seen_by}
 use Rattle.net_simulator.specs.Sums.{on_road}
 use Rattle.net_simulator.specs.Worlds.{Keeps, Stands, Kept, IsWorldOf, standing_by}
 use Rattle.net_simulator.proofs.Sums.{total-without, without, without-other}
 use Rattle.net_simulator.proofs.Sound.{IsSound}
 use Rattle.net_simulator.proofs.Conserving.{grown, reached-entered}
-use Rattle.net_simulator.proofs.Passing.{bounds-of, sound-at, on-road-most}
+use Rattle.net_simulator.proofs.Passing.{few-of, bounds-of, sound-at, on-road-most}
 
 range-same : (f g : ℕ → ℕ) (n : ℕ) → ((i : ℕ) → i < n → f i ≡ g i) → map f (range_with_len 0 n) ≡ map g (range_with_len 0 n)
 range-same f g n same = fill_by_all g (map f (range_with_len 0 n)) n 0 (length-map-range_with_len f 0 n) (λ k h. get_or-map-range_with_len f 0 n k k 0 h (omega arith) ∙ same k h)
@@ -112,14 +113,14 @@ map-link net past n [] = refl
 map-link net past n (l ∷ ls) = ap (λ ks. l ∷ ks) (map-link net past n ls)
 
 -- what the definition gives is within the bounds of what a node sees
-pub is-sensed : (net : Net) (node : ℕ) (w : Kept) → IsNetwork net → All (λ l. l < length net.link_names) (entry_links net node) → IsStrictlyIncreasing (entry_links net node) → (world : IsWorldOf net w) → IsSensedOf net node (sense net (past_of net world.arriving (standing_by world.lines) w.second) w.second node)
+pub is-sensed : (net : Net) (node : ℕ) (w : Kept) → IsNetwork net → All (λ l. l < length net.link_names) (entry_links net node) → IsStrictlyIncreasing (entry_links net node) → (world : IsWorldOf net w) → IsSensedOf net node (sense net (past_of net (arriving_of world.arrivals) (standing_by world.lines) w.second) w.second node)
 is-sensed net node w network below rising world =
-    let past : ℕ → ℕ → Passed = past_of net world.arriving (standing_by world.lines) w.second in
+    let past : ℕ → ℕ → Passed = past_of net (arriving_of world.arrivals) (standing_by world.lines) w.second in
     record {
       now = world.stands.by;
       links = map-link net past w.second (entry_links net node);
       coming = All-map (λ s. length s.coming ≡ (link_at net s.link).travel) (link_sense net past w.second) (entry_links net node) (λ i d h. length-map-range_with_len _ 0 _);
-      amounts = omega (arith, sensed-on net past w.second (sound-at net network world.arriving (standing_by world.lines) w.second) (entry_links net node) (AllPairs-from_increasing (entry_links net node) rising) below, on-road-most net network world.arriving (standing_by world.lines) world.arrivals w.second);
+      amounts = omega (arith, sensed-on net past w.second (sound-at net network (arriving_of world.arrivals) (standing_by world.lines) w.second) (entry_links net node) (AllPairs-from_increasing (entry_links net node) rising) below, on-road-most net network (arriving_of world.arrivals) (standing_by world.lines) (few-of net network world.arrivals world.enter) w.second);
     }
 
 pub below-names : (net : Net) (links names : List ℕ) → IsNetwork net → links ≡ names → All (λ l. l < length net.links) links → All (λ l. l < length net.link_names) names

@@ -16,9 +16,9 @@ outward (Some node) amount = 0
 abbrev pub arrived : Net → (ℕ → ℕ → ℕ) → ℕ → ℕ
 arrived net arriving n = total (λ x. total (arriving x) (length net.link_names)) n
 
--- arrivals of a network: all together are at most 2,000,000,000
-abbrev pub AreArrivals : Net → (ℕ → ℕ → ℕ) → Type 0
-AreArrivals net arriving = (n : ℕ) → arrived net arriving n ≤ 2000000000
+-- all that ever arrives is at most 2,000,000,000
+abbrev pub AreFew : Net → (ℕ → ℕ → ℕ) → Type 0
+AreFew net arriving = (n : ℕ) → arrived net arriving n ≤ 2000000000
 
 -- all that left the network in the first n seconds, and all that is in it then
 abbrev pub gone : Net → (ℕ → ℕ → Passed) → ℕ → ℕ

@@ -4,7 +4,9 @@ use Rattle.net_numbers.specs.Numbers.{Net}
 use Rattle.control_flow.specs.declared.greens.Green.{Green}
 use Rattle.control_flow.specs.Greens.{standing}
 use Rattle.net_simulator.specs.Flow.{Passed, queue, past_of}
-use Rattle.net_simulator.specs.Sums.{AreArrivals, link_totals, totals}
+use Rattle.arrivals.specs.Amounts.{Amounts, AreArrivals}
+use Rattle.net_simulator.specs.Arriving.{arriving_of}
+use Rattle.net_simulator.specs.Sums.{link_totals, totals}
 use Rattle.net_simulator.specs.Rows.{cell}
 use Rattle.net_simulator.specs.Counts.{counts_at}
 use Rattle.net_simulator.specs.declared.totals.LinkTotals.{LinkTotals}
@@ -50,7 +52,7 @@ pub record Stands (net : Net) (arriving : ℕ → ℕ → ℕ) (shown : ℕ → 
 
 -- a world stands for this network with some arrivals and timelines
 pub record IsWorldOf (net : Net) (w : Kept) : Type 0 where
-  pub arriving : ℕ → ℕ → ℕ
+  pub arrivals : Amounts
   pub lines : ℕ → List Green
-  pub arrivals : AreArrivals net arriving
-  pub stands : Stands net arriving (standing_by lines) w
+  pub enter : AreArrivals net arrivals
+  pub stands : Stands net (arriving_of arrivals) (standing_by lines) w

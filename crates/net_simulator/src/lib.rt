@@ -1,7 +1,6 @@
 //! The world: the vehicles on the links of a road network, second by second.
 #![tactic(auto)]
 
-mod arrivals;
 mod lights;
 mod rows;
 mod seconds;
@@ -9,7 +8,6 @@ mod sensing;
 mod totals;
 mod world;
 
-pub use arrivals::Arrivals;
 pub use lights::Lights;
 pub use totals::{LinkTotals, Totals};
 pub use world::{World, law_of_lights};

@@ -8,13 +8,13 @@ ghost use Rattle.road_net.specs.Totals.{total};
 ghost use Rattle.net_simulator.specs.Rows.{cell};
 ghost use Rattle.net_simulator.specs.Sums.{outward};
 ghost use Rattle.net_simulator.specs.Counts.{counts_at, counted, IsSmall};
-ghost use Rattle.net_simulator.specs.Arriving.{entering_of};
+ghost use Rattle.net_simulator.specs.Arriving.{arriving_of};
 ghost use Rattle.net_simulator.specs.Steps.{is_open, goes, waits_at, goes_out, all_of};
 
-use super::arrivals::Arrivals;
 use super::lights::Lights;
 use super::rows;
 use super::totals::LinkTotals;
+use arrivals::Arrivals;
 use control_flow::greens::Green;
 use road_net::{Network, part_of_turn};
 
@@ -31,9 +31,9 @@ pub(crate) fn look<T: Lights>(greens: &mut [Option<Green>], net: &Network, light
 /// Begins a second: what comes from outside enters. Tells how much that is.
 pub(crate) fn arrive(recent: &mut [u32], links: u32, arrivals: &Arrivals, second: u32) -> u64
     requires { length recent.old ≡ links * 128 }
-    ensures here { (l : ℕ) → l < links → cell recent.new l second ≡ entering_of arrivals.now second l }
+    ensures here { (l : ℕ) → l < links → cell recent.new l second ≡ arriving_of arrivals.now second l }
     ensures others { (l y : ℕ) → y % 128 ≢ second % 128 → cell recent.new l y ≡ cell recent.old l y }
-    ensures all { result ≡ total (λ l. entering_of arrivals.now second l) links }
+    ensures all { result ≡ total (λ l. arriving_of arrivals.now second l) links }
 {
     let mut all = 0;
     for l in 0..links {

@@ -7,15 +7,15 @@ ghost use Rattle.control_flow.specs.Greens.{standing};
 ghost use Rattle.road_net.specs.Senses.{IsSensedOf};
 ghost use Rattle.net_simulator.specs.Flow.{past_of};
 ghost use Rattle.net_simulator.specs.Counts.{counts_at, no_totals, IsWhole};
-ghost use Rattle.net_simulator.specs.Sums.{AreArrivals};
+ghost use Rattle.arrivals.specs.Amounts.{Amounts, AreArrivals};
 ghost use Rattle.net_simulator.specs.Worlds.{Kept, Stands, IsWorldOf, standing_by};
 ghost use Rattle.net_simulator.specs.Senses.{sense};
-ghost use Rattle.net_simulator.specs.Arriving.{entering_of};
+ghost use Rattle.net_simulator.specs.Arriving.{arriving_of};
 
-use super::arrivals::Arrivals;
 use super::lights::Lights;
 use super::totals::{LinkTotals, Totals};
 use super::{seconds, sensing};
+use arrivals::Arrivals;
 use control_flow::greens::Green;
 use foundation::items::Items;
 use foundation::threads::CrossesThreads;
@@ -149,10 +149,10 @@ impl World {
         seconds: u32,
     )
         requires second { self.old.second + seconds ≤ 18000 }
-        requires arrivals { AreArrivals net.now (entering_of arrivals.now) }
-        requires stands { Stands net.now (entering_of arrivals.now) (standing_by (T.lines lights.now)) self.old }
+        requires arrivals { AreArrivals net.now arrivals.now }
+        requires stands { Stands net.now (arriving_of arrivals.now) (standing_by (T.lines lights.now)) self.old }
         ensures second { self.new.second ≡ self.old.second + seconds }
-        ensures stands { Stands net.now (entering_of arrivals.now) (standing_by (T.lines lights.now)) self.new }
+        ensures stands { Stands net.now (arriving_of arrivals.now) (standing_by (T.lines lights.now)) self.new }
     {
         for _i in 0..seconds {
             self.pass(net, lights, arrivals);
@@ -162,10 +162,10 @@ impl World {
     /// Moves by one second.
     fn pass<T: Lights>(&mut self, net: &Network, lights: &T, arrivals: &Arrivals)
         requires second { self.old.second < 18000 }
-        requires arrivals { AreArrivals net.now (entering_of arrivals.now) }
-        requires stands { Stands net.now (entering_of arrivals.now) (standing_by (T.lines lights.now)) self.old }
+        requires arrivals { AreArrivals net.now arrivals.now }
+        requires stands { Stands net.now (arriving_of arrivals.now) (standing_by (T.lines lights.now)) self.old }
         ensures second { self.new.second ≡ self.old.second + 1 }
-        ensures stands { Stands net.now (entering_of arrivals.now) (standing_by (T.lines lights.now)) self.new }
+        ensures stands { Stands net.now (arriving_of arrivals.now) (standing_by (T.lines lights.now)) self.new }
     {
         let x = self.second;
         self.totals = second(
@@ -201,10 +201,10 @@ fn second<T: Lights>(
 ) -> Totals
     requires second { x < 18000 }
     requires leaving { length leaving.old ≡ length queues.old }
-    requires arrivals { AreArrivals net.now (entering_of arrivals.now) }
-    requires stands { Stands net.now (entering_of arrivals.now) (standing_by (T.lines lights.now)) (record { second = x; nodes = length greens.old; queues = queues.old; recent = recent.old; waits = waits.old; counts = counts.old; totals = totals.now }) }
+    requires arrivals { AreArrivals net.now arrivals.now }
+    requires stands { Stands net.now (arriving_of arrivals.now) (standing_by (T.lines lights.now)) (record { second = x; nodes = length greens.old; queues = queues.old; recent = recent.old; waits = waits.old; counts = counts.old; totals = totals.now }) }
     ensures whole { IsWhole result }
-    ensures stands { Stands net.now (entering_of arrivals.now) (standing_by (T.lines lights.now)) (record { second = x + 1; nodes = length greens.new; queues = queues.new; recent = recent.new; waits = waits.new; counts = counts.new; totals = result }) }
+    ensures stands { Stands net.now (arriving_of arrivals.now) (standing_by (T.lines lights.now)) (record { second = x + 1; nodes = length greens.new; queues = queues.new; recent = recent.new; waits = waits.new; counts = counts.new; totals = result }) }
 {
     let links = net.links();
     seconds::look(greens, net, lights, x);

@@ -1,1 +1,2 @@
--- What the crate's proofs share.
+-- What the crate's proofs share, and the crates above.
+pub mod RingLaws

@@ -1,4 +1,7 @@
-use Rattle.std.specs.Prelude.{◌≡◌, ℕ, ◌+◌, ◌<◌, ◌≤◌, ◌⊎◌, List, [], ◌++◌, length, All, sum_by, take, slice_range, slice_index_or, nat_lt, if◌then◌else◌}
+-- The phases of an intersection: their bounds, the ring, and why phases are no plan.
+use Rattle.std.specs.Prelude.{◌≡◌, ℕ, ◌+◌, ◌-◌, ◌<◌, ◌≤◌, ◌⊎◌, List, [], ◌++◌, length, All, map, sum_by, slice_index_or, nat_lt, if◌then◌else◌}
+use Rattle.std.specs.List.{range_with_len}
+use Rattle.foundation.specs.Firsts.{IsFirstAt, IsFirstOfRanks}
 use Rattle.phase_plan.specs.declared.Phase.{Phase}
 use Rattle.phase_plan.specs.declared.Field.{Field}
 use Rattle.phase_plan.specs.declared.PlanFault.{PlanFault}
@@ -36,9 +39,17 @@ no_phase = record { least = 0; greatest = 0; yellow = 0; clear = 0; loss = 0; wa
 abbrev pub phase_at : List Phase → ℕ → Phase
 phase_at plan k = slice_index_or plan k no_phase
 
--- the phases strictly between s and j, going up the ring from s; all others where j is s
+-- the phase that follows phase s on the ring
+abbrev pub next_phase : List Phase → ℕ → ℕ
+next_phase plan s = if nat_lt (s + 1) (length plan) then s + 1 else 0
+
+-- the numbers of the phases strictly between s and j, going up the ring from s; those of all others where j is s
+abbrev pub passed_numbers : List Phase → ℕ → ℕ → List ℕ
+passed_numbers plan s j = if nat_lt s j then range_with_len (s + 1) (j - (s + 1)) else range_with_len (s + 1) (length plan - (s + 1)) ++ range_with_len 0 j
+
+-- the phases with these numbers
 abbrev pub passed : List Phase → ℕ → ℕ → List Phase
-passed plan s j = if nat_lt s j then slice_range plan (s + 1) j else slice_range plan (s + 1) (length plan) ++ take j plan
+passed plan s j = map (λ k. phase_at plan k) (passed_numbers plan s j)
 
 -- how long the ring stays at a phase that it only passes
 abbrev pub passing : Phase → ℕ
@@ -48,11 +59,15 @@ passing p = p.least + p.yellow + p.clear
 abbrev pub switch_time : List Phase → ℕ → ℕ → ℕ
 switch_time plan s j = (phase_at plan s).yellow + (phase_at plan s).clear + sum_by passing (passed plan s j)
 
--- a row of numbers has the switch times from phase s to each; all are at most 440
+-- no switch time of a plan is greater
+abbrev pub greatest_switch_time : ℕ
+greatest_switch_time = 440
+
+-- a row of numbers has the switch times from phase s to each; all are at most the greatest
 pub record AreSwitchTimesFrom (plan : List Phase) (s : ℕ) (row : List ℕ) : Type 0 where
   pub room : length row ≡ 4
   pub times : (j : ℕ) → j < length plan → slice_index_or row j 0 ≡ switch_time plan s j
-  pub bounds : (j : ℕ) → j < length plan → slice_index_or row j 0 ≤ 440
+  pub bounds : (j : ℕ) → j < length plan → slice_index_or row j 0 ≤ greatest_switch_time
 
 -- the rows of all phases
 pub record AreSwitchTimes (plan : List Phase) (rows : List (List ℕ)) : Type 0 where
@@ -69,11 +84,10 @@ rank Loss = 4
 rank Wait = 5
 
 -- the first field of the phase that is out of bounds
-pub record IsFirstFault (p : Phase) (field : Field) : Type 0 where
-  pub earlier : (f : Field) → rank f < rank field → IsInBounds p f
-  pub here : ¬ IsInBounds p field
+abbrev pub IsFirstFault : Phase → Field → Type 0
+IsFirstFault p field = IsFirstOfRanks rank (IsInBounds p) field
 
 -- why these phases are no plan: their number, or else the first phase and then the first field out of bounds
 abbrev pub IsPlanFault : List Phase → PlanFault → Type 0
 IsPlanFault plan (Count n) = (n ≡ length plan) × ((length plan < 2) ⊎ (4 < length plan))
-IsPlanFault plan (Bound k field) = (2 ≤ length plan) × (length plan ≤ 4) × (k < length plan) × All IsPhase (take k plan) × IsFirstFault (phase_at plan k) field
+IsPlanFault plan (Bound k field) = (2 ≤ length plan) × (length plan ≤ 4) × IsFirstAt IsPhase (λ p. IsFirstFault p field) plan k

@@ -1,17 +1,19 @@
 //! The signal phases of an intersection: their bounds, and the time that a change of phase takes.
 #![tactic(auto)]
 
-ghost use Rattle.std.specs.Prelude.{◌≡◌, ◌+◌, ◌*◌, ◌<◌, ◌≤◌, length, All, sum_by, IfNone, IfSome};
+ghost use Rattle.std.specs.Prelude.{◌≡◌, ◌+◌, ◌-◌, ◌*◌, ◌<◌, ◌≤◌, length, map, sum_by, IfNone, IfSome};
+ghost use Rattle.std.specs.List.{range_with_len};
 ghost use Rattle.phase_plan.specs.Phases as spec;
-ghost use Rattle.phase_plan.specs.Phases.{IsPhase, IsPlan, IsFirstFault, AreSwitchTimes, AreSwitchTimesFrom, passing};
+ghost use Rattle.phase_plan.specs.Phases.{IsPhase, IsPlan, IsFirstFault, AreSwitchTimes, AreSwitchTimesFrom, greatest_switch_time, passing, phase_at};
 
+use foundation::threads::CrossesThreads;
 use std::alloc::{AllocError, Global};
 use std::marker::Model;
 
 /// The times of one phase, in whole seconds.
 ///
 /// docs/RULES.md, "Phases".
-#[derive(Clone, Copy)]
+#[derive(Debug, Clone, Copy, PartialEq, Eq)]
 pub struct Phase {
     /// The least duration of a green, 1 to 120.
     pub least: u32,
@@ -44,7 +46,7 @@ impl Phase {
 /// A field of a `Phase`, as a fault names it.
 ///
 /// docs/RULES.md, "Phases".
-#[derive(Clone, Copy)]
+#[derive(Debug, Clone, Copy, PartialEq, Eq)]
 pub enum Field {
     Least,
     Greatest,
@@ -57,7 +59,7 @@ pub enum Field {
 /// Why phases are no plan.
 ///
 /// docs/RULES.md, "Phases".
-#[derive(Clone, Copy)]
+#[derive(Debug, Clone, Copy, PartialEq, Eq)]
 pub enum PlanFault {
     /// The number of phases, which is not 2 to 4.
     Count(u32),
@@ -89,9 +91,17 @@ impl Model for PhasePlan {
     ghost invariant = { λ plan. IsPlan plan.phases.items × AreSwitchTimes plan.phases.items plan.switch_times };
 }
 
+impl CrossesThreads for Phase {}
+
+impl CrossesThreads for Field {}
+
+impl CrossesThreads for PlanFault {}
+
+impl CrossesThreads for PhasePlan {}
+
 impl PhasePlan {
     ghost use Rattle.std.specs.Prelude.{◌≡◌, ◌<◌, ◌≤◌, ◌^◌, IfOk, IfErr, OnErr, length, vec_len};
-    ghost use Rattle.phase_plan.specs.Phases.{IsPlan, IsPlanFault, IsPhase, phase_at, switch_time};
+    ghost use Rattle.phase_plan.specs.Phases.{IsPlan, IsPlanFault, IsPhase, greatest_switch_time, phase_at, switch_time};
 
     /// The plan of these phases, fewer than 2^32, where there are 2 to 4 of them and each is within its bounds.
     ///
@@ -102,8 +112,8 @@ impl PhasePlan {
     pub fn new(phases: Vec<Phase>) -> Result<PhasePlan, PlanFault>
         requires { vec_len phases < 2 ^ 32 }
         ensures ok { IfOk result (λ plan. (plan ≡ phases.items) × IsPlan phases.items) }
-        ensures err { IfErr result (IsPlanFault phases.items) }
-        ensures refused { OnErr result (IsPlan phases.items → ⊥) }
+        ensures refused { OnErr result (¬ IsPlan phases.items) }
+        ensures first { IfErr result (IsPlanFault phases.items) }
     {
         if phases.len() < 2 || phases.len() > 4 {
             return Err(PlanFault::Count(phases.len() as u32));
@@ -173,7 +183,7 @@ impl PhasePlan {
         requires from { s < length self.now }
         requires to { j < length self.now }
         ensures value { result ≡ switch_time self.now s j }
-        ensures bounds { result ≤ 440 }
+        ensures bounds { result ≤ greatest_switch_time }
     {
         self.switch_times[s as usize][j as usize]
     }
@@ -232,26 +242,28 @@ fn switch_time(phases: &[Phase], s: usize, j: usize) -> u32
     requires from { s < length phases.now }
     requires to { j < length phases.now }
     ensures value { result ≡ spec.switch_time phases.now s j }
-    ensures bounds { result ≤ 440 }
+    ensures bounds { result ≤ greatest_switch_time }
 {
     let leaving = &phases[s];
     let passed = if s < j {
-        passing_time(&phases[s + 1..j])
+        passing_time(phases, s + 1, j)
     } else {
-        passing_time(&phases[s + 1..]) + passing_time(&phases[..j])
+        passing_time(phases, s + 1, phases.len()) + passing_time(phases, 0, j)
     };
     leaving.yellow + leaving.clear + passed
 }
 
-/// The seconds that the ring takes to pass these phases.
-fn passing_time(phases: &[Phase]) -> u32
-    requires bounds { All IsPhase phases.now }
-    requires few { length phases.now < 4 }
-    ensures value { result ≡ sum_by passing phases.now }
-    ensures bounds { result ≤ 140 * length phases.now }
+/// The seconds that the ring takes to pass the phases from `low` up to `high`.
+fn passing_time(phases: &[Phase], low: usize, high: usize) -> u32
+    requires plan { IsPlan phases.now }
+    requires low { low ≤ high }
+    requires high { high ≤ length phases.now }
+    ensures value { result ≡ sum_by passing (map (λ k. phase_at phases.now k) (range_with_len low (high - low))) }
+    ensures bounds { result ≤ 140 * (high - low) }
 {
     let mut total = 0;
-    for phase in phases {
+    for k in low..high {
+        let phase = &phases[k];
         total += phase.least + phase.yellow + phase.clear;
     }
     total

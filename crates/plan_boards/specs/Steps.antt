@@ -6,7 +6,6 @@ use Rattle.board_model.specs.declared.boards.Sent.{Sent}
 use Rattle.board_model.specs.declared.forecasts.Row.{Row}
 use Rattle.board_model.specs.Forecasts.{IsAboveLast}
 use Rattle.board_model.specs.Boards.{Log, stamps, version_of, newest}
-use Rattle.board_rule.specs.declared.views.View.{View}
 use Rattle.board_rule.specs.Plays.{HasDrawn}
 use Rattle.board_rule.specs.Plays as plays
 use Rattle.board_rule.specs.Views.{flight, flying, is_drawn, calls_of, entry, drew_read, drew_publish}

@@ -1,6 +1,6 @@
 // The boards and their passes are made.
 ghost use Rattle.std.specs.Prelude.{◌≡◌, ◌<◌, ◌≤◌, ◌+◌, [], IfOk, All, length, vec_len};
-ghost use Rattle.board_rule.specs.Passes.{fresh_pass, fresh_passes};
+ghost use Rattle.board_rule.specs.Passes.{AreAllPasses, fresh_pass, fresh_passes};
 ghost use Rattle.board_rule.specs.Gathered.{IsDealer};
 
 use crate::boards::{Boards, Place};
@@ -121,6 +121,7 @@ impl Boards {
         requires calls { (1 ≤ calls) × (calls ≤ 1000000) }
         ensures boards { IfOk result (λ r. (r.0.links ≡ links) × (r.0.passes ≡ passes)) }
         ensures passes { IfOk result (λ r. r.1.items ≡ fresh_passes r.0.id calls 0 passes) }
+        ensures all { IfOk result (λ r. AreAllPasses r.0 r.1.items) }
     {
         let (boards, seat) = open(alloc, links, passes, calls)?;
         let all = boards.deal_all(alloc, seat, passes, calls)?;

@@ -24,7 +24,12 @@ impl Boards {
         let shared = &self.table.shared;
         let word = link as usize + 1;
         for _ in rt.forever() {
-            let found = shared.compare_exchange::<TakeTurn<Whole>>(seat, word, 0, number as u64 + 1);
+            let found = shared.compare_exchange::<TakeTurn<Whole>>(
+                seat,
+                word,
+                0,
+                number as u64 + 1,
+            );
             if found == 0 {
                 return;
             }

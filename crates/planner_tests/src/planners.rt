@@ -1,4 +1,4 @@
-// What each planner answers for worked instances.
+//! What each planner answers for worked instances.
 
 use super::texts::TWO_PHASES;
 use forward_dp::LayerPlanner;

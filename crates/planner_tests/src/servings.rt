@@ -1,6 +1,6 @@
-// Single servings, whole sequences, and the parts that they stand on.
+//! Single servings, whole sequences, and the parts that they stand on.
 
-ghost use Rattle.std.specs.Prelude.{◌≡◌, ◌<◌};
+ghost use Rattle.std.specs.Prelude.{◌≡◌, ◌<◌, length};
 
 use super::texts::TWO_PHASES;
 use foundation::items::Items;
@@ -14,7 +14,7 @@ use std::alloc::Global;
 use std::marker::Brand;
 use std::sync::ledger::{Blank, Ledger};
 use std::test::Fail;
-use switch_rules::{Cluster, Head, Served, Unfit, serve, ways};
+use switch_rules::{Cluster, Head, LATEST_TIME, Served, Unfit, serve, ways};
 
 const IMPATIENT: &str = "instance 1\nphases 2\nphase 5 30 3 2 2 20\nphase 5 30 3 2 2 10\n";
 
@@ -39,174 +39,298 @@ const HEAD: Head = Head {
     fresh: false,
 };
 
-// How the first cluster of a phase is served from the head: in the green that is kept or in a new one,
-// and then its green, start, finish and cost; or why it is not.
-const FIRST: &[(&str, &str, &str, u8, &str, [u64; 4])] = &[
+// How the first cluster of a phase is served from the head, or why it is not.
+const FIRST: &[(&str, &str, &str, u8, Result<Served, Unfit>)] = &[
     (
         "in the green that stands",
         TWO_PHASES,
         "head 0 0 0 kept\ncluster 0 4000 0 8\n",
         0,
-        "kept",
-        [0, 0, 8, 0],
+        Ok(Served {
+            green: 0,
+            start: 0,
+            finish: 8,
+            cost: 0,
+            kept: true,
+        }),
     ),
     (
         "in a green that begins as soon as can be",
         TWO_PHASES,
         "head 0 0 0 kept\ncluster 1 2000 3 4\n",
         1,
-        "new",
-        [10, 12, 16, 18000],
+        Ok(Served {
+            green: 10,
+            start: 12,
+            finish: 16,
+            cost: 18000,
+            kept: false,
+        }),
     ),
     (
         "in a green that begins as it arrives",
         TWO_PHASES,
         "head 0 0 0 kept\ncluster 1 1000 20 2\n",
         1,
-        "new",
-        [20, 20, 22, 0],
+        Ok(Served {
+            green: 20,
+            start: 20,
+            finish: 22,
+            cost: 0,
+            kept: false,
+        }),
     ),
     (
         "to the last second of the green",
         TWO_PHASES,
         "head 0 0 20 kept\ncluster 0 1000 20 10\n",
         0,
-        "kept",
-        [0, 20, 30, 0],
+        Ok(Served {
+            green: 0,
+            start: 20,
+            finish: 30,
+            cost: 0,
+            kept: true,
+        }),
     ),
     (
         "behind a pass round the ring",
         TWO_PHASES,
         "head 0 0 20 kept\ncluster 0 1000 20 15\n",
         0,
-        "new",
-        [35, 37, 52, 17000],
+        Ok(Served {
+            green: 35,
+            start: 37,
+            finish: 52,
+            cost: 17000,
+            kept: false,
+        }),
     ),
     (
         "behind the start-up loss",
         TWO_PHASES,
         "head 0 10 10 fresh\ncluster 0 1000 10 2\n",
         0,
-        "kept",
-        [10, 12, 14, 2000],
+        Ok(Served {
+            green: 10,
+            start: 12,
+            finish: 14,
+            cost: 2000,
+            kept: true,
+        }),
     ),
     (
         "rolling",
         TWO_PHASES,
         "head 0 10 10 fresh\ncluster 0 1000 11 2\n",
         0,
-        "kept",
-        [10, 11, 13, 0],
+        Ok(Served {
+            green: 10,
+            start: 11,
+            finish: 13,
+            cost: 0,
+            kept: true,
+        }),
     ),
     (
         "longer than a green",
         TWO_PHASES,
         "head 0 0 0 kept\ncluster 0 1000 0 40\n",
         0,
-        "long",
-        [0; 4],
+        Err(Unfit::TooLong),
     ),
     (
         "with a wait as long as can be",
         IMPATIENT,
         "head 0 0 0 kept\ncluster 1 2000 2 4\n",
         1,
-        "new",
-        [10, 12, 16, 20000],
+        Ok(Served {
+            green: 10,
+            start: 12,
+            finish: 16,
+            cost: 20000,
+            kept: false,
+        }),
     ),
     (
         "with too long a wait",
         IMPATIENT,
         "head 0 0 8 kept\ncluster 1 2000 3 4\n",
         1,
-        "late",
-        [0; 4],
+        Err(Unfit::TooLate),
     ),
     (
         "too long before too late",
         IMPATIENT,
         "head 0 0 8 kept\ncluster 1 2000 3 40\n",
         1,
-        "long",
-        [0; 4],
+        Err(Unfit::TooLong),
     ),
 ];
 
 #[test]
 fn first_clusters(rt: HostRuntime) -> Result<(), Fail> {
     let alloc = rt.alloc();
-    for &(shows, phases, rest, phase, told, numbers) in FIRST {
+    for &(shows, phases, rest, phase, served) in FIRST {
         let instance = instance(alloc, phases, rest)?;
         let found = first_served(&instance, phase);
-        assert!(rt; found.0 == told && found.1 == numbers, "{shows}");
+        assert!(rt; found == Some(served), "{shows}: {found:?}");
     }
     Ok(())
 }
 
-// Whole sequences: the delay, and the phase, begin and time of the head behind them; or the first fault
-// and the number that it names.
-const SEQUENCES: &[(&str, &str, &[u8], &str, [u64; 4])] = &[
-    (TWO_PHASES, MEETING, &[], "count", [0, 0, 0, 0]),
-    (TWO_PHASES, MEETING, &[0, 1], "delay", [24000, 1, 13, 19]),
-    (TWO_PHASES, MEETING, &[1, 0], "delay", [110000, 0, 21, 31]),
-    (TWO_PHASES, MEETING, &[0, 2], "phase", [2, 0, 0, 0]),
-    (TWO_PHASES, MEETING, &[1, 1, 7], "phase", [3, 0, 0, 0]),
-    (TWO_PHASES, MEETING, &[0], "count", [1, 0, 0, 0]),
-    (TWO_PHASES, MEETING, &[0, 0], "count", [0, 0, 0, 0]),
-    (TWO_PHASES, MEETING, &[1, 1, 0], "count", [1, 0, 0, 0]),
-    (IMPATIENT, MEETING, &[0, 1], "late", [2, 0, 0, 0]),
+// Whole sequences, timed, or the first fault.
+const SEQUENCES: &[(&str, &str, &[u8], Result<Timed, SeqFault>)] = &[
+    (TWO_PHASES, MEETING, &[], Err(SeqFault::WrongCount(0))),
+    (
+        TWO_PHASES,
+        MEETING,
+        &[0, 1],
+        Ok(Timed {
+            delay: 24000,
+            head: Head {
+                phase: 1,
+                since: 13,
+                at: 19,
+                fresh: false,
+            },
+        }),
+    ),
+    (
+        TWO_PHASES,
+        MEETING,
+        &[1, 0],
+        Ok(Timed {
+            delay: 110000,
+            head: Head {
+                phase: 0,
+                since: 21,
+                at: 31,
+                fresh: false,
+            },
+        }),
+    ),
+    (
+        TWO_PHASES,
+        MEETING,
+        &[0, 2],
+        Err(SeqFault::Phase { place: 2 }),
+    ),
+    (
+        TWO_PHASES,
+        MEETING,
+        &[1, 1, 7],
+        Err(SeqFault::Phase { place: 3 }),
+    ),
+    (TWO_PHASES, MEETING, &[0], Err(SeqFault::WrongCount(1))),
+    (TWO_PHASES, MEETING, &[0, 0], Err(SeqFault::WrongCount(0))),
+    (
+        TWO_PHASES,
+        MEETING,
+        &[1, 1, 0],
+        Err(SeqFault::WrongCount(1)),
+    ),
+    (
+        IMPATIENT,
+        MEETING,
+        &[0, 1],
+        Err(SeqFault::Unfit {
+            place: 2,
+            why: Unfit::TooLate,
+        }),
+    ),
     (
         TWO_PHASES,
         "head 0 0 0 kept\ncluster 0 1000 0 40\n",
         &[0],
-        "long",
-        [1, 0, 0, 0],
+        Err(SeqFault::Unfit {
+            place: 1,
+            why: Unfit::TooLong,
+        }),
     ),
-    (TWO_PHASES, "head 1 7 9 fresh\n", &[], "delay", [0, 1, 7, 9]),
+    (
+        TWO_PHASES,
+        "head 1 7 9 fresh\n",
+        &[],
+        Ok(Timed {
+            delay: 0,
+            head: Head {
+                phase: 1,
+                since: 7,
+                at: 9,
+                fresh: true,
+            },
+        }),
+    ),
     (
         TWO_PHASES,
         DEAR_END,
         &[0, 1, 0, 0],
-        "delay",
-        [102000, 0, 30, 53],
+        Ok(Timed {
+            delay: 102000,
+            head: Head {
+                phase: 0,
+                since: 30,
+                at: 53,
+                fresh: false,
+            },
+        }),
     ),
     (
         TWO_PHASES,
         DEAR_END,
         &[1, 0, 0, 0],
-        "delay",
-        [115000, 0, 56, 70],
+        Ok(Timed {
+            delay: 115000,
+            head: Head {
+                phase: 0,
+                since: 56,
+                at: 70,
+                fresh: false,
+            },
+        }),
     ),
 ];
 
 #[test]
 fn sequences(rt: HostRuntime) -> Result<(), Fail> {
     let alloc = rt.alloc();
-    for &(phases, rest, sequence, told, numbers) in SEQUENCES {
+    for &(phases, rest, sequence, timed) in SEQUENCES {
         let instance = instance(alloc, phases, rest)?;
-        let found = timed(&instance, sequence);
-        assert!(rt; found.0 == told && found.1 == numbers, "{sequence:?}");
+        assert!(rt; sequence.len() < 100);
+        let found = replayed(&instance, sequence);
+        assert!(rt; found == timed, "{sequence:?}: {found:?}");
     }
     Ok(())
 }
 
-// What sequences of the clusters that meet serve at a place, from 0: in the green that is kept or in a new one, and
-// its green, start, finish and cost; or a word.
-const SERVED: &[(&[u8], usize, &str, [u64; 4])] = &[
-    (&[0, 1], 0, "kept", [0, 0, 8, 0]),
-    (&[0, 1], 1, "new", [13, 15, 19, 24000]),
-    (&[0, 1], 2, "end", [0; 4]),
-    (&[0, 2], 0, "refused", [0; 4]),
+// What a sequence of the clusters that meet serves.
+const SERVED: &[Served] = &[
+    Served {
+        green: 0,
+        start: 0,
+        finish: 8,
+        cost: 0,
+        kept: true,
+    },
+    Served {
+        green: 13,
+        start: 15,
+        finish: 19,
+        cost: 24000,
+        kept: false,
+    },
 ];
 
 #[test]
 fn servings_of_sequences(rt: HostRuntime) -> Result<(), Fail> {
     let alloc = rt.alloc();
     let instance = instance(alloc, TWO_PHASES, MEETING)?;
-    for &(sequence, place, told, numbers) in SERVED {
-        let found = served_at(alloc, &instance, sequence, place);
-        assert!(rt; found.0 == told && found.1 == numbers, "{place}");
-    }
+    let list = servings(alloc, &instance, &[0, 1]).ok().ok_or("none")?;
+    assert_eq!(rt; list.as_slice(), SERVED);
+    let refused = servings(alloc, &instance, &[0, 2]).err();
+    let fault = SeqFault::Phase { place: 2 };
+    assert_eq!(rt; refused, Some(ServingsFault::Seq(fault)));
     Ok(())
 }
 
@@ -240,9 +364,8 @@ fn numbers_of_phases(rt: HostRuntime) -> Result<(), Fail> {
     for count in [0, 1, 5, 300] {
         let phases = vec![in rt.alloc(); PHASE; count]?;
         assert!(rt; phases.len() <= 300);
-        let made = PhasePlan::new(phases);
-        let refused = matches!(made, Err(PlanFault::Count(told)) if told as usize == count);
-        assert!(rt; refused, "{count}");
+        let refused = PhasePlan::new(phases).err();
+        assert!(rt; refused == Some(PlanFault::Count(count as u32)), "{count}");
     }
     Ok(())
 }
@@ -258,11 +381,11 @@ fn numbers_of_lists(rt: HostRuntime) -> Result<(), Fail> {
     };
     let wrong = Items::from_vec(vec![in alloc; nothing]?);
     let one = vec![in alloc; wrong]?;
-    let lists = Instance::new(two_phases(alloc)?, HEAD, one);
-    assert!(rt; matches!(lists, Err(InstanceFault::ListCount)));
+    let lists = Instance::new(two_phases(alloc)?, HEAD, one).err();
+    assert_eq!(rt; lists, Some(InstanceFault::ListCount));
     let head = Head { at: 31, ..HEAD };
-    let times = Instance::new(two_phases(alloc)?, head, Vec::new(alloc));
-    assert!(rt; matches!(times, Err(InstanceFault::HeadTime)));
+    let times = Instance::new(two_phases(alloc)?, head, Vec::new(alloc)).err();
+    assert_eq!(rt; times, Some(InstanceFault::HeadTime));
     Ok(())
 }
 
@@ -303,89 +426,40 @@ fn instance(alloc: Global, phases: &str, rest: &str) -> Result<Instance, Fail> {
 }
 
 // The first cluster of a phase served from the head.
-fn first_served(i: &Instance, phase: u8) -> (&'static str, [u64; 4]) {
+fn first_served(i: &Instance, phase: u8) -> Option<Result<Served, Unfit>> {
     first_counted::<Brand>(i, phase, Blank::new(1))
 }
 
-fn first_counted<L: Ledger>(i: &Instance, phase: u8, blank: Blank) -> (&'static str, [u64; 4])
+fn first_counted<L: Ledger>(i: &Instance, phase: u8, blank: Blank) -> Option<Result<Served, Unfit>>
     requires name { blank.name ≡ L.name }
     requires parts { blank.parts ≡ L.parts }
     requires some { 0 < L.parts }
 {
     let mut steps = Steps::<L>::new(blank);
     let head = i.head();
-    if phase >= i.plan().count() || head.at > 104_000 {
-        return ("no such phase", [0; 4]);
+    if phase >= i.plan().count() || head.at > LATEST_TIME {
+        return None;
     }
-    let Some(cluster) = i.list(phase).first() else {
-        return ("no cluster", [0; 4]);
-    };
+    let cluster = i.list(phase).first()?;
     match serve(i.plan(), &head, phase, cluster, &mut steps) {
-        Ok((served, _)) => told(served),
-        Err(why) => (word_of(why), [0; 4]),
-    }
-}
-
-fn told(served: Served) -> (&'static str, [u64; 4]) {
-    let green = u64::from(served.green);
-    let start = u64::from(served.start);
-    let finish = u64::from(served.finish);
-    let word = if served.kept { "kept" } else { "new" };
-    (word, [green, start, finish, served.cost])
-}
-
-fn word_of(why: Unfit) -> &'static str {
-    match why {
-        Unfit::TooLong => "long",
-        Unfit::TooLate => "late",
-    }
-}
-
-// What a sequence serves at a place, from 0.
-fn served_at(
-    alloc: Global,
-    i: &Instance,
-    sequence: &[u8],
-    place: usize,
-) -> (&'static str, [u64; 4]) {
-    if sequence.len() > 100 {
-        return ("a long sequence", [0; 4]);
-    }
-    match servings(alloc, i, sequence) {
-        Ok(list) => match list.get(place) {
-            Some(served) => told(*served),
-            None => ("end", [0; 4]),
-        },
-        Err(ServingsFault::Seq(_)) => ("refused", [0; 4]),
-        Err(ServingsFault::NoMemory) => ("no memory", [0; 4]),
+        Ok((served, _)) => Some(Ok(served)),
+        Err(why) => Some(Err(why)),
     }
 }
 
 // A sequence replayed.
-fn timed(i: &Instance, sequence: &[u8]) -> (&'static str, [u64; 4]) {
-    timed_counted::<Brand>(i, sequence, Blank::new(1))
+fn replayed(i: &Instance, sequence: &[u8]) -> Result<Timed, SeqFault>
+    requires { length sequence.now < 100 }
+{
+    replay_counted::<Brand>(i, sequence, Blank::new(1))
 }
 
-fn timed_counted<L: Ledger>(i: &Instance, sequence: &[u8], blank: Blank) -> (&'static str, [u64; 4])
+fn replay_counted<L: Ledger>(i: &Instance, sequence: &[u8], blank: Blank) -> Result<Timed, SeqFault>
     requires name { blank.name ≡ L.name }
     requires parts { blank.parts ≡ L.parts }
     requires some { 0 < L.parts }
+    requires short { length sequence.now < 100 }
 {
     let mut steps = Steps::<L>::new(blank);
-    if sequence.len() > 100 {
-        return ("a long sequence", [0; 4]);
-    }
-    match replay(i, sequence, &mut steps) {
-        Ok(timed) => told_in_all(timed),
-        Err(SeqFault::Phase { place }) => ("phase", [u64::from(place), 0, 0, 0]),
-        Err(SeqFault::WrongCount(phase)) => ("count", [u64::from(phase), 0, 0, 0]),
-        Err(SeqFault::Unfit { place, why }) => (word_of(why), [u64::from(place), 0, 0, 0]),
-    }
-}
-
-fn told_in_all(timed: Timed) -> (&'static str, [u64; 4]) {
-    let phase = u64::from(timed.head.phase);
-    let since = u64::from(timed.head.since);
-    let at = u64::from(timed.head.at);
-    ("delay", [timed.delay, phase, since, at])
+    replay(i, sequence, &mut steps)
 }

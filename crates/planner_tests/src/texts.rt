@@ -1,4 +1,4 @@
-// Texts of instances, and their beginnings.
+//! Texts of instances, and their beginnings.
 
 use schedule_meaning::{read_instance, write_instance};
 use std::alloc::Global;

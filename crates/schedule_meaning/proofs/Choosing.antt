@@ -1,13 +1,15 @@
-use Rattle.std.proofs.Common.{◌≡◌, ℕ, zero, suc, ◌+◌, ◌-◌, ◌<◌, ◌≤◌, ◌==◌, nat_lt, cond, List, [], ◌∷◌, ◌++◌, length, map, sum, get_or, set, All, Option, Some, None, Ok, Err, IfSome, refl, sym, ap, subst, ◌∙◌, inl, inr, append_assoc, add-one, take, length-append, arith}
+-- What the search through all orders finds.
+use Rattle.std.proofs.Common.{◌≡◌, ℕ, zero, suc, ◌+◌, ◌-◌, ◌<◌, ◌≤◌, ◌==◌, ◌⊎◌, nat_lt, cond, List, [], ◌∷◌, ◌++◌, length, map, sum, get_or, set, All, Option, Some, None, Result, Ok, Err, IfOk, IfSome, refl, sym, ap, subst, ◌∙◌, inl, inr, append_assoc, add-one, take, length-append, arith}
 use Rattle.std.specs.List.{flat_map, range_with_len}
 use Rattle.std.specs.Option.{option_map}
 use Rattle.std.proofs.lemmas.Bool.{cases_lt, cond_below, cond_above, eqb-true}
-use Rattle.std.proofs.lemmas.Option.{cond_some}
+use Rattle.std.proofs.lemmas.Option.{cond_some, none-some, same_Some}
 use Rattle.std.proofs.Math.Seq.{take-append_seam}
 use Rattle.std.proofs.lemmas.List.{append-nil}
 use Rattle.std.proofs.lemmas.List.Concat.{flat_map-append, flat_map-cons}
 use Rattle.std.proofs.lemmas.List.Elements.{All-nil, All-cons, All-head, All-tail, All-append, All-push, All-weaker}
 use Rattle.std.proofs.lemmas.List.Sums.{fold-append}
+use Rattle.foundation.proofs.RangeLaws.{range-push}
 use Rattle.switch_rules.specs.Serving.{serving}
 use Rattle.switch_rules.specs.Orders.{one_less, orders, orders_of}
 use Rattle.switch_rules.specs.declared.Head.{Head}
@@ -52,10 +54,6 @@ orders-begin left h =
 pub orders-none : (left : List ℕ) → sum left ≡ 0 → orders left ≡ [] ∷ []
 orders-none left h = ap (λ m. orders_of m left) h
 
-range-push : (a n : ℕ) → range_with_len a (n + 1) ≡ range_with_len a n ++ (a + n) ∷ []
-range-push a zero = ap (λ m. m ∷ []) (omega arith)
-range-push a (suc n) = rw (add-one (suc n)) (ap (λ xs. a ∷ xs) (ap (range_with_len (a + 1)) (sym (add-one n)) ∙ range-push (a + 1) n ∙ ap (λ m. range_with_len (a + 1) n ++ m ∷ []) (omega arith)))
-
 -- the search goes on from phase to phase
 pub best-phase : (p : Problem) (prefix : List ℕ) (answer : Answer) (f : ℕ → List (List ℕ)) (k : ℕ)
     → best_behind p prefix answer (flat_map f (range_with_len 0 (k + 1))) ≡ best_behind p prefix (best_behind p prefix answer (flat_map f (range_with_len 0 k))) (f k)
@@ -95,12 +93,6 @@ reaches-fit p prefix left head delay k c s reached e f rest = ap (timing p) (app
 pub reaches-unfit : (p : Problem) (prefix left : List ℕ) (head : Head) (delay k : ℕ) (c : Cluster) (why : Unfit) → Reaches p prefix left head delay → next_cluster p.lists left k ≡ Some c → serving p.plan head k c ≡ Err why → (order : List ℕ) → delay_of p (prefix ++ k ∷ order) ≡ None
 reaches-unfit p prefix left head delay k c why reached e f order =
     delay-timing p (prefix ++ k ∷ order) ∙ ap (option_map (λ (x : ℕ × Head). x.0)) (reached (k ∷ order) ∙ ap (option_map (onward delay)) (timed-unfit p left head k order c why e f))
-
-pub reaches-end : (p : Problem) (prefix left : List ℕ) (head : Head) (delay : ℕ) (answer : Answer) → Reaches p prefix left head delay → sum left ≡ 0 → better answer prefix (Some delay) ≡ best_behind p prefix answer (orders left)
-reaches-end p prefix left head delay answer reached over =
-    let e : delay_of p prefix ≡ Some delay =
-    ap (delay_of p) (sym (append-nil prefix)) ∙ delay-timing p (prefix ++ []) ∙ ap (option_map (λ (x : ℕ × Head). x.0)) (reached [] ∙ timing-end p left head delay over) in
-    ap (better answer prefix) (sym e) ∙ ap (λ s. better answer s (delay_of p s)) (sym (append-nil prefix)) ∙ ap (best_behind p prefix answer) (sym (orders-none left over))
 
 -- the best of more sequences
 best-none : (p : Problem) (all : List (List ℕ)) (order : List ℕ) (answer : Answer) → delay_of p order ≡ None → IsBestAmong p all answer → IsBestAmong p (all ++ order ∷ []) answer
@@ -214,6 +206,57 @@ best-least p (Plan sequence delay) h =
           (λ none. subst (λ (o : Option ℕ). IfSome o (λ d. delay ≤ d)) (sym (delay-none p s none)) tt)
           (λ t e. timed-among Q p (counts_of p.lists) p.head s t e all),
     )
+
+-- of two answers that are the best of one list, neither can stand before the other
+meets : {X : Type 0} (Ab Fb Aa Fa : X → Type 0) (b a c f : List X) (s t : X) → b ++ s ∷ a ≡ c ++ t ∷ f → All Ab b → All Fa a → All Aa c → All Fb f → (s ≡ t) ⊎ (Aa s × Fa t) ⊎ (Ab t × Fb s)
+meets Ab Fb Aa Fa [] a [] f s t e hb ha hc hf = inl cc
+meets Ab Fb Aa Fa [] a (x ∷ c) f s t e hb ha hc hf =
+    let same : s ≡ x = cc in
+    let tails : a ≡ c ++ t ∷ f = cc in
+    let later = subst (All Fa) tails ha in
+    inr (inl (subst Aa (sym same) (All-head Aa x c hc), All-head Fa t f (All-back Fa c (t ∷ f) later)))
+meets Ab Fb Aa Fa (x ∷ b) a [] f s t e hb ha hc hf =
+    let same : x ≡ t = cc in
+    let tails : b ++ s ∷ a ≡ f = cc in
+    let later = subst (All Fb) (sym tails) hf in
+    inr (inr (subst Ab same (All-head Ab x b hb), All-head Fb s a (All-back Fb b (s ∷ a) later)))
+meets Ab Fb Aa Fa (x ∷ b) a (y ∷ c) f s t e hb ha hc hf =
+    let tails : b ++ s ∷ a ≡ c ++ t ∷ f = cc in
+    meets Ab Fb Aa Fa b a c f s t tails (All-tail Ab x b hb) ha (All-tail Aa y c hc) hf
+
+-- the value that a feasible sequence has
+value-of : (P : ℕ → Type 0) (o : Option ℕ) (d : ℕ) → o ≡ Some d → IfSome o P → P d
+value-of P o d e h = subst (λ (o : Option ℕ). IfSome o P) e h
+
+best-plans : (p : Problem) (all : List (List ℕ)) (s t : List ℕ) (d e : ℕ) → IsBestPlan p all s d → IsBestPlan p all t e → s ≡ t
+best-plans p all s t d e a b =
+    elim (meets (λ x. IfSome (delay_of p x) (λ n. d < n)) (λ x. IfSome (delay_of p x) (λ n. e ≤ n)) (λ x. IfSome (delay_of p x) (λ n. e < n)) (λ x. IfSome (delay_of p x) (λ n. d ≤ n)) a.before a.after b.before b.after s t (sym a.among ∙ b.among) a.first a.least b.first b.least) [
+      | inl same ↦ same
+      | inr other ↦ elim other [
+        | inl both ↦ absurd (omega (arith, value-of (λ n. e < n) (delay_of p s) d a.feasible both.0, value-of (λ n. d ≤ n) (delay_of p t) e b.feasible both.1))
+        | inr both ↦ absurd (omega (arith, value-of (λ n. d < n) (delay_of p t) e b.feasible both.0, value-of (λ n. e ≤ n) (delay_of p s) d a.feasible both.1))
+      ]
+    ]
+
+not-none : (p : Problem) (all : List (List ℕ)) (s : List ℕ) (d : ℕ) → IsBestPlan p all s d → All (λ s. delay_of p s ≡ None) all → ⊥
+not-none p all s d a none =
+    let here = All-head (λ s. delay_of p s ≡ None) s a.after (All-back (λ s. delay_of p s ≡ None) a.before (s ∷ a.after) (subst (All (λ s. delay_of p s ≡ None)) a.among none)) in
+    none-some d (sym here ∙ a.feasible)
+
+-- the best answer is one
+pub best-one : (p : Problem) (a b : Answer) → IsBest p a → IsBest p b → a ≡ b
+best-one p NoPlan NoPlan h k = refl
+best-one p NoPlan (Plan t e) h k = absurd (not-none p (orders (counts_of p.lists)) t e k h)
+best-one p (Plan s d) NoPlan h k = absurd (not-none p (orders (counts_of p.lists)) s d h k)
+best-one p (Plan s d) (Plan t e) h k =
+    let same = best-plans p (orders (counts_of p.lists)) s t d e h k in
+    let delay : d ≡ e = same_Some d e (sym h.feasible ∙ ap (delay_of p) same ∙ k.feasible) in
+    ap (λ x. Plan x d) same ∙ ap (λ n. Plan t n) delay
+
+-- so no other is the best than one that was found
+pub best-only : {E : Type 0} (p : Problem) (r : Result Answer E) → IfOk r (IsBest p) → IfOk r (λ answer. (other : Answer) → IsBest p other → other ≡ answer)
+best-only p (Ok answer) best = λ other h. best-one p other answer h best
+best-only p (Err e) best = tt
 
 -- the best of the orders that begin with a phase below k, and then with phase k: where nothing of k is left, where
 -- its next cluster is unfit, and where the orders behind it were tried

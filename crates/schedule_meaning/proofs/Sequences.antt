@@ -8,6 +8,8 @@ use Rattle.std.proofs.lemmas.Bool.{cases_Bool, cases_eq, cases_lt, eqb-true}
 use Rattle.std.proofs.lemmas.Bool.Decides.{nat_tests}
 use Rattle.std.proofs.lemmas.List.Sums.{sum_by-cons, sum-map, get_or-le-sum_by}
 use Rattle.std.proofs.lemmas.Option.{slice_get_within, cond_some}
+pub use Rattle.foundation.proofs.OptionLaws.{option-cases}
+pub use Rattle.foundation.proofs.ResultLaws.{result-cases}
 use Rattle.phase_plan.specs.Phases.{IsPhase, IsPlan, phase_at, no_phase}
 use Rattle.phase_plan.specs.declared.Phase.{Phase}
 use Rattle.switch_rules.specs.Serving.{serving, IsServing}
@@ -16,6 +18,8 @@ use Rattle.switch_rules.specs.declared.Head.{Head}
 use Rattle.switch_rules.specs.declared.Served.{Served}
 use Rattle.switch_rules.specs.declared.Cluster.{Cluster}
 use Rattle.switch_rules.specs.declared.Unfit.{Unfit}
+pub use Rattle.switch_rules.proofs.SequenceLaws.{next-left}
+use Rattle.switch_rules.proofs.SequenceLaws as sequences
 use Rattle.switch_rules.proofs.Counting.{count-le-sum, sum-one_less, length-one_less}
 use Rattle.schedule_meaning.specs.Instances.{Problem, IsInstance, list_at, counts_of}
 use Rattle.schedule_meaning.specs.Faults.{reached_from}
@@ -29,21 +33,18 @@ get_or-counts lists k = get_or-map length lists k []
 pub short-lists : (lists : List (List Cluster)) → sum (counts_of lists) ≤ 40 → All (λ list. length list < 2 ^ 32) lists
 short-lists lists few = λ k d h. omega (arith, get_or-le-sum_by length lists k d h, sum-map length lists)
 
-bind-some : {A B : Type 0} (g : A → B) (o : Option A) → option_and_then (λ x. Some (g x)) o ≡ option_map g o
-bind-some g None = refl
-bind-some g (Some x) = refl
+module _ (p : Problem) (left : List ℕ) (head : Head) (k : ℕ) (ks : List ℕ) where
+  -- where a phase has no cluster left, nothing is timed
+  pub timed-missing : next_cluster p.lists left k ≡ None → timed_from p left head (k ∷ ks) ≡ None
+  timed-missing e = sequences.timed-missing p.plan p.lists left head k ks e
 
--- where a phase has no cluster left, nothing is timed
-pub timed-missing : (p : Problem) (left : List ℕ) (head : Head) (k : ℕ) (ks : List ℕ) → next_cluster p.lists left k ≡ None → timed_from p left head (k ∷ ks) ≡ None
-timed-missing p left head k ks e = rw e refl
+  -- nor where a serving is unfit
+  pub timed-unfit : (c : Cluster) (why : Unfit) → next_cluster p.lists left k ≡ Some c → serving p.plan head k c ≡ Err why → timed_from p left head (k ∷ ks) ≡ None
+  timed-unfit c why e f = sequences.timed-unfit p.plan p.lists left head k ks c why e f
 
--- nor where a serving is unfit
-pub timed-unfit : (p : Problem) (left : List ℕ) (head : Head) (k : ℕ) (ks : List ℕ) (c : Cluster) (why : Unfit) → next_cluster p.lists left k ≡ Some c → serving p.plan head k c ≡ Err why → timed_from p left head (k ∷ ks) ≡ None
-timed-unfit p left head k ks c why e f = rw e (rw f refl)
-
--- a fit serving stands before what follows it
-pub timed-fit : (p : Problem) (left : List ℕ) (head : Head) (k : ℕ) (ks : List ℕ) (c : Cluster) (s : Served × Head) → next_cluster p.lists left k ≡ Some c → serving p.plan head k c ≡ Ok s → timed_from p left head (k ∷ ks) ≡ option_map (λ rest. (s.0 ∷ rest.0, rest.1)) (timed_from p (one_less left k) s.1 ks)
-timed-fit p left head k ks c s e f = rw e (rw f (bind-some (λ (rest : List Served × Head). (s.0 ∷ rest.0, rest.1)) (timed_from p (one_less left k) s.1 ks)))
+  -- a fit serving stands before what follows it
+  pub timed-fit : (c : Cluster) (s : Served × Head) → next_cluster p.lists left k ≡ Some c → serving p.plan head k c ≡ Ok s → timed_from p left head (k ∷ ks) ≡ option_map (λ rest. (s.0 ∷ rest.0, rest.1)) (timed_from p (one_less left k) s.1 ks)
+  timed-fit c s e f = sequences.timed-fit p.plan p.lists left head k ks c s e f
 
 -- the delay goes on from serving to serving
 pub onward-fit : (delay : ℕ) (s : Served) (t : Option (List Served × Head)) → option_map (onward delay) (option_map (λ rest. (s ∷ rest.0, rest.1)) t) ≡ option_map (onward (delay + s.cost)) t
@@ -69,29 +70,10 @@ get_or-one_less left j k h = elim (cases_eq k j) [
       grind (arith, nat_tests)
 ]
 
--- an option, and a result, with what it is
-pub option-cases : {X P : Type 0} (o : Option X) → (o ≡ None → P) → ((x : X) → o ≡ Some x → P) → P
-option-cases None f g = f refl
-option-cases (Some x) f g = g x refl
-
-pub result-cases : {X E P : Type 0} (r : Result X E) → ((x : X) → r ≡ Ok x → P) → ((e : E) → r ≡ Err e → P) → P
-result-cases (Ok x) f g = f x refl
-result-cases (Err e) f g = g e refl
-
 -- a sequence that is timed begins with a fit serving of the next cluster, and its rest is timed
 pub timed-begins : {P : Type 0} (p : Problem) (left : List ℕ) (head : Head) (k : ℕ) (ks : List ℕ) (t : List Served × Head) → timed_from p left head (k ∷ ks) ≡ Some t
     → ((c : Cluster) (s : Served × Head) (rest : List Served × Head) → next_cluster p.lists left k ≡ Some c → serving p.plan head k c ≡ Ok s → timed_from p (one_less left k) s.1 ks ≡ Some rest → P) → P
-timed-begins p left head k ks t e use_it =
-    option-cases (next_cluster p.lists left k) (λ none. let gone = timed-missing p left head k ks none in absurd (cc)) (λ c ec.
-    result-cases (serving p.plan head k c)
-    (λ s es. option-cases (timed_from p (one_less left k) s.1 ks)
-    (λ none. let fit = timed-fit p left head k ks c s ec es ∙ ap (option_map (λ (rest : List Served × Head). (s.0 ∷ rest.0, rest.1))) none in absurd (cc))
-    (λ rest er. use_it c s rest ec es er))
-    (λ why ew. let gone = timed-unfit p left head k ks c why ec ew in absurd (cc)))
-
--- a cluster that is next is one that is left
-pub next-left : (lists : List (List Cluster)) (left : List ℕ) (k : ℕ) (c : Cluster) → next_cluster lists left k ≡ Some c → 0 < get_or left k 0
-next-left lists left k c e = omega (arith, slice_get_within (list_at lists k) (length (list_at lists k) - get_or left k 0) c e)
+timed-begins p left head k ks t e use_it = sequences.timed-begins p.plan p.lists left head k ks t e use_it
 
 -- a sequence that is timed names each phase as often as it has clusters left
 pub times-timed : (p : Problem) (left : List ℕ) (head : Head) (ks : List ℕ) (t : List Served × Head) → timed_from p left head ks ≡ Some t → (k : ℕ) → times_of k ks ≡ get_or left k 0

@@ -1,3 +1,4 @@
+-- Which answer of an instance is the best.
 use Rattle.std.specs.Prelude.{◌≡◌, ℕ, ◌<◌, ◌≤◌, List, ◌∷◌, ◌++◌, All, Some, None, IfSome}
 use Rattle.switch_rules.specs.Orders.{orders}
 use Rattle.schedule_meaning.specs.Instances.{Problem, counts_of}

@@ -2,12 +2,14 @@
 use Rattle.std.specs.Prelude.{◌≡◌, ◌≢◌, ℕ, ◌+◌, ◌-◌, ◌<◌, ◌≤◌, ◌⊎◌, List, [], ◌∷◌, length, take, All, sum, slice_index, Option, Some, Err}
 use Rattle.std.specs.Result.{result_ok}
 use Rattle.phase_plan.specs.declared.Phase.{Phase}
+use Rattle.switch_rules.specs.Bounds.{most_clusters, most_orders}
 use Rattle.switch_rules.specs.Serving.{IsHead, IsCluster, serving}
 use Rattle.switch_rules.specs.Orders.{one_less, orders}
 use Rattle.switch_rules.specs.declared.Head.{Head}
 use Rattle.switch_rules.specs.declared.Cluster.{Cluster}
 use Rattle.switch_rules.specs.declared.Unfit.{Unfit}
 use Rattle.schedule_meaning.specs.Instances.{Problem, IsSpaced, cluster_at, counts_of, list_at}
+use Rattle.foundation.specs.Firsts.{IsFirstAt, IsFirstNot, IsFirstWithout, FromOne}
 use Rattle.foundation.specs.Options.{◌>>=◌}
 use Rattle.schedule_meaning.specs.Timing.{next_cluster, times_of}
 use Rattle.schedule_meaning.specs.declared.faults.InstanceFault.{InstanceFault}
@@ -20,43 +22,29 @@ use Rattle.schedule_meaning.specs.declared.faults.SeqFault.TheVariants as fault
 abbrev pub IsStart : List Phase → Head → Type 0
 IsStart plan head = IsHead plan head × (head.since ≤ 100000)
 
+-- the head's phase is none of the plan, or else its times are out of bounds
 abbrev pub IsHeadFault : List Phase → Head → InstanceFault → Type 0
 IsHeadFault plan head HeadPhase = length plan ≤ head.phase
 IsHeadFault plan head HeadTime = (head.phase < length plan) × ¬ IsStart plan head
-IsHeadFault plan head ListCount = ⊥
-IsHeadFault plan head (ClusterBound phase place) = ⊥
-IsHeadFault plan head (Order phase place) = ⊥
-IsHeadFault plan head Many = ⊥
+IsHeadFault plan head _ = ⊥
 
--- the cluster at this index is the first of its list out of bounds
-abbrev pub IsFirstOut : List Cluster → ℕ → Type 0
-IsFirstOut list index = (index < length list) × All IsCluster (take index list) × ¬ IsCluster (cluster_at list index)
-
+-- the first list with a cluster out of bounds, from 0, and the number of the first such cluster in it, from 1
 abbrev pub IsBoundFault : List (List Cluster) → InstanceFault → Type 0
-IsBoundFault lists HeadPhase = ⊥
-IsBoundFault lists HeadTime = ⊥
-IsBoundFault lists ListCount = ⊥
-IsBoundFault lists (ClusterBound phase place) = (phase < length lists) × All (All IsCluster) (take phase lists) × (1 ≤ place) × IsFirstOut (list_at lists phase) (place - 1)
-IsBoundFault lists (Order phase place) = ⊥
-IsBoundFault lists Many = ⊥
+IsBoundFault lists (ClusterBound phase place) = IsFirstAt (All IsCluster) (λ list. FromOne (IsFirstNot IsCluster list) place) lists phase
+IsBoundFault lists _ = ⊥
 
--- the cluster at this index is the first that arrives before the one before it has arrived whole
-abbrev pub IsFirstEarly : List Cluster → ℕ → Type 0
-IsFirstEarly list index =
-    (1 ≤ index) × (index < length list) × IsSpaced (take index list)
-    × ((cluster_at list index).arr < (cluster_at list (index - 1)).arr + (cluster_at list (index - 1)).len)
+-- the cluster at this index, where one stands before it, does not arrive before that one has arrived whole
+abbrev pub IsSpacedAt : List Cluster → ℕ → Type 0
+IsSpacedAt list index = 1 ≤ index → (cluster_at list (index - 1)).arr + (cluster_at list (index - 1)).len ≤ (cluster_at list index).arr
 
+-- the first list that is not spaced, from 0, and the number of the first cluster in it that arrives too early, from 1
 abbrev pub IsOrderFault : List (List Cluster) → InstanceFault → Type 0
-IsOrderFault lists HeadPhase = ⊥
-IsOrderFault lists HeadTime = ⊥
-IsOrderFault lists ListCount = ⊥
-IsOrderFault lists (ClusterBound phase place) = ⊥
-IsOrderFault lists (Order phase place) = (phase < length lists) × All IsSpaced (take phase lists) × (1 ≤ place) × IsFirstEarly (list_at lists phase) (place - 1)
-IsOrderFault lists Many = ⊥
+IsOrderFault lists (Order phase place) = IsFirstAt IsSpaced (λ list. FromOne (IsFirstWithout (IsSpacedAt list) (length list)) place) lists phase
+IsOrderFault lists _ = ⊥
 
 -- there are too many clusters, or too many orders of them
 abbrev pub AreMany : List (List Cluster) → Type 0
-AreMany lists = (40 < sum (counts_of lists)) ⊎ (50000 < length (orders (counts_of lists)))
+AreMany lists = (most_clusters < sum (counts_of lists)) ⊎ (most_orders < length (orders (counts_of lists)))
 
 -- why a problem with a plan is no instance: the first of the head's faults, of the number of lists, of the bounds of
 -- clusters, of their order, and of their number
@@ -88,11 +76,9 @@ pub record IsUnfitAt (p : Problem) (before : List ℕ) (phase : ℕ) (why : Unfi
 -- why a sequence is not feasible: the first number that is no phase, or else the least phase that it has not as often
 -- as it has clusters, or else the first serving that is unfit
 abbrev pub IsSeqFault : Problem → List ℕ → SeqFault → Type 0
-IsSeqFault p sequence (fault.Phase place) =
-    (1 ≤ place) × (place ≤ length sequence) × All (λ k. k < length p.plan) (take (place - 1) sequence) × (length p.plan ≤ slice_index sequence (place - 1))
+IsSeqFault p sequence (fault.Phase place) = FromOne (IsFirstAt (λ k. k < length p.plan) (λ k. length p.plan ≤ k) sequence) place
 IsSeqFault p sequence (WrongCount phase) =
-    All (λ k. k < length p.plan) sequence × (phase < length p.plan) × (times_of phase sequence ≢ length (list_at p.lists phase))
-    × ((k : ℕ) → k < phase → times_of k sequence ≡ length (list_at p.lists k))
+    All (λ k. k < length p.plan) sequence × IsFirstWithout (λ k. times_of k sequence ≡ length (list_at p.lists k)) (length p.plan) phase
 IsSeqFault p sequence (fault.Unfit place why) =
     All (λ k. k < length p.plan) sequence × ((k : ℕ) → times_of k sequence ≡ length (list_at p.lists k))
     × (1 ≤ place) × (place ≤ length sequence) × IsUnfitAt p (take (place - 1) sequence) (slice_index sequence (place - 1)) why

@@ -7,5 +7,7 @@ pub mod Texts
 pub mod Timing
 pub use Rattle.phase_plan.specs.Phases
 pub use Rattle.switch_rules.specs.Orders
+pub use Rattle.switch_rules.specs.Bounds
+pub use Rattle.switch_rules.specs.Sequences
 pub use Rattle.switch_rules.specs.Serving
 pub use Rattle.instance_form.specs.InstanceText

@@ -1,3 +1,4 @@
+-- Why there is no list of what a sequence serves.
 use Rattle.std.specs.Prelude.{◌≡◌, ◌≢◌, ℕ, List, None}
 use Rattle.schedule_meaning.specs.Instances.{Problem}
 use Rattle.schedule_meaning.specs.Timing.{timed}

@@ -1,3 +1,4 @@
+-- Why bytes are no instance's text.
 use Rattle.std.specs.Prelude.{◌≡◌, ℕ, List}
 use Rattle.phase_plan.specs.Phases.{IsPlan, IsPlanFault}
 use Rattle.instance_form.specs.InstanceText.{HasText, instance_text}

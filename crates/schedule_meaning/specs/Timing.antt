@@ -1,28 +1,17 @@
-use Rattle.std.specs.Prelude.{◌≡◌, ℕ, ◌+◌, ◌-◌, ◌*◌, ◌≤◌, ◌==◌, count_by, if◌then◌else◌, List, [], ◌∷◌, length, sum, sum_by, slice_index, slice_get, Option, Some, None}
+-- The timing of a sequence of phases.
+use Rattle.std.specs.Prelude.{◌≡◌, ℕ, ◌+◌, ◌*◌, ◌≤◌, ◌==◌, count_by, List, length, sum, sum_by, slice_index, Option}
 use Rattle.std.specs.Option.{option_map}
-use Rattle.std.specs.Result.{result_ok}
-use Rattle.foundation.specs.Options.{◌>>=◌}
-use Rattle.switch_rules.specs.Serving.{serving, IsHead}
-use Rattle.switch_rules.specs.Orders.{one_less}
+use Rattle.switch_rules.specs.Bounds.{latest_time, greatest_cost, greatest_delay}
+use Rattle.switch_rules.specs.Serving.{IsHead}
+pub use Rattle.switch_rules.specs.Sequences.{next_cluster}
+use Rattle.switch_rules.specs.Sequences as sequences
 use Rattle.switch_rules.specs.declared.Head.{Head}
 use Rattle.switch_rules.specs.declared.Served.{Served}
-use Rattle.switch_rules.specs.declared.Cluster.{Cluster}
 use Rattle.schedule_meaning.specs.Instances.{Problem, list_at, counts_of}
 
--- the next cluster of phase k, where so many of each phase are left
-abbrev pub next_cluster : List (List Cluster) → List ℕ → ℕ → Option Cluster
-next_cluster lists left k = slice_get (list_at lists k) (length (list_at lists k) - slice_index left k)
-
--- the rest of a sequence from a head, where so many clusters of each phase are left: each number serves the next
--- cluster of its phase. There is none where a number has no cluster left, a serving is unfit, or a cluster is left
--- at the end
+-- the rest of a sequence from a head, where so many clusters of each phase are left
 abbrev pub timed_from : Problem → List ℕ → Head → List ℕ → Option (List Served × Head)
-timed_from p left head [] = if sum left == 0 then Some ([], head) else None
-timed_from p left head (k ∷ ks) = do
-  cluster ← next_cluster p.lists left k
-  served ← result_ok (serving p.plan head k cluster)
-  rest ← timed_from p (one_less left k) served.1 ks
-  Some (served.0 ∷ rest.0, rest.1)
+timed_from p left head ks = sequences.timed_from p.plan p.lists left head ks
 
 -- a sequence of phases, timed from the problem's head: what is served and the last head; none where it is not feasible
 abbrev pub timed : Problem → List ℕ → Option (List Served × Head)
@@ -47,10 +36,10 @@ times_of k sequence = count_by (λ x. x == k) sequence
 -- a sequence on its way: so many clusters are left, a head is reached, and the delay has room for what is left
 pub record IsUnderWay (p : Problem) (counts : List ℕ) (h : Head) (spent : ℕ) : Type 0 where
   pub head : IsHead p.plan h
-  pub reach : h.at ≤ 104000
+  pub reach : h.at ≤ latest_time
   pub lists : length counts ≡ length p.lists
   pub left : (k : ℕ) → slice_index counts k ≤ length (list_at p.lists k)
-  pub delay : spent + 72000000000 * sum counts ≤ 2880000000000
+  pub delay : spent + greatest_cost * sum counts ≤ greatest_delay
 
 -- the delay so far with that of what follows, and the last head
 abbrev pub onward : ℕ → List Served × Head → ℕ × Head

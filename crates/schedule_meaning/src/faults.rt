@@ -1,9 +1,12 @@
+//! Why parts make no instance, and why a sequence is not feasible.
+
+use foundation::threads::CrossesThreads;
 use switch_rules::Unfit;
 
 /// Why parts make no instance. Phases are numbered from 0, places in a list from 1.
 ///
 /// docs/RULES.md, "Instance".
-#[derive(Clone, Copy)]
+#[derive(Debug, Clone, Copy, PartialEq, Eq)]
 pub enum InstanceFault {
     /// The head's phase is none of the plan.
     HeadPhase,
@@ -22,7 +25,7 @@ pub enum InstanceFault {
 /// Why a sequence is not feasible. Places are numbered from 1.
 ///
 /// docs/RULES.md, "Instance".
-#[derive(Clone, Copy)]
+#[derive(Debug, Clone, Copy, PartialEq, Eq)]
 pub enum SeqFault {
     /// The first number that is no phase.
     Phase { place: u32 },
@@ -31,3 +34,7 @@ pub enum SeqFault {
     /// The first serving that is unfit.
     Unfit { place: u32, why: Unfit },
 }
+
+impl CrossesThreads for InstanceFault {}
+
+impl CrossesThreads for SeqFault {}

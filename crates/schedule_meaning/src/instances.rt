@@ -1,9 +1,13 @@
-ghost use Rattle.std.specs.Prelude.{◌≡◌, ◌+◌, ◌^◌, ◌<◌, ◌≤◌, All, length, map, sum, IfOk, IfErr, IfNone, IfSome, IsTrue, OnOk, ◌↔◌};
+//! Instances, and what makes one.
+
+ghost use Rattle.std.specs.Prelude.{◌≡◌, ◌+◌, ◌^◌, ◌<◌, ◌≤◌, All, length, map, sum, take, IfOk, IfErr, IfNone, IfSome, IsTrue, OnOk, ◌↔◌};
+ghost use Rattle.foundation.specs.Firsts.{IsFirstWithout};
 ghost use Rattle.phase_plan.specs.Phases.{IsPlan};
+ghost use Rattle.switch_rules.specs.Bounds.{most_clusters, most_orders};
 ghost use Rattle.switch_rules.specs.Serving.{IsHead, IsCluster};
 ghost use Rattle.switch_rules.specs.Orders.{orders};
-ghost use Rattle.schedule_meaning.specs.Instances.{IsSpaced, counts_of};
-ghost use Rattle.schedule_meaning.specs.Faults.{AreMany, IsBoundFault, IsFirstEarly, IsFirstOut, IsHeadFault, IsOrderFault};
+ghost use Rattle.schedule_meaning.specs.Instances.{IsSpaced, cluster_at, counts_of};
+ghost use Rattle.schedule_meaning.specs.Faults.{AreMany, IsBoundFault, IsHeadFault, IsOrderFault, IsSpacedAt};
 
 use super::faults::InstanceFault;
 use foundation::items::Items;
@@ -57,7 +61,7 @@ impl Instance {
     ) -> Result<Instance, InstanceFault>
         requires { All (λ list. length list < 2 ^ 32) lists.items }
         ensures ok { IfOk result (λ i. (i ≡ record { plan = plan; head = head; lists = lists.items }) × IsInstance i) }
-        ensures err { OnErr result (¬ IsInstance (record { plan = plan; head = head; lists = lists.items })) }
+        ensures refused { OnErr result (¬ IsInstance (record { plan = plan; head = head; lists = lists.items })) }
         ensures first { IfErr result (IsInstanceFault (record { plan = plan; head = head; lists = lists.items })) }
     {
         check_head(&plan, &head)?;
@@ -107,15 +111,18 @@ impl Instance {
         self.head
     }
 
-    /// The clusters of a phase of the plan, in the order of their arrival; with all phases at most 40.
+    /// The clusters of a phase, in the order of their arrival; with all phases at most 40. A number that is no phase of the
+    /// plan has none.
     ///
     /// docs/RULES.md, "Clusters".
     pub fn list(&self, phase: u8) -> &[Cluster]
-        requires { phase < length self.now.plan }
         ensures value { result.now ≡ list_at self.now.lists phase }
         ensures bounds { All IsCluster result.now }
     {
-        self.lists.as_slice()[phase as usize].as_slice()
+        match self.lists.as_slice().get(phase as usize) {
+            Some(list) => list.as_slice(),
+            None => &[],
+        }
     }
 
     /// The clusters of each phase, in the order of the phases.
@@ -185,7 +192,7 @@ fn check_bounds(lists: &[Items<Cluster>]) -> Result<(), InstanceFault>
 /// The index of the first cluster that is out of bounds.
 fn first_out_of_bounds(list: &[Cluster]) -> Option<usize>
     ensures none { IfNone result (All IsCluster list.now) }
-    ensures some { IfSome result (IsFirstOut list.now) }
+    ensures some { IfSome result (λ index. (index < length list.now) × All IsCluster (take index list.now) × ¬ IsCluster (cluster_at list.now index)) }
 {
     list.iter().position(|cluster| !is_in_bounds(cluster))
 }
@@ -222,7 +229,7 @@ fn check_order(lists: &[Items<Cluster>]) -> Result<(), InstanceFault>
 fn first_too_early(list: &[Cluster]) -> Option<usize>
     requires { All IsCluster list.now }
     ensures none { IfNone result (IsSpaced list.now) }
-    ensures some { IfSome result (IsFirstEarly list.now) }
+    ensures some { IfSome result (IsFirstWithout (IsSpacedAt list.now) (length list.now)) }
 {
     for index in 1..list.len() {
         let before = &list[index - 1];
@@ -237,7 +244,7 @@ fn first_too_early(list: &[Cluster]) -> Option<usize>
 fn check_number(lists: &[Items<Cluster>]) -> Result<(), InstanceFault>
     requires few { length lists.now ≤ 4 }
     requires short { All (λ list. length list < 2 ^ 32) lists.now }
-    ensures ok { OnOk result ((sum (counts_of lists.now) ≤ 40) × (length (orders (counts_of lists.now)) ≤ 50000)) }
+    ensures ok { OnOk result ((sum (counts_of lists.now) ≤ most_clusters) × (length (orders (counts_of lists.now)) ≤ most_orders)) }
     ensures err { IfErr result (λ fault. (fault ≡ InstanceFault.Many) × AreMany lists.now) }
 {
     let mut counts = [0; 4];

@@ -1,3 +1,5 @@
+//! What a sequence serves.
+
 ghost use Rattle.std.specs.Prelude.{◌≡◌, ◌≢◌, ◌^◌, ◌<◌, IfErr, IfOk, None, Some, length};
 ghost use Rattle.std.specs.Option.{option_map};
 ghost use Rattle.schedule_meaning.specs.Listing.{IsServingsFault};
@@ -7,6 +9,7 @@ use super::faults::SeqFault;
 use super::instances::Instance;
 use super::replays::{next_cluster, replay};
 use foundation::steps::Steps;
+use foundation::threads::CrossesThreads;
 use std::alloc::{AllocError, Global};
 use std::marker::Brand;
 use std::sync::ledger::{Blank, Ledger};
@@ -15,13 +18,15 @@ use switch_rules::{Served, serve};
 /// Why there is no list of what a sequence serves.
 ///
 /// docs/RULES.md, "Sequence, feasibility, delay".
-#[derive(Clone, Copy)]
+#[derive(Debug, Clone, Copy, PartialEq, Eq)]
 pub enum ServingsFault {
     /// The sequence is not feasible; the fault is the one that `replay` names.
     Seq(SeqFault),
     /// The sequence is feasible, and memory ran out.
     NoMemory,
 }
+
+impl CrossesThreads for ServingsFault {}
 
 /// What a sequence of phases serves from the instance's head, one cluster after another, for callers that count no
 /// steps.

@@ -1,7 +1,10 @@
+//! Planners, and the plain one.
+
 ghost use Rattle.std.specs.Prelude.{◌≡◌, ◌<◌, ◌^◌, ℕ, ◌++◌, List, IfOk, OnOk, Some, sum};
 ghost use Rattle.std.specs.Option.{option_map};
 ghost use Rattle.switch_rules.specs.Orders.{orders};
 ghost use Rattle.schedule_meaning.specs.Timing.{IsUnderWay, onward, timed_from, timing};
+ghost use Rattle.schedule_meaning.specs.declared.planners.Answer.{Answer};
 ghost use Rattle.schedule_meaning.specs.Best.{IsBest, IsLeast};
 ghost use Rattle.schedule_meaning.specs.Choice.{best_behind, better};
 
@@ -41,7 +44,9 @@ pub trait Planner {
         steps: &mut Steps<L>,
     ) -> Result<Answer, AllocError>
         ensures best { IfOk result (IsBest i.now) }
-        ensures least { IfOk result (IsLeast i.now) };
+        ensures least { IfOk result (IsLeast i.now) }
+        // No other answer is the best: all planners answer the same.
+        ensures only { IfOk result (λ answer. (other : Answer) → IsBest i.now other → other ≡ answer) };
 }
 
 /// The plain planner: it walks along all orders of the clusters, and keeps the best.
@@ -140,6 +145,7 @@ pub fn best_answer<P: Planner>(
 ) -> Result<Answer, AllocError>
     ensures best { IfOk result (IsBest i.now) }
     ensures least { IfOk result (IsLeast i.now) }
+    ensures only { IfOk result (λ answer. (other : Answer) → IsBest i.now other → other ≡ answer) }
 {
     counted::<P, Brand>(alloc, planner, i, Blank::new(1))
 }
@@ -156,6 +162,7 @@ fn counted<P: Planner, L: Ledger>(
     requires some { 0 < L.parts }
     ensures best { IfOk result (IsBest i.now) }
     ensures least { IfOk result (IsLeast i.now) }
+    ensures only { IfOk result (λ answer. (other : Answer) → IsBest i.now other → other ≡ answer) }
 {
     let mut steps = Steps::<L>::new(blank);
     planner.best(alloc, i, &mut steps)

@@ -1,4 +1,7 @@
-ghost use Rattle.std.specs.Prelude.{◌≡◌, ◌≢◌, ℕ, ◌+◌, ◌^◌, ◌<◌, ◌≤◌, All, IfNone, IfOk, IfErr, IfSome, OnErr, take, Some, None, length, slice_index};
+//! The timing of a sequence.
+
+ghost use Rattle.std.specs.Prelude.{◌≡◌, ◌≢◌, ℕ, ◌+◌, ◌^◌, ◌<◌, ◌≤◌, All, IfNone, IfOk, IfErr, IfSome, OnErr, OnOk, take, Some, None, length, slice_index};
+ghost use Rattle.foundation.specs.Firsts.{IsFirstWithout};
 ghost use Rattle.switch_rules.specs.Serving.{IsCluster};
 ghost use Rattle.schedule_meaning.specs.Instances.{IsInstance, counts_of, list_at};
 ghost use Rattle.schedule_meaning.specs.Faults.{IsSeqFault};
@@ -7,13 +10,14 @@ ghost use Rattle.schedule_meaning.specs.Timing.{next_cluster, timed, times_of, t
 use super::faults::SeqFault;
 use super::instances::Instance;
 use foundation::steps::Steps;
+use foundation::threads::CrossesThreads;
 use std::sync::ledger::Ledger;
 use switch_rules::{Cluster, Head, serve};
 
 /// A feasible sequence, timed: its delay, and the head behind its last serving.
 ///
 /// docs/RULES.md, "Sequence, feasibility, delay".
-#[derive(Clone, Copy)]
+#[derive(Debug, Clone, Copy, PartialEq, Eq)]
 pub struct Timed {
     /// Thousandths of a vehicle times seconds.
     pub delay: u64,
@@ -21,7 +25,9 @@ pub struct Timed {
     pub head: Head,
 }
 
-/// Times a sequence of phases from the instance's head, in at most one step per place.
+impl CrossesThreads for Timed {}
+
+/// Times a sequence of phases from the instance's head, in one step for each place, or up to the one that is unfit.
 ///
 /// It is refused exactly where it is not feasible; the fault is the first in the order of `SeqFault`.
 /// The sequence has fewer than 2^32 numbers.
@@ -30,9 +36,10 @@ pub struct Timed {
 pub fn replay<L: Ledger>(i: &Instance, seq: &[u8], steps: &mut Steps<L>) -> Result<Timed, SeqFault>
     requires { length seq.now < 2 ^ 32 }
     ensures ok { IfOk result (λ t. timing i.now seq.now ≡ Some (t.delay, t.head)) }
-    ensures err { OnErr result (timed i.now seq.now ≡ None) }
+    ensures refused { OnErr result (timed i.now seq.now ≡ None) }
     ensures first { IfErr result (IsSeqFault i.now seq.now) }
-    ensures cost { steps.new ≤ steps.old + length seq.now }
+    ensures steps { steps.new ≤ steps.old + length seq.now }
+    ensures each { OnOk result (steps.new ≡ steps.old + length seq.now) }
 {
     let phases = i.plan().count();
     if let Some(index) = first_unknown(seq, phases) {
@@ -60,8 +67,7 @@ fn first_unknown(seq: &[u8], phases: u8) -> Option<usize>
 /// The least phase that the sequence has not as often as it has clusters.
 fn wrong_count(i: &Instance, seq: &[u8]) -> Option<u8>
     ensures none { IfNone result ((k : ℕ) → k < length i.now.lists → times_of k seq.now ≡ length (list_at i.now.lists k)) }
-    ensures some { IfSome result (λ k. (k < length i.now.lists) × (times_of k seq.now ≢ length (list_at i.now.lists k))
-        × ((j : ℕ) → j < k → times_of j seq.now ≡ length (list_at i.now.lists j))) }
+    ensures some { IfSome result (IsFirstWithout (λ k. times_of k seq.now ≡ length (list_at i.now.lists k)) (length i.now.lists)) }
 {
     for phase in 0..i.plan().count() {
         let times = seq.iter().filter(|named| **named == phase).count();
@@ -84,9 +90,10 @@ fn walk<L: Ledger>(
     requires all { All (λ k. k < length i.now.plan) seq.now }
     requires times { (k : ℕ) → times_of k seq.now ≡ slice_index left.old k }
     ensures ok { IfOk result (λ t. timing i.now seq.now ≡ Some (t.delay, t.head)) }
-    ensures err { OnErr result (timed i.now seq.now ≡ None) }
+    ensures refused { OnErr result (timed i.now seq.now ≡ None) }
     ensures first { IfErr result (IsSeqFault i.now seq.now) }
-    ensures cost { steps.new ≤ steps.old + length seq.now }
+    ensures steps { steps.new ≤ steps.old + length seq.now }
+    ensures each { OnOk result (steps.new ≡ steps.old + length seq.now) }
 {
     let mut head = i.head();
     let mut delay = 0;

@@ -1,3 +1,5 @@
+//! The text of an instance.
+
 ghost use Rattle.std.specs.Prelude.{◌≡◌, ◌^◌, ◌<◌, IfOk, IfErr, MatchResult, length};
 ghost use Rattle.instance_form.specs.InstanceText.{instance_text};
 ghost use Rattle.schedule_meaning.specs.Instances.{Problem, IsInstance};
@@ -5,6 +7,7 @@ ghost use Rattle.schedule_meaning.specs.Texts.{IsTextFault, IsWant, Spells};
 
 use super::faults::InstanceFault;
 use super::instances::Instance;
+use foundation::threads::CrossesThreads;
 use instance_form::{FormFault, read_form, write_form};
 use phase_plan::{PhasePlan, PlanFault};
 use std::alloc::{AllocError, Global};
@@ -12,7 +15,7 @@ use std::alloc::{AllocError, Global};
 /// Why a text is no instance's.
 ///
 /// docs/FORMATS.md, "Instance text".
-#[derive(Clone, Copy)]
+#[derive(Debug, Clone, Copy, PartialEq, Eq)]
 pub enum TextFault {
     /// The first line, from 1, that has not the form of its place.
     Line(u32),
@@ -23,6 +26,8 @@ pub enum TextFault {
     /// Memory ran out.
     NoMemory,
 }
+
+impl CrossesThreads for TextFault {}
 
 impl From<FormFault> for TextFault {
     ghost use Rattle.std.specs.Prelude.{◌≡◌};

@@ -1,3 +1,4 @@
+-- The orders in which clusters can be served, and how many there are.
 use Rattle.std.specs.Prelude.{ℕ, zero, suc, ◌+◌, ◌-◌, ◌*◌, nat_lt, if◌then◌else◌, List, [], ◌∷◌, length, map, sum, slice_index, slice_set}
 use Rattle.std.specs.List.{flat_map, range_with_len}
 

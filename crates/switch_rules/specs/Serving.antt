@@ -1,6 +1,8 @@
-use Rattle.std.specs.Prelude.{ℕ, ◌+◌, ◌-◌, ◌*◌, ◌<◌, ◌≤◌, Bool, true, false, ◌&&◌, ◌==◌, nat_lt, nat_le, max, if◌then◌else◌, List, length, Result, Ok, Err}
+-- How one cluster is served from a head.
+use Rattle.std.specs.Prelude.{◌≡◌, ℕ, ◌+◌, ◌-◌, ◌*◌, ◌<◌, ◌≤◌, Bool, true, false, ◌&&◌, ◌==◌, nat_lt, nat_le, max, if◌then◌else◌, List, length, Result, Ok, Err}
 use Rattle.phase_plan.specs.Phases.{phase_at, switch_time}
 use Rattle.phase_plan.specs.declared.Phase.{Phase}
+use Rattle.switch_rules.specs.Bounds.{latest_finish, greatest_cost}
 use Rattle.switch_rules.specs.declared.Head.{Head}
 use Rattle.switch_rules.specs.declared.Cluster.{Cluster}
 use Rattle.switch_rules.specs.declared.Served.{Served}
@@ -28,10 +30,13 @@ start_in_green p head c = if head.fresh && nat_le c.arr head.at then max head.at
 abbrev pub goes_on : Phase → Head → ℕ → Cluster → Bool
 goes_on p head j c = (j == head.phase) && nat_le (start_in_green p head c + c.len) (head.since + p.greatest)
 
--- when a new green of phase j can begin: the green lasts its least time and until its time is spent, and then the
--- ring turns
+-- when the green of a head can end: it lasts its least time and until its time is spent
+abbrev pub earliest_end : List Phase → Head → ℕ
+earliest_end plan head = max head.at (head.since + (phase_at plan head.phase).least)
+
+-- when a new green of phase j can begin: behind the green of the head, once the ring has turned
 abbrev pub earliest_green : List Phase → Head → ℕ → ℕ
-earliest_green plan head j = max head.at (head.since + (phase_at plan head.phase).least) + switch_time plan head.phase j
+earliest_green plan head j = earliest_end plan head + switch_time plan head.phase j
 
 -- the cluster served from this start in this green, where it ends within the greatest green and does not wait too long
 abbrev pub served_from : Phase → ℕ → Cluster → ℕ → ℕ → Bool → Result (Served × Head) Unfit
@@ -51,8 +56,23 @@ serving plan head j c =
     if goes_on p head j c then served_from p j c head.since (start_in_green p head c) true
     else served_anew p j c (earliest_green plan head j)
 
--- what every serving keeps: a head of the plan, and the bounds of finish and cost
+-- the head behind a serving of phase k
+abbrev pub head_behind : ℕ → Served → Head
+head_behind k s = record { phase = k; since = s.green; at = s.finish; fresh = false }
+
+-- the times of a fit serving of a cluster of phase k from a head: it starts in its green, when the cluster has arrived and
+-- not before the head's time is spent; the cluster waits no longer than it may, and lasts as long as it is, within the
+-- greatest green
+pub record IsTimed (plan : List Phase) (head : Head) (k : ℕ) (c : Cluster) (s : Served) : Type 0 where
+  pub later : head.at ≤ s.start
+  pub in_green : s.green ≤ s.start
+  pub arrived : c.arr ≤ s.start
+  pub waited : s.start ≤ c.arr + (phase_at plan k).wait
+  pub ends : s.finish ≡ s.start + c.len
+  pub within : s.finish ≤ s.green + (phase_at plan k).greatest
+
+-- the bounds of every fit serving: a head of the plan, the finish and the cost
 pub record IsServing (plan : List Phase) (s : Served × Head) : Type 0 where
   pub head : IsHead plan s.1
-  pub finish : s.1.at ≤ 103840
-  pub cost : s.0.cost ≤ 72000000000
+  pub finish : s.1.at ≤ latest_finish
+  pub cost : s.0.cost ≤ greatest_cost

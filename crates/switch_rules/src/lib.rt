@@ -2,18 +2,20 @@
 #![tactic(auto)]
 
 ghost use Rattle.std.specs.Prelude.{◌≡◌, ◌+◌, ◌^◌, ◌<◌, ◌≤◌, length, IfOk, min, sum};
+ghost use Rattle.switch_rules.specs.Bounds.{latest_time, most_orders};
 ghost use Rattle.switch_rules.specs.Orders.{orders, choose, mixtures};
 ghost use Rattle.phase_plan.specs.Phases.{IsPhase};
-ghost use Rattle.switch_rules.specs.Serving.{IsHead, IsCluster, IsServing, serving, served_from, start_in_green};
+ghost use Rattle.switch_rules.specs.Serving.{IsHead, IsCluster, IsServing, IsTimed, earliest_end, head_behind, serving, served_from, start_in_green};
 
 use foundation::steps::Steps;
+use foundation::threads::CrossesThreads;
 use phase_plan::{Phase, PhasePlan};
 use std::sync::ledger::Ledger;
 
 /// Vehicles of one phase that arrive together.
 ///
 /// docs/RULES.md, "Clusters".
-#[derive(Clone, Copy)]
+#[derive(Debug, Clone, Copy, PartialEq, Eq)]
 pub struct Cluster {
     /// Thousandths of a vehicle, 1 to 20,000,000.
     pub size: u32,
@@ -26,7 +28,7 @@ pub struct Cluster {
 /// The state of a signal: which phase is green, since when, and up to when its time is spent.
 ///
 /// docs/RULES.md, "Head".
-#[derive(Clone, Copy)]
+#[derive(Debug, Clone, Copy, PartialEq, Eq)]
 pub struct Head {
     /// The phase that is green, from 0.
     pub phase: u8,
@@ -42,7 +44,7 @@ pub struct Head {
 /// A cluster that has been served.
 ///
 /// docs/RULES.md, "Serving".
-#[derive(Clone, Copy)]
+#[derive(Debug, Clone, Copy, PartialEq, Eq)]
 pub struct Served {
     /// The second at which the green that serves it began.
     pub green: u32,
@@ -59,13 +61,26 @@ pub struct Served {
 /// Why a cluster cannot be served from a head.
 ///
 /// docs/RULES.md, "Serving".
-#[derive(Clone, Copy)]
+#[derive(Debug, Clone, Copy, PartialEq, Eq)]
 pub enum Unfit {
     /// It does not end within the greatest green.
     TooLong,
     /// It would wait longer than its phase allows.
     TooLate,
 }
+
+impl CrossesThreads for Cluster {}
+
+impl CrossesThreads for Head {}
+
+impl CrossesThreads for Served {}
+
+impl CrossesThreads for Unfit {}
+
+/// The latest second by which the time of a head may be spent from which clusters are served.
+///
+/// docs/RULES.md, "Serving".
+pub const LATEST_TIME: u32 = 104_000;
 
 /// Serves a cluster of a phase from a head, in one step: the served cluster with the head after it,
 /// or why that cannot be. A cluster that is both too long and too late is too long.
@@ -82,11 +97,13 @@ pub fn serve<L: Ledger>(
     steps: &mut Steps<L>,
 ) -> Result<(Served, Head), Unfit>
     requires head { IsHead plan.now head.now }
-    requires reach { head.now.at ≤ 104000 }
+    requires reach { head.now.at ≤ latest_time }
     requires phase { phase < length plan.now }
     requires cluster { IsCluster cluster.now }
     ensures value { result ≡ serving plan.now head.now phase cluster.now }
     ensures step { steps.new ≡ steps.old + 1 }
+    ensures times { IfOk result (λ s. IsTimed plan.now head.now phase cluster.now s.0) }
+    ensures behind { IfOk result (λ s. s.1 ≡ head_behind phase s.0) }
     ensures bounds { IfOk result (λ s. IsServing plan.now s) }
 {
     steps.tick();
@@ -97,8 +114,7 @@ pub fn serve<L: Ledger>(
             return served_from(times, phase, cluster, head.since, start, true);
         }
     }
-    let least = plan.phase(head.phase).least;
-    let earliest = head.at.max(head.since + least) + plan.switch_time(head.phase, phase);
+    let earliest = earliest_end(plan, head) + plan.switch_time(head.phase, phase);
     if cluster.arr <= earliest {
         served_from(
             times,
@@ -113,10 +129,23 @@ pub fn serve<L: Ledger>(
     }
 }
 
+/// When the green of a head can end, if nothing more is served in it: it lasts its least time and until its time is spent.
+/// The head is one of the plan with `at` up to 104,000.
+///
+/// docs/RULES.md, "Serving".
+pub fn earliest_end(plan: &PhasePlan, head: &Head) -> u32
+    requires head { IsHead plan.now head.now }
+    requires reach { head.now.at ≤ latest_time }
+    ensures value { result ≡ earliest_end plan.now head.now }
+    ensures bounds { result ≤ latest_time + 240 }
+{
+    head.at.max(head.since + plan.phase(head.phase).least)
+}
+
 /// When the cluster starts if the green of the head goes on.
 fn start_in_green(times: &Phase, head: &Head, cluster: &Cluster) -> u32
     requires times { IsPhase times.now }
-    requires head { head.now.at ≤ 104000 }
+    requires head { head.now.at ≤ latest_time }
     requires begun { head.now.since ≤ head.now.at }
     requires cluster { IsCluster cluster.now }
     ensures value { result ≡ start_in_green times.now head.now cluster.now }
@@ -181,7 +210,7 @@ pub const MOST_ORDERS: u32 = 50_000;
 pub fn ways(counts: &[u32]) -> u32
     requires few { length counts.now ≤ 4 }
     requires sum { sum counts.now ≤ 41 }
-    ensures { result ≡ min 50001 (length (orders counts.now)) }
+    ensures { result ≡ min (most_orders + 1) (length (orders counts.now)) }
 {
     let (ways, _) = mixtures(counts);
     ways as u32
@@ -191,7 +220,7 @@ pub fn ways(counts: &[u32]) -> u32
 /// are in all.
 fn mixtures(counts: &[u32]) -> (u64, u32)
     requires { sum counts.now ≤ 41 }
-    ensures ways { result.0 ≡ min 50001 (mixtures counts.now) }
+    ensures ways { result.0 ≡ min (most_orders + 1) (mixtures counts.now) }
     ensures total { result.1 ≡ sum counts.now }
 {
     let Some((first, others)) = counts.split_first() else {

@@ -1,1 +1,1 @@
-mod Sequences
+-- What the crate's proofs share.

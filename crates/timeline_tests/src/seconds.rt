@@ -1,35 +1,102 @@
-// What a timeline shows at a second.
+//! What a timeline shows at a second.
 
 ghost use Rattle.std.specs.Prelude.{◌<◌};
 ghost use Rattle.control_flow.specs.Greens.{IsLawful, end_of};
 
 use super::lines::{TWO_CLUSTERS, instance, planned};
-use control_flow::greens::{Colour, Timeline};
+use control_flow::greens::{Colour, Green, Timeline};
 use control_flow::{colour, green_at, head_at};
 use phase_plan::PhasePlan;
 use std::test::Fail;
+use switch_rules::Head;
 
-// A second, the phase, begin and time of the head then, and whether it is fresh.
-const HEADS: &[(u32, [u32; 3], bool)] = &[
-    (1, [0, 0, 1], true),
-    (2, [0, 0, 2], false),
-    (3, [0, 0, 3], false),
-    (14, [0, 0, 14], false),
-    (15, [1, 20, 20], true),
-    (17, [1, 20, 20], true),
+// A second, and the head then.
+const HEADS: &[(u32, Head)] = &[
+    (
+        1,
+        Head {
+            phase: 0,
+            since: 0,
+            at: 1,
+            fresh: true,
+        },
+    ),
+    (
+        2,
+        Head {
+            phase: 0,
+            since: 0,
+            at: 2,
+            fresh: false,
+        },
+    ),
+    (
+        3,
+        Head {
+            phase: 0,
+            since: 0,
+            at: 3,
+            fresh: false,
+        },
+    ),
+    (
+        14,
+        Head {
+            phase: 0,
+            since: 0,
+            at: 14,
+            fresh: false,
+        },
+    ),
+    (
+        15,
+        Head {
+            phase: 1,
+            since: 20,
+            at: 20,
+            fresh: true,
+        },
+    ),
+    (
+        17,
+        Head {
+            phase: 1,
+            since: 20,
+            at: 20,
+            fresh: true,
+        },
+    ),
 ];
 
-// A second, and the row that covers it, or else just noughts.
-const GREENS: &[(u32, [u32; 3])] = &[(14, [0, 0, 15]), (15, [0, 0, 0]), (20, [1, 20, 45])];
+// A second, and the row that covers it, if one does.
+const GREENS: &[(u32, Option<Green>)] = &[
+    (
+        14,
+        Some(Green {
+            phase: 0,
+            from: 0,
+            to: 15,
+        }),
+    ),
+    (15, None),
+    (
+        20,
+        Some(Green {
+            phase: 1,
+            from: 20,
+            to: 45,
+        }),
+    ),
+];
 
 // A phase, a second, and what the phase shows then.
-const COLOURS: &[(u8, u32, &str)] = &[
-    (0, 14, "green"),
-    (0, 15, "yellow"),
-    (0, 17, "yellow"),
-    (0, 18, "red"),
-    (1, 19, "red"),
-    (1, 20, "green"),
+const COLOURS: &[(u8, u32, Colour)] = &[
+    (0, 14, Colour::Green),
+    (0, 15, Colour::Yellow),
+    (0, 17, Colour::Yellow),
+    (0, 18, Colour::Red),
+    (1, 19, Colour::Red),
+    (1, 20, Colour::Green),
 ];
 
 #[test]
@@ -52,13 +119,8 @@ fn other_head(plan: &PhasePlan, line: &Timeline) -> Option<u32>
     requires lawful { IsLawful plan.now line.now }
     requires end { 60 < end_of line.now }
 {
-    for &(second, numbers, fresh) in HEADS {
-        if second > 60 {
-            return Some(second);
-        }
-        let head = head_at(plan, line, second);
-        let found = [u32::from(head.phase), head.since, head.at];
-        if found != numbers || head.fresh != fresh {
+    for &(second, head) in HEADS {
+        if second > 60 || head_at(plan, line, second) != head {
             return Some(second);
         }
     }
@@ -67,12 +129,8 @@ fn other_head(plan: &PhasePlan, line: &Timeline) -> Option<u32>
 
 // The first second of the table whose row is another one.
 fn other_green(line: &Timeline) -> Option<u32> {
-    for &(second, numbers) in GREENS {
-        let found = match green_at(line, second) {
-            Some(row) => [u32::from(row.phase), row.from, row.to],
-            None => [0; 3],
-        };
-        if found != numbers {
+    for &(second, row) in GREENS {
+        if green_at(line, second) != row {
             return Some(second);
         }
     }
@@ -81,18 +139,10 @@ fn other_green(line: &Timeline) -> Option<u32> {
 
 // The first second of the table whose colour is another one.
 fn other_colour(plan: &PhasePlan, line: &Timeline) -> Option<u32> {
-    for &(phase, second, word) in COLOURS {
-        if phase >= plan.count() || word_of(colour(plan, line, phase, second)) != word {
+    for &(phase, second, shown) in COLOURS {
+        if phase >= plan.count() || colour(plan, line, phase, second) != shown {
             return Some(second);
         }
     }
     None
-}
-
-fn word_of(colour: Colour) -> &'static str {
-    match colour {
-        Colour::Green => "green",
-        Colour::Yellow => "yellow",
-        Colour::Red => "red",
-    }
 }

@@ -1,6 +1,6 @@
 use Rattle.std.proofs.Common.{◌≤◌, ap, ◌∙◌, arith}
 use Rattle.phase_plan.specs.Phases.{passing}
-use Rattle.control_flow.proofs.LineLaws.{shortest-more, behind-more}
+use Rattle.control_flow.proofs.MakingLaws.{shortest-more, behind-more}
 use Rattle.control_flow.proofs.making.add_shortest.Goals as goal
 
 pub loop-phase-preserved : goal.loop-phase-preserved

@@ -2,7 +2,7 @@ use Rattle.std.proofs.Common.{◌≡◌, ℕ, ◌+◌, ◌-◌, List, ◌++◌, 
 use Rattle.std.specs.List.{range_with_len}
 use Rattle.std.proofs.lemmas.Bool.{cond_above}
 use Rattle.control_flow.specs.Timelines.{shortest_greens}
-use Rattle.control_flow.proofs.LineLaws.{shortest-both}
+use Rattle.control_flow.proofs.MakingLaws.{shortest-both}
 use Rattle.control_flow.proofs.making.pass.Goals as goal
 
 pub returns-in_ok-add_shortest-2 : goal.returns-in_ok-add_shortest-2

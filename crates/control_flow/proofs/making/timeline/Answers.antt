@@ -1,9 +1,11 @@
 use Rattle.std.proofs.Common.{◌≡◌, List, Vec, Global, rules, sym, ap, subst, ◌∙◌, arith}
 use Rattle.control_flow.specs.declared.greens.Green.{Green}
-use Rattle.control_flow.specs.Greens.{BeginBy}
+use Rattle.control_flow.specs.Greens.{BeginBy, IsLawful}
 use Rattle.control_flow.specs.Timelines.{line_of, HasGreens}
 use Rattle.control_flow.proofs.ServingLaws.{IsServingOf-keeps, IsServingOf-head}
-use Rattle.control_flow.proofs.LineLaws.{IsLine, line_of-line, line_of-by, line_of-greens, next-serving, line-kept, line-left, line-over}
+use Rattle.control_flow.proofs.ApartLaws.{are-apart}
+use Rattle.control_flow.proofs.OrderLaws.{order-lawful}
+use Rattle.control_flow.proofs.MakingLaws.{IsLineFrom, line_of-line, line_of-by, line_of-greens, next-serving, line-kept, line-left, line-over}
 use Rattle.control_flow.proofs.making.timeline.Goals as goal
 use Rattle.control_flow.proofs.making.timeline.Goals.{then-not-next+in_ok-leave, else-not-next}
 
@@ -53,16 +55,28 @@ loop-index-preserved c =
       }
     ]
 
+made : (c : goal.In_ok-turn) → c.turn.new.rows.items ≡ line_of c.args.plan.now c.args.head.now c.args.phases.now c.args.served.now c.args.until
+made c =
+    let l = c.loop-index in
+    c.in_ok-turn.ensures
+    ∙ line-over c.args.plan.now l.current c.phase.result.now c.args.phases.now c.args.served.now l.index c.args.until l.rows.items _ c.loop-index-test.false c.phase.ensures.value l.invariant.rows
+
+made-lawful : (c : goal.In_ok-turn) → IsLawful c.args.plan.now c.turn.new.rows.items
+made-lawful c = rw (made c) ((line_of-line c.args.plan.now c.args.phases.now c.args.served.now c.args.head.now c.args.until c.learn.ensures c.requires.head c.requires.reach c.requires.servings).lawful)
+
+pub from_rows-requires : goal.from_rows-requires
+from_rows-requires c = order-lawful c.args.plan.now _ c.learn.ensures (made-lawful c)
+
 value : (c : goal.After-from_rows) → c.from_rows.result ≡ line_of c.args.plan.now c.args.head.now c.args.phases.now c.args.served.now c.args.until
 value c =
     let l = c.loop-index in
     c.from_rows.ensures ∙ c.in_ok-turn.ensures
     ∙ line-over c.args.plan.now l.current c.phase.result.now c.args.phases.now c.args.served.now l.index c.args.until l.rows.items _ c.loop-index-test.false c.phase.ensures.value l.invariant.rows
 
-line : (c : goal.After-from_rows) → IsLine c.args.plan.now c.args.head.now c.args.until c.from_rows.result
+line : (c : goal.After-from_rows) → IsLineFrom c.args.plan.now c.args.head.now c.args.until c.from_rows.result
 line c =
     let facts = line_of-line c.args.plan.now c.args.phases.now c.args.served.now c.args.head.now c.args.until c.learn.ensures c.requires.head c.requires.reach c.requires.servings in
-    subst (IsLine c.args.plan.now c.args.head.now c.args.until) (sym (value c)) facts
+    subst (IsLineFrom c.args.plan.now c.args.head.now c.args.until) (sym (value c)) facts
 
 pub returns-clause-greens : goal.returns-clause-greens
 returns-clause-greens c =
@@ -78,7 +92,11 @@ returns-clause-begin c = (line c).begin
 pub returns-clause-end : goal.returns-clause-end
 returns-clause-end c = (line c).end
 
-pub returns-clause-by : goal.returns-clause-by
-returns-clause-by c = λ n since last greens.
+pub returns-clause-begins_by : goal.returns-clause-begins_by
+returns-clause-begins_by c = λ n since last greens.
     let facts = line_of-by c.args.plan.now c.args.phases.now c.args.served.now c.args.head.now c.args.until n c.learn.ensures c.requires.head c.requires.servings since last greens in
     subst (BeginBy n) (sym (value c)) facts
+
+
+pub returns-clause-apart : goal.returns-clause-apart
+returns-clause-apart c = are-apart c.args.plan.now _ c.learn.ensures (line c).lawful

@@ -1,7 +1,7 @@
 use Rattle.std.proofs.Common.{◌+◌, ◌-◌, List, [], ◌∷◌, ◌++◌, sym, ap, ◌∙◌, append_assoc}
 use Rattle.control_flow.specs.declared.greens.Green.{Green}
 use Rattle.control_flow.specs.Timelines.{turning}
-use Rattle.control_flow.proofs.LineLaws.{turned-is, turning-more}
+use Rattle.control_flow.proofs.MakingLaws.{turned-is, turning-more}
 use Rattle.control_flow.proofs.making.turn.Goals as goal
 
 pub loop-last-init : goal.loop-last-init

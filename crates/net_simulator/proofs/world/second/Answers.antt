@@ -1,6 +1,6 @@
 use Rattle.std.proofs.Common.{◌+◌, ◌-◌, length, refl, arith}
-use Rattle.net_simulator.specs.Arriving.{entering_of}
-use Rattle.net_simulator.proofs.Passing.{begun-by, room-leave, room-enter, leaves-now, counts-small, stands-next, room-entered, room-left, delay-most}
+use Rattle.net_simulator.specs.Arriving.{arriving_of}
+use Rattle.net_simulator.proofs.Passing.{few-of, begun-by, room-leave, room-enter, leaves-now, counts-small, stands-next, room-entered, room-left, delay-most}
 use Rattle.net_simulator.proofs.world.second.Goals as goal
 
 pub leave-out-requires-clause-begun : goal.leave-out-requires-clause-begun
@@ -8,54 +8,54 @@ leave-out-requires-clause-begun g c = begun-by c.look.new.greens (length c.args.
 
 pub leave-out-requires-clause-room : goal.leave-out-requires-clause-room
 leave-out-requires-clause-room g c =
-    room-leave c.args.net.now c.links-links.ensures.network (entering_of c.args.arrivals.now) (g.T.Lights.lines c.args.lights.now) c.requires.arrivals _ c.requires.stands c.arrive-arriving.new.recent c.arrive-arriving.ensures.others
+    room-leave c.args.net.now c.links-links.ensures.network (arriving_of c.args.arrivals.now) (g.T.Lights.lines c.args.lights.now) (few-of c.args.net.now c.links-links.ensures.network c.args.arrivals.now c.requires.arrivals) _ c.requires.stands c.arrive-arriving.new.recent c.arrive-arriving.ensures.others
 
 pub enter-requires-clause-room : goal.enter-requires-clause-room
 enter-requires-clause-room g c =
-    let leaves = leaves-now c.args.net.now c.links-links.ensures.network (entering_of c.args.arrivals.now) (g.T.Lights.lines c.args.lights.now) c.requires.arrivals _ c.requires.stands c.look.new.greens c.arrive-arriving.new.recent c.leave-out.new.leaving c.look.ensures c.arrive-arriving.ensures.others c.leave-out.ensures.leaving in
-    room-enter c.args.net.now c.links-links.ensures.network (entering_of c.args.arrivals.now) (g.T.Lights.lines c.args.lights.now) c.requires.arrivals _ c.requires.stands c.arrive-arriving.new.recent c.leave-out.new.leaving leaves
+    let leaves = leaves-now c.args.net.now c.links-links.ensures.network (arriving_of c.args.arrivals.now) (g.T.Lights.lines c.args.lights.now) (few-of c.args.net.now c.links-links.ensures.network c.args.arrivals.now c.requires.arrivals) _ c.requires.stands c.look.new.greens c.arrive-arriving.new.recent c.leave-out.new.leaving c.look.ensures c.arrive-arriving.ensures.others c.leave-out.ensures.leaving in
+    room-enter c.args.net.now c.links-links.ensures.network (arriving_of c.args.arrivals.now) (g.T.Lights.lines c.args.lights.now) (few-of c.args.net.now c.links-links.ensures.network c.args.arrivals.now c.requires.arrivals) _ c.requires.stands c.arrive-arriving.new.recent c.leave-out.new.leaving leaves
     (rw c.links-links.ensures.value at c.arrive-arriving.ensures.here)
 
 pub count-waiting-requires-clause-room : goal.count-waiting-requires-clause-room
-count-waiting-requires-clause-room g c = rw c.links-links.ensures.value (counts-small c.args.net.now c.links-links.ensures.network (entering_of c.args.arrivals.now) (g.T.Lights.lines c.args.lights.now) c.requires.arrivals _ c.requires.stands)
+count-waiting-requires-clause-room g c = rw c.links-links.ensures.value (counts-small c.args.net.now c.links-links.ensures.network (arriving_of c.args.arrivals.now) (g.T.Lights.lines c.args.lights.now) (few-of c.args.net.now c.links-links.ensures.network c.args.arrivals.now c.requires.arrivals) _ c.requires.stands)
 
 pub overflow_add-entered : goal.overflow_add-entered
 overflow_add-entered g c =
-    let room = room-entered c.args.net.now c.links-links.ensures.network (entering_of c.args.arrivals.now) (g.T.Lights.lines c.args.lights.now) c.requires.arrivals _ c.requires.stands in
+    let room = room-entered c.args.net.now c.links-links.ensures.network (arriving_of c.args.arrivals.now) (g.T.Lights.lines c.args.lights.now) (few-of c.args.net.now c.links-links.ensures.network c.args.arrivals.now c.requires.arrivals) _ c.requires.stands in
     let all = rw c.links-links.ensures.value at c.arrive-arriving.ensures.all in
     omega (arith, room, all)
 
 pub overflow_sub-result : goal.overflow_sub-result
 overflow_sub-result g c =
-    let leaves = leaves-now c.args.net.now c.links-links.ensures.network (entering_of c.args.arrivals.now) (g.T.Lights.lines c.args.lights.now) c.requires.arrivals _ c.requires.stands c.look.new.greens c.arrive-arriving.new.recent c.leave-out.new.leaving c.look.ensures c.arrive-arriving.ensures.others c.leave-out.ensures.leaving in
-    let room = room-left c.args.net.now c.links-links.ensures.network (entering_of c.args.arrivals.now) (g.T.Lights.lines c.args.lights.now) c.requires.arrivals _ c.requires.stands c.leave-out.new.leaving leaves in
+    let leaves = leaves-now c.args.net.now c.links-links.ensures.network (arriving_of c.args.arrivals.now) (g.T.Lights.lines c.args.lights.now) (few-of c.args.net.now c.links-links.ensures.network c.args.arrivals.now c.requires.arrivals) _ c.requires.stands c.look.new.greens c.arrive-arriving.new.recent c.leave-out.new.leaving c.look.ensures c.arrive-arriving.ensures.others c.leave-out.ensures.leaving in
+    let room = room-left c.args.net.now c.links-links.ensures.network (arriving_of c.args.arrivals.now) (g.T.Lights.lines c.args.lights.now) (few-of c.args.net.now c.links-links.ensures.network c.args.arrivals.now c.requires.arrivals) _ c.requires.stands c.leave-out.new.leaving leaves in
     let all = rw c.links-links.ensures.value at c.arrive-arriving.ensures.all in
     omega (arith, room, all, c.leave-out.ensures.out)
 
 pub overflow_add-left : goal.overflow_add-left
 overflow_add-left g c =
-    let room = room-entered c.args.net.now c.links-links.ensures.network (entering_of c.args.arrivals.now) (g.T.Lights.lines c.args.lights.now) c.requires.arrivals _ c.requires.stands in
+    let room = room-entered c.args.net.now c.links-links.ensures.network (arriving_of c.args.arrivals.now) (g.T.Lights.lines c.args.lights.now) (few-of c.args.net.now c.links-links.ensures.network c.args.arrivals.now c.requires.arrivals) _ c.requires.stands in
     let all = rw c.links-links.ensures.value at c.arrive-arriving.ensures.all in
-    let leaves = leaves-now c.args.net.now c.links-links.ensures.network (entering_of c.args.arrivals.now) (g.T.Lights.lines c.args.lights.now) c.requires.arrivals _ c.requires.stands c.look.new.greens c.arrive-arriving.new.recent c.leave-out.new.leaving c.look.ensures c.arrive-arriving.ensures.others c.leave-out.ensures.leaving in
-    let less = room-left c.args.net.now c.links-links.ensures.network (entering_of c.args.arrivals.now) (g.T.Lights.lines c.args.lights.now) c.requires.arrivals _ c.requires.stands c.leave-out.new.leaving leaves in
+    let leaves = leaves-now c.args.net.now c.links-links.ensures.network (arriving_of c.args.arrivals.now) (g.T.Lights.lines c.args.lights.now) (few-of c.args.net.now c.links-links.ensures.network c.args.arrivals.now c.requires.arrivals) _ c.requires.stands c.look.new.greens c.arrive-arriving.new.recent c.leave-out.new.leaving c.look.ensures c.arrive-arriving.ensures.others c.leave-out.ensures.leaving in
+    let less = room-left c.args.net.now c.links-links.ensures.network (arriving_of c.args.arrivals.now) (g.T.Lights.lines c.args.lights.now) (few-of c.args.net.now c.links-links.ensures.network c.args.arrivals.now c.requires.arrivals) _ c.requires.stands c.leave-out.new.leaving leaves in
     omega (arith, room, all, less, c.leave-out.ensures.out)
 
 pub overflow_add-result : goal.overflow_add-result
 overflow_add-result g c =
-    let most = delay-most c.args.net.now c.links-links.ensures.network (entering_of c.args.arrivals.now) (g.T.Lights.lines c.args.lights.now) c.requires.arrivals _ c.requires.stands in
+    let most = delay-most c.args.net.now c.links-links.ensures.network (arriving_of c.args.arrivals.now) (g.T.Lights.lines c.args.lights.now) (few-of c.args.net.now c.links-links.ensures.network c.args.arrivals.now c.requires.arrivals) _ c.requires.stands in
     let few = c.links-links.ensures.network.outline.link_count.1 in
     omega (arith, most, few, c.links-links.ensures.value, c.count-waiting.ensures.most)
 
 pub returns-clause-whole : goal.returns-clause-whole
 returns-clause-whole g c =
-    let leaves = leaves-now c.args.net.now c.links-links.ensures.network (entering_of c.args.arrivals.now) (g.T.Lights.lines c.args.lights.now) c.requires.arrivals _ c.requires.stands c.look.new.greens c.arrive-arriving.new.recent c.leave-out.new.leaving c.look.ensures c.arrive-arriving.ensures.others c.leave-out.ensures.leaving in
-    let room = room-left c.args.net.now c.links-links.ensures.network (entering_of c.args.arrivals.now) (g.T.Lights.lines c.args.lights.now) c.requires.arrivals _ c.requires.stands c.leave-out.new.leaving leaves in
+    let leaves = leaves-now c.args.net.now c.links-links.ensures.network (arriving_of c.args.arrivals.now) (g.T.Lights.lines c.args.lights.now) (few-of c.args.net.now c.links-links.ensures.network c.args.arrivals.now c.requires.arrivals) _ c.requires.stands c.look.new.greens c.arrive-arriving.new.recent c.leave-out.new.leaving c.look.ensures c.arrive-arriving.ensures.others c.leave-out.ensures.leaving in
+    let room = room-left c.args.net.now c.links-links.ensures.network (arriving_of c.args.arrivals.now) (g.T.Lights.lines c.args.lights.now) (few-of c.args.net.now c.links-links.ensures.network c.args.arrivals.now c.requires.arrivals) _ c.requires.stands c.leave-out.new.leaving leaves in
     let all = rw c.links-links.ensures.value at c.arrive-arriving.ensures.all in
     omega (arith, room, all, c.leave-out.ensures.out)
 
 pub returns-clause-stands : goal.returns-clause-stands
 returns-clause-stands g c =
-    stands-next c.args.net.now c.links-links.ensures.network (entering_of c.args.arrivals.now) (g.T.Lights.lines c.args.lights.now) c.requires.arrivals _ c.requires.stands c.look.new.greens c.arrive-arriving.new.recent c.leave-out.new.leaving
+    stands-next c.args.net.now c.links-links.ensures.network (arriving_of c.args.arrivals.now) (g.T.Lights.lines c.args.lights.now) (few-of c.args.net.now c.links-links.ensures.network c.args.arrivals.now c.requires.arrivals) _ c.requires.stands c.look.new.greens c.arrive-arriving.new.recent c.leave-out.new.leaving
     (record {
       second = c.args.x + 1;
       nodes = length c.look.new.greens;

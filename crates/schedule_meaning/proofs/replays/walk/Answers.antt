@@ -14,7 +14,7 @@ loop-index-init g c = rw (c.requires.counts, c.head-head.ensures.value) (record 
   times = rw c.requires.counts at c.requires.times;
   timing = timing-start c.args.i.now c.args.seq.now;
   reached = refl;
-  cost = omega arith;
+  steps = omega arith;
 })
 
 pub next_cluster-cluster-requires-clause-phase : goal.next_cluster-cluster-requires-clause-phase
@@ -51,7 +51,7 @@ loop-index-preserved g c =
           ∙ timing-fit p l.left l.head k rest cluster (c.in-Ok.served, c.in-Ok.next) l.delay c.next_cluster-cluster.ensures.value fit;
       reached = ap (reached_from p (counts_of p.lists) p.head) (take-next seq l.index c.loop-index-test.true)
           ∙ reached-push p (counts_of p.lists) p.head (take l.index seq) l.left l.head k cluster (c.in-Ok.served, c.in-Ok.next) l.invariant.reached c.next_cluster-cluster.ensures.value fit;
-      cost = omega (arith, l.invariant.cost, c.in-Ok.ensures.step);
+      steps = omega (arith, l.invariant.steps, c.in-Ok.ensures.step);
     }
 
 pub returns-clause-ok : goal.returns-clause-ok

@@ -8,7 +8,7 @@ pub returns-in-Err-clause-first : goal.returns-in-Err-clause-first
 returns-in-Err-clause-first c =
     let form = c.in_ok-form.form in
     let p : Problem = record { plan = form.phases.items; head = form.head; lists = form.lists.items } in
-    (p, (c.in_ok-form.ensures.fits, c.in_ok-form.ensures.found), c.in-Err.ensures.err)
+    (p, (c.in_ok-form.ensures.fits, c.in_ok-form.ensures.found), c.in-Err.ensures.first)
 
 pub new-requires-2 : goal.new-requires-2
 new-requires-2 c = lists-below-text c.in_ok-form.form.phases.items c.in_ok-form.form.head c.in_ok-form.form.lists.items c.args.bytes.now c.in_ok-form.ensures.found c.requires

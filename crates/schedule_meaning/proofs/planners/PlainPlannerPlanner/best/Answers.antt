@@ -3,7 +3,7 @@ use Rattle.switch_rules.specs.Orders.{orders}
 use Rattle.schedule_meaning.specs.Best.{IsBest}
 use Rattle.schedule_meaning.specs.Choice.{best_behind}
 use Rattle.schedule_meaning.specs.declared.planners.Answer.TheVariants.{NoPlan}
-use Rattle.schedule_meaning.proofs.Choosing.{search-best, best-least}
+use Rattle.schedule_meaning.proofs.Choosing.{best-one, search-best, best-least}
 use Rattle.schedule_meaning.proofs.planners.PlainPlannerPlanner.best.Goals as goal
 
 pub returns-clause-best : goal.returns-clause-best
@@ -14,3 +14,6 @@ returns-clause-best g c =
 
 pub returns-clause-least : goal.returns-clause-least
 returns-clause-least g c = best-least c.args.i.now c.walk_on.new.best (returns-clause-best g c)
+
+pub returns-clause-only : goal.returns-clause-only
+returns-clause-only g c = λ other h. best-one c.args.i.now other c.walk_on.new.best h (returns-clause-best g c)

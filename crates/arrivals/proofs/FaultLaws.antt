@@ -1,0 +1,100 @@
+-- The first row at fault.
+use Rattle.std.proofs.Common.{◌≡◌, ℕ, ◌+◌, ◌<◌, ◌≤◌, List, [], ◌∷◌, ◌++◌, length, get_or, take, drop, sum, sum_by, Option, Some, Err, All, refl, add-one, sym, ap, ◌∙◌, subst, arith, length-take}
+use Rattle.std.proofs.Math.Seq.{drop-cons}
+use Rattle.std.proofs.lemmas.List.{take-append-drop}
+use Rattle.std.proofs.lemmas.List.Elements.{All-head, All-tail}
+use Rattle.std.proofs.lemmas.List.Sums.{sum_by-append, sum_by-cons}
+use Rattle.std.proofs.lemmas.Option.{same_Some}
+use Rattle.foundation.specs.Options.{◌>>=◌}
+use Rattle.net_draft.specs.Faults.{each}
+use Rattle.net_draft.proofs.Each.{bind-some}
+use Rattle.net_numbers.specs.Numbers.{Net}
+use Rattle.arrivals.specs.declared.rows.ArrivalRow.{ArrivalRow}
+use Rattle.arrivals.specs.declared.rows.RowFault.{RowFault}
+use Rattle.arrivals.specs.declared.rows.RowFault.TheVariants.{NoMemory, Link, Bound, Sum}
+use Rattle.arrivals.specs.Amounts.{Amounts, AreArrivalsOf}
+use Rattle.arrivals.specs.Faults.{IsFirst, IsAtLink, IsAtBound, IsAtSum, IsRowFault, Refuses}
+use Rattle.arrivals.specs.Stored.{Adds}
+use Rattle.arrivals.specs.Rows.{most_of_all, IsSource, HasBounds, IsRow, AreRows, amount_of}
+
+-- a reading of a list goes through its parts
+record Parts {X Y : Type 0} (f : X → Option Y) (xs ys : List X) (zs : List Y) : Type 0 where
+  front : List Y
+  back : List Y
+  reads_front : each f xs ≡ Some front
+  reads_back : each f ys ≡ Some back
+  whole : zs ≡ front ++ back
+
+parts-more : {X Y : Type 0} (f : X → Option Y) (x : X) (xs ys : List X) (y : Y) (vs zs : List Y) → f x ≡ Some y → zs ≡ y ∷ vs → Parts f xs ys vs → Parts f (x ∷ xs) ys zs
+parts-more f x xs ys y vs zs here all p =
+    record { front = y ∷ p.front; back = p.back; reads_front = rw (here, p.reads_front) refl; reads_back = p.reads_back; whole = all ∙ ap (λ l. y ∷ l) p.whole }
+
+parts : {X Y : Type 0} (f : X → Option Y) (xs ys : List X) (zs : List Y) → each f (xs ++ ys) ≡ Some zs → Parts f xs ys zs
+parts f [] ys zs e = record { front = []; back = zs; reads_front = refl; reads_back = e; whole = refl }
+parts f (x ∷ xs) ys zs e =
+    let (y, here, rest) = bind-some (f x) (λ v. each f (xs ++ ys) >>= λ vs. Some (v ∷ vs)) zs e in
+    let (vs, more, last) = bind-some (each f (xs ++ ys)) (λ vs. Some (y ∷ vs)) zs rest in
+    parts-more f x xs ys y vs zs here (sym (same_Some _ _ last)) (parts f xs ys vs more)
+
+-- the first that is read
+head-of : {X Y : Type 0} (f : X → Option Y) (x : X) (xs : List X) (zs : List Y) → each f (x ∷ xs) ≡ Some zs → (y : Y) × (ys : List Y) × (f x ≡ Some y) × (zs ≡ y ∷ ys)
+head-of f x xs zs e =
+    let (y, here, rest) = bind-some (f x) (λ v. each f xs >>= λ vs. Some (v ∷ vs)) zs e in
+    let (ys, more, last) = bind-some (each f xs) (λ vs. Some (y ∷ vs)) zs rest in
+    (y, ys, here, sym (same_Some _ _ last))
+
+-- what holds of all holds of the one in the middle
+in-middle : {X : Type 0} (P : X → Type 0) (xs ys : List X) (y : X) → All P (xs ++ y ∷ ys) → P y
+in-middle P [] ys y all = All-head P y ys all
+in-middle P (x ∷ xs) ys y all = in-middle P xs ys y (All-tail P x (xs ++ y ∷ ys) all)
+
+-- with a first element at fault, where what is at fault can be no lawful row, not all are rows
+pub refuses : {X : Type 0} (read : X → Option ArrivalRow) (net : Net) (all : List X) (n : ℕ) (at_fault : List ArrivalRow → X → Type 0) → IsFirst read net all n at_fault
+    → ((rows : List ArrivalRow) (r : ArrivalRow) (x : X) → at_fault rows x → read x ≡ Some r → IsRow net r → sum_by amount_of rows + r.amount ≤ most_of_all → ⊥)
+    → (rows : List ArrivalRow) → each read all ≡ Some rows → AreRows net rows → ⊥
+refuses read net all n at_fault first clash rows reads are =
+    let p = parts read first.before (first.here ∷ first.after) rows (rw first.are at reads) in
+    let (r, rest, is, tail) = head-of read first.here first.after p.back p.reads_back in
+    let front : p.front ≡ first.rows = same_Some p.front first.rows (sym p.reads_front ∙ first.reads) in
+    let whole : rows ≡ first.rows ++ r ∷ rest = p.whole ∙ ap (λ l. l ++ p.back) front ∙ ap (λ l. first.rows ++ l) tail in
+    let sums = ap (sum_by amount_of) whole ∙ sum_by-append amount_of first.rows (r ∷ rest) in
+    clash first.rows r first.here first.faulty is (in-middle (IsRow net) first.rows rest r (rw whole at are.each)) (omega (arith, sums, sum_by-cons amount_of r rest, are.few))
+
+-- rows are read as themselves
+each-self : {X : Type 0} (xs : List X) → each Some xs ≡ Some xs
+each-self [] = refl
+each-self (x ∷ xs) = rw (each-self xs) refl
+
+split-at : {X : Type 0} (xs : List X) (i : ℕ) (d : X) → i < length xs → xs ≡ take i xs ++ get_or xs i d ∷ drop (i + 1) xs
+split-at xs i d h = sym (take-append-drop i xs) ∙ ap (λ l. take i xs ++ l) (rw add-one (drop-cons xs i d h))
+
+module _ (net : Net) (rows : List ArrivalRow) (i : ℕ) (r : ArrivalRow) (inside : i < length rows) (here : r ≡ get_or rows i r) (lawful : AreRows net (take i rows)) where
+  row-first : (n : ℕ) (at_fault : List ArrivalRow → ArrivalRow → Type 0) → n ≡ i + 1 → at_fault (take i rows) r → IsFirst Some net rows n at_fault
+  row-first n at_fault number fault = record {
+    before = take i rows;
+    here = r;
+    after = drop (i + 1) rows;
+    are = split-at rows i r inside ∙ ap (λ x. take i rows ++ x ∷ drop (i + 1) rows) (sym here);
+    counted = omega (arith, length-take i rows);
+    rows = take i rows;
+    reads = each-self (take i rows);
+    lawful = lawful;
+    faulty = fault;
+  }
+
+  pub row-fault : (fault : RowFault) (old new : Amounts) → sum old.amounts ≡ sum_by amount_of (take i rows) → Adds net r (i + 1) old new (Err fault) → IsRowFault net rows fault
+  row-fault (Link n) old new whole h = row-first n (λ before r. IsAtLink net r) h.0 h.1
+  row-fault (Bound n) old new whole h = row-first n (λ before r. IsAtBound net r) h.0 h.1
+  row-fault (Sum n) old new whole h = row-first n (λ before r. IsAtSum net before r) h.0 (h.1, omega (arith, h.2, whole))
+  row-fault _ old new whole h = absurd h
+
+-- rows with a fault bring no arrivals
+pub row-refuses : (net : Net) (rows : List ArrivalRow) (fault : RowFault) → IsRowFault net rows fault → Refuses fault ((a : Amounts) → AreArrivalsOf net rows a → ⊥)
+row-refuses net rows NoMemory h = tt
+row-refuses net rows (Link n) h =
+    λ a are. refuses Some net rows n (λ before r. IsAtLink net r) h (λ before r x fault reads row few. fault (subst (λ (y : ArrivalRow). IsSource net y.link) (sym (same_Some x r reads)) row.source)) rows (each-self rows) are.lawful
+row-refuses net rows (Bound n) h =
+    λ a are. refuses Some net rows n (λ before r. IsAtBound net r) h (λ before r x fault reads row few. fault.1 (subst HasBounds (sym (same_Some x r reads)) row.bounds)) rows (each-self rows) are.lawful
+row-refuses net rows (Sum n) h =
+    λ a are. refuses Some net rows n (λ before r. IsAtSum net before r) h (λ before r x fault reads row few. absurd (omega (arith, fault.1, few, ap amount_of (same_Some x r reads)))) rows (each-self rows) are.lawful
+row-refuses net rows _ h = absurd h

@@ -1,0 +1,35 @@
+-- What arrivals are: an amount for each link and second.
+use Rattle.std.specs.Prelude.{◌≡◌, ℕ, ◌+◌, ◌*◌, ◌≤◌, ◌<◌, nat_lt, ◌&&◌, if◌then◌else◌, List, length, replicate, slice_index}
+use Rattle.net_numbers.specs.Numbers.{Net}
+use Rattle.road_net.specs.Totals.{total}
+use Rattle.arrivals.specs.declared.rows.ArrivalRow.{ArrivalRow}
+use Rattle.arrivals.specs.Rows.{seconds, most_of_all, IsSource, AreRows, entering_by}
+
+-- for so many links the amounts of each second, link by link
+pub record Amounts : Type 0 where
+  pub links : ℕ
+  pub amounts : List ℕ
+
+-- the place of a link and a second
+abbrev pub place : ℕ → ℕ → ℕ
+place link second = link * seconds + second
+
+-- what enters a link in a second; nothing where there is no such link, and nothing behind the last second
+abbrev pub entering : Amounts → ℕ → ℕ → ℕ
+entering a link second = if nat_lt link a.links && nat_lt second seconds then slice_index a.amounts (place link second) else 0
+
+-- so many links that nothing enters
+abbrev pub nothing : ℕ → Amounts
+nothing links = record { links = links; amounts = replicate (links * seconds) 0 }
+
+-- The arrivals of rows: the rows are lawful, and what enters a link in a second is their sum.
+pub record AreArrivalsOf (net : Net) (rows : List ArrivalRow) (a : Amounts) : Type 0 where
+  pub lawful : AreRows net rows
+  pub links : a.links ≡ length net.link_names
+  pub sums : (link second : ℕ) → entering a link second ≡ entering_by rows link second
+
+-- Arrivals at a network: they enter links that come from no node alone, and all together are no more than they may be.
+pub record AreArrivals (net : Net) (a : Amounts) : Type 0 where
+  pub links : a.links ≡ length net.link_names
+  pub sources : (link second : ℕ) → 0 < entering a link second → IsSource net link
+  pub few : (n : ℕ) → total (λ x. total (λ l. entering a l x) (length net.links)) n ≤ most_of_all

@@ -1,0 +1,45 @@
+-- The first row at fault.
+use Rattle.std.specs.Prelude.{◌≡◌, ℕ, ◌+◌, ◌<◌, List, ◌∷◌, ◌++◌, Option, Some, length, sum_by}
+use Rattle.net_draft.specs.Faults.{each}
+use Rattle.net_numbers.specs.Numbers.{Net}
+use Rattle.arrivals.specs.declared.rows.ArrivalRow.{ArrivalRow}
+use Rattle.arrivals.specs.declared.rows.RowFault.{RowFault}
+use Rattle.arrivals.specs.declared.rows.RowFault.TheVariants.{NoMemory, Link, Bound, Sum}
+use Rattle.arrivals.specs.Rows.{most_of_all, IsSource, HasBounds, IsRow, amount_of, AreRows}
+
+-- The element with this number, counted from 1, is the first at fault: those before it are read as rows that are lawful, and
+-- `at_fault` holds of these rows and of the element.
+pub record IsFirst {X : Type 0} (read : X → Option ArrivalRow) (net : Net) (all : List X) (number : ℕ) (at_fault : List ArrivalRow → X → Type 0) : Type 0 where
+  pub before : List X
+  pub here : X
+  pub after : List X
+  pub are : all ≡ before ++ here ∷ after
+  pub counted : number ≡ length before + 1
+  pub rows : List ArrivalRow
+  pub reads : each read before ≡ Some rows
+  pub lawful : AreRows net rows
+  pub faulty : at_fault rows here
+
+-- a row whose link is no source; one with a source that is out of its bounds; a lawful one with which, after these rows, all
+-- bring more than they may
+abbrev pub IsAtLink : Net → ArrivalRow → Type 0
+IsAtLink net r = ¬ IsSource net r.link
+
+abbrev pub IsAtBound : Net → ArrivalRow → Type 0
+IsAtBound net r = IsSource net r.link × ¬ HasBounds r
+
+abbrev pub IsAtSum : Net → List ArrivalRow → ArrivalRow → Type 0
+IsAtSum net rows r = IsRow net r × (most_of_all < sum_by amount_of rows + r.amount)
+
+-- why rows are no arrivals
+abbrev pub IsRowFault : Net → List ArrivalRow → RowFault → Type 0
+IsRowFault net rows NoMemory = Unit {0}
+IsRowFault net rows (Link n) = IsFirst Some net rows n (λ before r. IsAtLink net r)
+IsRowFault net rows (Bound n) = IsFirst Some net rows n (λ before r. IsAtBound net r)
+IsRowFault net rows (Sum n) = IsFirst Some net rows n (λ before r. IsAtSum net before r)
+IsRowFault net rows _ = ⊥
+
+-- the fact holds, unless the fault is want of memory
+abbrev pub Refuses : RowFault → Type 0 → Type 0
+Refuses NoMemory fact = Unit {0}
+Refuses _ fact = fact

@@ -1,0 +1,7 @@
+pub mod Amounts
+pub mod Faults
+pub mod Reading
+pub mod Records
+pub mod Rows
+pub mod Stored
+pub mod Texts

@@ -1,0 +1,44 @@
+-- Rows of arrivals: which are lawful, and what they bring.
+use Rattle.std.specs.Prelude.{◌≡◌, ℕ, ◌≤◌, ◌<◌, ◌==◌, ◌&&◌, Bool, List, None, length, filter, sum_by, All}
+use Rattle.net_numbers.specs.Numbers.{Net}
+use Rattle.net_numbers.specs.Outline.{link_at}
+use Rattle.arrivals.specs.declared.rows.ArrivalRow.{ArrivalRow}
+
+-- the seconds in which something may enter; the most that one row may bring, and the most that all may
+abbrev pub seconds : ℕ
+seconds = 18000
+
+abbrev pub most_of_row : ℕ
+most_of_row = 1000000
+
+abbrev pub most_of_all : ℕ
+most_of_all = 2000000000
+
+-- a link that is entered from outside: it comes from no node
+pub record IsSource (net : Net) (link : ℕ) : Type 0 where
+  pub exists : link < length net.link_names
+  pub outside : (link_at net link).from ≡ None
+
+pub record HasBounds (r : ArrivalRow) : Type 0 where
+  pub second : r.second < seconds
+  pub least : 1 ≤ r.amount
+  pub most : r.amount ≤ most_of_row
+
+pub record IsRow (net : Net) (r : ArrivalRow) : Type 0 where
+  pub source : IsSource net r.link
+  pub bounds : HasBounds r
+
+abbrev pub amount_of : ArrivalRow → ℕ
+amount_of r = r.amount
+
+-- rows of arrivals at a network: each is lawful, and all together bring no more than they may
+pub record AreRows (net : Net) (rows : List ArrivalRow) : Type 0 where
+  pub each : All (IsRow net) rows
+  pub few : sum_by amount_of rows ≤ most_of_all
+
+-- what enters a link in a second: the sum of the rows with both
+abbrev pub is_at : ℕ → ℕ → ArrivalRow → Bool
+is_at link second r = (r.link == link) && (r.second == second)
+
+abbrev pub entering_by : List ArrivalRow → ℕ → ℕ → ℕ
+entering_by rows link second = sum_by amount_of (filter (is_at link second) rows)

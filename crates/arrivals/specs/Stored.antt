@@ -1,0 +1,35 @@
+-- What the steps of the code answer, and what they keep. No public clause names these words.
+use Rattle.std.specs.Prelude.{◌≡◌, ℕ, ◌+◌, ◌*◌, ◌≤◌, List, None, Some, Result, Ok, Err, IsSomeAnd, length, sum, slice_index, slice_set}
+use Rattle.net_numbers.specs.Numbers.{Net, number_of}
+use Rattle.arrivals.specs.declared.rows.ArrivalRow.{ArrivalRow}
+use Rattle.arrivals.specs.declared.rows.RowFault.{RowFault}
+use Rattle.arrivals.specs.declared.rows.RowFault.TheVariants.{Row, Link, Bound, Sum}
+use Rattle.arrivals.specs.Amounts.{Amounts, place}
+use Rattle.arrivals.specs.Faults.{IsAtLink, IsAtBound}
+use Rattle.arrivals.specs.Records.{told_of, row_of}
+use Rattle.arrivals.specs.Rows.{seconds, most_of_all, IsRow}
+
+-- the amounts of all links and seconds, and their sum
+pub record IsStored (links : ℕ) (amounts : List ℕ) (whole : ℕ) : Type 0 where
+  pub shape : length amounts ≡ links * seconds
+  pub adds : whole ≡ sum amounts
+  pub few : whole ≤ most_of_all
+
+-- with one row more
+abbrev pub added : Amounts → ArrivalRow → Amounts
+added a r = record { links = a.links; amounts = slice_set a.amounts (place r.link r.second) (slice_index a.amounts (place r.link r.second) + r.amount) }
+
+-- the row was added, where it is lawful and all bring no more than they may; else its first fault
+abbrev pub Adds : Net → ArrivalRow → ℕ → Amounts → Amounts → Result (Unit {0}) RowFault → Type 0
+Adds net r number old new (Ok _) = IsRow net r × (new ≡ added old r) × (sum old.amounts + r.amount ≤ most_of_all)
+Adds net r number old new (Err (Link n)) = (n ≡ number) × IsAtLink net r
+Adds net r number old new (Err (Bound n)) = (n ≡ number) × IsAtBound net r
+Adds net r number old new (Err (Sum n)) = (n ≡ number) × IsRow net r × (most_of_all + 1 ≤ sum old.amounts + r.amount)
+Adds net r number old new (Err _) = ⊥
+
+-- the row of a record; else the record tells none, or its name is no link's
+abbrev pub Reads : Net → List (List ℕ) → ℕ → Result ArrivalRow RowFault → Type 0
+Reads net fields number (Ok r) = row_of net fields ≡ Some r
+Reads net fields number (Err (Row n)) = (n ≡ number) × (told_of fields ≡ None)
+Reads net fields number (Err (Link n)) = (n ≡ number) × IsSomeAnd (told_of fields) (λ t. number_of net.link_names t.name ≡ None)
+Reads net fields number (Err _) = ⊥

@@ -1,0 +1,152 @@
+ghost use Rattle.std.specs.Prelude.{◌≡◌, ◌↔◌, ◌<◌, IsTrue, IfOk, length, replicate};
+ghost use Rattle.arrivals.specs.Rows.{IsSource, HasBounds};
+
+use crate::rows::{ArrivalRow, RowFault};
+use foundation::threads::CrossesThreads;
+use road_net::Network;
+use std::alloc::{AllocError, Global};
+use std::marker::Model;
+
+/// The seconds in which something may enter.
+const SECONDS: u32 = 18_000;
+
+/// The most that one row may bring, in thousandths of a vehicle.
+const MOST_OF_ROW: u32 = 1_000_000;
+
+/// The most that all rows may bring together, in thousandths of a vehicle.
+const MOST_OF_ALL: u32 = 2_000_000_000;
+
+/// What enters the links of a network from outside: the sums of its rows by link and second, all together at most
+/// 2,000,000,000 thousandths of a vehicle. It keeps one number for each link and second, however many rows there were.
+///
+/// docs/RULES.md, "Arrivals".
+#[derive(Drop)]
+pub struct Arrivals {
+    links: u32,
+    /// The seconds of the first link, then those of the second, and so on.
+    amounts: Vec<u32>,
+    /// The sum of all amounts.
+    whole: u32,
+}
+
+impl Model for Arrivals {
+    ghost use Rattle.arrivals.specs.Amounts.{Amounts};
+
+    ghost Value = { Amounts };
+
+    ghost use Rattle.arrivals.specs.Stored.{IsStored};
+
+    ghost view = { λ arrivals. record { links = arrivals.links; amounts = arrivals.amounts.items } };
+
+    ghost invariant = { λ arrivals. IsStored arrivals.links arrivals.amounts.items arrivals.whole };
+}
+
+impl CrossesThreads for Arrivals {}
+
+impl Arrivals {
+    ghost use Rattle.std.specs.Prelude.{◌≡◌, ◌≤◌, ℕ, IfOk, IfErr, length};
+    ghost use Rattle.road_net.specs.Network.{IsNetwork};
+    ghost use Rattle.road_net.specs.Totals.{total};
+    ghost use Rattle.arrivals.specs.Rows.{most_of_all};
+    ghost use Rattle.arrivals.specs.Amounts.{Amounts, entering, AreArrivals, AreArrivalsOf, nothing};
+    ghost use Rattle.arrivals.specs.Faults.{IsRowFault, Refuses};
+    ghost use Rattle.arrivals.specs.Stored.{Adds};
+
+    /// The arrivals of these rows, which may stand in any order; rows of one link and second are added.
+    ///
+    /// The fault is want of memory, or `Link`, `Bound` or `Sum` of the first row at fault, in this order within a row.
+    ///
+    /// docs/RULES.md, "Arrivals".
+    pub fn new(alloc: Global, net: &Network, rows: Vec<ArrivalRow>) -> Result<Arrivals, RowFault>
+        ensures ok { IfOk result (AreArrivalsOf net.now rows.items) }
+        ensures arrivals { IfOk result (AreArrivals net.now) }
+        ensures refused { IfErr result (λ fault. Refuses fault ((a : Amounts) → ¬ AreArrivalsOf net.now rows.items a)) }
+        ensures first { IfErr result (IsRowFault net.now rows.items) }
+    {
+        Arrivals::of_rows(alloc, net, rows.as_slice())
+    }
+
+    fn of_rows(alloc: Global, net: &Network, rows: &[ArrivalRow]) -> Result<Arrivals, RowFault>
+        ensures ok { IfOk result (AreArrivalsOf net.now rows.now) }
+        ensures arrivals { IfOk result (AreArrivals net.now) }
+        ensures refused { IfErr result (λ fault. Refuses fault ((a : Amounts) → ¬ AreArrivalsOf net.now rows.now a)) }
+        ensures first { IfErr result (IsRowFault net.now rows.now) }
+    {
+        let mut arrivals = Arrivals::none(alloc, net)?;
+        for (index, row) in rows.iter().enumerate() {
+            arrivals.add(net, *row, index as u32 + 1)?;
+        }
+        Ok(arrivals)
+    }
+
+    /// What enters a link in a second, in thousandths of a vehicle: the sum of the rows with both.
+    ///
+    /// docs/RULES.md, "Arrivals".
+    pub fn entering(&self, link: u32, second: u32) -> u32
+        ensures value { result ≡ entering self.now link second }
+        ensures few { (n m : ℕ) → total (λ x. total (λ l. entering self.now l x) m) n ≤ most_of_all }
+    {
+        if link >= self.links || second >= SECONDS {
+            return 0;
+        }
+        self.amounts[link as usize * SECONDS as usize + second as usize]
+    }
+
+    /// No arrivals.
+    pub(crate) fn none(alloc: Global, net: &Network) -> Result<Arrivals, AllocError>
+        ensures none { IfOk result (λ a. a ≡ nothing (length net.now.link_names)) }
+        ensures network { IsNetwork net.now }
+    {
+        let links = net.links();
+        let amounts = zeros(alloc, links as usize * SECONDS as usize)?;
+        Ok(Arrivals {
+            links,
+            amounts,
+            whole: 0,
+        })
+    }
+
+    /// Adds the row with this number.
+    pub(crate) fn add(
+        &mut self,
+        net: &Network,
+        row: ArrivalRow,
+        number: u32,
+    ) -> Result<(), RowFault>
+        requires { self.old.links ≡ length net.now.link_names }
+        ensures { Adds net.now row number self.old self.new result }
+    {
+        if !is_source(net, row.link) {
+            return Err(RowFault::Link(number));
+        }
+        if !has_bounds(&row) {
+            return Err(RowFault::Bound(number));
+        }
+        if row.amount > MOST_OF_ALL - self.whole {
+            return Err(RowFault::Sum(number));
+        }
+        self.amounts[row.link as usize * SECONDS as usize + row.second as usize] += row.amount;
+        self.whole += row.amount;
+        Ok(())
+    }
+}
+
+fn zeros(alloc: Global, count: usize) -> Result<Vec<u32>, AllocError>
+    ensures { IfOk result (λ v. v.items ≡ replicate count 0) }
+{
+    vec![in alloc; 0; count]
+}
+
+/// Whether the link is one of the network that comes from no node.
+fn is_source(net: &Network, link: u32) -> bool
+    ensures { IsTrue result ↔ IsSource net.now link }
+{
+    link < net.links() && net.link(link).from.is_none()
+}
+
+/// Whether the second and the amount are within their bounds.
+fn has_bounds(row: &ArrivalRow) -> bool
+    ensures { IsTrue result ↔ HasBounds row.now }
+{
+    row.second < SECONDS && (1..=MOST_OF_ROW).contains(&row.amount)
+}

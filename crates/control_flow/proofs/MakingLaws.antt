@@ -1,0 +1,381 @@
+-- The timelines of servings and of no plan are lawful, begin with the green of the head, and end late enough.
+use Rattle.std.proofs.Common.{◌≡◌, ℕ, zero, suc, ◌+◌, ◌-◌, ◌<◌, ◌≤◌, Bool, true, false, cond, ltb, List, [], ◌∷◌, ◌++◌, length, All, get_or, drop, refl, sym, ap, subst, ◌∙◌, inl, inr, arith, append_assoc, length-append}
+use Rattle.std.specs.List.{range_with_len}
+use Rattle.std.proofs.lemmas.List.{drop_more, drop_all, get_or-append-add}
+use Rattle.std.proofs.lemmas.Bool.{cases_lt, cond_below, cond_above, cond_both, ltb-true, ltb-false}
+use Rattle.std.proofs.lemmas.List.Elements.{All-nil, All-cons, All-head, All-tail, All-append, All-weaker}
+use Rattle.phase_plan.specs.Phases.{IsPlan, next_phase, passed_numbers, phase_at, passing, switch_time}
+use Rattle.phase_plan.specs.declared.Phase.{Phase}
+use Rattle.switch_rules.specs.Serving.{IsHead, earliest_end, earliest_green, head_behind}
+use Rattle.switch_rules.specs.declared.Head.{Head}
+use Rattle.switch_rules.specs.declared.Served.{Served}
+use Rattle.control_flow.specs.declared.greens.Green.{Green}
+use Rattle.control_flow.specs.Greens.{no_green, row_at, end_of, IsGreen, IsLawful, GoesOn, BeginBy}
+use Rattle.control_flow.specs.Timelines.{IsServingOf, AreServings, IsGreenOf, HasGreens, shortest_greens, begin_behind, last_end, left_for, green_behind, turning, turned, line_of, rotation_of}
+use Rattle.control_flow.proofs.RowLaws.{lawful-nil, lawful-cons, end_of-last}
+use Rattle.foundation.proofs.RangeLaws.{range-more}
+use Rattle.phase_plan.proofs.RingLaws.{IsWalk, phase-bounds, next_phase-below, walk-passed}
+use Rattle.control_flow.proofs.RingLaws.{begin_behind-append, begin_behind-later, begin_behind-passed}
+use Rattle.control_flow.proofs.ServingLaws.{IsAnyServing, IsServingOf-keeps, IsServingOf-head}
+
+-- what the timelines from a head have in common
+pub record IsLineFrom (plan : List Phase) (head : Head) (until : ℕ) (rows : List Green) : Type 0 where
+  pub lawful : IsLawful plan rows
+  pub begin : GoesOn head rows
+  pub end : until < end_of rows
+
+-- a green of the ring behind a row
+
+green_behind-green : (plan : List Phase) (s to : ℕ) → IsPlan plan → IsGreen plan (green_behind plan s to)
+green_behind-green plan s to p =
+    let below = next_phase-below plan s p in
+    let times = phase-bounds plan (next_phase plan s) p below in
+    record { phase = below; least = omega arith; greatest = omega (arith, times.greatest) }
+
+alone : (plan : List Phase) (row : Green) → IsGreen plan row → IsLawful plan (row ∷ [])
+alone plan row green = lawful-cons plan row [] green (λ h. absurd (omega arith)) (lawful-nil plan)
+
+turning-lawful : (plan : List Phase) (until most : ℕ) (row : Green) → IsPlan plan → IsGreen plan row → IsLawful plan (row ∷ turning plan most until row.phase row.to)
+turning-lawful plan until zero row p green = alone plan row green
+turning-lawful plan until (suc most) row p green =
+    let next = green_behind plan row.phase row.to in
+    let later = turning-lawful plan until most next p (green_behind-green plan row.phase row.to p) in
+    cond_both (ltb until row.to) [] (next ∷ turning plan most until next.phase next.to) (λ rows. IsLawful plan (row ∷ rows))
+    (λ e. alone plan row green)
+    (λ e. lawful-cons plan row (next ∷ turning plan most until next.phase next.to) green (λ h. record { phase = refl; begins = omega arith }) later)
+
+green_behind-later : (plan : List Phase) (s to : ℕ) → IsPlan plan → to + 1 ≤ (green_behind plan s to).to
+green_behind-later plan s to p = let times = phase-bounds plan (next_phase plan s) p (next_phase-below plan s p) in omega (arith, times.least)
+
+turning-end : (plan : List Phase) (until most : ℕ) (row : Green) → IsPlan plan → until + 1 ≤ most + row.to → until < end_of (row ∷ turning plan most until row.phase row.to)
+turning-end plan until zero row p enough = omega arith
+turning-end plan until (suc most) row p enough =
+    let next = green_behind plan row.phase row.to in
+    let later = green_behind-later plan row.phase row.to p in
+    let others = turning-end plan until most next p (omega (arith, later)) in
+    cond_both (ltb until row.to) [] (next ∷ turning plan most until next.phase next.to) (λ rows. until < end_of (row ∷ rows))
+    (λ e. ltb-true until row.to e)
+    (λ e. others)
+
+turning-by : (plan : List Phase) (until most s to : ℕ) → IsPlan plan → s < length plan → BeginBy (until + 20) (turning plan most until s to)
+turning-by plan until zero s to p h = All-nil (λ (row : Green). row.from ≤ until + 20)
+turning-by plan until (suc most) s to p h =
+    let next = green_behind plan s to in
+    let times = phase-bounds plan s p h in
+    let others = turning-by plan until most next.phase next.to p (next_phase-below plan s p) in
+    cond_both (ltb until to) [] (next ∷ turning plan most until next.phase next.to) (BeginBy (until + 20))
+    (λ e. All-nil (λ (row : Green). row.from ≤ until + 20))
+    (λ e. let over = ltb-false until to e in All-cons (λ (row : Green). row.from ≤ until + 20) next (turning plan most until next.phase next.to) (omega (arith, times.yellow, times.clear, over)) others)
+
+-- enough greens are enough
+turning-enough : (plan : List Phase) (until m n s to : ℕ) → IsPlan plan → until + 1 ≤ m + to → until + 1 ≤ n + to → turning plan m until s to ≡ turning plan n until s to
+turning-enough plan until zero zero s to p a b = refl
+turning-enough plan until zero (suc n) s to p a b = cond_below until to [] (green_behind plan s to ∷ turning plan n until (green_behind plan s to).phase (green_behind plan s to).to) (omega arith)
+turning-enough plan until (suc m) zero s to p a b = sym (cond_below until to [] (green_behind plan s to ∷ turning plan m until (green_behind plan s to).phase (green_behind plan s to).to) (omega arith))
+turning-enough plan until (suc m) (suc n) s to p a b =
+    let next = green_behind plan s to in
+    let later = green_behind-later plan s to p in
+    let same = turning-enough plan until m n next.phase next.to p (omega (arith, later)) (omega (arith, later)) in
+    ap (λ (rows : List Green). cond (ltb until to) [] (next ∷ rows)) same
+
+-- the next green of the ring, where the row does not end behind `until`
+pub turning-step : (plan : List Phase) (until s to : ℕ) → IsPlan plan → to ≤ until
+    → turning plan (until + 1 - to) until s to ≡ green_behind plan s to ∷ turning plan (until + 1 - (green_behind plan s to).to) until (green_behind plan s to).phase (green_behind plan s to).to
+turning-step plan until s to p h =
+    let next = green_behind plan s to in
+    let m = until + 1 - to in
+    let later = green_behind-later plan s to p in
+    turning-enough plan until m (suc m) s to p (omega arith) (omega arith)
+    ∙ sym (cond_above until to [] (next ∷ turning plan m until next.phase next.to) (next ∷ turning plan m until next.phase next.to) h refl)
+    ∙ ap (λ (rows : List Green). next ∷ rows) (turning-enough plan until m (until + 1 - next.to) next.phase next.to p (omega (arith, later)) (omega arith))
+
+-- the begin of the turning
+pub turned-is : (plan : List Phase) (head : Head) (to until : ℕ) → IsPlan plan
+    → turned plan head to until ≡ record { phase = head.phase; from = head.since; to = to } ∷ turning plan (until + 1 - to) until head.phase to
+turned-is plan head to until p =
+    let row : Green = record { phase = head.phase; from = head.since; to = to } in
+    ap (λ (rows : List Green). row ∷ rows) (turning-enough plan until (until + 1) (until + 1 - to) head.phase to p (omega arith) (omega arith))
+
+-- a green of a head that is held up to a second within its bounds
+turned-line : (plan : List Phase) (head : Head) (to until : ℕ) → IsPlan plan → IsHead plan head → head.at ≤ 104000 → head.since + (phase_at plan head.phase).least ≤ to
+    → to ≤ head.since + (phase_at plan head.phase).greatest → head.at ≤ to → IsLineFrom plan head until (turned plan head to until)
+turned-line plan head to until p h reach least greatest spent =
+    let row : Green = record { phase = head.phase; from = head.since; to = to } in
+    let green : IsGreen plan row = record { phase = h.phase; least = least; greatest = greatest } in
+    record {
+      lawful = turning-lawful plan until (until + 1) row p green;
+      begin = record { some = omega arith; phase = refl; begin = refl; spent = spent };
+      end = turning-end plan until (until + 1) row p (omega arith);
+    }
+
+turned-by : (plan : List Phase) (head : Head) (to until n : ℕ) → IsPlan plan → head.phase < length plan → head.since ≤ n → until + 20 ≤ n → BeginBy n (turned plan head to until)
+turned-by plan head to until n p h since last =
+    let row : Green = record { phase = head.phase; from = head.since; to = to } in
+    let more = λ (r : Green) (e : r.from ≤ until + 20). let weaker : r.from ≤ n = omega arith in weaker in
+    All-cons (λ (r : Green). r.from ≤ n) row (turning plan (until + 1) until head.phase to) since
+    (All-weaker (λ (r : Green). r.from ≤ until + 20) (λ (r : Green). r.from ≤ n) more (turning plan (until + 1) until head.phase to) (turning-by plan until (until + 1) head.phase to p h))
+
+pub rotation_of-line : (plan : List Phase) (head : Head) (until : ℕ) → IsPlan plan → IsHead plan head → head.at ≤ 104000 → IsLineFrom plan head until (rotation_of plan head until)
+rotation_of-line plan head until p h reach =
+    let times = phase-bounds plan head.phase p h.phase in
+    turned-line plan head (earliest_end plan head) until p h reach (omega arith) (omega (arith, h.within, times.greatest)) (omega arith)
+
+-- where its rows begin
+pub rotation_of-by : (plan : List Phase) (head : Head) (until n : ℕ) → IsPlan plan → IsHead plan head → head.since ≤ n → until + 20 ≤ n → BeginBy n (rotation_of plan head until)
+rotation_of-by plan head until n p h since last = turned-by plan head (earliest_end plan head) until n p h.phase since last
+
+-- the greens that the ring passes, up to a second at which the wanted green can begin
+
+shortest-by : (plan : List Phase) (from : ℕ) (ks : List ℕ) (b : ℕ) → begin_behind plan from ks ≤ b → BeginBy b (shortest_greens plan from ks)
+shortest-by plan from [] b h = All-nil (λ (row : Green). row.from ≤ b)
+shortest-by plan from (k ∷ ks) b h =
+    let next = from + passing (phase_at plan k) in
+    All-cons (λ (row : Green). row.from ≤ b) (record { phase = k; from = from; to = from + (phase_at plan k).least }) (shortest_greens plan next ks) (omega (arith, begin_behind-later plan next ks)) (shortest-by plan next ks b h)
+
+-- a lawful rest that begins with phase j, at second b or later
+pub record IsRest (plan : List Phase) (j b : ℕ) (rest : List Green) : Type 0 where
+  pub lawful : IsLawful plan rest
+  pub some : 0 < length rest
+  pub phase : (row_at rest 0).phase ≡ j
+  pub begins : b ≤ (row_at rest 0).from
+
+shortest-lawful : (plan : List Phase) (ks : List ℕ) (row : Green) (j b : ℕ) (rest : List Green) → IsPlan plan → IsGreen plan row → IsWalk plan row.phase ks j
+    → begin_behind plan (row.to + (phase_at plan row.phase).yellow + (phase_at plan row.phase).clear) ks ≤ b → IsRest plan j b rest
+    → IsLawful plan (row ∷ shortest_greens plan (row.to + (phase_at plan row.phase).yellow + (phase_at plan row.phase).clear) ks ++ rest)
+shortest-lawful plan [] row j b rest p green walk time others =
+    lawful-cons plan row rest green (λ h. record { phase = others.phase ∙ walk; begins = omega (arith, others.begins) }) others.lawful
+shortest-lawful plan (k ∷ ks) row j b rest p green walk time others =
+    let from = row.to + (phase_at plan row.phase).yellow + (phase_at plan row.phase).clear in
+    let first : Green = record { phase = k; from = from; to = from + (phase_at plan k).least } in
+    let times = phase-bounds plan k p walk.0 in
+    let next : IsGreen plan first = record { phase = walk.0; least = omega arith; greatest = omega (arith, times.greatest) } in
+    let same : from + passing (phase_at plan k) ≡ first.to + (phase_at plan k).yellow + (phase_at plan k).clear = omega arith in
+    let short : begin_behind plan (first.to + (phase_at plan k).yellow + (phase_at plan k).clear) ks ≤ b = omega (arith, ap (λ t. begin_behind plan t ks) same) in
+    let later = shortest-lawful plan ks first j b rest p next walk.2 short others in
+    lawful-cons plan row (first ∷ shortest_greens plan (from + passing (phase_at plan k)) ks ++ rest) green (λ h. record { phase = walk.1; begins = omega arith })
+    (rw same later)
+
+-- a green that goes on
+
+kept-line : (plan : List Phase) (head : Head) (k : ℕ) (s : Served) (until : ℕ) (rows : List Green) → (k ≡ head.phase) × (s.green ≡ head.since) × (head.at ≤ s.finish)
+    → IsLineFrom plan (head_behind k s) until rows → IsLineFrom plan head until rows
+kept-line plan head k s until rows stood line = record {
+  lawful = line.lawful;
+  begin = record { some = line.begin.some; phase = line.begin.phase ∙ stood.0; begin = line.begin.begin ∙ stood.1; spent = omega (arith, stood.2, line.begin.spent) };
+  end = line.end;
+}
+
+-- a green that is left
+
+-- the wanted green can begin behind those that the ring passes
+left-short : (plan : List Phase) (head : Head) (k b : ℕ) → IsHead plan head → k < length plan → earliest_green plan head k ≤ b
+    → begin_behind plan (last_end plan head k b + (phase_at plan head.phase).yellow + (phase_at plan head.phase).clear) (passed_numbers plan head.phase k) ≤ b
+left-short plan head k b h below earliest =
+    let to = last_end plan head k b in
+    let in_time : to + switch_time plan head.phase k ≤ b = omega (arith, earliest) in
+    omega (arith, begin_behind-passed plan to head.phase k, in_time)
+
+left-line : (plan : List Phase) (head : Head) (k : ℕ) (s : Served) (until : ℕ) (rest : List Green) → IsPlan plan → IsHead plan head → head.at ≤ 104000 → k < length plan → IsAnyServing plan head k s
+    → earliest_green plan head k ≤ s.green → IsLineFrom plan (head_behind k s) until rest
+    → IsLineFrom plan head until (left_for plan head (last_end plan head k s.green) (passed_numbers plan head.phase k) ++ rest)
+left-line plan head k s until rest p h reach below keeps earliest line =
+    let times = phase-bounds plan head.phase p h.phase in
+    let to = last_end plan head k s.green in
+    let row : Green = record { phase = head.phase; from = head.since; to = to } in
+    let ks = passed_numbers plan head.phase k in
+    let from = to + (phase_at plan head.phase).yellow + (phase_at plan head.phase).clear in
+    let green : IsGreen plan row = record { phase = h.phase; least = omega arith; greatest = omega (arith, h.within, times.greatest) } in
+    let short = left-short plan head k s.green h below earliest in
+    let others : IsRest plan k s.green rest = record { lawful = line.lawful; some = line.begin.some; phase = line.begin.phase; begins = omega (arith, line.begin.begin) } in
+    record {
+      lawful = shortest-lawful plan ks row k s.green rest p green (walk-passed plan head.phase k h.phase below) short others;
+      begin = record { some = omega arith; phase = refl; begin = refl; spent = omega arith };
+      end = omega (arith, line.end, end_of-last (row ∷ shortest_greens plan from ks) rest line.begin.some);
+    }
+
+pub line_of-line : (plan : List Phase) (ks : List ℕ) (ss : List Served) (head : Head) (until : ℕ) → IsPlan plan → IsHead plan head → head.at ≤ 104000 → AreServings plan head ks ss
+    → IsLineFrom plan head until (line_of plan head ks ss until)
+line_of-line plan [] [] head until p h reach servings =
+    let times = phase-bounds plan head.phase p h.phase in
+    turned-line plan head (head.since + (phase_at plan head.phase).greatest) until p h reach (omega (arith, times.greatest)) (omega arith) h.within
+line_of-line plan [] (s ∷ ss) head until p h reach servings = absurd servings
+line_of-line plan (k ∷ ks) [] head until p h reach servings = absurd servings
+line_of-line plan (k ∷ ks) (s ∷ ss) head until p h reach servings =
+    let one = servings.0 in
+    let keeps = IsServingOf-keeps plan head k s p h one in
+    let next = head_behind k s in
+    let rest = line_of plan next ks ss until in
+    let line = line_of-line plan ks ss next until p (IsServingOf-head plan head k s p h one) (omega (arith, keeps.reach)) servings.1 in
+    cond_both s.kept rest (left_for plan head (last_end plan head k s.green) (passed_numbers plan head.phase k) ++ rest) (IsLineFrom plan head until)
+    (λ e. kept-line plan head k s until rest (keeps.stood e) line)
+    (λ e. left-line plan head k s until rest p h reach one.phase keeps (keeps.anew e) line)
+
+-- where their rows begin
+
+left-by : (plan : List Phase) (head : Head) (k b n : ℕ) (rest : List Green) → IsHead plan head → k < length plan → earliest_green plan head k ≤ b → head.since ≤ n → b ≤ n → BeginBy n rest
+    → BeginBy n (left_for plan head (last_end plan head k b) (passed_numbers plan head.phase k) ++ rest)
+left-by plan head k b n rest h below earliest since early others =
+    let to = last_end plan head k b in
+    let row : Green = record { phase = head.phase; from = head.since; to = to } in
+    let ks = passed_numbers plan head.phase k in
+    let from = to + (phase_at plan head.phase).yellow + (phase_at plan head.phase).clear in
+    let short : begin_behind plan from ks ≤ n = omega (arith, left-short plan head k b h below earliest) in
+    All-cons (λ (r : Green). r.from ≤ n) row (shortest_greens plan from ks ++ rest) since
+    (All-append (λ (r : Green). r.from ≤ n) (shortest_greens plan from ks) rest (shortest-by plan from ks n short) others)
+
+pub line_of-by : (plan : List Phase) (ks : List ℕ) (ss : List Served) (head : Head) (until n : ℕ) → IsPlan plan → IsHead plan head → AreServings plan head ks ss
+    → head.since ≤ n → until + 20 ≤ n → All (λ (s : Served). s.green ≤ n) ss → BeginBy n (line_of plan head ks ss until)
+line_of-by plan [] ss head until n p h servings since last greens = turned-by plan head (head.since + (phase_at plan head.phase).greatest) until n p h.phase since last
+line_of-by plan (k ∷ ks) [] head until n p h servings since last greens = absurd servings
+line_of-by plan (k ∷ ks) (s ∷ ss) head until n p h servings since last greens =
+    let one = servings.0 in
+    let keeps = IsServingOf-keeps plan head k s p h one in
+    let next = head_behind k s in
+    let rest = line_of plan next ks ss until in
+    let early = All-head (λ (t : Served). t.green ≤ n) s ss greens in
+    let others = line_of-by plan ks ss next until n p (IsServingOf-head plan head k s p h one) servings.1 early last (All-tail (λ (t : Served). t.green ≤ n) s ss greens) in
+    cond_both s.kept rest (left_for plan head (last_end plan head k s.green) (passed_numbers plan head.phase k) ++ rest) (BeginBy n)
+    (λ e. others)
+    (λ e. left-by plan head k s.green n rest h one.phase (keeps.anew e) since early others)
+
+-- each serving has its green
+
+IsGreenOf-behind : (front rows : List Green) (k : ℕ) (s : Served) → IsGreenOf rows k s → IsGreenOf (front ++ rows) k s
+IsGreenOf-behind front rows k s g =
+    let same = get_or-append-add front rows g.index no_green in
+    record {
+      index = length front + g.index;
+      below = omega (arith, length-append front rows, g.below);
+      phase = ap (λ (r : Green). r.phase) same ∙ g.phase;
+      begin = ap (λ (r : Green). r.from) same ∙ g.begin;
+      finish = omega (arith, ap (λ (r : Green). r.to) same, g.finish);
+    }
+
+HasGreens-behind : (front rows : List Green) (ks : List ℕ) (ss : List Served) → HasGreens rows ks ss → HasGreens (front ++ rows) ks ss
+HasGreens-behind front rows [] ss has = tt
+HasGreens-behind front rows (k ∷ ks) [] has = tt
+HasGreens-behind front rows (k ∷ ks) (s ∷ ss) has = (IsGreenOf-behind front rows k s has.0, HasGreens-behind front rows ks ss has.1)
+
+pub line_of-greens : (plan : List Phase) (ks : List ℕ) (ss : List Served) (head : Head) (until : ℕ) → IsPlan plan → IsHead plan head → head.at ≤ 104000 → AreServings plan head ks ss
+    → HasGreens (line_of plan head ks ss until) ks ss
+line_of-greens plan [] ss head until p h reach servings = tt
+line_of-greens plan (k ∷ ks) [] head until p h reach servings = tt
+line_of-greens plan (k ∷ ks) (s ∷ ss) head until p h reach servings =
+    let one = servings.0 in
+    let keeps = IsServingOf-keeps plan head k s p h one in
+    let next = head_behind k s in
+    let behind = IsServingOf-head plan head k s p h one in
+    let low : next.at ≤ 104000 = omega (arith, keeps.reach) in
+    let rest = line_of plan next ks ss until in
+    let begin = (line_of-line plan ks ss next until p behind low servings.1).begin in
+    let here : IsGreenOf rest k s = record { index = 0; below = begin.some; phase = begin.phase; begin = begin.begin; finish = begin.spent } in
+    let has : HasGreens rest (k ∷ ks) (s ∷ ss) = (here, line_of-greens plan ks ss next until p behind low servings.1) in
+    let left = left_for plan head (last_end plan head k s.green) (passed_numbers plan head.phase k) in
+    cond_both s.kept rest (left ++ rest) (λ rows. HasGreens rows (k ∷ ks) (s ∷ ss))
+    (λ e. has)
+    (λ e. HasGreens-behind left rest (k ∷ ks) (s ∷ ss) has)
+
+-- steps of the loops
+
+shortest-append : (plan : List Phase) (from : ℕ) (ks ls : List ℕ) → shortest_greens plan from (ks ++ ls) ≡ shortest_greens plan from ks ++ shortest_greens plan (begin_behind plan from ks) ls
+shortest-append plan from [] ls = refl
+shortest-append plan from (k ∷ ks) ls =
+    ap (λ (rows : List Green). record { phase = k; from = from; to = from + (phase_at plan k).least } ∷ rows) (shortest-append plan (from + passing (phase_at plan k)) ks ls)
+
+pub shortest-more : (plan : List Phase) (from low k at : ℕ) (p : Phase) (old rows : List Green) → low ≤ k → rows ≡ old ++ shortest_greens plan from (range_with_len low (k - low)) → at ≡ begin_behind plan from (range_with_len low (k - low))
+    → p ≡ phase_at plan k → rows ++ record { phase = k; from = at; to = at + p.least } ∷ [] ≡ old ++ shortest_greens plan from (range_with_len low (k + 1 - low))
+shortest-more plan from low k at p old rows h so_far behind times =
+    let ks = range_with_len low (k - low) in
+    let row = λ (b : ℕ) (q : Phase). let r : Green = record { phase = k; from = b; to = b + q.least } in r in
+    ap (λ (rs : List Green). rs ++ row at p ∷ []) so_far
+    ∙ append_assoc old (shortest_greens plan from ks) (row at p ∷ [])
+    ∙ ap (λ (b : ℕ). old ++ (shortest_greens plan from ks ++ row b p ∷ [])) behind
+    ∙ ap (λ (q : Phase). old ++ (shortest_greens plan from ks ++ row (begin_behind plan from ks) q ∷ [])) times
+    ∙ ap (λ (rs : List Green). old ++ rs) (sym (ap (shortest_greens plan from) (range-more low k h) ∙ shortest-append plan from ks (k ∷ [])))
+
+pub behind-more : (plan : List Phase) (from low k : ℕ) → low ≤ k → begin_behind plan from (range_with_len low (k + 1 - low)) ≡ begin_behind plan from (range_with_len low (k - low)) + passing (phase_at plan k)
+behind-more plan from low k h = ap (begin_behind plan from) (range-more low k h) ∙ begin_behind-append plan from (range_with_len low (k - low)) (k ∷ [])
+
+-- greens of the phases up to the end of the ring, and then of those from its begin
+pub shortest-both : (plan : List Phase) (from behind : ℕ) (ks ls : List ℕ) (old rows whole : List Green) → rows ≡ old ++ shortest_greens plan from ks → behind ≡ begin_behind plan from ks → whole ≡ rows ++ shortest_greens plan behind ls
+    → whole ≡ old ++ shortest_greens plan from (ks ++ ls)
+shortest-both plan from behind ks ls old rows whole first at second =
+    second
+    ∙ ap (λ (b : ℕ). rows ++ shortest_greens plan b ls) at
+    ∙ ap (λ (rs : List Green). rs ++ shortest_greens plan (begin_behind plan from ks) ls) first
+    ∙ append_assoc old (shortest_greens plan from ks) (shortest_greens plan (begin_behind plan from ks) ls)
+    ∙ ap (λ (rs : List Green). old ++ rs) (sym (shortest-append plan from ks ls))
+
+pub turning-more : (plan : List Phase) (until s to : ℕ) (next : Green) (rows whole : List Green) → IsPlan plan → to ≤ until → next ≡ green_behind plan s to
+    → rows ++ turning plan (until + 1 - to) until s to ≡ whole → (rows ++ next ∷ []) ++ turning plan (until + 1 - next.to) until next.phase next.to ≡ whole
+turning-more plan until s to next rows whole p h is so_far =
+    append_assoc rows (next ∷ []) (turning plan (until + 1 - next.to) until next.phase next.to)
+    ∙ ap (λ (g : Green). rows ++ g ∷ turning plan (until + 1 - g.to) until g.phase g.to) is
+    ∙ ap (λ (rs : List Green). rows ++ rs) (sym (turning-step plan until s to p h))
+    ∙ so_far
+
+-- the loop over the servings
+
+-- what stands where there is no serving
+abbrev pub no_served : Served
+no_served = record { green = 0; start = 0; finish = 0; cost = 0; kept = false }
+
+-- the serving at an index, and those behind it
+pub record IsNext (plan : List Phase) (head : Head) (phases : List ℕ) (served : List Served) (index : ℕ) : Type 0 where
+  pub below : index < length served
+  pub one : IsServingOf plan head (get_or phases index 0) (get_or served index no_served)
+  pub others : AreServings plan (head_behind (get_or phases index 0) (get_or served index no_served)) (drop (index + 1) phases) (drop (index + 1) served)
+
+pub next-serving : (plan : List Phase) (head : Head) (phases : List ℕ) (served : List Served) (index : ℕ) → index < length phases → AreServings plan head (drop index phases) (drop index served) → IsNext plan head phases served index
+next-serving plan head phases served index h servings =
+    let k = get_or phases index 0 in
+    let ks = drop (index + 1) phases in
+    let first : AreServings plan head (k ∷ ks) (drop index served) = subst (λ ls. AreServings plan head ls (drop index served)) (drop_more phases index 0 h) servings in
+    elim (cases_lt index (length served)) [
+      | inl below ↦
+          let both : AreServings plan head (k ∷ ks) (get_or served index no_served ∷ drop (index + 1) served) = subst (AreServings plan head (k ∷ ks)) (drop_more served index no_served below) first in
+          record { below = below; one = both.0; others = both.1 }
+      | inr over ↦
+          let none : AreServings plan head (k ∷ ks) [] = subst (AreServings plan head (k ∷ ks)) (drop_all index served over) first in
+          absurd none
+    ]
+
+line_of-next : (plan : List Phase) (head : Head) (phases : List ℕ) (served : List Served) (index until : ℕ) → index < length phases → index < length served
+    → line_of plan head (drop index phases) (drop index served) until
+    ≡ line_of plan head (get_or phases index 0 ∷ drop (index + 1) phases) (get_or served index no_served ∷ drop (index + 1) served) until
+line_of-next plan head phases served index until h below =
+    ap (λ (ks : List ℕ). line_of plan head ks (drop index served) until) (drop_more phases index 0 h)
+    ∙ ap (λ (ss : List Served). line_of plan head (get_or phases index 0 ∷ drop (index + 1) phases) ss until) (drop_more served index no_served below)
+
+-- the serving goes on in the green that stands
+pub line-kept : (plan : List Phase) (head : Head) (phases : List ℕ) (served : List Served) (index until : ℕ) (rows whole : List Green) → index < length phases → index < length served
+    → (get_or served index no_served).kept ≡ true → rows ++ line_of plan head (drop index phases) (drop index served) until ≡ whole
+    → rows ++ line_of plan (head_behind (get_or phases index 0) (get_or served index no_served)) (drop (index + 1) phases) (drop (index + 1) served) until ≡ whole
+line-kept plan head phases served index until rows whole h below kept so_far =
+    let k = get_or phases index 0 in
+    let s = get_or served index no_served in
+    let rest = line_of plan (head_behind k s) (drop (index + 1) phases) (drop (index + 1) served) until in
+    let left = left_for plan head (last_end plan head k s.green) (passed_numbers plan head.phase k) in
+    ap (λ (rs : List Green). rows ++ rs) (sym (line_of-next plan head phases served index until h below ∙ ap (λ (b : Bool). cond b rest (left ++ rest)) kept)) ∙ so_far
+
+-- the green that stands is left for the serving
+pub line-left : (plan : List Phase) (head : Head) (phases : List ℕ) (served : List Served) (index until : ℕ) (rows more whole : List Green) → index < length phases → index < length served
+    → (get_or served index no_served).kept ≡ false → rows ++ line_of plan head (drop index phases) (drop index served) until ≡ whole
+    → more ≡ rows ++ left_for plan head (last_end plan head (get_or phases index 0) (get_or served index no_served).green) (passed_numbers plan head.phase (get_or phases index 0))
+    → more ++ line_of plan (head_behind (get_or phases index 0) (get_or served index no_served)) (drop (index + 1) phases) (drop (index + 1) served) until ≡ whole
+line-left plan head phases served index until rows more whole h below left_is so_far more_is =
+    let k = get_or phases index 0 in
+    let s = get_or served index no_served in
+    let rest = line_of plan (head_behind k s) (drop (index + 1) phases) (drop (index + 1) served) until in
+    let left = left_for plan head (last_end plan head k s.green) (passed_numbers plan head.phase k) in
+    ap (λ (rs : List Green). rs ++ rest) more_is
+    ∙ append_assoc rows left rest
+    ∙ ap (λ (rs : List Green). rows ++ rs) (sym (line_of-next plan head phases served index until h below ∙ ap (λ (b : Bool). cond b rest (left ++ rest)) left_is)) ∙ so_far
+
+-- the last green is held
+pub line-over : (plan : List Phase) (head : Head) (p : Phase) (phases : List ℕ) (served : List Served) (index until : ℕ) (rows whole : List Green) → length phases ≤ index → p ≡ phase_at plan head.phase
+    → rows ++ line_of plan head (drop index phases) (drop index served) until ≡ whole → rows ++ turned plan head (head.since + p.greatest) until ≡ whole
+line-over plan head p phases served index until rows whole over times so_far =
+    ap (λ (q : Phase). rows ++ turned plan head (head.since + q.greatest) until) times
+    ∙ ap (λ (ks : List ℕ). rows ++ line_of plan head ks (drop index served) until) (sym (drop_all index phases over))
+    ∙ so_far

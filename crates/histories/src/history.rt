@@ -1,0 +1,165 @@
+// Histories, and which are lawful.
+ghost use Rattle.std.specs.Prelude.{◌≡◌, ◌<◌, ◌≤◌, ◌*◌, ◌↔◌, ◌++◌, ℕ, List, All, IfOk, IsTrue, OnOk, [], length, replicate, slice_index_or, sum_by};
+ghost use Rattle.histories.specs.Steps.{board_steps};
+ghost use Rattle.histories.specs.Histories as histories;
+ghost use Rattle.histories.specs.Histories.{turns, CanGoOn, IsLawful, IsUnderWay};
+
+use crate::steps::step_count;
+use foundation::threads::CrossesThreads;
+use road_net::Network;
+use std::alloc::{AllocError, Global};
+use std::marker::Model;
+
+/// A history: the numbers of nodes, one for each board step.
+///
+/// docs/RULES.md, "Histories".
+#[derive(Debug, Drop)]
+pub struct History {
+    steps: Vec<u32>,
+}
+
+impl Model for History {
+    ghost use Rattle.std.specs.Prelude.{ℕ, List};
+
+    ghost Value = { List ℕ };
+
+    ghost view = { λ history. history.steps.items };
+}
+
+impl CrossesThreads for History {}
+
+impl History {
+    ghost use Rattle.std.specs.Prelude.{◌≡◌};
+
+    /// The history with these nodes, in their order.
+    ///
+    /// docs/RULES.md, "Histories".
+    pub fn new(steps: Vec<u32>) -> History
+        ensures { result ≡ steps.items }
+    {
+        History { steps }
+    }
+
+    /// The nodes, in their order.
+    ///
+    /// docs/RULES.md, "Histories".
+    pub fn steps(&self) -> &[u32]
+        ensures { result.now ≡ self.now }
+    {
+        self.steps.as_slice()
+    }
+}
+
+/// Whether a history is lawful for a network: its rounds follow one another, as many as the network has, and each has
+/// each node as often as it has board steps. It takes no memory.
+///
+/// docs/RULES.md, "Histories".
+pub fn lawful(net: &Network, h: &History) -> bool
+    ensures { IsTrue result ↔ IsLawful net.now h.now }
+{
+    let counts = step_counts(net);
+    let whole = total(&counts);
+    if whole == 0 {
+        return h.steps().is_empty();
+    }
+    has_rounds(net, &counts, whole, h.steps())
+}
+
+/// Whether the nodes are those of all rounds, where each node has these steps in a round, and all have `whole` together.
+fn has_rounds(net: &Network, counts: &[u32; 64], whole: u32, nodes: &[u32]) -> bool
+    requires counts { (n : ℕ) → slice_index_or counts.now n 0 ≡ length (board_steps net.now n) }
+    requires whole { whole ≡ sum_by (λ c. c) counts.now }
+    requires some { 1 ≤ whole }
+    ensures { IsTrue result ↔ IsLawful net.now nodes.now }
+{
+    let rounds = net.run().rounds;
+    let mut left = *counts;
+    let mut open = whole;
+    let mut done = 0;
+    for node in nodes {
+        let node = *node as usize;
+        if done == rounds || node >= 64 || left[node] == 0 {
+            return false;
+        }
+        left[node] -= 1;
+        open -= 1;
+        if open == 0 {
+            left = *counts;
+            open = whole;
+            done += 1;
+        }
+    }
+    done == rounds
+}
+
+/// How many board steps each node has in a round; 0 where there is no such node.
+fn step_counts(net: &Network) -> [u32; 64]
+    ensures counts { (n : ℕ) → slice_index_or result n 0 ≡ length (board_steps net.now n) }
+    ensures few { All (λ c. c ≤ 320) result }
+{
+    let mut counts = [0; 64];
+    for node in 0..net.nodes() {
+        counts[node as usize] = step_count(net, node);
+    }
+    counts
+}
+
+/// All these counts together.
+fn total(counts: &[u32; 64]) -> u32
+    requires { All (λ c. c ≤ 320) counts.now }
+    ensures { result ≡ sum_by (λ c. c) counts.now }
+{
+    let mut sum = 0;
+    for count in counts {
+        sum += *count;
+    }
+    sum
+}
+
+/// The turn order: round by round, the nodes do all their board steps in number order. It is lawful. An `Err` comes only
+/// where memory runs out.
+///
+/// docs/RULES.md, "Histories".
+pub fn turn_order(alloc: Global, net: &Network) -> Result<History, AllocError>
+    ensures value { IfOk result (λ h. h ≡ histories.turn_order net.now) }
+    ensures lawful { IfOk result (λ h. IsLawful net.now h) }
+{
+    let mut round = Vec::new(alloc);
+    push_turns(net, &mut round)?;
+    let mut steps = Vec::new(alloc);
+    for done in 0..net.run().rounds {
+        steps.extend_from_slice(round.as_slice())?;
+    }
+    Ok(History::new(steps))
+}
+
+/// Puts the turns of all nodes behind a list that is empty.
+fn push_turns(net: &Network, round: &mut Vec<u32>) -> Result<(), AllocError>
+    requires { round.old.items ≡ [] }
+    ensures { OnOk result (round.new.items ≡ turns (board_steps net.now) (length net.now.node_names)) }
+{
+    for node in 0..net.nodes() {
+        push_turn(node, step_count(net, node), round)?;
+    }
+    Ok(())
+}
+
+/// Puts a node behind a list so many times.
+fn push_turn(node: u32, count: u32, round: &mut Vec<u32>) -> Result<(), AllocError>
+    ensures { OnOk result (round.new.items ≡ round.old.items ++ replicate count node) }
+{
+    for step in 0..count {
+        round.push(node)?;
+    }
+    Ok(())
+}
+
+/// Of every history under way: it can go on to a lawful one, and it is lawful exactly where all rounds are done.
+///
+/// docs/RULES.md, "Histories".
+pub fn law_of_histories(net: &Network)
+    ensures goes_on { (done : ℕ) (h : List ℕ) → IsUnderWay (board_steps net.now) net.now.run.rounds done h → CanGoOn (board_steps net.now) net.now.run.rounds h }
+    ensures over { (done : ℕ) (h : List ℕ) → IsUnderWay (board_steps net.now) net.now.run.rounds done h → IsLawful net.now h ↔ (done ≡ net.now.run.rounds) }
+{
+    let _nodes = net.nodes();
+}

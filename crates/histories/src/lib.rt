@@ -1,0 +1,11 @@
+//! Histories of a network: who does which board step, one after another. Which are lawful, the turn order, and the history
+//! that the logs of the boards tell.
+#![tactic(auto)]
+
+mod history;
+mod merging;
+mod steps;
+
+pub use history::{History, law_of_histories, lawful, turn_order};
+pub use merging::merge;
+pub use steps::{BoardStep, law_of_steps, node_steps, step_count};

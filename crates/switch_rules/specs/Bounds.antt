@@ -1,0 +1,26 @@
+-- The bounds that the rules of serving keep, and on which the crates above rest.
+use Rattle.std.specs.Prelude.{ℕ, ◌*◌}
+
+-- clusters are served from heads whose time is spent by this second
+abbrev pub latest_time : ℕ
+latest_time = 104000
+
+-- by this second every fit serving has ended
+abbrev pub latest_finish : ℕ
+latest_finish = 103840
+
+-- no fit serving costs more: 20,000 vehicles that wait for an hour
+abbrev pub greatest_cost : ℕ
+greatest_cost = 72000000000
+
+-- an instance has no more clusters
+abbrev pub most_clusters : ℕ
+most_clusters = 40
+
+-- nor do its servings cost more together
+abbrev pub greatest_delay : ℕ
+greatest_delay = 2880000000000
+
+-- an instance can be served in no more orders
+abbrev pub most_orders : ℕ
+most_orders = 50000
