@@ -10,6 +10,7 @@ use Rattle.std.proofs.lemmas.List.Elements.{All-get_or, All-from_get_or, All-map
 use Rattle.std.proofs.lemmas.Bool.{cases_lt}
 use Rattle.phase_plan.specs.declared.Phase.{Phase}
 use Rattle.phase_plan.specs.Phases.{IsPhase, phase_at}
+use Rattle.switch_rules.specs.Sequences.{IsSpaced, cluster_at}
 use Rattle.switch_rules.specs.Serving.{IsCluster}
 use Rattle.switch_rules.specs.declared.Cluster.{Cluster}
 use Rattle.board_model.specs.declared.boards.Heard.{Heard}
@@ -24,7 +25,7 @@ use Rattle.clusters.specs.Smoothing.{smoothed, left_by}
 use Rattle.clusters.specs.Inflow.{inflow, inflow_at, leaving, sense_of, forecast_of}
 use Rattle.clusters.specs.Cuts.{first_of, last_of, run_at, IsRun, IsCut}
 use Rattle.clusters.specs.Platoons.{ArePlatoons, ArePlatoonsOf, most_of, platoons_at, part_of, platoon_of, platoon_within, streams_of, together, whole_of}
-use Rattle.clusters.specs.Sound.{IsPart, IsPlatoon, AreOfNode, AreOfPhase, cluster_lists, AreSpacedClusters, IsSpaced, cluster_at, clusters_of}
+use Rattle.clusters.specs.Sound.{IsPart, IsPlatoon, AreOfNode, AreOfPhase, cluster_lists, AreSpacedClusters, clusters_of}
 use Rattle.clusters.specs.Windows.{IsRising, arrivals}
 use Rattle.clusters.specs.Steps.{AreGathered, AreStreams, IsRunBefore}
 use Rattle.net_draft.specs.declared.drafts.Run.{Run}

@@ -8,6 +8,7 @@ use Rattle.std.proofs.lemmas.Grind.{get_or_default_zero}
 use Rattle.std.proofs.lemmas.Bool.{cases_lt}
 use Rattle.std.proofs.lemmas.Bool.Decides.{eqb_tells}
 use Rattle.switch_rules.specs.Orders.{orders, orders_of}
+use Rattle.switch_rules.specs.Sequences.{IsSpaced, cluster_at}
 use Rattle.switch_rules.specs.Serving.{IsCluster}
 use Rattle.switch_rules.specs.declared.Cluster.{Cluster}
 use Rattle.net_numbers.specs.Numbers.{Net}
@@ -15,7 +16,7 @@ use Rattle.net_numbers.specs.Outline.{phase_links_at}
 use Rattle.clusters.specs.declared.shapes.Platoon.{Platoon}
 use Rattle.clusters.specs.declared.shapes.Window.{Window}
 use Rattle.clusters.specs.Platoons.{platoons_at}
-use Rattle.clusters.specs.Sound.{AreOfNode, ArePlannable, AreSpacedClusters, IsPlatoon, IsSpaced, cluster_at, cluster_lists, clusters_of}
+use Rattle.clusters.specs.Sound.{AreOfNode, ArePlannable, AreSpacedClusters, IsPlatoon, cluster_lists, clusters_of}
 use Rattle.clusters.specs.Windows.{ComesFirst, IsFront, IsLongest, IsRising, IsSmall, IsWindow, arrival, arrivals, counts_of}
 use Rattle.clusters.specs.Taking.{AreFronts, IsEarlier, IsFirstAmong, IsFirstOf}
 use Rattle.clusters.proofs.WindowLaws.{front-grows, full-longest, more_of, stuck-longest, whole-longest}

@@ -1,6 +1,8 @@
 -- What planning and forecasting ask of platoons.
-use Rattle.std.specs.Prelude.{◌≡◌, ℕ, ◌+◌, ◌<◌, ◌≤◌, List, All, length, map, sum, slice_index_or}
+use Rattle.std.specs.Prelude.{◌≡◌, ℕ, ◌<◌, ◌≤◌, List, All, length, map, sum}
+use Rattle.switch_rules.specs.Bounds.{most_clusters, most_orders}
 use Rattle.switch_rules.specs.Orders.{orders}
+use Rattle.switch_rules.specs.Sequences.{IsSpaced, counts_of}
 use Rattle.switch_rules.specs.Serving.{IsCluster}
 use Rattle.switch_rules.specs.declared.Cluster.{Cluster}
 use Rattle.net_numbers.specs.Numbers.{Net}
@@ -36,17 +38,6 @@ clusters_of list = map (λ p. p.cluster) list
 abbrev pub cluster_lists : List (List Platoon) → List (List Cluster)
 cluster_lists lists = map clusters_of lists
 
--- what stands where a list has no cluster
-abbrev pub no_cluster : Cluster
-no_cluster = record { size = 0; arr = 0; len = 0 }
-
-abbrev pub cluster_at : List Cluster → ℕ → Cluster
-cluster_at list k = slice_index_or list k no_cluster
-
--- no cluster arrives before the one before it has arrived whole
-abbrev pub IsSpaced : List Cluster → Type 0
-IsSpaced list = (k : ℕ) → k + 1 < length list → (cluster_at list k).arr + (cluster_at list k).len ≤ (cluster_at list (k + 1)).arr
-
 -- no cluster arrives before the one before it has arrived whole, and each is within its bounds
 pub record AreSpacedClusters (list : List Cluster) : Type 0 where
   pub each : All IsCluster list
@@ -56,8 +47,8 @@ pub record AreSpacedClusters (list : List Cluster) : Type 0 where
 pub record ArePlannable (lists : List (List Cluster)) : Type 0 where
   pub clusters : All (All IsCluster) lists
   pub spaced : All IsSpaced lists
-  pub few : sum (map length lists) ≤ 40
-  pub orders : length (orders (map length lists)) ≤ 50000
+  pub few : sum (counts_of lists) ≤ most_clusters
+  pub orders : length (orders (counts_of lists)) ≤ most_orders
 
 -- the platoons of a phase of a node, with what planning and forecasting ask of them
 pub record AreOfPhase (net : Net) (node phase : ℕ) (sensed : Sensed) (heard : List Heard) (list : List Platoon) : Type 0 where

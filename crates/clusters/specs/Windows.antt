@@ -1,6 +1,7 @@
 -- The window: the platoons that one planning takes up.
 use Rattle.std.specs.Prelude.{◌≡◌, ℕ, ◌+◌, ◌<◌, ◌≤◌, ◌⊎◌, List, [], length, map, slice_index, slice_index_or, sum, take}
 use Rattle.std.specs.List.Sorted.{IsStrictlyIncreasing}
+use Rattle.switch_rules.specs.Bounds.{most_clusters, most_orders}
 use Rattle.switch_rules.specs.Orders.{orders}
 use Rattle.clusters.specs.declared.shapes.Platoon.{Platoon}
 use Rattle.clusters.specs.declared.shapes.Window.{Window}
@@ -28,8 +29,8 @@ pub record IsFront (lists : List (List Platoon)) (counts : List ℕ) : Type 0 wh
 
 -- so many clusters can be planned at once: at most 40 in all, and in at most 50,000 orders
 pub record IsSmall (counts : List ℕ) : Type 0 where
-  pub clusters : sum counts ≤ 40
-  pub orders : length (orders counts) ≤ 50000
+  pub clusters : sum counts ≤ most_clusters
+  pub orders : length (orders counts) ≤ most_orders
 
 -- how many platoons each phase has
 abbrev pub counts_of : List (List Platoon) → List ℕ
