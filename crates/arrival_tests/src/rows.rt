@@ -34,6 +34,7 @@ const ENTERING: &[Row] = &[
     (4_294_967_295, 4_294_967_295, 0),
 ];
 
+/// The fault of these rows, or none where they are arrivals.
 fn made(alloc: Global, net: &Network, rows: &[Row]) -> Result<Option<RowFault>, AllocError> {
     let mut list = Vec::new(alloc);
     for &(second, link, amount) in rows {

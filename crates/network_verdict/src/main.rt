@@ -57,6 +57,7 @@ fn judge<S: Shelf>(
     }
 }
 
+/// Prints that the network is accepted, or what the file of arrivals is at it.
 fn judge_at<S: Shelf>(
     rt: &impl Print,
     alloc: Global,
@@ -107,6 +108,7 @@ fn print_row_fault(rt: &impl Print, fault: RowFault) {
     }
 }
 
+/// Prints a fault with the number of its row.
 fn print_row(rt: &impl Print, fault: &str, row: u32) {
     let _ = println!(rt; "{fault} {row}");
 }
@@ -128,10 +130,12 @@ fn print_fault(rt: &impl Print, fault: NetFault) {
     }
 }
 
+/// Prints a line.
 fn print(rt: &impl Print, line: &str) {
     let _ = println!(rt; "{line}");
 }
 
+/// Prints a fault with its place.
 fn print_place(rt: &impl Print, fault: &str, place: Place) {
     let part = part_name(place.part);
     let item = place.item;
@@ -139,17 +143,20 @@ fn print_place(rt: &impl Print, fault: &str, place: Place) {
     let _ = println!(rt; "{fault} {part} {item} {sub}");
 }
 
+/// Prints a fault with a number, counted from 1.
 fn print_number(rt: &impl Print, fault: &str, number: u32) {
     let number = number.saturating_add(1);
     let _ = println!(rt; "{fault} {number}");
 }
 
+/// Prints a conflict by its links, counted from 1.
 fn print_clash(rt: &impl Print, a: u32, b: u32) {
     let a = a.saturating_add(1);
     let b = b.saturating_add(1);
     let _ = println!(rt; "clash {a} {b}");
 }
 
+/// The word of a part.
 fn part_name(part: Part) -> &'static str {
     match part {
         Part::Top => "top",
