@@ -7,6 +7,8 @@ mod adapters;
 #[cfg(test)]
 mod certificates;
 #[cfg(test)]
+mod large;
+#[cfg(test)]
 mod planning;
 #[cfg(test)]
 mod refusals;
