@@ -11,6 +11,8 @@ mod large;
 #[cfg(test)]
 mod planning;
 #[cfg(test)]
+mod process;
+#[cfg(test)]
 mod refusals;
 #[cfg(test)]
 mod spellings;

@@ -23,13 +23,18 @@ enum NoWords {
     Memory,
 }
 
-/// Calls `signal` with the words of the command line, the runtime's files and these streams for `out` and `err`, and
-/// answers its status, or 7 where the runtime refuses the words.
+/// Calls `signal` with the words of the command line, which `env` gives, the files of `rt`, and these streams for `out` and
+/// `err`. The answer is its status, or 7 where the words are refused.
 ///
 /// docs/FORMATS.md, "Exit statuses and lines of refusal".
-pub fn run<R: Env + Files + AllocGlobal, O: Write, E: Write>(rt: &R, out: O, err: E) -> ExitCode {
+pub fn run<W: Env + AllocGlobal, R: Files + AllocGlobal, O: Write + Drop, E: Write + Drop>(
+    env: &W,
+    rt: &R,
+    out: O,
+    err: E,
+) -> ExitCode {
     let alloc = rt.alloc();
-    let words = match words(rt, alloc) {
+    let words = match words(env, alloc) {
         Ok(words) => words,
         Err(NoWords::Refused) => return ExitCode::from(REFUSED_WORDS),
         Err(NoWords::Memory) => return ExitCode::from(Status::NoMemory.code()),
@@ -42,8 +47,8 @@ pub fn run<R: Env + Files + AllocGlobal, O: Write, E: Write>(rt: &R, out: O, err
 }
 
 // The words of the command line, without the program's name.
-fn words<R: Env + AllocGlobal>(rt: &R, alloc: Global) -> Result<Vec<Text>, NoWords> {
-    let args = match env::args(rt) {
+fn words<W: Env + AllocGlobal>(env: &W, alloc: Global) -> Result<Vec<Text>, NoWords> {
+    let args = match env::args(env) {
         Ok(args) => args,
         Err(fault) if fault.kind() == ErrorKind::OutOfMemory => return Err(NoWords::Memory),
         Err(_) => return Err(NoWords::Refused),

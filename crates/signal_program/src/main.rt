@@ -5,5 +5,5 @@ use signal_process::run;
 use std::process::ExitCode;
 
 fn main(rt: HostRuntime) -> ExitCode {
-    run(&rt, rt.stdout(), rt.stderr())
+    run(&rt, &rt, rt.stdout(), rt.stderr())
 }
