@@ -56,7 +56,6 @@ class Builder:
 
     def __init__(self, count):
         self.count = count
-        self.done = 0
         self.running = {}
         self.stopped = False
         self.tells = sys.stderr.isatty()
@@ -98,22 +97,22 @@ class Builder:
 
     def all(self, order, below):
         """Builds all crates, each behind those that it stands on. Answers the first that failed, with its report."""
-        waiting, built, under_way = list(order), set(), {}
+        waiting, built, under_way, told = list(order), set(), {}, ""
         with ThreadPoolExecutor(workers()) as lanes:
             try:
                 while waiting or under_way:
                     for crate in [crate for crate in waiting if built.issuperset(below[crate])]:
                         waiting.remove(crate)
                         under_way[lanes.submit(self.build, crate)] = crate
-                    for ended in wait(under_way, return_when=FIRST_COMPLETED)[0]:
-                        crate = under_way.pop(ended)
-                        status, report, seconds = ended.result()
-                        if status != 0:
-                            return crate, report
-                        built.add(crate)
-                        self.done += 1
-                        going = ", ".join(sorted(self.running)) or "nothing"
-                        self.tell(f"crate {self.done} of {self.count}, {crate}, after {seconds:.0f} s; now {going}")
+                    self.tell(f"{told}under way: {', '.join(under_way.values())}")
+                    ended = wait(under_way, return_when=FIRST_COMPLETED)[0].pop()
+                    crate = under_way.pop(ended)
+                    status, report, seconds = ended.result()
+                    if status != 0:
+                        return crate, report
+                    built.add(crate)
+                    told = f"{len(built)} of {self.count} crates, {crate} after {seconds:.0f} s; "
+                self.tell(f"{told}built")
             finally:
                 self.stop()
         return None
