@@ -10,6 +10,7 @@ use std::rt::Env;
 use std::test::Fail;
 
 // A command line, the program's name first.
+#[derive(Drop)]
 struct CommandLine(&'static [&'static str]);
 
 impl Env for CommandLine {
