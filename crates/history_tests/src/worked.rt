@@ -1,7 +1,9 @@
-//! The worked network.
+//! The worked network, and what is asked of it.
+ghost use Rattle.std.specs.Prelude.{◌≤◌, length};
+
+use crate::histories::{judged, steps_shown};
 use road_net::{Network, read_network};
-use std::alloc::Global;
-use std::test::Fail;
+use std::alloc::{AllocError, Global};
 
 /// The network but for its first table.
 const NETWORK: &str = r#"
@@ -80,16 +82,38 @@ travel = 10
 sat = 500
 "#;
 
-/// The worked network with so many rounds.
-pub(crate) fn worked(alloc: Global, rounds: u32) -> Result<Network, Fail> {
-    let text =
-        format!(in alloc; "[run]\nstep = 5\nlook = 30\ngap = 1\nrounds = {rounds}\n{NETWORK}")?;
+/// What is asked of the network.
+pub(crate) enum Asked {
+    /// The steps of each node, and the turn order.
+    Steps,
+    /// Which of these histories are lawful.
+    Lawful(&'static str),
+}
+
+fn answer(alloc: Global, net: &Network, asked: &Asked) -> Result<String, AllocError> {
+    match asked {
+        Asked::Steps => steps_shown(alloc, net),
+        Asked::Lawful(histories) => judged(alloc, net, histories),
+    }
+}
+
+/// What the worked network with so many rounds answers.
+pub(crate) fn worked(alloc: Global, rounds: u32, asked: &Asked) -> Result<String, AllocError> {
+    let text = format!(in alloc;
+        "[run]\nstep = 5\nlook = 30\ngap = 1\nrounds = {rounds}\n{NETWORK}"
+    )?;
     let bytes = text.as_bytes();
     if bytes.len() > 10_000 {
-        return Err(Fail::from("a long text"));
+        return String::from_str(alloc, "a long text");
     }
+    answer_of_text(alloc, bytes, asked)
+}
+
+fn answer_of_text(alloc: Global, bytes: &[u8], asked: &Asked) -> Result<String, AllocError>
+    requires { length bytes.now ≤ 10000 }
+{
     match read_network(alloc, bytes) {
-        Ok(net) => Ok(net),
-        Err(_) => Err(Fail::from("no network")),
+        Ok(net) => answer(alloc, &net, asked),
+        Err(_) => String::from_str(alloc, "no network"),
     }
 }
