@@ -1,8 +1,7 @@
 -- Each entry of a node has a place.
 use Rattle.std.proofs.Common.{◌≡◌, ℕ, zero, suc, ◌<◌, List, [], ◌∷◌, take, refl, ap, ◌∙◌, inl, inr, arith}
 use Rattle.std.proofs.lemmas.Bool.{cases_eq}
-use Rattle.histories.specs.Histories.{count}
-use Rattle.merged_calls.specs.Places.{IsEntry}
+use Rattle.histories.specs.Histories.{count, IsEntry}
 use Rattle.histories.proofs.Counts.{count-here, count-else}
 
 pub entry : (h : List ℕ) (n c : ℕ) → c < count n h → (place : ℕ) × IsEntry h n c place
