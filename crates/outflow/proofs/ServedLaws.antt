@@ -1,7 +1,7 @@
 -- The servings one after another: what each brings to the exit, and that no two bring something in one second.
-use Rattle.std.proofs.Common.{◌≡◌, ◌≢◌, ℕ, zero, suc, ◌+◌, ◌-◌, ◌*◌, ◌<◌, ◌≤◌, Bool, true, false, cond, eqb, leb, ltb, ◌&&◌, max, nat_lt, List, [], ◌∷◌, All, Some, None, Ok, length, get_or, set, replicate, slice_get, take, drop, map, sum_by, refl, sym, ap, subst, ◌∙◌, inl, inr, arith, add-one, length-set, get_or-set_other, get_or-set_same}
+use Rattle.std.proofs.Common.{◌≡◌, ◌≢◌, ℕ, zero, suc, ◌+◌, ◌-◌, ◌*◌, ◌<◌, ◌≤◌, Bool, true, false, leb, ltb, ◌&&◌, max, List, [], ◌∷◌, All, Some, None, Ok, length, get_or, set, replicate, slice_get, drop, map, sum_by, refl, sym, ap, subst, ◌∙◌, inl, inr, arith, add-one, length-set, get_or-set_other, get_or-set_same}
 use Rattle.std.proofs.Math.Seq.{drop-cons}
-use Rattle.std.proofs.lemmas.List.{drop_all, take_all, get_or-replicate, length-replicate, get_or-map, get_or-drop, length-map, get_or_past, length-drop}
+use Rattle.std.proofs.lemmas.List.{drop_all, take_all, get_or-replicate, length-replicate, get_or-map, length-map, get_or_past, length-drop}
 use Rattle.std.proofs.lemmas.List.Elements.{All-from_get_or, All-get_or, All-head, All-tail, All-weaker}
 use Rattle.std.proofs.lemmas.List.Sums.{sum_by-cons}
 use Rattle.std.proofs.lemmas.Option.{get_or_from_slice_get, slice_get-get_or, slice_get_past}

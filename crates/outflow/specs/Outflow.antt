@@ -1,5 +1,5 @@
 -- What a node tells of an exit link: when the vehicles that it has planned to serve will come to that link's end.
-use Rattle.std.specs.Prelude.{◌≡◌, ℕ, ◌+◌, ◌-◌, nat_lt, if◌then◌else◌, List, [], ◌∷◌, filter, length, map, slice_index, slice_index_or, sum_by}
+use Rattle.std.specs.Prelude.{ℕ, ◌+◌, ◌-◌, nat_lt, if◌then◌else◌, List, [], ◌∷◌, filter, length, map, slice_index, slice_index_or, sum_by}
 use Rattle.std.specs.List.{range_with_len}
 use Rattle.board_model.specs.declared.forecasts.Row.{Row}
 use Rattle.phase_plan.specs.declared.Phase.{Phase}

@@ -1,4 +1,3 @@
-use Rattle.std.proofs.Common.{arith}
 use Rattle.outflow.proofs.AddLaws.{adding-fits, shares-of}
 use Rattle.outflow.proofs.arriving.add_platoon.Goals as goal
 

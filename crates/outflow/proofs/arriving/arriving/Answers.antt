@@ -1,4 +1,4 @@
-use Rattle.std.proofs.Common.{◌≡◌, ◌∙◌, ap, List, get_or, ◌+◌, ◌-◌, arith}
+use Rattle.std.proofs.Common.{◌∙◌, ap, List, get_or, ◌+◌, ◌-◌, arith}
 use Rattle.net_numbers.specs.declared.roads.Link.{Link}
 use Rattle.clusters.specs.declared.shapes.Part.{Part}
 use Rattle.clusters.specs.declared.shapes.Platoon.{Platoon}
