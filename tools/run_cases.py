@@ -7,13 +7,15 @@ the bytes written there. A `stdout` or `stderr` that is absent stands for no byt
 run in a copy of the case's folder, so that the words can name its other files.
 
 Each FOLDER is a case, or holds cases at any depth. The exit status is 0 where all cases agree, 1
-where any differs, and 2 where there are none or the program can't be run.
+where any differs, and 2 where there are none, one is malformed or the program can't be run; a
+line on standard error then says what is wrong.
 """
 
 import argparse
 import os
 import re
 import shutil
+import signal
 import subprocess
 import sys
 import tempfile
@@ -23,8 +25,14 @@ from pathlib import Path
 ANSWER = ("status", "stdout", "stderr")
 
 
+class Malformed(Exception):
+    """What is wrong with a case, a folder or the program."""
+
+
 def cases_in(folder):
     """The cases at or below a folder, by name."""
+    if not Path(folder).is_dir():
+        raise Malformed(f"{folder} is no folder")
     return sorted(words.parent for words in Path(folder).rglob("words") if words.is_file())
 
 
@@ -34,11 +42,17 @@ def bytes_of(path):
 
 def recorded(case):
     """The answer that is wanted: status, standard output, standard error."""
-    return int((case / "status").read_text()), bytes_of(case / "stdout"), bytes_of(case / "stderr")
+    file = case / "status"
+    if not file.is_file():
+        raise Malformed(f"{case} has no file `status`")
+    status = file.read_bytes().strip()
+    if not status.isdigit() or int(status) > 255:
+        raise Malformed(f"{file} has {shown(status)} in place of a number from 0 to 255")
+    return int(status), bytes_of(case / "stdout"), bytes_of(case / "stderr")
 
 
 def answered(program, case, seconds):
-    """What the program answers, or None where it took too long."""
+    """What the program answers, or None where it took too long; then it is killed with all that it started."""
     words = bytes_of(case / "words").split(b"\n")
     if words[-1] == b"":
         words.pop()
@@ -46,16 +60,23 @@ def answered(program, case, seconds):
         copy = Path(place) / "case"
         shutil.copytree(case, copy, ignore=shutil.ignore_patterns("words", *ANSWER))
         try:
-            run = subprocess.run(
+            run = subprocess.Popen(
                 [os.fsencode(program), *words],
                 cwd=copy,
                 stdin=subprocess.DEVNULL,
-                capture_output=True,
-                timeout=seconds,
+                stdout=subprocess.PIPE,
+                stderr=subprocess.PIPE,
+                start_new_session=True,
             )
-        except subprocess.TimeoutExpired:
-            return None
-    return run.returncode, run.stdout, run.stderr
+        except (OSError, ValueError) as fault:
+            raise Malformed(f"{program} can't be run in {case}: {fault}") from fault
+        with run:
+            try:
+                out, err = run.communicate(timeout=seconds)
+            except subprocess.TimeoutExpired:
+                os.killpg(run.pid, signal.SIGKILL)
+                return None
+    return run.returncode, out, err
 
 
 def without_code(answer):
@@ -102,28 +123,40 @@ def main():
     )
     parser.add_argument("folders", nargs="+", metavar="FOLDER", help="a case, or a folder of cases")
     options = parser.parse_args()
+    if options.jobs < 1 or not options.seconds > 0:
+        parser.error("--jobs and --seconds are above 0")
+    try:
+        sys.exit(1 if compared(options) else 0)
+    except (Malformed, OSError) as fault:
+        print(f"run_cases: {fault}", file=sys.stderr)
+        sys.exit(2)
 
+
+def compared(options):
+    """Prints the cases that are answered otherwise, and answers how many there are."""
     program = shutil.which(os.path.abspath(options.program))
     if program is None:
-        parser.error(f"{options.program} is no program")
+        raise Malformed(f"{options.program} is no program that can be run")
     cases = [case for folder in options.folders for case in cases_in(folder)]
     if not cases:
-        parser.error("no cases: a case is a folder with a file `words`")
-    unrecorded = [case for case in cases if not (case / "status").is_file()]
-    if unrecorded:
-        parser.error(f"{unrecorded[0]} has no file `status`")
-
+        raise Malformed("no cases: a case is a folder with a file `words`")
+    for case in cases:
+        recorded(case)
+    differing = 0
     with ThreadPoolExecutor(options.jobs) as runs:
         found = runs.map(
             lambda case: difference(program, case, options.seconds, options.bad_prefix), cases
         )
-        differing = 0
-        for case, told in zip(cases, found):
-            if told is not None:
-                differing += 1
-                print(f"{case}: {told}", flush=True)
+        try:
+            for case, told in zip(cases, found):
+                if told is not None:
+                    differing += 1
+                    print(f"{case}: {told}", flush=True)
+        except BaseException:
+            runs.shutdown(cancel_futures=True)
+            raise
     print(f"{len(cases)} cases, {differing} differ")
-    sys.exit(1 if differing else 0)
+    return differing
 
 
 if __name__ == "__main__":

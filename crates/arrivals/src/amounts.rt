@@ -1,3 +1,4 @@
+//! What enters the links of a network, by link and second.
 ghost use Rattle.std.specs.Prelude.{◌≡◌, ◌↔◌, ◌<◌, IsTrue, IfOk, length, replicate};
 ghost use Rattle.arrivals.specs.Rows.{IsSource, HasBounds};
 
@@ -66,6 +67,7 @@ impl Arrivals {
         Arrivals::of_rows(alloc, net, rows.as_slice())
     }
 
+    /// The arrivals of these rows, lent.
     fn of_rows(alloc: Global, net: &Network, rows: &[ArrivalRow]) -> Result<Arrivals, RowFault>
         ensures ok { IfOk result (AreArrivalsOf net.now rows.now) }
         ensures arrivals { IfOk result (AreArrivals net.now) }
@@ -131,6 +133,7 @@ impl Arrivals {
     }
 }
 
+/// So many zeros.
 fn zeros(alloc: Global, count: usize) -> Result<Vec<u32>, AllocError>
     ensures { IfOk result (λ v. v.items ≡ replicate count 0) }
 {

@@ -1,3 +1,4 @@
+//! The row that a record tells.
 ghost use Rattle.std.specs.Prelude.{◌≡◌, ◌≢◌, ◌↔◌, [], ◌∷◌, min, None, Some, IsTrue, MatchOption, length};
 ghost use Rattle.csv.specs.Records.{fields_of};
 ghost use Rattle.net_numbers.specs.Numbers.{number_of};
@@ -86,12 +87,14 @@ fn digits(field: &[u8]) -> Option<u32>
     Some(spelled(field))
 }
 
+/// Whether the field is 1 to 10 digits.
 fn are_digits(field: &[u8]) -> bool
     ensures { result ≡ are_digits field.now }
 {
     1 <= field.len() && field.len() <= 10 && all_digits(field)
 }
 
+/// Whether each byte of the field is a digit.
 fn all_digits(field: &[u8]) -> bool
     ensures { result ≡ list_all is_ascii_digit field.now }
 {

@@ -1,3 +1,4 @@
+//! The records of a text, one after another.
 ghost use Rattle.std.specs.Prelude.{◌≡◌, IfOk};
 ghost use Rattle.csv.specs.Records.{fields_of};
 ghost use Rattle.arrivals.specs.Records.{records_of};

@@ -1,3 +1,4 @@
+//! Rows of arrivals, and their faults.
 use foundation::threads::CrossesThreads;
 use std::alloc::AllocError;
 

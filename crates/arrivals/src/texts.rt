@@ -1,3 +1,4 @@
+//! The file of arrivals.
 ghost use Rattle.std.specs.Prelude.{IfOk, IfErr};
 ghost use Rattle.arrivals.specs.Amounts.{Amounts, AreArrivals};
 ghost use Rattle.arrivals.specs.Faults.{Refuses};

@@ -10,11 +10,10 @@ ghost use denote.Param.Send.{IsSync};
 use board_model::{Forecast, OpenGate, Row};
 use plan_boards::{Boards, Pass};
 use std::alloc::{AllocError, Global};
-use std::env;
 use std::process::ExitCode;
 use std::sync::Wait;
-use std::thread;
 use std::thread::Threads;
+use std::{env, thread};
 
 /// What the words say.
 #[derive(Clone, Copy)]
@@ -141,7 +140,9 @@ fn make_calls<R: Threads + Wait + Sync>(
 {
     let link = pass.number() % links;
     for call in 0..pass.calls_left() {
-        if pass.calls_left() == 0 || make_call(rt, alloc, boards, pass, link, template, call % 2 == 0).is_err() {
+        if pass.calls_left() == 0
+            || make_call(rt, alloc, boards, pass, link, template, call % 2 == 0).is_err()
+        {
             return;
         }
     }

@@ -5,13 +5,15 @@ use std::fs;
 use std::io::{self, ErrorKind, Write};
 use std::test::Fail;
 
-// Of a file of 20,000 bytes, none like those beside it: the name, how many bytes are asked for, and how many come.
+// Of a file of 20,000 bytes, none like those beside it, and of what is no file: the name, how many bytes are asked for,
+// and how many come.
 const FETCHES: &[(&str, usize, Option<usize>)] = &[
     ("text", 30_000, Some(20_000)),
     ("text", 20_000, Some(20_000)),
     ("text", 10_000, Some(10_000)),
     ("text", 0, Some(0)),
     ("absent", 10, None),
+    (".", 10, None),
 ];
 
 #[test]
@@ -31,6 +33,7 @@ fn files(rt: HostRuntime) -> Result<(), Fail> {
         };
         assert!(rt; as_wanted, "{name} {most}");
     }
+    fs::remove_file(&rt, "text")?;
     Ok(())
 }
 

@@ -1,6 +1,6 @@
 // What `certify` writes, and what `check` says of worked certificates.
 
-use super::support::{NO_FAULTS, TWO_CLUSTERS, run};
+use super::support::{SECOND_FETCH_FAILS, TWO_CLUSTERS, run};
 use signal_cli::Status;
 use std::test::Fail;
 
@@ -112,11 +112,16 @@ const CHECKED: &[(&str, &str, &str, Status, &str, &str)] = &[
 fn certificates(rt: HostRuntime) -> Result<(), Fail> {
     let alloc = rt.alloc();
     let words = ["certify", "file"];
-    let ending = run(alloc, &words, TWO_CLUSTERS.as_bytes(), NO_FAULTS)?;
+    let ending = run(alloc, &words, TWO_CLUSTERS.as_bytes(), SECOND_FETCH_FAILS)?;
     assert!(rt; ending.is(Status::Done, CERTIFICATE, ""));
     for &(instance, answer, entries, status, out, err) in CHECKED {
         let text = ["certificate 1\n", instance, answer, entries, "end\n"].concat(alloc)?;
-        let ending = run(alloc, &["check", "file"], text.as_bytes(), NO_FAULTS)?;
+        let ending = run(
+            alloc,
+            &["check", "file"],
+            text.as_bytes(),
+            SECOND_FETCH_FAILS,
+        )?;
         assert!(rt; ending.is(status, out, err), "{out} {err}");
     }
     Ok(())

@@ -7,7 +7,11 @@ mod adapters;
 #[cfg(test)]
 mod certificates;
 #[cfg(test)]
+mod large;
+#[cfg(test)]
 mod planning;
+#[cfg(test)]
+mod process;
 #[cfg(test)]
 mod refusals;
 #[cfg(test)]

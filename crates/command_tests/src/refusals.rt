@@ -1,6 +1,6 @@
 // The program's refusals, and its faults in mid-work.
 
-use super::support::{Faults, NO_FAULTS, TWO_CLUSTERS, TWO_CLUSTERS_PLAN, run};
+use super::support::{Faults, NO_FAULTS, SECOND_FETCH_FAILS, TWO_CLUSTERS, TWO_CLUSTERS_PLAN, run};
 use outside_world::SinkFail;
 use signal_cli::Status;
 use std::alloc::{AllocError, Global};
@@ -133,6 +133,7 @@ const BAD_TEXTS: &[(&str, usize, &str)] = &[
     ),
     (NO_END, 0, "signal: bad 1 line 8\n"),
     (TWO_CLUSTERS, 1, "signal: bad 1 line 9\n"),
+    (TWO_CLUSTERS, 100_663_176, "signal: bad 1 line 9\n"),
     (TWO_CLUSTERS, 100_663_177, "signal: bad 1 long\n"),
     (
         "instance 1\nphases 2\nphase 0 30 3 2 2 120\nphase 5 30 3 2 2 120\nhead 0 0 0 kept\ncluster 1 2000 3 4\nend\n",
@@ -285,6 +286,13 @@ const FAULTY: &[(&str, Faults<'static>, Status, &str, &str)] = &[
         "signal: cannot write\n",
     ),
     ("plan", ERR_KEEPS_FOUR, Status::Done, TWO_CLUSTERS_PLAN, ""),
+    (
+        "plan",
+        SECOND_FETCH_FAILS,
+        Status::Done,
+        TWO_CLUSTERS_PLAN,
+        "",
+    ),
     ("planned", ERR_KEEPS_FOUR, Status::Usage, "", "sign"),
     (
         "planned",

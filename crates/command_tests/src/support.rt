@@ -31,6 +31,13 @@ pub const NO_FAULTS: Faults<'static> = Faults {
     err: &[],
 };
 
+/// The first fetch gives the text, and a second would fail.
+pub const SECOND_FETCH_FAILS: Faults<'static> = Faults {
+    fetches: &[2],
+    out: &[],
+    err: &[],
+};
+
 /// How a call of the program ended.
 #[derive(Drop)]
 pub struct Ending {
@@ -42,23 +49,39 @@ pub struct Ending {
 impl Ending {
     /// Whether it ended with this status, and these texts in `out` and `err`.
     pub fn is(&self, status: Status, out: &str, err: &str) -> bool {
-        self.status.code() == status.code()
+        self.status == status
             && self.out.bytes() == out.as_bytes()
             && self.err.bytes() == err.as_bytes()
     }
+
+    /// What stands in `out`.
+    pub fn out(&self) -> &[u8] {
+        self.out.bytes()
+    }
 }
 
-/// Calls the program with these words. Its shelf has one file, `file`, with this text.
+/// Calls the program with these words. Its shelf has one file, `file`, with this text, and 1000 bytes may be written.
 pub fn run(
     alloc: Global,
     words: &[&str],
     text: &[u8],
     faults: Faults<'_>,
 ) -> Result<Ending, AllocError> {
+    run_with_room(alloc, words, text.to_vec(alloc)?, faults, 1000)
+}
+
+/// The same, where so many bytes may be written.
+pub fn run_with_room(
+    alloc: Global,
+    words: &[&str],
+    text: Vec<u8>,
+    faults: Faults<'_>,
+    room: usize,
+) -> Result<Ending, AllocError> {
     let words = texts(alloc, words)?;
     let mut shelf = shelf_of(alloc, text, faults.fetches)?;
-    let mut out = sink_of(alloc, faults.out)?;
-    let mut err = sink_of(alloc, faults.err)?;
+    let mut out = MemorySink::new(alloc, room, faults.out.to_vec(alloc)?)?;
+    let mut err = MemorySink::new(alloc, 1000, faults.err.to_vec(alloc)?)?;
     let status = signal(alloc, &words, &mut shelf, &mut out, &mut err);
     Ok(Ending { status, out, err })
 }
@@ -70,9 +93,9 @@ pub fn plan(alloc: Global, text: &[u8]) -> Result<Ending, AllocError> {
 
 /// Calls the job of `plan` by itself over the file `file` with this text. Nothing fails.
 pub fn job(alloc: Global, text: &[u8]) -> Result<Ending, AllocError> {
-    let mut shelf = shelf_of(alloc, text, &[])?;
-    let mut out = sink_of(alloc, &[])?;
-    let mut err = sink_of(alloc, &[])?;
+    let mut shelf = shelf_of(alloc, text.to_vec(alloc)?, &[])?;
+    let mut out = MemorySink::new(alloc, 1000, Vec::new(alloc))?;
+    let mut err = MemorySink::new(alloc, 1000, Vec::new(alloc))?;
     let status = plan_job(alloc, "file", &mut shelf, &mut out, &mut err);
     Ok(Ending { status, out, err })
 }
@@ -85,13 +108,9 @@ fn texts(alloc: Global, words: &[&str]) -> Result<Vec<Text>, AllocError> {
     Ok(texts)
 }
 
-fn shelf_of(alloc: Global, text: &[u8], fails: &[u32]) -> Result<MemoryShelf, AllocError> {
+fn shelf_of(alloc: Global, text: Vec<u8>, fails: &[u32]) -> Result<MemoryShelf, AllocError> {
     let name = Text::from_string(String::from_str(alloc, "file")?);
-    let content = Items::from_vec(text.to_vec(alloc)?);
+    let content = Items::from_vec(text);
     let files = vec![in alloc; (name, content)]?;
     Ok(MemoryShelf::new(alloc, files, fails.to_vec(alloc)?))
-}
-
-fn sink_of(alloc: Global, fails: &[SinkFail]) -> Result<MemorySink, AllocError> {
-    MemorySink::new(alloc, 1000, fails.to_vec(alloc)?)
 }

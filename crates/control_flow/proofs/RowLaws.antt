@@ -1,11 +1,10 @@
 -- Lists of greens: lawful ones, their ends, and what they show at a second.
-use Rattle.std.proofs.Common.{◌≡◌, ℕ, zero, suc, ◌+◌, ◌<◌, ◌≤◌, List, [], ◌∷◌, ◌++◌, length, take, drop, All, Some, None, refl, sym, ap, subst, ◌∙◌, inl, inr, arith, append_assoc}
-use Rattle.std.proofs.lemmas.List.{append-nil, drop_more, take_more}
+use Rattle.std.proofs.Common.{◌≡◌, ℕ, zero, suc, ◌+◌, ◌<◌, ◌≤◌, List, [], ◌∷◌, ◌++◌, length, All, Some, None, refl, subst, ◌∙◌, inl, inr, arith}
 use Rattle.std.proofs.lemmas.Bool.{cases_lt, cond_below, cond_above}
 use Rattle.std.proofs.lemmas.List.Elements.{All-nil, All-cons, All-head, All-tail}
 use Rattle.phase_plan.specs.declared.Phase.{Phase}
 use Rattle.control_flow.specs.declared.greens.Green.{Green}
-use Rattle.control_flow.specs.Greens.{no_green, row_at, end_of, IsGreen, Follows, IsLawful, row_after, rows_before}
+use Rattle.control_flow.specs.Greens.{row_at, end_of, IsGreen, Follows, IsLawful, row_after}
 
 -- lawful rows, one by one
 

@@ -9,10 +9,9 @@ use Rattle.phase_plan.specs.declared.Phase.{Phase}
 use Rattle.switch_rules.specs.declared.Head.{Head}
 use Rattle.control_flow.specs.declared.greens.Green.{Green}
 use Rattle.control_flow.specs.declared.greens.Colour.TheVariants as colours
-use Rattle.control_flow.specs.Greens.{row_at, end_of, IsGreen, Follows, IsLawful, GoesOn, BeginBy, IsContinued, Joins, covers, covers_yellow, green_at, is_green, is_yellow, colour_at, standing, row_after, head_in, head_at, rows_before, spliced}
+use Rattle.control_flow.specs.Greens.{row_at, IsGreen, Follows, IsLawful, GoesOn, BeginBy, IsContinued, Joins, covers, covers_yellow, green_at, is_green, is_yellow, colour_at, standing, row_after, head_in, head_at, rows_before, spliced}
 use Rattle.control_flow.proofs.OrderLaws.{green-length, row_after-has}
 use Rattle.control_flow.proofs.RowLaws.{lawful-cons, lawful-tail, lawful-first, lawful-next, end_of-append, row_after-some}
-use Rattle.phase_plan.proofs.RingLaws.{phase-bounds}
 
 -- the head of a row: its phase and begin, and a time that is not before now
 

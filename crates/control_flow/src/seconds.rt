@@ -28,6 +28,7 @@ pub fn head_at(plan: &PhasePlan, line: &Timeline, now: u32) -> Head
     ensures joins { (next : List Green) → GoesOn result next → Joins line.now next }
     ensures apart { AreApart plan.now line.now }
 {
+    // What it says of the plan is wanted here, and not the count.
     let _ = plan.count();
     let Some(row) = row_after(line, now) else {
         unreachable!()

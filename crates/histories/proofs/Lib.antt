@@ -2,7 +2,9 @@ pub mod Counts
 pub mod Lists
 pub mod Ordered
 pub mod Players
+pub mod Prefixes
+pub mod Progress
 pub mod Rounds
 pub mod StepLaws
 pub mod TurnOrder
-pub mod Progress
+pub mod Versions

@@ -1,6 +1,5 @@
 -- Who plays on a link.
-use Rattle.std.proofs.Common.{◌≡◌, ℕ, zero, suc, ◌+◌, ◌<◌, ◌≤◌, eqb, cond, Bool, true, false, List, [], ◌∷◌, ◌++◌, Option, Some, None, map, length, filter, get_or, is_some, refl, sym, ap, ◌∙◌, subst, inl, inr, arith, eq-eqb, ne_eqb, append-nil}
-use Rattle.std.proofs.lemmas.Bool.{cases_lt}
+use Rattle.std.proofs.Common.{◌≡◌, ℕ, zero, suc, ◌+◌, ◌<◌, eqb, cond, Bool, true, false, List, [], ◌∷◌, ◌++◌, Option, Some, None, map, filter, get_or, is_some, refl, sym, ap, ◌∙◌, arith, eq-eqb, ne_eqb, append-nil}
 use Rattle.std.proofs.lemmas.List.Elements.{filter-append}
 use Rattle.net_numbers.specs.Numbers.{Net, no_link}
 use Rattle.net_numbers.specs.Outline.{link_at}
@@ -10,7 +9,7 @@ use Rattle.road_net.specs.Network.{IsNetwork, entry_links, exit_links, heard_lin
 use Rattle.road_net.proofs.Apart.{apart}
 use Rattle.histories.specs.declared.steps.BoardStep.{BoardStep}
 use Rattle.histories.specs.declared.steps.BoardStep.TheVariants.{Read, Publish}
-use Rattle.histories.specs.Steps.{board_steps, is_publish_of, is_read_of, step_if, IsPlayedByEnds, AreSteps}
+use Rattle.histories.specs.Steps.{is_publish_of, is_read_of, step_if, IsPlayedByEnds, AreSteps}
 use Rattle.histories.proofs.StepLaws.{steps-beyond, steps-few}
 use Rattle.histories.proofs.Lists.{filter-yes, filter-no, filter-comm, filter-map}
 

@@ -3,10 +3,10 @@ use Rattle.std.proofs.Common.{◌≡◌, Bool, ℕ, zero, suc, ◌+◌, ◌-◌,
 use Rattle.std.specs.Prelude.{◌⊎◌, IsTrue, sum_by, replicate}
 use Rattle.std.proofs.lemmas.List.Elements.{All-replicate, All-set}
 use Rattle.std.proofs.lemmas.Bool.{cases_eq, cases_lt, eqb-true}
-use Rattle.std.proofs.lemmas.List.{take_more, take-append-drop, length-replicate, get_or-set_same, get_or-set_other, length-set, get_or_default}
+use Rattle.std.proofs.lemmas.List.{take_more, take-append-drop, length-replicate, get_or-set_same, get_or-set_other, length-set}
 use Rattle.std.proofs.lemmas.List.Sums.{sum_by-cons, sum_by-set}
 use Rattle.histories.specs.declared.steps.BoardStep.{BoardStep}
-use Rattle.histories.specs.Histories.{count, IsRound, HasRounds, IsUnderWay, IsLawful}
+use Rattle.histories.specs.Histories.{count, HasRounds, IsUnderWay, IsLawful}
 use Rattle.histories.specs.Steps.{board_steps}
 use Rattle.net_draft.specs.declared.drafts.Run.{Run}
 use Rattle.net_numbers.specs.Numbers.{Net}
@@ -103,7 +103,7 @@ module _ (steps : ℕ → List BoardStep) where
       at-round none =
           let e : suc done ≡ done + 1 = omega arith in
           subst (λ d. IsAt rounds d (taken ++ n ∷ []) counts (all_of counts)) e
-            (record { way = round-more steps rounds done taken at.way n less room (λ m. let h = none-left (set left n x) (omega (arith, fewer)) m in omega (arith, counted-more m, h)); counted = λ m. (let z : 0 + get_or counts m 0 ≡ length (steps m) = omega (arith, are m) in z); total = refl; long = long })
+          (record { way = round-more steps rounds done taken at.way n less room (λ m. let h = none-left (set left n x) (omega (arith, fewer)) m in omega (arith, counted-more m, h)); counted = λ m. (let z : 0 + get_or counts m 0 ≡ length (steps m) = omega (arith, are m) in z); total = refl; long = long })
 
   module _ (rounds done : ℕ) (taken left : List ℕ) (over : ℕ) (at : IsAt rounds done taken left over) where
     -- a next node that has no steps left, or comes once all rounds are done: the whole is not lawful

@@ -1,10 +1,9 @@
 -- Rounds, one after another, and histories under way.
 use Rattle.std.proofs.Common.{◌≡◌, ℕ, zero, suc, ◌+◌, ◌*◌, ◌<◌, ◌≤◌, List, [], ◌∷◌, ◌++◌, length, refl, sym, ap, ◌∙◌, subst, inl, inr, arith, append-nil, append_assoc}
-use Rattle.std.specs.Prelude.{◌⊎◌}
 use Rattle.std.proofs.lemmas.Bool.{cases_eq, cases_lt}
 use Rattle.histories.specs.declared.steps.BoardStep.{BoardStep}
-use Rattle.histories.specs.Histories.{count, IsRound, HasRounds, IsUnderWay, CanGoOn}
-use Rattle.histories.proofs.Counts.{count-append, count-here, count-else, count-one, no-count, Goes, cuts, spread, in-spread, past-spread}
+use Rattle.histories.specs.Histories.{count, IsRound, HasRounds, IsUnderWay}
+use Rattle.histories.proofs.Counts.{count-append, count-here, count-else, count-one, no-count, Goes, cuts}
 
 module _ (steps : ℕ → List BoardStep) where
   -- each node stands in so many rounds as often as it has steps in them
@@ -75,11 +74,13 @@ module _ (steps : ℕ → List BoardStep) where
         by (suc left) e has =
             let (b, z, s, round, more) = front left (way.part ++ n ∷ rest) has in
             let less : done < rounds = omega arith in
-            let (m, fewer) = way.unfinished less in
-            (less, elim (cuts way.part (n ∷ rest) b z s) [
-              | inl g ↦ inside b z round g m fewer
-              | inr g ↦ absurd (no-round way.part b g.0 round g.1 m fewer)
-            ])
+            let (m, fewer) = way.unfinished less in (
+              less,
+              elim (cuts way.part (n ∷ rest) b z s) [
+                | inl g ↦ inside b z round g m fewer
+                | inr g ↦ absurd (no-round way.part b g.0 round g.1 m fewer)
+              ],
+            )
           where
             inside : (b z : List ℕ) → IsRound steps b → Goes way.part (n ∷ rest) b z → (m : ℕ) → count m way.part < length (steps m) → count n way.part < length (steps n)
             inside b z round ([], e, f) m fewer = absurd (no-round way.part b [] round (sym (e ∙ append-nil way.part) ∙ sym (append-nil b)) m fewer)

@@ -1,12 +1,11 @@
 -- The board steps of the nodes of a network.
-use Rattle.std.proofs.Common.{◌≡◌, ℕ, ◌+◌, ◌<◌, ◌≤◌, List, [], ◌∷◌, ◌++◌, Option, Some, None, Bool, false, suc, cond, ne_eqb, length, map, filter, is_some, All, refl, sym, ap, subst, ◌∙◌, arith, length-append}
+use Rattle.std.proofs.Common.{◌≡◌, ℕ, ◌+◌, ◌<◌, ◌≤◌, List, [], ◌∷◌, ◌++◌, Option, Some, None, false, suc, cond, ne_eqb, length, map, filter, is_some, All, refl, ap, subst, ◌∙◌, arith, length-append}
 use Rattle.std.proofs.lemmas.List.{length-map}
 use Rattle.std.specs.Prelude.{IfSome}
 use Rattle.std.specs.List.Sorted.{IsStrictlyIncreasing}
 use Rattle.board_model.proofs.ForBoards.{rising-few}
 use Rattle.net_numbers.specs.Numbers.{Net}
 use Rattle.net_numbers.specs.Outline.{link_at}
-use Rattle.net_numbers.specs.Numbers.{no_link}
 use Rattle.net_numbers.specs.declared.roads.Link.{Link}
 use Rattle.road_net.specs.Joins.{is_node, node_at, links_from}
 use Rattle.std.proofs.lemmas.List.Elements.{All-tail}

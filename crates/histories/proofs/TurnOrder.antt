@@ -1,5 +1,5 @@
 -- The turn order is lawful, and a history under way can go on.
-use Rattle.std.proofs.Common.{◌≡◌, ℕ, zero, suc, ◌+◌, ◌-◌, ◌*◌, ◌<◌, ◌≤◌, List, [], ◌∷◌, ◌++◌, length, refl, sym, ap, ◌∙◌, subst, inl, inr, arith, append-nil, append_assoc}
+use Rattle.std.proofs.Common.{◌≡◌, ℕ, zero, suc, ◌+◌, ◌-◌, ◌≤◌, List, [], ◌∷◌, ◌++◌, length, refl, sym, ap, ◌∙◌, subst, inl, inr, arith, append-nil, append_assoc}
 use Rattle.std.specs.Prelude.{replicate}
 use Rattle.std.specs.List.{concat}
 use Rattle.std.proofs.lemmas.Bool.{cases_lt}
@@ -38,7 +38,7 @@ module _ (steps : ℕ → List BoardStep) (nodes : ℕ) (beyond : (n : ℕ) → 
   rounds-append first zero xs ys a none = subst (λ r. HasRounds steps r (xs ++ ys)) (let e : first ≡ first + 0 = omega arith in e) (subst (HasRounds steps first) (sym (ap (λ l. xs ++ l) none ∙ append-nil xs)) a)
   rounds-append first (suc second) xs ys a (early, block, e, round, before) =
       subst (λ r. HasRounds steps r (xs ++ ys)) (let z : suc (first + second) ≡ first + suc second = omega arith in z)
-        (xs ++ early, block, (ap (λ l. xs ++ l) e ∙ sym (append_assoc xs early block)), round, rounds-append first second xs early a before)
+      (xs ++ early, block, (ap (λ l. xs ++ l) e ∙ sym (append_assoc xs early block)), round, rounds-append first second xs early a before)
 
   -- a history under way can go on to a lawful one
   pub goes-on : (rounds done : ℕ) (h : List ℕ) → IsUnderWay steps rounds done h → CanGoOn steps rounds h

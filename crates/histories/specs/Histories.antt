@@ -1,5 +1,5 @@
 -- Histories: lists of nodes, one for each board step. Which are lawful, and which step and version stand at a place.
-use Rattle.std.specs.Prelude.{◌≡◌, ℕ, zero, suc, ◌+◌, ◌/◌, ◌%◌, ◌==◌, ◌<◌, ◌≤◌, ◌⊎◌, List, [], ◌++◌, length, take, replicate, count_by, slice_index, slice_index_or}
+use Rattle.std.specs.Prelude.{◌+◌, ◌≡◌, ℕ, zero, suc, ◌/◌, ◌%◌, ◌==◌, ◌<◌, ◌≤◌, List, [], ◌++◌, length, take, replicate, count_by, slice_index, slice_index_or}
 use Rattle.std.specs.List.{concat, flat_map, range_with_len}
 use Rattle.net_numbers.specs.Numbers.{Net}
 use Rattle.histories.specs.declared.steps.BoardStep.{BoardStep}
@@ -9,6 +9,10 @@ use Rattle.histories.specs.Steps.{board_steps, is_publish_of}
 -- how often a node stands in a history
 abbrev pub count : ℕ → List ℕ → ℕ
 count node history = count_by (λ n. n == node) history
+
+-- how often the node at a place stands before it
+abbrev pub earlier : List ℕ → ℕ → ℕ
+earlier history place = count (slice_index history place) (take place history)
 
 -- the nodes below a number each do all their steps, in number order
 abbrev pub turns : (ℕ → List BoardStep) → ℕ → List ℕ
@@ -41,10 +45,6 @@ module _ (steps : ℕ → List BoardStep) where
   abbrev pub CanGoOn : ℕ → List ℕ → Type 0
   CanGoOn rounds history = (rest : List ℕ) × HasRounds rounds (history ++ rest)
 
-  -- the steps of the node at a place before it, in this history
-  abbrev pub earlier : List ℕ → ℕ → ℕ
-  earlier history place = count (slice_index history place) (take place history)
-
   -- the round of a place, and the step there: each node does its steps in their order, round by round
   abbrev pub round_at : List ℕ → ℕ → ℕ
   round_at history place = earlier history place / length (steps (slice_index history place))
@@ -57,6 +57,10 @@ module _ (steps : ℕ → List BoardStep) where
   -- the version of a link at a place: how many Publishes of the link stand before it
   abbrev pub version_at : List ℕ → ℕ → ℕ → ℕ
   version_at history link place = count_by (λ before. is_publish_of link (step_at history before)) (range_with_len 0 place)
+
+  -- the version of a link at a place is the place's round, or one more
+  abbrev pub IsOfRound : List ℕ → ℕ → ℕ → Type 0
+  IsOfRound history link place = (round_at history place ≤ version_at history link place) × (version_at history link place ≤ round_at history place + 1)
 
 -- a history is lawful for a network where it has the network's rounds
 abbrev pub IsLawful : Net → List ℕ → Type 0

@@ -1,8 +1,9 @@
 // Histories, and which are lawful.
-ghost use Rattle.std.specs.Prelude.{◌≡◌, ◌<◌, ◌≤◌, ◌*◌, ◌↔◌, ◌++◌, ℕ, List, All, IfOk, IsTrue, OnOk, [], length, replicate, slice_index_or, sum_by};
+ghost use Rattle.std.specs.Prelude.{◌≡◌, ◌<◌, ◌≤◌, ◌*◌, ◌↔◌, ◌++◌, ℕ, List, All, IfOk, IsSome, IsTrue, OnOk, [], length, replicate, slice_index_or, sum_by, take};
 ghost use Rattle.histories.specs.Steps.{board_steps};
 ghost use Rattle.histories.specs.Histories as histories;
-ghost use Rattle.histories.specs.Histories.{turns, CanGoOn, IsLawful, IsUnderWay};
+ghost use Rattle.histories.specs.Histories.{turns, version_at, CanGoOn, IsLawful, IsOfRound, IsUnderWay};
+ghost use Rattle.net_numbers.specs.Outline.{link_at};
 
 use crate::steps::step_count;
 use foundation::threads::CrossesThreads;
@@ -154,12 +155,26 @@ fn push_turn(node: u32, count: u32, round: &mut Vec<u32>) -> Result<(), AllocErr
     Ok(())
 }
 
-/// Of every history under way: it can go on to a lawful one, and it is lawful exactly where all rounds are done.
+/// Of every history under way: it can go on to a lawful one, and it is lawful exactly where all rounds are done. Each
+/// beginning of a lawful history is under way.
 ///
 /// docs/RULES.md, "Histories".
 pub fn law_of_histories(net: &Network)
     ensures goes_on { (done : ℕ) (h : List ℕ) → IsUnderWay (board_steps net.now) net.now.run.rounds done h → CanGoOn (board_steps net.now) net.now.run.rounds h }
+    ensures begins { (h : List ℕ) (place : ℕ) → IsLawful net.now h → place ≤ length h → (done : ℕ) × IsUnderWay (board_steps net.now) net.now.run.rounds done (take place h) }
     ensures over { (done : ℕ) (h : List ℕ) → IsUnderWay (board_steps net.now) net.now.run.rounds done h → IsLawful net.now h ↔ (done ≡ net.now.run.rounds) }
+{
+    let _nodes = net.nodes();
+}
+
+/// Of the versions in every history: they never fall, and in a lawful one the version of a link between two nodes is, at
+/// each place, the round of the place or one more.
+///
+/// docs/RULES.md, "Histories".
+pub fn law_of_versions(net: &Network)
+    ensures rise { (h : List ℕ) (link early late : ℕ) → early ≤ late → version_at (board_steps net.now) h link early ≤ version_at (board_steps net.now) h link late }
+    ensures round { (h : List ℕ) (link place : ℕ) → IsLawful net.now h → place < length h → IsSome (link_at net.now link).from → IsSome (link_at net.now link).to
+        → IsOfRound (board_steps net.now) h link place }
 {
     let _nodes = net.nodes();
 }

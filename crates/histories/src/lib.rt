@@ -6,6 +6,6 @@ mod history;
 mod merging;
 mod steps;
 
-pub use history::{History, law_of_histories, lawful, turn_order};
+pub use history::{History, law_of_histories, law_of_versions, lawful, turn_order};
 pub use merging::merge;
 pub use steps::{BoardStep, law_of_steps, node_steps, step_count};

@@ -77,11 +77,7 @@ fn told_count(net: &Network, links: &[u32]) -> u32
 }
 
 /// Puts a reading of each of these links that comes from a node behind the steps.
-fn push_reads(
-    net: &Network,
-    links: &[u32],
-    steps: &mut Vec<BoardStep>,
-) -> Result<(), AllocError>
+fn push_reads(net: &Network, links: &[u32], steps: &mut Vec<BoardStep>) -> Result<(), AllocError>
     requires { All (λ l. l < length net.now.link_names) links.now }
     ensures { OnOk result (steps.new.items ≡ steps.old.items ++ map Read (filter (λ l. is_some (link_at net.now l).from) links.now)) }
 {

@@ -1,3 +1,4 @@
+//! A road network by names, as it stands in its file.
 use foundation::items::Items;
 use foundation::text::Text;
 use foundation::threads::CrossesThreads;

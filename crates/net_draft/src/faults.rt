@@ -1,3 +1,4 @@
+//! Faults of a network file, and the places that they name.
 use foundation::threads::CrossesThreads;
 use std::alloc::{AllocError, AllocFailed};
 

@@ -1,3 +1,4 @@
+//! How the draft is read from the table of a network file.
 ghost use Rattle.std.specs.Prelude.{◌≡◌, option_map, option_copied, IfOk, IfErr, map};
 ghost use Rattle.std.specs.List.{list_any};
 ghost use Rattle.std.specs.Str.{bytes_eq};
@@ -48,6 +49,7 @@ pub fn read_draft(alloc: Global, table: &Table) -> Result<Draft, NetFault>
     })
 }
 
+/// The numbers of the run.
 #[tactic(auto, unfolding(crate::specs::Table::run_of))]
 fn read_run(table: &Table) -> Result<Run, NetFault>
     ensures { GivesAt (record { part = Part.Run; item = 0; sub = 0 }) (λ run. run) result (spec.run_of (table_view table.now)) }
@@ -70,6 +72,7 @@ fn read_run(table: &Table) -> Result<Run, NetFault>
     })
 }
 
+/// The nodes of these tables, in order.
 fn read_nodes(alloc: Global, values: &[Value]) -> Result<Vec<DraftNode>, NetFault>
     ensures { GivesOr (λ named. shape.IsAfterRead spec.node_of (λ node. shape.IsNodeFault node named.part named.sub) (map view values.now) named.item)
         (λ nodes. nodes.items) result (each spec.node_of (map view values.now)) }
@@ -82,6 +85,7 @@ fn read_nodes(alloc: Global, values: &[Value]) -> Result<Vec<DraftNode>, NetFaul
     Ok(nodes)
 }
 
+/// A node with its phases.
 #[tactic(auto, unfolding(crate::specs::Table::node_of, crate::specs::Table::node_form))]
 fn read_node(alloc: Global, value: &Value, item: u32) -> Result<DraftNode, NetFault>
     ensures { GivesOr (λ named. (named.item ≡ item) × shape.IsNodeFault (view value.now) named.part named.sub)
@@ -104,6 +108,7 @@ fn read_node(alloc: Global, value: &Value, item: u32) -> Result<DraftNode, NetFa
     })
 }
 
+/// The phases of these tables, in order.
 fn read_phases(alloc: Global, values: &[Value], item: u32) -> Result<Vec<DraftPhase>, NetFault>
     ensures { GivesOr (λ named. (named.part ≡ Part.Phase) × (named.item ≡ item) × shape.IsFirstUnread spec.phase_of (map view values.now) named.sub)
         (λ phases. phases.items) result (each spec.phase_of (map view values.now)) }
@@ -121,6 +126,7 @@ fn read_phases(alloc: Global, values: &[Value], item: u32) -> Result<Vec<DraftPh
     Ok(phases)
 }
 
+/// A phase with the names of its links.
 #[tactic(auto, unfolding(crate::specs::Table::phase_of))]
 fn read_phase(alloc: Global, value: &Value, place: Place) -> Result<DraftPhase, NetFault>
     ensures { GivesAt place (λ phase. phase) result (spec.phase_of (view value.now)) }
@@ -159,6 +165,7 @@ fn only_phase_keys(table: &Table, place: Place) -> Result<&Table, NetFault>
     only(table, &keys, place)
 }
 
+/// The links of these tables, in order.
 fn read_links(alloc: Global, values: &[Value]) -> Result<Vec<DraftLink>, NetFault>
     ensures { GivesOr (λ named. shape.IsAfterRead spec.link_of (λ link. shape.IsLinkFault link named.part named.sub) (map view values.now) named.item)
         (λ links. links.items) result (each spec.link_of (map view values.now)) }
@@ -171,6 +178,7 @@ fn read_links(alloc: Global, values: &[Value]) -> Result<Vec<DraftLink>, NetFaul
     Ok(links)
 }
 
+/// A link with its turns.
 #[tactic(auto, unfolding(crate::specs::Table::link_of, crate::specs::Table::link_form))]
 fn read_link(alloc: Global, value: &Value, item: u32) -> Result<DraftLink, NetFault>
     ensures { GivesOr (λ named. (named.item ≡ item) × shape.IsLinkFault (view value.now) named.part named.sub)
@@ -204,6 +212,7 @@ fn read_link(alloc: Global, value: &Value, item: u32) -> Result<DraftLink, NetFa
     })
 }
 
+/// The turns of these tables, in order.
 fn read_turns(alloc: Global, values: &[Value], item: u32) -> Result<Vec<DraftTurn>, NetFault>
     ensures { GivesOr (λ named. (named.part ≡ Part.Turn) × (named.item ≡ item) × shape.IsFirstUnread spec.turn_of (map view values.now) named.sub)
         (λ turns. turns.items) result (each spec.turn_of (map view values.now)) }
@@ -221,6 +230,7 @@ fn read_turns(alloc: Global, values: &[Value], item: u32) -> Result<Vec<DraftTur
     Ok(turns)
 }
 
+/// A turn.
 #[tactic(auto, unfolding(crate::specs::Table::turn_of))]
 fn read_turn(alloc: Global, value: &Value, place: Place) -> Result<DraftTurn, NetFault>
     ensures { GivesAt place (λ turn. turn) result (spec.turn_of (view value.now)) }
@@ -233,6 +243,7 @@ fn read_turn(alloc: Global, value: &Value, place: Place) -> Result<DraftTurn, Ne
     Ok(DraftTurn { exit, share })
 }
 
+/// The conflicts of these tables, in order.
 fn read_conflicts(alloc: Global, values: &[Value]) -> Result<Vec<DraftConflict>, NetFault>
     ensures { GivesOr (λ named. (named.part ≡ Part.Conflict) × (named.sub ≡ 0) × shape.IsFirstUnread spec.conflict_of (map view values.now) named.item)
         (λ conflicts. conflicts.items) result (each spec.conflict_of (map view values.now)) }
@@ -250,6 +261,7 @@ fn read_conflicts(alloc: Global, values: &[Value]) -> Result<Vec<DraftConflict>,
     Ok(conflicts)
 }
 
+/// A conflict.
 #[tactic(auto, unfolding(crate::specs::Table::conflict_of))]
 fn read_conflict(alloc: Global, value: &Value, place: Place) -> Result<DraftConflict, NetFault>
     ensures { GivesAt place (λ conflict. conflict) result (spec.conflict_of (view value.now)) }
@@ -263,6 +275,7 @@ fn read_conflict(alloc: Global, value: &Value, place: Place) -> Result<DraftConf
     Ok(DraftConflict { a, b })
 }
 
+/// The texts of an array, in order.
 fn read_texts(alloc: Global, values: &[Value], place: Place) -> Result<Vec<Text>, NetFault>
     ensures { GivesAt place (λ texts. texts.items) result (each as_str (map view values.now)) }
 {
@@ -274,6 +287,7 @@ fn read_texts(alloc: Global, values: &[Value], place: Place) -> Result<Vec<Text>
     Ok(texts)
 }
 
+/// A text.
 fn read_text(alloc: Global, value: &Value, place: Place) -> Result<Text, NetFault>
     ensures { GivesAt place (λ text. text) result (as_str (view value.now)) }
 {
@@ -290,6 +304,7 @@ fn copied(alloc: Global, text: &str) -> Result<Text, AllocError>
     Ok(Text::from_string(String::from_str(alloc, text)?))
 }
 
+/// A copy of the text, where there is one.
 fn copied_if(alloc: Global, text: Option<&str>) -> Result<Option<Text>, AllocError>
     ensures { IfOk result (λ copy. copy ≡ option_copied text.entry) }
 {
@@ -313,6 +328,7 @@ fn member<'a>(table: &'a Table, key: &str) -> Option<&'a Value>
     table.get(key)
 }
 
+/// The whole number at a key.
 #[tactic(auto, unfolding(crate::specs::Table::number_at))]
 fn number_at(table: &Table, key: &str, place: Place) -> Result<u32, NetFault>
     ensures { GivesAt place (λ number. number) result (spec.number_at key.now (table_view table.now)) }
@@ -337,6 +353,7 @@ fn field_of(number: i64) -> u32
     }
 }
 
+/// The text at a key.
 #[tactic(auto, unfolding(crate::specs::Table::text_at))]
 fn text_at<'a>(table: &'a Table, key: &str, place: Place) -> Result<&'a str, NetFault>
     ensures { GivesAt place (λ text. text.now) result (spec.text_at key.now (table_view table.now)) }
@@ -347,6 +364,7 @@ fn text_at<'a>(table: &'a Table, key: &str, place: Place) -> Result<&'a str, Net
     }
 }
 
+/// The text at a key that may be absent.
 #[tactic(auto, unfolding(crate::specs::Table::optional_text_at))]
 fn optional_text_at<'a>(
     table: &'a Table,
@@ -364,6 +382,7 @@ fn optional_text_at<'a>(
     }
 }
 
+/// The table that the value is.
 fn table_of(value: &Value, place: Place) -> Result<&Table, NetFault>
     ensures { GivesAt place (λ table. table_view table.now) result (as_table (view value.now)) }
 {
@@ -373,6 +392,7 @@ fn table_of(value: &Value, place: Place) -> Result<&Table, NetFault>
     }
 }
 
+/// The table at a key.
 #[tactic(auto, unfolding(crate::specs::Table::table_at))]
 fn table_at<'a>(table: &'a Table, key: &str, place: Place) -> Result<&'a Table, NetFault>
     ensures { GivesAt place (λ found. table_view found.now) result (spec.table_at key.now (table_view table.now)) }
@@ -383,6 +403,7 @@ fn table_at<'a>(table: &'a Table, key: &str, place: Place) -> Result<&'a Table, 
     }
 }
 
+/// The elements of the array that the value is.
 fn list_of(value: &Value, place: Place) -> Result<&[Value], NetFault>
     ensures { GivesAt place (λ values. map view values.now) result (option_map spec.list_of (as_array (view value.now))) }
 {
@@ -392,6 +413,7 @@ fn list_of(value: &Value, place: Place) -> Result<&[Value], NetFault>
     }
 }
 
+/// The elements of the array at a key.
 #[tactic(auto, unfolding(crate::specs::Table::list_at))]
 fn list_at<'a>(table: &'a Table, key: &str, place: Place) -> Result<&'a [Value], NetFault>
     ensures { GivesAt place (λ values. map view values.now) result (spec.list_at key.now (table_view table.now)) }
@@ -432,6 +454,7 @@ fn has_only(table: &Table, keys: &[&str]) -> bool
     table.keys().all(|key| is_one_of(key.as_str(), keys))
 }
 
+/// Whether the key is one of these.
 fn is_one_of(key: &str, keys: &[&str]) -> bool
     ensures { result ≡ list_any (λ other. bytes_eq key.now other.now) keys.now }
 {

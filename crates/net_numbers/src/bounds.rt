@@ -1,3 +1,4 @@
+//! The bounds of what stands in a draft.
 ghost use Rattle.std.specs.Prelude.{◌≡◌, ◌≤◌, ◌↔◌, IfErr, IsTrue, All, length};
 ghost use Rattle.net_numbers.specs.Outcome.{Tests, Checks};
 ghost use Rattle.net_numbers.specs.FirstFaults.{IsFirst, IsNodeFault, IsLinkFault, FailsBounds};
@@ -22,12 +23,14 @@ pub fn check_bounds(draft: &Draft) -> Result<(), NetFault>
     check_links(draft.links.as_slice())
 }
 
+/// The fault `Bound` at this place.
 fn bound(part: Part, item: u32, sub: u32) -> NetFault
     ensures { result ≡ NetFault.Bound (record { part = part; item = item; sub = sub }) }
 {
     NetFault::Bound(Place { part, item, sub })
 }
 
+/// Whether there are as many nodes, links and conflicts as there may be.
 fn has_counts(draft: &Draft) -> bool
     ensures { IsTrue result ↔ HasCounts draft.now }
 {
@@ -36,6 +39,7 @@ fn has_counts(draft: &Draft) -> bool
         && draft.conflicts.len() <= 1024
 }
 
+/// Whether the numbers of the run are within their bounds.
 fn is_run(run: &Run) -> bool
     ensures { IsTrue result ↔ IsRun run.now }
 {
@@ -46,6 +50,7 @@ fn is_run(run: &Run) -> bool
         && (1..=600).contains(&run.rounds)
 }
 
+/// Tests each node, and names the first fault of the first that is out of its bounds.
 fn check_nodes(nodes: &[DraftNode]) -> Result<(), NetFault>
     requires { length nodes.now ≤ 64 }
     ensures { Checks (All IsBoundedNode nodes.now)
@@ -57,6 +62,7 @@ fn check_nodes(nodes: &[DraftNode]) -> Result<(), NetFault>
     Ok(())
 }
 
+/// Tests a node, and then its phases.
 fn check_node(node: &DraftNode, item: u32) -> Result<(), NetFault>
     ensures { Checks (IsBoundedNode node.now)
         (λ place. (place.item ≡ item) × IsNodeFault node.now place.part place.sub) result }
@@ -67,12 +73,14 @@ fn check_node(node: &DraftNode, item: u32) -> Result<(), NetFault>
     check_phases(node.phases.as_slice(), item)
 }
 
+/// Whether the name and the number of phases of a node are as they may be.
 fn has_node_bounds(node: &DraftNode) -> bool
     ensures { IsTrue result ↔ HasNodeBounds node.now }
 {
     is_name(node.name.as_str()) && (2..=4).contains(&node.phases.len())
 }
 
+/// Tests each phase, and names the first that is out of its bounds.
 fn check_phases(phases: &[DraftPhase], item: u32) -> Result<(), NetFault>
     requires { length phases.now ≤ 4 }
     ensures { Checks (All IsBoundedPhase phases.now)
@@ -87,12 +95,14 @@ fn check_phases(phases: &[DraftPhase], item: u32) -> Result<(), NetFault>
     Ok(())
 }
 
+/// Whether the times and the number of links of a phase are as they may be.
 fn is_bounded_phase(phase: &DraftPhase) -> bool
     ensures { IsTrue result ↔ IsBoundedPhase phase.now }
 {
     phase.phase.is_within_bounds() && phase.links.len() <= 16
 }
 
+/// Tests each link, and names the first fault of the first that is out of its bounds.
 fn check_links(links: &[DraftLink]) -> Result<(), NetFault>
     requires { length links.now ≤ 320 }
     ensures { Checks (All IsBoundedLink links.now)
@@ -104,6 +114,7 @@ fn check_links(links: &[DraftLink]) -> Result<(), NetFault>
     Ok(())
 }
 
+/// Tests a link, and then its turns.
 fn check_link(link: &DraftLink, item: u32) -> Result<(), NetFault>
     ensures { Checks (IsBoundedLink link.now)
         (λ place. (place.item ≡ item) × IsLinkFault link.now place.part place.sub) result }
@@ -114,6 +125,7 @@ fn check_link(link: &DraftLink, item: u32) -> Result<(), NetFault>
     check_turns(link.turns.as_slice(), item)
 }
 
+/// Whether the name, the numbers and the number of turns of a link are as they may be.
 fn has_link_bounds(link: &DraftLink) -> bool
     ensures { IsTrue result ↔ HasLinkBounds link.now }
 {
@@ -123,6 +135,7 @@ fn has_link_bounds(link: &DraftLink) -> bool
         && link.turns.len() <= 16
 }
 
+/// Tests each turn, and names the first that is out of its bounds.
 fn check_turns(turns: &[DraftTurn], item: u32) -> Result<(), NetFault>
     requires { length turns.now ≤ 16 }
     ensures { Checks (All IsBoundedTurn turns.now)
@@ -137,12 +150,14 @@ fn check_turns(turns: &[DraftTurn], item: u32) -> Result<(), NetFault>
     Ok(())
 }
 
+/// Whether the text is a name.
 fn is_name(name: &str) -> bool
     ensures { IsTrue result ↔ IsName name.now }
 {
     (1..=16).contains(&name.len()) && name.as_bytes().iter().all(|byte| is_name_byte(*byte))
 }
 
+/// Whether a name may have the byte.
 fn is_name_byte(byte: u8) -> bool
     ensures { IsTrue result ↔ IsNameByte byte }
 {

@@ -1,3 +1,4 @@
+//! Names and their numbers.
 use indexmap::IndexSet;
 use std::alloc::{AllocError, Global};
 use std::marker::Model;

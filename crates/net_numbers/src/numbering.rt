@@ -1,3 +1,4 @@
+//! Numbers for the names of a draft.
 ghost use Rattle.std.specs.Prelude.{◌≡◌, ◌≤◌, ◌<◌, IfOk, IfErr, IfSome, All, Contains, length, map, position};
 ghost use Rattle.net_draft.specs.Faults.{each};
 ghost use Rattle.net_numbers.specs.Bounds.{IsBoundedNode, IsBoundedPhase, IsBounded};
@@ -65,6 +66,7 @@ pub fn numbered(alloc: Global, draft: &Draft) -> Result<Parts, NetFault>
     })
 }
 
+/// The names of the nodes, no two the same.
 fn node_names(alloc: Global, nodes: &[DraftNode]) -> Result<Names, NetFault>
     requires { length nodes.now ≤ 64 }
     ensures { Lists Part.Node (map (λ n. n.name) nodes.now) result }
@@ -78,6 +80,7 @@ fn node_names(alloc: Global, nodes: &[DraftNode]) -> Result<Names, NetFault>
     Ok(names)
 }
 
+/// The names of the links, no two the same.
 fn link_names(alloc: Global, links: &[DraftLink]) -> Result<Names, NetFault>
     requires { length links.now ≤ 320 }
     ensures { Lists Part.Link (map (λ l. l.name) links.now) result }
@@ -91,6 +94,7 @@ fn link_names(alloc: Global, links: &[DraftLink]) -> Result<Names, NetFault>
     Ok(names)
 }
 
+/// A place.
 fn place(part: Part, item: u32, sub: u32) -> Place
     ensures { result ≡ record { part = part; item = item; sub = sub } }
 {
@@ -119,6 +123,7 @@ fn number_if(names: &Names, name: &Option<Text>, place: Place) -> Result<Option<
     }
 }
 
+/// The numbers of these names, in order.
 fn numbers(alloc: Global, names: &Names, texts: &[Text], place: Place) -> Result<Vec<u32>, NetFault>
     ensures { Makes (λ numbers. numbers.items) result (each (number_of names.now) texts.now)
         (λ at_fault. (at_fault ≡ place) × ¬ All (Contains names.now) texts.now) }
@@ -151,6 +156,7 @@ fn phase_links(
     Ok(lists)
 }
 
+/// The links of each of these phases.
 fn links_of_phases(
     alloc: Global,
     names: &Names,
@@ -208,6 +214,7 @@ fn roads(
     Ok((roads, lists))
 }
 
+/// A link by numbers.
 #[tactic(auto, unfolding(crate::specs::Numbers::link_of))]
 fn road(names: &Tables, link: &DraftLink, place: Place) -> Result<Link, NetFault>
     requires nodes { length names.now.nodes.now ≤ length names.now.phase_links.now }
@@ -259,6 +266,7 @@ pub fn phase_with(phases: &[Items<u32>], link: u32) -> Option<u8>
     None
 }
 
+/// The turns of a link by numbers.
 fn turns(
     alloc: Global,
     names: &Names,
@@ -278,6 +286,7 @@ fn turns(
     Ok(numbered)
 }
 
+/// A turn by numbers.
 #[tactic(auto, unfolding(crate::specs::Numbers::turn_of))]
 fn turn_of(names: &Names, turn: &DraftTurn, place: Place) -> Result<Turn, NetFault>
     ensures { Makes (λ turn. turn) result (spec.turn_of names.now turn.now)
@@ -290,6 +299,7 @@ fn turn_of(names: &Names, turn: &DraftTurn, place: Place) -> Result<Turn, NetFau
     })
 }
 
+/// The conflicts by numbers.
 fn conflicts(
     alloc: Global,
     names: &Names,
@@ -309,6 +319,7 @@ fn conflicts(
     Ok(pairs)
 }
 
+/// A conflict by numbers.
 #[tactic(auto, unfolding(crate::specs::Numbers::conflict_of))]
 fn conflict_of(
     names: &Names,
@@ -336,6 +347,7 @@ fn plans(alloc: Global, nodes: &[DraftNode]) -> Result<Vec<PhasePlan>, AllocErro
     Ok(plans)
 }
 
+/// The plan of these phases.
 fn plan(alloc: Global, phases: &[DraftPhase]) -> Result<PhasePlan, AllocError>
     requires some { 2 ≤ length phases.now }
     requires few { length phases.now ≤ 4 }
@@ -348,6 +360,7 @@ fn plan(alloc: Global, phases: &[DraftPhase]) -> Result<PhasePlan, AllocError>
     }
 }
 
+/// The times of these phases.
 fn times(alloc: Global, phases: &[DraftPhase]) -> Result<Vec<Phase>, AllocError>
     ensures { IfOk result (λ times. times.items ≡ map (λ p. p.phase) phases.now) }
 {

@@ -1,3 +1,4 @@
+//! Links and turns by numbers.
 use foundation::threads::CrossesThreads;
 
 /// A one-way road, by numbers.

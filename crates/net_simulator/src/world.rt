@@ -232,12 +232,14 @@ pub fn law_of_lights()
         → ((x node : ℕ) → x < w.second → standing (lines node) x ≡ standing (others node) x) → Stands net arriving (standing_by others) w }
 {}
 
+/// So many zeros.
 fn zeros(alloc: Global, n: usize) -> Result<Vec<u32>, AllocError>
     ensures { IfOk result (λ v. v.items ≡ replicate n 0) }
 {
     vec![in alloc; 0; n]
 }
 
+/// What is counted at second 0 of so many links.
 fn no_counts(alloc: Global, n: usize) -> Result<Vec<LinkTotals>, AllocError>
     ensures { IfOk result (λ v. v.items ≡ replicate n no_totals) }
 {
@@ -249,6 +251,7 @@ fn no_counts(alloc: Global, n: usize) -> Result<Vec<LinkTotals>, AllocError>
     vec![in alloc; nothing; n]
 }
 
+/// Room for what so many nodes show.
 fn no_greens(alloc: Global, n: usize) -> Result<Vec<Option<Green>>, AllocError>
     ensures { IfOk result (λ v. length v.items ≡ n) }
 {

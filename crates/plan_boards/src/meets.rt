@@ -1,5 +1,5 @@
 // Passes meet, by couriers.
-ghost use Rattle.std.specs.Prelude.{◌≡◌, [], max, map, All, IsOk};
+ghost use Rattle.std.specs.Prelude.{◌≡◌, ◌<◌, [], length, max, map, All, IsOk};
 ghost use Rattle.board_rule.specs.Views.{courier, informed};
 ghost use Rattle.board_rule.specs.Passes.{highest, raised};
 ghost use Rattle.board_rule.specs.Gathered.{IsCourier};
@@ -52,6 +52,33 @@ impl Boards {
         self.hear(&mut pass.seat, courier);
     }
 
+    // Hears what all passes know, of which there are some.
+    fn collect_all(&self, passes: &mut [Pass]) -> Place
+        requires some { 0 < length passes.old }
+        requires boards { All (λ p. p.boards ≡ self.now.id) passes.old }
+        ensures passes { passes.new ≡ passes.old }
+        ensures table { result.table_id ≡ self.now.id }
+        ensures known { result.me.0.known ≡ highest passes.old }
+    {
+        let first = &mut passes[0];
+        let mut all = self.send(&mut first.seat);
+        for k in 1..passes.len() {
+            self.collect(&mut all, &mut passes[k]);
+        }
+        all
+    }
+
+    // Tells all passes.
+    fn inform_all(&self, all: &mut Place, passes: &mut [Pass])
+        requires table { all.old.table_id ≡ self.now.id }
+        requires boards { All (λ p. p.boards ≡ self.now.id) passes.old }
+        ensures passes { passes.new ≡ map (raised all.old.me.0.known) passes.old }
+    {
+        for k in 0..passes.len() {
+            self.inform(all, &mut passes[k]);
+        }
+    }
+
     /// Lets passes of these boards meet: the next stamp of each is then above every stamp that one of them had drawn
     /// before. Each keeps its number, its calls and its calls left. It takes no memory, so it answers `Ok`.
     ///
@@ -64,14 +91,8 @@ impl Boards {
         if passes.is_empty() {
             return Ok(());
         }
-        let first = &mut passes[0];
-        let mut all = self.send(&mut first.seat);
-        for k in 1..passes.len() {
-            self.collect(&mut all, &mut passes[k]);
-        }
-        for k in 0..passes.len() {
-            self.inform(&mut all, &mut passes[k]);
-        }
+        let mut all = self.collect_all(passes);
+        self.inform_all(&mut all, passes);
         Ok(())
     }
 }

@@ -1,4 +1,4 @@
--- What the fields of the code stand for.
+-- What the fields of the code stand for. No public clause names these words.
 use Rattle.std.specs.Prelude.{◌≡◌, ℕ, List, None, Result, Ok, Err, IsUtf8, length}
 use Rattle.toml.specs.Parse.{parse_document}
 use Rattle.net_draft.specs.declared.faults.NetFault.{NetFault}

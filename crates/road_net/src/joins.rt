@@ -1,3 +1,4 @@
+//! How the parts of a network are joined.
 ghost use Rattle.std.specs.Prelude.{◌≡◌, ◌≢◌, ◌≤◌, ◌<◌, ◌^◌, ◌↔◌, IsTrue, IfOk, OnOk, IfSome, ◌++◌, Some, [], All, AllPairs, length, slice_index_or, sum_by};
 ghost use Rattle.std.specs.List.{concat};
 ghost use Rattle.road_net.specs.FirstFaults.{TestsEach, clash_at};
@@ -46,6 +47,7 @@ pub(crate) fn links_by_node(
     Ok(lists)
 }
 
+/// The links that have the node at this side, in number order.
 fn links_of_node(
     alloc: Global,
     links: &[Link],
@@ -107,6 +109,7 @@ pub(crate) fn check_shares(links: &[Link], turns: &[Items<Turn>]) -> Result<(), 
     Ok(())
 }
 
+/// Whether the turns of a link that ends there are as they must be.
 fn has_shares(links: &[Link], turns: &[Turn], to: Option<u32>) -> bool
     requires exits { All (λ t. t.exit < length links.now) turns.now }
     requires sum { sum_by share_of turns.now < 2 ^ 32 }
@@ -122,6 +125,7 @@ fn has_shares(links: &[Link], turns: &[Turn], to: Option<u32>) -> bool
     }
 }
 
+/// Whether all turns leave the node.
 fn turns_leave(links: &[Link], turns: &[Turn], node: u32) -> bool
     requires { All (λ t. t.exit < length links.now) turns.now }
     ensures { IsTrue result ↔ All (λ t. (link_at links.now t.exit).from ≡ Some node) turns.now }
@@ -134,6 +138,7 @@ fn turns_leave(links: &[Link], turns: &[Turn], node: u32) -> bool
     true
 }
 
+/// Whether no two turns lead into one link.
 fn exits_differ(turns: &[Turn]) -> bool
     ensures { IsTrue result ↔ AllPairs (λ s t. s.exit ≢ t.exit) turns.now }
 {
@@ -145,6 +150,7 @@ fn exits_differ(turns: &[Turn]) -> bool
     true
 }
 
+/// Whether no turn leads into the link.
 fn lacks_exit(turns: &[Turn], exit: u32) -> bool
     ensures { IsTrue result ↔ All (λ t. t.exit ≢ exit) turns.now }
 {
@@ -172,6 +178,7 @@ pub(crate) fn check_phases(
     Ok(())
 }
 
+/// Whether phases name the link as they must.
 fn is_phased(named: &[u32], phase_links: &[Items<Items<u32>>], link: u32, to: Option<u32>) -> bool
     requires named { named.now ≡ named_links phase_links.now }
     requires node { IfSome to (λ node. node < length phase_links.now) }
@@ -220,6 +227,7 @@ pub(crate) fn check_conflicts(links: &[Link], conflicts: &[(u32, u32)]) -> Resul
     Ok(())
 }
 
+/// Whether the two links may stand in a conflict.
 fn can_conflict(links: &[Link], a: u32, b: u32) -> bool
     requires first { a < length links.now }
     requires second { b < length links.now }

@@ -254,6 +254,7 @@ fn joined(alloc: Global, parts: Parts) -> Result<Network, NetFault>
     Ok(network_of(parts, links))
 }
 
+/// The network of these parts and of the links of each node.
 fn network_of(parts: Parts, links: NodeLinks) -> Network
     requires { IsStored parts links.entry.items links.exit.items }
     ensures { result ≡ net_of parts }

@@ -1,3 +1,4 @@
+//! What a node sees of its entry links.
 use foundation::items::Items;
 use foundation::threads::CrossesThreads;
 

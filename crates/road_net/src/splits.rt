@@ -1,3 +1,4 @@
+//! How an amount is divided among the turns of a link.
 ghost use Rattle.std.specs.Prelude.{◌≡◌, ◌≢◌, ◌+◌, ◌≤◌, ℕ, List, AllPairs, sum_by};
 ghost use Rattle.net_numbers.specs.declared.roads.Turn.{Turn};
 ghost use Rattle.road_net.specs.Joins.{share_of, part_between, split_of};

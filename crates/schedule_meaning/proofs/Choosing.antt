@@ -1,5 +1,5 @@
 -- What the search through all orders finds.
-use Rattle.std.proofs.Common.{◌≡◌, ℕ, zero, suc, ◌+◌, ◌-◌, ◌<◌, ◌≤◌, ◌==◌, ◌⊎◌, nat_lt, cond, List, [], ◌∷◌, ◌++◌, length, map, sum, get_or, set, All, Option, Some, None, Result, Ok, Err, IfOk, IfSome, refl, sym, ap, subst, ◌∙◌, inl, inr, append_assoc, add-one, take, length-append, arith}
+use Rattle.std.proofs.Common.{◌≡◌, ℕ, zero, suc, ◌+◌, ◌-◌, ◌<◌, ◌≤◌, ◌==◌, ◌⊎◌, nat_lt, cond, List, [], ◌∷◌, ◌++◌, length, map, sum, get_or, set, All, Option, Some, None, Result, Ok, Err, IfOk, IfSome, refl, sym, ap, subst, ◌∙◌, inl, inr, append_assoc, take, length-append, arith}
 use Rattle.std.specs.List.{flat_map, range_with_len}
 use Rattle.std.specs.Option.{option_map}
 use Rattle.std.proofs.lemmas.Bool.{cases_lt, cond_below, cond_above, eqb-true}
@@ -23,7 +23,7 @@ use Rattle.schedule_meaning.specs.Best.{AllAbove, IsBestPlan, IsBestAmong, IsBes
 use Rattle.schedule_meaning.specs.Choice.{better, better_behind, best_behind}
 use Rattle.schedule_meaning.specs.declared.planners.Answer.{Answer}
 use Rattle.schedule_meaning.specs.declared.planners.Answer.TheVariants.{Plan, NoPlan}
-use Rattle.schedule_meaning.proofs.Sequences.{option-cases, timed-unfit, timed-begins, timing-fit, timing-end, next-left, left-phase}
+use Rattle.schedule_meaning.proofs.Sequences.{option-cases, timed-unfit, timed-begins, timing-fit, next-left, left-phase}
 
 -- the orders that begin with phase k
 abbrev pub beginning_with : List ℕ → ℕ → List (List ℕ)

@@ -1,13 +1,13 @@
 use Rattle.std.specs.Prelude.{unwrap_or}
-use Rattle.std.proofs.Common.{◌++◌, take, ◌≡◌, ◌≢◌, ℕ, zero, suc, ◌+◌, ◌-◌, ◌^◌, ◌<◌, ◌≤◌, ◌==◌, true, false, cond, eqb, List, [], ◌∷◌, length, sum, get_or, drop, All, Option, Some, None, Result, Ok, Err, eq-eqb, add-one, drop-cons, refl, sym, ap, ◌∙◌, inl, inr, arith}
-use Rattle.std.specs.Option.{option_map, option_and_then}
+use Rattle.std.proofs.Common.{◌++◌, take, ◌≡◌, ◌≢◌, ℕ, zero, suc, ◌+◌, ◌-◌, ◌^◌, ◌<◌, ◌≤◌, ◌==◌, true, false, cond, eqb, List, [], ◌∷◌, length, sum, get_or, drop, All, Option, Some, None, Ok, Err, eq-eqb, add-one, drop-cons, refl, sym, ap, ◌∙◌, inl, inr, arith}
+use Rattle.std.specs.Option.{option_map}
 use Rattle.std.proofs.Math.ListN.{get_or-map}
 use Rattle.std.proofs.lemmas.List.{length-map}
 use Rattle.std.proofs.lemmas.List.{get_or-set_same, get_or-set_other, get_or_past, take_more}
 use Rattle.std.proofs.lemmas.Bool.{cases_Bool, cases_eq, cases_lt, eqb-true}
 use Rattle.std.proofs.lemmas.Bool.Decides.{nat_tests}
 use Rattle.std.proofs.lemmas.List.Sums.{sum_by-cons, sum-map, get_or-le-sum_by}
-use Rattle.std.proofs.lemmas.Option.{slice_get_within, cond_some}
+use Rattle.std.proofs.lemmas.Option.{cond_some}
 pub use Rattle.foundation.proofs.OptionLaws.{option-cases}
 pub use Rattle.foundation.proofs.ResultLaws.{result-cases}
 use Rattle.phase_plan.specs.Phases.{IsPhase, IsPlan, phase_at, no_phase}

@@ -72,9 +72,7 @@ fn run_example<R: Threads + Wait + Sync>(rt: &R, alloc: Global) -> Result<Exampl
     for pass in &passes {
         left.push((pass.number(), pass.calls_left()))?;
     }
-    let logs = boards
-        .close(alloc, passes)
-        .map_err(|refused| refused.2)?;
+    let logs = boards.close(alloc, passes).map_err(|refused| refused.2)?;
     let events = match logs.first() {
         Some(log) => events_told(alloc, log)?,
         None => Vec::new(alloc),
@@ -93,7 +91,10 @@ fn four_calls_of_two_passes(rt: HostRuntime) -> Result<(), Fail> {
     let example = run_example(&rt, alloc)?;
     assert!(rt; example.told.as_slice() == [(0, 0), (1, 1), (1, 2), (2, 3)].as_slice());
     assert!(rt; example.left.as_slice() == [(0, 8), (1, 8)].as_slice());
-    assert!(rt; example.events.as_slice() == [(0, 1, 0, 0), (1, 0, 0, 22), (2, 1, 1, 0), (3, 0, 0, 23)].as_slice());
+    assert!(rt;
+        example.events.as_slice()
+            == [(0, 1, 0, 0), (1, 0, 0, 22), (2, 1, 1, 0), (3, 0, 0, 23)].as_slice()
+    );
     assert!(rt; example.second == one_row(alloc, 22)?);
     Ok(())
 }

@@ -1,5 +1,6 @@
 //! Calls to which memory is refused: each leaves the pass and the log as they were, and the same call then succeeds. With
-//! ample memory no call is refused; `rt try --test --fail-alloc N` refuses the Nth request for memory.
+//! ample memory no call is refused; `rt try --test --fail-alloc N` refuses the Nth request for memory, once. Where that falls
+//! into the making of the boards, all is done once more.
 ghost use Rattle.std.specs.Prelude.{◌≡◌, ◌+◌, ◌<◌, IfOk};
 
 use crate::example::{Told, events_told, one_row};
@@ -71,9 +72,7 @@ fn run_refused<R: Threads + Wait + Sync>(rt: &R, alloc: Global) -> Result<Refuse
     let left = passes[0].calls_left();
     let logs = match boards.close(alloc, passes) {
         Ok(logs) => logs,
-        Err((boards, passes, _)) => boards
-            .close(alloc, passes)
-            .map_err(|refused| refused.2)?,
+        Err((boards, passes, _)) => boards.close(alloc, passes).map_err(|refused| refused.2)?,
     };
     let events = match logs.first() {
         Some(log) => events_told(alloc, log)?,
@@ -84,9 +83,14 @@ fn run_refused<R: Threads + Wait + Sync>(rt: &R, alloc: Global) -> Result<Refuse
 
 #[test]
 fn a_refused_call_leaves_all_as_it_was(rt: HostRuntime) -> Result<(), Fail> {
-    let refused = run_refused(&rt, rt.alloc())?;
+    let refused = match run_refused(&rt, rt.alloc()) {
+        Ok(refused) => refused,
+        Err(_) => run_refused(&rt, rt.alloc())?,
+    };
     assert!(rt; refused.told.as_slice() == [(1, 0), (1, 1), (1, 2)].as_slice());
     assert_eq!(rt; refused.left, 7);
-    assert!(rt; refused.events.as_slice() == [(0, 0, 0, 22), (1, 0, 1, 0), (2, 0, 1, 0)].as_slice());
+    assert!(rt;
+        refused.events.as_slice() == [(0, 0, 0, 22), (1, 0, 1, 0), (2, 0, 1, 0)].as_slice()
+    );
     Ok(())
 }

@@ -10,6 +10,7 @@ use std::alloc::{AllocError, Global};
 use std::sync::Wait;
 use std::sync::atomic::{AtomicU64, Ordering};
 use std::test::Fail;
+use std::thread;
 use std::thread::{Threads, join};
 
 /// Fifty times, publishes on one link and reads the other.
@@ -100,7 +101,7 @@ struct Meeting {
 impl CrossesThreads for Meeting {}
 
 /// How often a gate looks out before it gives up.
-const LOOKS: u32 = 200_000_000;
+const LOOKS: u32 = 2_000_000;
 
 impl Gate for Meeting {
     fn before<R: Threads + Wait + Sync>(
@@ -124,6 +125,7 @@ impl Gate for Meeting {
             if self.came.load(Ordering::SeqCst) >= 2 {
                 return;
             }
+            thread::yield_now();
         }
         self.missed.fetch_add(1, Ordering::SeqCst);
     }

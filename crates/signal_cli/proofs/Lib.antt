@@ -1,3 +1,5 @@
+pub mod Calls
 pub mod Fetching
+pub mod Numbers
 pub mod Outcomes
 pub mod TextLaws

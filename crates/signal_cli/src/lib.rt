@@ -13,6 +13,7 @@ mod status;
 mod texts;
 mod top;
 mod verdicts;
+mod words;
 
 pub use certify::certify_job;
 pub use check::check_job;

@@ -1,54 +1,9 @@
-//! The program `signal`: its words, files and streams, handed to the top call.
+//! The program `signal`. Its stored run plans a worked instance.
 #![tactic(auto)]
 
-use foundation::text::Text;
-use outside_world::{FileShelf, StreamSink};
-use signal_cli::{Status, signal};
-use std::alloc::Global;
-use std::env;
-use std::io::ErrorKind;
+use signal_process::run;
 use std::process::ExitCode;
-use std::rt::Env;
-use thiserror::Error;
-
-/// The status that says that the runtime refused the words themselves.
-const REFUSED_WORDS: u8 = 7;
-
-/// Why there are no words.
-#[derive(Debug, Drop, Error)]
-enum NoWords {
-    #[error("the words of the command line cannot be had")]
-    Refused,
-    #[error("out of memory")]
-    Memory,
-}
 
 fn main(rt: HostRuntime) -> ExitCode {
-    let alloc = rt.alloc();
-    let words = match words(&rt, alloc) {
-        Ok(words) => words,
-        Err(NoWords::Refused) => return ExitCode::from(REFUSED_WORDS),
-        Err(NoWords::Memory) => return ExitCode::from(Status::NoMemory.code()),
-    };
-    let mut shelf = FileShelf::new(alloc, &rt);
-    let mut out = StreamSink::new(rt.stdout());
-    let mut err = StreamSink::new(rt.stderr());
-    let status = signal(alloc, &words, &mut shelf, &mut out, &mut err);
-    ExitCode::from(status.code())
-}
-
-/// The words of the command line, without the program's name.
-fn words<R: Env + AllocGlobal>(rt: &R, alloc: Global) -> Result<Vec<Text>, NoWords> {
-    let args = match env::args(rt) {
-        Ok(args) => args,
-        Err(fault) if fault.kind() == ErrorKind::OutOfMemory => return Err(NoWords::Memory),
-        Err(_) => return Err(NoWords::Refused),
-    };
-    let mut words = Vec::new(alloc);
-    for word in args.skip(1) {
-        if words.push(Text::from_string(word)).is_err() {
-            return Err(NoWords::Memory);
-        }
-    }
-    Ok(words)
+    run(&rt, &rt, rt.stdout(), rt.stderr())
 }

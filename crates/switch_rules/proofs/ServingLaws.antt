@@ -1,5 +1,5 @@
 -- What every fit serving keeps, from the definition of a serving alone.
-use Rattle.std.proofs.Common.{◌≡◌, ℕ, ◌+◌, ◌-◌, ◌*◌, ◌<◌, ◌≤◌, Bool, true, false, eqb, leb, ltb, ◌&&◌, max, List, length, Ok, refl, sym, ap, subst, ◌∙◌, arith}
+use Rattle.std.proofs.Common.{◌≡◌, ℕ, ◌+◌, ◌-◌, ◌*◌, ◌<◌, ◌≤◌, Bool, true, false, eqb, leb, ltb, ◌&&◌, max, List, length, Ok, refl, sym, ap, subst, arith}
 use Rattle.std.proofs.lemmas.Bool.{cond_both, and_parts, eqb-true, leb-true, leb-false, ltb-false, true≢false}
 use Rattle.std.proofs.lemmas.Nat.{mul-le}
 use Rattle.phase_plan.specs.Phases.{IsPhase, phase_at}

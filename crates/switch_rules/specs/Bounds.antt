@@ -1,5 +1,5 @@
 -- The bounds that the rules of serving keep, and on which the crates above rest.
-use Rattle.std.specs.Prelude.{ℕ, ◌*◌}
+use Rattle.std.specs.Prelude.{ℕ}
 
 -- clusters are served from heads whose time is spent by this second
 abbrev pub latest_time : ℕ

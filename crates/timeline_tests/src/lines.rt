@@ -14,7 +14,8 @@ use switch_rules::LATEST_TIME;
 const TWO_PHASES: &str =
     "instance 1\nphases 2\nphase 5 30 3 2 2 120\nphase 5 30 3 2 2 120\nhead 0 0 0 kept\n";
 
-const THREE_PHASES: &str = "instance 1\nphases 3\nphase 5 30 3 2 2 120\nphase 5 30 3 2 2 120\nphase 5 30 3 2 2 120\nhead 0 0 0 kept\n";
+const THREE_PHASES: &str =
+    "instance 1\nphases 3\nphase 5 30 3 2 2 120\nphase 5 30 3 2 2 120\nphase 5 30 3 2 2 120\nhead 0 0 0 kept\n";
 
 /// Two clusters, the second of which has to be served first.
 pub const TWO_CLUSTERS: &str = "cluster 0 1000 50 2\ncluster 1 1000 20 2\n";

@@ -97,6 +97,5 @@ returns-clause-begins_by c = λ n since last greens.
     let facts = line_of-by c.args.plan.now c.args.phases.now c.args.served.now c.args.head.now c.args.until n c.learn.ensures c.requires.head c.requires.servings since last greens in
     subst (BeginBy n) (sym (value c)) facts
 
-
 pub returns-clause-apart : goal.returns-clause-apart
 returns-clause-apart c = are-apart c.args.plan.now _ c.learn.ensures (line c).lawful

@@ -1,4 +1,4 @@
-use Rattle.std.proofs.Common.{leb, ltb, nat_lt, lt-ltb, le-ltb, rules, tests, arith}
+use Rattle.std.proofs.Common.{leb, nat_lt, lt-ltb, le-ltb, rules, tests, arith}
 use Rattle.std.proofs.lemmas.Bool.{leb-true, leb-false}
 use Rattle.std.proofs.lemmas.List.Sorted.{IsPartitionPoint-from_clause, IsPartitionedBy-leb}
 use Rattle.control_flow.specs.Greens.{no_green}

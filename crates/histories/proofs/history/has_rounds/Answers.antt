@@ -1,4 +1,4 @@
-use Rattle.std.proofs.Common.{◌≡◌, ◌+◌, ◌-◌, ℕ, ◌<◌, ◌≤◌, List, [], ◌∷◌, ◌++◌, take, drop, length, get_or, set, sym, ap, ◌∙◌, subst, inl, inr, arith}
+use Rattle.std.proofs.Common.{◌≡◌, ◌+◌, ◌-◌, ℕ, ◌<◌, List, [], ◌∷◌, ◌++◌, take, drop, get_or, set, sym, ap, ◌∙◌, subst, inl, inr, arith}
 use Rattle.std.specs.Prelude.{◌⊎◌}
 use Rattle.std.proofs.lemmas.Bool.{cases_lt, false≢true}
 use Rattle.std.proofs.lemmas.List.{get_or_past, take_more, take_all}
@@ -47,5 +47,5 @@ returns c =
     let whole : take c.loop-node.node-index nodes ≡ nodes = take_all c.loop-node.node-index nodes c.loop-node-test.false in
     let end = at-end (board_steps c.args.net.now) c.run-rounds.result.rounds c.loop-node.done (take c.loop-node.node-index nodes) c.loop-node.left c.loop-node.open c.loop-node.invariant in
     tells c.loop-node.done c.run-rounds.result.rounds (IsLawful c.args.net.now nodes)
-      (λ all. end.0 (subst (HasRounds (board_steps c.args.net.now) c.run-rounds.result.rounds) (sym whole) (subst (λ r. HasRounds (board_steps c.args.net.now) r nodes) (sym rounds) all)))
-      (λ over. subst (λ r. HasRounds (board_steps c.args.net.now) r nodes) rounds (subst (HasRounds (board_steps c.args.net.now) c.run-rounds.result.rounds) whole (end.1 over)))
+    (λ all. end.0 (subst (HasRounds (board_steps c.args.net.now) c.run-rounds.result.rounds) (sym whole) (subst (λ r. HasRounds (board_steps c.args.net.now) r nodes) (sym rounds) all)))
+    (λ over. subst (λ r. HasRounds (board_steps c.args.net.now) r nodes) rounds (subst (HasRounds (board_steps c.args.net.now) c.run-rounds.result.rounds) whole (end.1 over)))

@@ -1,4 +1,3 @@
-use Rattle.std.proofs.Common.{◌≡◌, ◌<◌, ◌≤◌, ℕ, All, get_or, length}
 use Rattle.histories.specs.Steps.{board_steps}
 use Rattle.histories.proofs.Progress.{HaveCounts}
 use Rattle.histories.proofs.history.step_counts.Given as goal

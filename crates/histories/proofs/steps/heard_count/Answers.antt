@@ -1,4 +1,4 @@
-use Rattle.std.proofs.Common.{◌≤◌, ℕ, Bool, List, length, take, is_some, arith, length-take}
+use Rattle.std.proofs.Common.{ℕ, Bool, List, take, is_some, arith, length-take}
 use Rattle.std.proofs.lemmas.List.Sums.{length-filter, count_by-le-length}
 use Rattle.net_numbers.specs.Outline.{link_at}
 use Rattle.histories.proofs.steps.heard_count.Goals as goal

@@ -1,4 +1,4 @@
-use Rattle.std.proofs.Common.{rules, ◌≡◌, ◌≤◌, length, ap, arith}
+use Rattle.std.proofs.Common.{rules, ◌≡◌, length, ap, arith}
 use Rattle.histories.specs.Steps.{board_steps}
 use Rattle.histories.proofs.StepLaws.{steps-few}
 use Rattle.histories.proofs.steps.node_steps.Goals as goal

@@ -1,4 +1,4 @@
-use Rattle.std.proofs.Common.{◌≡◌, ℕ, ◌+◌, ◌≤◌, get_or, drop, take, Some}
+use Rattle.std.proofs.Common.{◌≡◌, ℕ, ◌+◌, get_or, drop, take, Some}
 use Rattle.std.specs.Option.{option_map}
 use Rattle.schedule_meaning.specs.Instances.{counts_of}
 use Rattle.schedule_meaning.specs.Faults.{reached_from}

@@ -1,4 +1,4 @@
-use Rattle.std.proofs.Common.{◌≡◌, arith}
+use Rattle.std.proofs.Common.{arith}
 use Rattle.world_tests.proofs.plays.played.Goals as goal
 
 pub loop-i-init : goal.loop-i-init

@@ -1,5 +1,4 @@
-use Rattle.std.proofs.Common.{List, sym, subst, ◌∙◌}
-use Rattle.control_flow.specs.declared.greens.Green.{Green}
+use Rattle.std.proofs.Common.{sym, subst, ◌∙◌}
 use Rattle.control_flow.specs.Greens.{IsInOrder}
 use Rattle.control_flow.proofs.OrderLaws.{answered-order, answered-spliced}
 use Rattle.control_flow.proofs.SpliceLaws.{answered-continued}

@@ -1,0 +1,9 @@
+//! Tests of board steps, histories and merges on the worked network, with values by hand.
+#![tactic(auto)]
+
+#[cfg(test)]
+mod histories;
+#[cfg(test)]
+mod merges;
+#[cfg(test)]
+mod worked;

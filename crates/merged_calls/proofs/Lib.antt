@@ -1,0 +1,10 @@
+pub mod Entries
+pub mod Forecasts
+pub mod EventKinds
+pub mod Marks
+pub mod Nodes
+pub mod Places
+pub mod Rounds
+pub mod Sorted
+pub mod Theorem
+pub mod Versions

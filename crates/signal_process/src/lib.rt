@@ -1,0 +1,63 @@
+//! The program in its process: its words, files and streams, handed to the top call.
+#![tactic(auto)]
+
+use foundation::text::Text;
+use outside_world::{FileShelf, StreamSink};
+use signal_cli::{Status, signal};
+use std::alloc::Global;
+use std::env;
+use std::io::{ErrorKind, Write};
+use std::process::ExitCode;
+use std::rt::{Env, Files};
+use thiserror::Error;
+
+/// The status that says that the runtime refused the words themselves.
+const REFUSED_WORDS: u8 = 7;
+
+/// Why there are no words.
+#[derive(Debug, Drop, Error)]
+enum NoWords {
+    #[error("the words of the command line cannot be had")]
+    Refused,
+    #[error("out of memory")]
+    Memory,
+}
+
+/// Calls `signal` with the words of the command line, which `env` gives, the files of `rt`, and these streams for `out` and
+/// `err`. The answer is its status, or 7 where the words are refused.
+///
+/// docs/FORMATS.md, "Exit statuses and lines of refusal".
+pub fn run<W: Env + AllocGlobal, R: Files + AllocGlobal, O: Write + Drop, E: Write + Drop>(
+    env: &W,
+    rt: &R,
+    out: O,
+    err: E,
+) -> ExitCode {
+    let alloc = rt.alloc();
+    let words = match words(env, alloc) {
+        Ok(words) => words,
+        Err(NoWords::Refused) => return ExitCode::from(REFUSED_WORDS),
+        Err(NoWords::Memory) => return ExitCode::from(Status::NoMemory.code()),
+    };
+    let mut shelf = FileShelf::new(alloc, rt);
+    let mut out = StreamSink::new(out);
+    let mut err = StreamSink::new(err);
+    let status = signal(alloc, &words, &mut shelf, &mut out, &mut err);
+    ExitCode::from(status.code())
+}
+
+// The words of the command line, without the program's name.
+fn words<W: Env + AllocGlobal>(env: &W, alloc: Global) -> Result<Vec<Text>, NoWords> {
+    let args = match env::args(env) {
+        Ok(args) => args,
+        Err(fault) if fault.kind() == ErrorKind::OutOfMemory => return Err(NoWords::Memory),
+        Err(_) => return Err(NoWords::Refused),
+    };
+    let mut words = Vec::new(alloc);
+    for word in args.skip(1) {
+        if words.push(Text::from_string(word)).is_err() {
+            return Err(NoWords::Memory);
+        }
+    }
+    Ok(words)
+}
