@@ -89,7 +89,7 @@ fn places(i: &Instance) -> u32
     counts.iter().sum()
 }
 
-/// The planner that answers by `layered`.
+/// The planner that answers by `layered`, in as few steps.
 ///
 /// docs/RULES.md, "Best answer".
 #[derive(Clone, Copy)]
@@ -103,7 +103,12 @@ impl Planner for LayerPlanner {
         alloc: Global,
         i: &Instance,
         steps: &mut Steps<L>,
-    ) -> Result<Answer, AllocError> {
+    ) -> Result<Answer, AllocError>
+        ensures best { IfOk result (IsBest i.now) }
+        ensures least { IfOk result (IsLeast i.now) }
+        ensures only { IfOk result (λ answer. (other : Answer) → IsBest i.now other → other ≡ answer) }
+        ensures servings { (keys : List Key) → HasAllKeys i.now keys → steps.new ≤ steps.old + length i.now.plan * length keys }
+    {
         layered(alloc, i, steps)
     }
 }
