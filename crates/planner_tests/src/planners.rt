@@ -8,6 +8,13 @@ use std::test::Fail;
 
 const IMPATIENT: &str = "instance 1\nphases 2\nphase 5 30 3 2 2 20\nphase 5 30 3 2 2 10\n";
 
+const FOUR_PHASES: &str = "instance 1\n\
+    phases 4\n\
+    phase 5 120 3 2 2 3600\n\
+    phase 5 120 3 2 2 3600\n\
+    phase 5 120 3 2 2 3600\n\
+    phase 5 120 3 2 2 3600\n";
+
 // What the instance shows, the lines up to its head, those from there to its end, and the best answer: whether
 // there is a plan, its delay and its sequence.
 const WORKED: &[(&str, &str, &str, bool, u64, &[u8])] = &[
@@ -55,6 +62,27 @@ const WORKED: &[(&str, &str, &str, bool, u64, &[u8])] = &[
         true,
         144,
         &[0, 1, 1, 0, 0, 0, 1, 1, 1, 0, 0, 1, 1, 0, 0, 1, 1, 0],
+    ),
+    (
+        "forty clusters, with almost as many orders as there may be",
+        FOUR_PHASES,
+        "head 0 0 0 kept\ncluster 0 3000 19 3\ncluster 0 4000 35 1\ncluster 0 1500 41 1\n\
+         cluster 0 4000 45 3\ncluster 0 1000 53 4\ncluster 0 500 68 2\ncluster 0 3500 83 2\n\
+         cluster 0 3500 91 2\ncluster 0 1500 97 1\ncluster 0 1500 109 4\ncluster 0 500 117 1\n\
+         cluster 0 1500 123 2\ncluster 0 3000 129 3\ncluster 0 1500 137 2\ncluster 0 3500 152 2\n\
+         cluster 0 3000 160 1\ncluster 0 1500 169 2\ncluster 0 3000 177 1\ncluster 0 3000 184 1\n\
+         cluster 0 3000 188 3\ncluster 0 3000 197 4\ncluster 0 4000 205 4\ncluster 0 500 222 2\n\
+         cluster 0 3000 230 1\ncluster 0 3500 239 1\ncluster 0 500 247 4\ncluster 0 1500 260 1\n\
+         cluster 0 1000 272 2\ncluster 0 3000 279 4\ncluster 0 2500 293 3\ncluster 0 3000 305 1\n\
+         cluster 0 3500 312 1\ncluster 0 3000 316 2\ncluster 0 1500 328 3\ncluster 0 1000 338 3\n\
+         cluster 0 2500 347 3\ncluster 0 1500 354 1\ncluster 1 1500 9 4\ncluster 1 1000 26 1\n\
+         cluster 2 500 17 4\n",
+        true,
+        371_000,
+        &[
+            0, 0, 0, 0, 0, 1, 1, 2, 0, 0, 0, 0, 0, 0, 0, 0, 0, 0, 0, 0, 0, 0, 0, 0, 0, 0, 0, 0, 0,
+            0, 0, 0, 0, 0, 0, 0, 0, 0, 0, 0,
+        ],
     ),
 ];
 
