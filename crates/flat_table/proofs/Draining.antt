@@ -24,6 +24,29 @@ offered-new places k row inside empty = record {
   others = λ j other. get_or-set_other places k j (Some row) None other;
 }
 
+-- of two rows one is no worse
+not-worse : (a b : Row) → ¬ IsNoWorse a b.entry.delay b.order → IsNoWorse b a.entry.delay a.order
+not-worse a b h = elim (cases_lt b.entry.delay a.entry.delay) [
+  | inl less ↦ inl less
+  | inr up ↦ elim (cases_lt a.entry.delay b.entry.delay) [
+    | inl less ↦ absurd (h (inl less))
+    | inr down ↦
+        let same : a.entry.delay ≡ b.entry.delay = omega (arith, up, down) in
+        elim (cases_lt a.order b.order) [ inl less ↦ absurd (h (inr (same, omega (arith, less)))) | inr order ↦ inr (sym same, order) ]
+  ]
+]
+
+-- a row offered to the place of a worse one
+pub offered-better : (places : List (Option Row)) (k : ℕ) (row there : Row) → k < length places → row_in places k ≡ Some there → ¬ IsNoWorse there row.entry.delay row.order → IsOffered places (set places k (Some row)) k row
+offered-better places k row there inside is worse = record {
+  stays = row;
+  there = get_or-set_at places k k (Some row) None refl inside;
+  from = inl refl;
+  no_worse = inr (refl, omega arith);
+  keeps = subst (λ (o : Option Row). IfSome o (λ r. IsNoWorse row r.entry.delay r.order)) (sym is) (not-worse there row worse);
+  others = λ j other. get_or-set_other places k j (Some row) None other;
+}
+
 -- the rows in the places before a place are moved into a list, and those from there on stand yet
 pub record AreDrained (initial places : List (Option Row)) (place : ℕ) (out : List Row) : Type 0 where
   pub cleared : (k : ℕ) → k < place → row_in places k ≡ None

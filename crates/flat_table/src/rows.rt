@@ -20,7 +20,7 @@ pub struct Row {
 impl CrossesThreads for Row {}
 
 /// Whether a row has less delay than another, or the same and no later order.
-fn is_no_worse(row: &Row, other: &Row) -> bool
+pub(crate) fn is_no_worse(row: &Row, other: &Row) -> bool
     ensures { IsTrue result ↔ IsNoWorse row.now other.now.entry.delay other.now.order }
 {
     row.entry.delay < other.entry.delay
