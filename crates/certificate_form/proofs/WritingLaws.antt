@@ -1,5 +1,5 @@
 -- What is written line by line is the one spelling.
-use Rattle.std.proofs.Common.{◌≡◌, ℕ, ◌+◌, ◌^◌, ◌<◌, ◌≤◌, List, [], ◌∷◌, ◌++◌, length, map, sum, take, drop, get_or, All, zero, suc, refl, sym, ap, ◌∙◌, append_assoc, length-append, arith}
+use Rattle.std.proofs.Common.{◌≡◌, ℕ, ◌+◌, ◌^◌, ◌<◌, ◌≤◌, List, [], ◌∷◌, ◌++◌, length, map, sum, take, drop, get_or, All, Option, Some, None, IfSome, IsSomeAnd, zero, suc, refl, sym, ap, ◌∙◌, append_assoc, length-append, arith}
 use Rattle.std.specs.Prelude.{codes}
 use Rattle.std.specs.Fmt.{decimal}
 use Rattle.std.specs.List.{flat_map, join_with_byte}
@@ -17,7 +17,7 @@ use Rattle.certificate_form.proofs.FirstFault.{certificate_is, problem_text}
 use Rattle.certificate_form.proofs.TailLaws.{tail_text}
 use Rattle.dp_certificate.specs.declared.Entry.{Entry}
 use Rattle.schedule_meaning.specs.declared.planners.Answer.TheVariants.{Plan}
-use Rattle.certificate_form.specs.CertificateText.{HasText, IsWritableAnswer, IsWritableEntry, after_space, answer_line, entry_line, certificate_text}
+use Rattle.certificate_form.specs.CertificateText.{HasText, IsWritableAnswer, IsWritableEntry, after_space, answer_line, entry_back, entry_front, entry_line, certificate_text}
 
 -- words joined by spaces are the first with the others behind a space each
 spaced-join : (word : List ℕ) (ns : List ℕ) → join_with_byte 32 (word ∷ map decimal ns) ≡ word ++ flat_map after_space ns
@@ -53,9 +53,34 @@ entry_is phases e =
     ∙ ap (λ (y : List ℕ). codes "entry" ++ (y ++ 10 ∷ [])) (flat_map-append after_space counts head)
     ∙ ap (λ (y : List ℕ). codes "entry" ++ y) (regroup (flat_map after_space counts) (decimal e.phase) (decimal e.since) (decimal e.at) (decimal e.delay))
 
-pub entry-filled : (phases : ℕ) (e : Entry) (a b c d f g h : List ℕ) (at since phase : ℕ) → a ≡ 10 ∷ [] → b ≡ 32 ∷ (decimal e.delay ++ a) → c ≡ 32 ∷ (decimal at ++ b) → at ≡ e.at → d ≡ 32 ∷ (decimal since ++ c) → since ≡ e.since
-    → f ≡ 32 ∷ (decimal phase ++ d) → phase ≡ e.phase → g ≡ flat_map after_space (take phases e.counts) ++ f → h ≡ codes "entry" ++ g → h ≡ entry_line phases e
-entry-filled phases e a b c d f g h at since phase ea eb ec is_at ed is_since ef is_phase eg eh = cc (entry_is phases e)
+-- a line is its front and what follows
+pub entry_parts : (phases : ℕ) (e : Entry) → entry_line phases e ≡ entry_front phases e ++ entry_back e
+entry_parts phases e = entry_is phases e ∙ simp append_assoc
+
+-- entries with the same counts and phase begin alike
+front_alike : (phases : ℕ) (e : Entry) (counts : List ℕ) (phase : ℕ) → e.counts ≡ counts → e.phase ≡ phase → entry_front phases e ≡ codes "entry" ++ (flat_map after_space (take phases counts) ++ after_space phase)
+front_alike phases e counts phase same_counts same_phase =
+    ap (λ (ns : List ℕ). codes "entry" ++ (flat_map after_space (take phases ns) ++ after_space e.phase)) same_counts ∙ ap (λ n. codes "entry" ++ (flat_map after_space (take phases counts) ++ after_space n)) same_phase
+
+pub front_kept : (phases : ℕ) (o : Option Entry) (counts : List ℕ) (phase : ℕ) (front : List ℕ) → IfSome o (λ (l : Entry). front ≡ entry_front phases l) → IsSomeAnd o (λ (l : Entry). (l.counts ≡ counts) × (l.phase ≡ phase))
+    → front ≡ codes "entry" ++ (flat_map after_space (take phases counts) ++ after_space phase)
+front_kept phases (Some l) counts phase front is alike = is ∙ front_alike phases l counts phase alike.0 alike.1
+front_kept phases None counts phase front is alike = absurd alike
+
+pub front_filled : (phases : ℕ) (e : Entry) (a b c d : List ℕ) (phase : ℕ) → a ≡ [] → b ≡ 32 ∷ (decimal phase ++ a) → phase ≡ e.phase → c ≡ flat_map after_space (take phases e.counts) ++ b → d ≡ codes "entry" ++ c → d ≡ entry_front phases e
+front_filled phases e a b c d phase ea eb is_phase ec ed =
+    let digits = append-nil (decimal phase) in
+    ed ∙ ap (λ (y : List ℕ). codes "entry" ++ y) (ec ∙ ap (λ (y : List ℕ). flat_map after_space (take phases e.counts) ++ y) (eb ∙ ap (λ (y : List ℕ). 32 ∷ (decimal phase ++ y)) ea ∙ ap (λ (y : List ℕ). 32 ∷ y) digits ∙ ap after_space is_phase))
+
+pub back_filled : (e : Entry) (a b c d : List ℕ) (at since : ℕ) → a ≡ 10 ∷ [] → b ≡ 32 ∷ (decimal e.delay ++ a) → c ≡ 32 ∷ (decimal at ++ b) → at ≡ e.at → d ≡ 32 ∷ (decimal since ++ c) → since ≡ e.since → d ≡ entry_back e
+back_filled e a b c d at since ea eb ec is_at ed is_since =
+    ed ∙ ap (λ (y : List ℕ). 32 ∷ (decimal since ++ y)) (ec ∙ ap (λ (y : List ℕ). 32 ∷ (decimal at ++ y)) (eb ∙ ap (λ (y : List ℕ). 32 ∷ (decimal e.delay ++ y)) ea) ∙ ap (λ n. 32 ∷ (decimal n ++ 32 ∷ (decimal e.delay ++ 10 ∷ []))) is_at)
+    ∙ ap (λ n. 32 ∷ (decimal n ++ 32 ∷ (decimal e.at ++ 32 ∷ (decimal e.delay ++ 10 ∷ [])))) is_since
+
+-- one more entry behind a text
+pub entry_behind : (phases : ℕ) (e : Entry) (text now front back : List ℕ) → front ≡ entry_front phases e → back ≡ entry_back e → now ≡ (text ++ front) ++ back → now ≡ text ++ entry_line phases e
+entry_behind phases e text now front back is_front is_back is =
+    is ∙ append_assoc text front back ∙ ap (λ (y : List ℕ). text ++ y) (ap (λ (y : List ℕ). y ++ back) is_front ∙ ap (λ (y : List ℕ). entry_front phases e ++ y) is_back ∙ sym (entry_parts phases e))
 
 -- one more count in front of those behind it
 pub counts-more : (counts : List ℕ) (i : ℕ) (line now initial : List ℕ) → i < length counts → now ≡ 32 ∷ (decimal (get_or counts i 0) ++ line) → line ≡ flat_map after_space (drop (i + 1) counts) ++ initial → now ≡ flat_map after_space (drop i counts) ++ initial

@@ -22,6 +22,13 @@ answer_line NoPlan = line (codes "answer none" ∷ [])
 abbrev pub entry_line : ℕ → Entry → List ℕ
 entry_line phases e = line (codes "entry" ∷ map decimal (take phases e.counts ++ e.phase ∷ e.since ∷ e.at ∷ e.delay ∷ []))
 
+-- such a line up to the phase, and what follows
+abbrev pub entry_front : ℕ → Entry → List ℕ
+entry_front phases e = codes "entry" ++ (flat_map after_space (take phases e.counts) ++ after_space e.phase)
+
+abbrev pub entry_back : Entry → List ℕ
+entry_back e = after_space e.since ++ (after_space e.at ++ (after_space e.delay ++ 10 ∷ []))
+
 -- the instance, the answer and the entries, line by line
 unfoldable pub certificate_text : Claim → List ℕ
 certificate_text c = concat (

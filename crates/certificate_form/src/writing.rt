@@ -1,13 +1,13 @@
 //! Writing a certificate's text.
 
-ghost use Rattle.std.specs.Prelude.{[], ◌≡◌, ◌+◌, ◌*◌, ◌++◌, ◌^◌, ◌<◌, ◌≤◌, All, codes, length, IfOk, OnOk};
+ghost use Rattle.std.specs.Prelude.{[], ◌≡◌, ◌+◌, ◌*◌, ◌++◌, ◌^◌, ◌<◌, ◌≤◌, All, codes, length, IfOk, IsSomeAnd, IsTrue, OnOk};
 ghost use Rattle.std.specs.List.{flat_map};
 ghost use Rattle.instance_form.specs.InstanceText.{instance_text};
 ghost use Rattle.instance_form.specs.InstanceText as form;
 ghost use Rattle.dp_certificate.specs.Certificates.{IsCertificate};
 ghost use Rattle.dp_certificate.specs.Numbers.{sequence_of};
 ghost use Rattle.certificate_form.specs.Answers.{Spells};
-ghost use Rattle.certificate_form.specs.CertificateText.{IsWritableAnswer, after_space, answer_line, certificate_text, entry_line};
+ghost use Rattle.certificate_form.specs.CertificateText.{IsWritableAnswer, after_space, answer_line, certificate_text, entry_back, entry_front, entry_line};
 
 use dp_certificate::{Certificate, Entry};
 use number_text::{Line, push_number};
@@ -98,24 +98,52 @@ fn write_numbers(text: &mut Vec<u8>, numbers: &[u8]) -> Result<(), AllocError>
     Ok(())
 }
 
-/// Writes the lines of entries with so many counts behind a text.
+/// Writes the lines of entries with so many counts behind a text. Lines that follow one another with the same counts and
+/// phase begin alike, so what they begin with is made once.
 fn write_entries(text: &mut Vec<u8>, phases: usize, entries: &[Entry]) -> Result<(), AllocError>
     requires { phases ≤ 4 }
     ensures text { OnOk result (text.new.items ≡ text.old.items ++ flat_map (entry_line phases) entries.now) }
     ensures places { OnOk result (All (λ e. length e.counts ≡ 4) entries.now) }
 {
-    let mut line = Line::new();
+    let mut front = Line::new();
+    let mut back = Line::new();
+    let mut last = None;
     for entry in entries {
-        put_entry(&mut line, phases, entry);
-        text.extend_from_slice(line.as_bytes())?;
+        if !begins_like(last, entry) {
+            put_front(&mut front, phases, entry);
+            last = Some(*entry);
+        }
+        put_back(&mut back, entry);
+        text.extend_from_slice(front.as_bytes())?;
+        text.extend_from_slice(back.as_bytes())?;
     }
     Ok(())
 }
 
-/// Makes the line of an entry with so many counts.
-fn put_entry(line: &mut Line, phases: usize, entry: &Entry)
+/// Whether an entry has the counts and the phase of the last one, where there is one.
+fn begins_like(last: Option<Entry>, entry: &Entry) -> bool
+    ensures { IsTrue result → IsSomeAnd last (λ e. (e.counts ≡ entry.now.counts) × (e.phase ≡ entry.now.phase)) }
+{
+    match last {
+        Some(last) => last.counts == entry.counts && last.phase == entry.phase,
+        None => false,
+    }
+}
+
+/// Makes the front of an entry's line with so many counts.
+fn put_front(line: &mut Line, phases: usize, entry: &Entry)
     requires { phases ≤ 4 }
-    ensures text { line.new ≡ entry_line phases entry.now }
+    ensures { line.new ≡ entry_front phases entry.now }
+{
+    line.clear();
+    line.put_spaced(u64::from(entry.phase));
+    put_counts(line, &entry.counts[..phases]);
+    line.put_word(b"entry");
+}
+
+/// Makes what follows the front of an entry's line.
+fn put_back(line: &mut Line, entry: &Entry)
+    ensures text { line.new ≡ entry_back entry.now }
     ensures places { length entry.now.counts ≡ 4 }
 {
     line.clear();
@@ -123,9 +151,6 @@ fn put_entry(line: &mut Line, phases: usize, entry: &Entry)
     line.put_spaced(entry.delay);
     line.put_spaced(u64::from(entry.at));
     line.put_spaced(u64::from(entry.since));
-    line.put_spaced(u64::from(entry.phase));
-    put_counts(line, &entry.counts[..phases]);
-    line.put_word(b"entry");
 }
 
 /// Puts counts in front of a line, each after one space.
