@@ -6,16 +6,19 @@ use Rattle.std.proofs.lemmas.List.Elements.{All-contains}
 use Rattle.switch_rules.specs.declared.Head.{Head}
 use Rattle.schedule_meaning.specs.Instances.{Problem, IsInstance, list_at}
 use Rattle.schedule_meaning.specs.Timing.{delay_of}
-use Rattle.schedule_meaning.specs.Best.{IsLeast}
+use Rattle.schedule_meaning.specs.Best.{IsBest, IsLeast}
 use Rattle.schedule_meaning.specs.declared.planners.Answer.{Answer}
 use Rattle.schedule_meaning.specs.declared.planners.Answer.TheVariants.{Plan, NoPlan}
+use Rattle.schedule_meaning.proofs.Choosing.{best-least}
 use Rattle.schedule_meaning.proofs.Sequences.{none-unless}
+use Rattle.std.proofs.lemmas.Option.{none-some}
+use Rattle.dp_certificate.specs.Numbers.{answered_delay}
 use Rattle.dp_certificate.specs.Prefixes.{Stage, Key, key_of, first_stage, stage_after, stage_from}
 use Rattle.dp_certificate.specs.Certificates.{Claim, IsCertificate}
 use Rattle.dp_certificate.specs.Proves.{HasEntry, HasRoot, IsClosed, IsClosedAt, IsEnded, IsNoCheaper, IsPlanned, IsTooDear, Proves, key_of_entry, rest_of, stage_of_entry}
 use Rattle.dp_certificate.specs.declared.Entry.{Entry}
 use Rattle.dp_certificate.proofs.Stages.{ends-delay, from-begins, some-same, stage-alike}
-use Rattle.cert_checker.proofs.Rests.{IsAllServed, rest-below, step-places, step-served, step-stale}
+use Rattle.dp_certificate.proofs.RestLaws.{IsAllServed, rest-below, step-places, step-served, step-stale}
 
 -- a delay that does not undercut the claimed one
 abbrev pub IsNoLess : Answer → ℕ → Type 0
@@ -117,6 +120,9 @@ no-sequence-less c lawful proves u d e =
     let ends = ends-delay c.problem lawful.instance u d e in
     no-less-than c.answer ends.end.delay d (omega (arith, ends.delay)) (follow c lawful proves u (first_stage c.problem) ends.end refl (root-stands c proves.root) ends.leads ends.all)
 
+if-some : {X : Type 0} (P : X → Type 0) (o : Option X) (x : X) → o ≡ Some x → IfSome o P → P x
+if-some P o x e h = subst (λ o. IfSome o P) e h
+
 if-some-by : {X : Type 0} (o : Option X) (P : X → Type 0) → ((x : X) → o ≡ Some x → P x) → IfSome o P
 if-some-by None P h = tt
 if-some-by (Some x) P h = h x refl
@@ -128,3 +134,17 @@ least-by p NoPlan planned h = λ u. none-unless (delay_of p u) (h u)
 -- the entries of a certificate that prove an answer prove that it is the least
 pub proves-least : (c : Claim) → IsCertificate c → Proves c → IsLeast c.problem c.answer
 proves-least c lawful proves = least-by c.problem c.answer proves.planned (no-sequence-less c lawful proves)
+
+-- two answers that are the least have one delay, or both no plan
+least-same : (p : Problem) (a b : Answer) → IsLeast p a → IsLeast p b → answered_delay a ≡ answered_delay b
+least-same p (Plan s d) (Plan t e) one other =
+    let up : d ≤ e = if-some (λ n. d ≤ n) (delay_of p t) e other.0 (one.1 t) in
+    let down : e ≤ d = if-some (λ n. e ≤ n) (delay_of p s) d one.0 (other.1 s) in
+    ap (λ n. let o : Option ℕ = Some n in o) (omega arith)
+least-same p (Plan s d) NoPlan one other = absurd (none-some d (sym (other s) ∙ one.0))
+least-same p NoPlan (Plan t e) one other = absurd (none-some e (sym (one t) ∙ other.0))
+least-same p NoPlan NoPlan one other = refl
+
+-- the delay of an answer that is proved is that of the best answer
+pub proves-best : (c : Claim) → IsCertificate c → Proves c → (a : Answer) → IsBest c.problem a → answered_delay c.answer ≡ answered_delay a
+proves-best c lawful proves a best = least-same c.problem c.answer a (proves-least c lawful proves) (best-least c.problem a best)

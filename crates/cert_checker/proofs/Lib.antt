@@ -1,4 +1,3 @@
+pub mod Closing
 pub mod Law
-pub mod Nexts
 pub mod Places
-pub mod Rests

@@ -1,5 +1,5 @@
 -- Among entries that rise, a key has one place.
-use Rattle.std.proofs.Common.{All, take, IsTrue, Bool, ◌↔◌, ◌≡◌, ℕ, zero, suc, ◌+◌, ◌-◌, ◌<◌, ◌≤◌, List, [], ◌∷◌, ◌++◌, length, get_or, sym, ap, subst, ◌∙◌, inl, inr, add-one, arith}
+use Rattle.std.proofs.Common.{All, take, ◌≡◌, ℕ, zero, suc, ◌+◌, ◌-◌, ◌<◌, ◌≤◌, List, [], ◌∷◌, ◌++◌, length, get_or, refl, sym, ap, subst, ◌∙◌, inl, inr, add-one, arith}
 use Rattle.std.proofs.lemmas.Bool.{cases_eq, cases_lt}
 use Rattle.std.proofs.lemmas.List.{get_or_default, take_all}
 use Rattle.std.proofs.lemmas.List.Elements.{All-more}
@@ -7,7 +7,7 @@ use Rattle.dp_certificate.specs.Prefixes.{Key}
 use Rattle.dp_certificate.specs.Certificates.{AreRising, IsBefore, digits_of, entry_at, no_entry}
 use Rattle.dp_certificate.specs.Proves.{HasEntry, key_of_entry}
 use Rattle.dp_certificate.specs.declared.Entry.{Entry}
-use Rattle.cert_checker.specs.Nexts.{IsPlace}
+use Rattle.cert_checker.specs.Places.{IsPlace, StandsAt}
 use Rattle.cert_checker.specs.Verdicts.{IsFirstNot}
 
 -- no list of numbers is before itself, and to be before is transitive
@@ -83,20 +83,24 @@ has-entry entries key place n e inside at same less = record {
   delay = less;
 }
 
--- so a test of the one at the place decides whether there is one
-pub place-decides : (entries : List Entry) (key : Entry) (place : ℕ) (d : Entry) (b : Bool) → AreRising entries → IsPlace entries key place → place < length entries
-    → (IsTrue b ↔ (key_of_entry (get_or entries place d) ≡ key_of_entry key) × ((get_or entries place d).delay ≤ key.delay)) → IsTrue b ↔ HasEntry entries (key_of_entry key) key.delay
-place-decides entries key place d b rising at inside tests =
-    let same : entry_at entries place ≡ get_or entries place d = get_or_default entries place no_entry d inside in (
-      λ h. has-entry entries (key_of_entry key) place key.delay (get_or entries place d) inside same (tests.0 h).0 (tests.0 h).1,
-      λ has.
-          let there = entry-there entries key place key.delay rising at has in
-          tests.1 (ap key_of_entry (sym same) ∙ there.1, omega (arith, there.2, ap (λ (e : Entry). e.delay) same)),
-    )
+-- an entry that stands somewhere is one
+pub stands-has : (entries : List Entry) (place : ℕ) (next : Entry) → StandsAt entries place next → HasEntry entries (key_of_entry next) next.delay
+stands-has entries place next at = has-entry entries (key_of_entry next) place next.delay (entry_at entries place) at.inside refl at.key at.delay
 
--- behind the last place there is none
-pub none-behind : (entries : List Entry) (key : Entry) (place : ℕ) → AreRising entries → IsPlace entries key place → length entries ≤ place → HasEntry entries (key_of_entry key) key.delay → ⊥
-none-behind entries key place rising at past has = let there = entry-there entries key place key.delay rising at has in omega (arith, there.0)
+-- and one that is one stands at its place
+pub has-stands : (entries : List Entry) (place : ℕ) (next : Entry) → AreRising entries → IsPlace entries next place → HasEntry entries (key_of_entry next) next.delay → StandsAt entries place next
+has-stands entries place next rising at has = let there = entry-there entries next place next.delay rising at has in record { inside = there.0; key = there.1; delay = there.2 }
+
+-- what is read at a place stands there
+pub reads-stands : (entries : List Entry) (place : ℕ) (next d : Entry) → place < length entries → (key_of_entry (get_or entries place d) ≡ key_of_entry next) × ((get_or entries place d).delay ≤ next.delay) → StandsAt entries place next
+reads-stands entries place next d inside same =
+    let there : entry_at entries place ≡ get_or entries place d = get_or_default entries place no_entry d inside in
+    record { inside = inside; key = ap key_of_entry there ∙ same.0; delay = omega (arith, same.1, ap (λ (e : Entry). e.delay) there) }
+
+pub stands-reads : (entries : List Entry) (place : ℕ) (next d : Entry) → StandsAt entries place next → (key_of_entry (get_or entries place d) ≡ key_of_entry next) × ((get_or entries place d).delay ≤ next.delay)
+stands-reads entries place next d at =
+    let there : entry_at entries place ≡ get_or entries place d = get_or_default entries place no_entry d at.inside in
+    (ap key_of_entry (sym there) ∙ at.key, omega (arith, at.delay, ap (λ (e : Entry). e.delay) there))
 
 -- what holds of the entries so far, and of the next, and in the end of all; now is the same list by another name
 pub holds-more : (P : Entry → Type 0) (entries now : List Entry) (i : ℕ) (d : Entry) → now ≡ entries → i < length now → All P (take i entries) → P (get_or now i d) → All P (take (i + 1) entries)

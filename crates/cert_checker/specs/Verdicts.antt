@@ -1,5 +1,5 @@
 -- What the checker answers, and why a certificate does not prove its answer: the first reason, in a fixed order.
-use Rattle.std.specs.Prelude.{◌≡◌, ◌≢◌, ℕ, ◌-◌, ◌<◌, ◌≤◌, List, [], length, take, All, Some}
+use Rattle.std.specs.Prelude.{◌≡◌, ◌≢◌, ℕ, ◌-◌, ◌<◌, ◌≤◌, List, length, take, All, Some}
 use Rattle.schedule_meaning.specs.Instances.{Problem}
 use Rattle.schedule_meaning.specs.Timing.{delay_of}
 use Rattle.schedule_meaning.specs.Faults.{IsSeqFault}
@@ -13,11 +13,6 @@ use Rattle.cert_checker.specs.declared.Verdict.{Verdict}
 use Rattle.cert_checker.specs.declared.Verdict.TheVariants.{Accepted, Rejected}
 use Rattle.cert_checker.specs.declared.Why.{Why}
 use Rattle.cert_checker.specs.declared.Why.TheVariants.{Sequence, Delay, NoRoot, Open, Cheaper}
-
--- the sequence of an answer; empty where there is no plan
-abbrev pub sequence_of : Answer → List ℕ
-sequence_of (Plan sequence delay) = sequence
-sequence_of NoPlan = []
 
 -- the claimed sequence is not feasible, and this is its first fault
 abbrev pub IsClaimFault : Problem → Answer → SeqFault → Type 0

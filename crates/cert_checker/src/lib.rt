@@ -2,13 +2,16 @@
 //! is the least, whoever made it.
 #![tactic(auto)]
 
+mod hints;
 mod search;
 mod walk;
 
 ghost use Rattle.std.specs.Prelude.{◌≡◌, ◌+◌, ◌*◌, ◌≤◌, ◌↔◌, IfNone, IfSome, IsTrue, length};
-ghost use Rattle.schedule_meaning.specs.Best.{IsLeast};
+ghost use Rattle.schedule_meaning.specs.Best.{IsBest, IsLeast};
+ghost use Rattle.schedule_meaning.specs.declared.planners.Answer.{Answer};
 ghost use Rattle.dp_certificate.specs.Proves.{HasRoot, IsPlanned, Proves};
-ghost use Rattle.cert_checker.specs.Verdicts.{IfRejected, IsWhy, sequence_of};
+ghost use Rattle.dp_certificate.specs.Numbers.{answered_delay, sequence_of};
+ghost use Rattle.cert_checker.specs.Verdicts.{IfRejected, IsWhy};
 
 use dp_certificate::{Certificate, Entry};
 use foundation::steps::Steps;
@@ -52,12 +55,14 @@ pub enum Verdict {
 impl CrossesThreads for Verdict {}
 
 /// Whether the entries of a certificate prove its answer, in at most one step for each phase of each entry and each
-/// place of the claimed sequence. It takes no memory.
+/// place of the claimed sequence. It takes no memory. The delay of an accepted answer is that of the best answer, and an
+/// accepted answer with no plan has none exactly where the best answer has none.
 ///
 /// docs/RULES.md, "Certificate".
 pub fn check<L: Ledger>(c: &Certificate, steps: &mut Steps<L>) -> Verdict
     ensures accepted { result ≡ Verdict.Accepted ↔ Proves c.now }
     ensures least { result ≡ Verdict.Accepted → IsLeast c.now.problem c.now.answer }
+    ensures best { result ≡ Verdict.Accepted → (a : Answer) → IsBest c.now.problem a → answered_delay c.now.answer ≡ answered_delay a }
     ensures why { IfRejected result (IsWhy c.now) }
     ensures cost { steps.new ≤ steps.old + length c.now.problem.plan * length c.now.entries + length (sequence_of c.now.answer) }
 {

@@ -1,28 +1,45 @@
 //! Looks for an entry by its key.
 
-ghost use Rattle.std.specs.Prelude.{◌≡◌, ◌<◌, ◌≤◌, ◌↔◌, IsTrue, length};
+ghost use Rattle.std.specs.Prelude.{◌≡◌, ◌^◌, ◌<◌, ◌≤◌, ◌↔◌, IsTrue, length};
 ghost use Rattle.dp_certificate.specs.Certificates.{AreRising, IsBefore, digits_of, entry_at};
 ghost use Rattle.dp_certificate.specs.Proves.{HasEntry, key_of_entry};
-ghost use Rattle.cert_checker.specs.Nexts.{IsPlace, IsSpan};
+ghost use Rattle.cert_checker.specs.Places.{IsPlace, IsSpan, StandsAt};
 
 use dp_certificate::Entry;
 
-/// Whether an entry has the key of this one and at most its delay. The search starts where the last one ended: what is
-/// next behind neighbours often stands close together.
-pub(crate) fn has_entry(entries: &[Entry], next: &Entry, near: &mut usize) -> bool
-    requires { AreRising entries.now }
+/// Whether an entry has the key of this one and at most its delay. A place where it may stand is tested first, and the
+/// one behind it; else it is sought from there on. The place where it stands is noted.
+pub(crate) fn has_entry(entries: &[Entry], next: &Entry, near: &mut u32) -> bool
+    requires rising { AreRising entries.now }
+    requires few { length entries.now < 2 ^ 32 }
     ensures { IsTrue result ↔ HasEntry entries.now (key_of_entry next.now) next.now.delay }
 {
-    let place = place_of(entries, next, *near);
-    *near = place;
+    let place = *near as usize;
+    if stands_at(entries, place, next) {
+        return true;
+    }
+    if stands_at(entries, place + 1, next) {
+        *near += 1;
+        return true;
+    }
+    let place = place_of(entries, next, place);
+    *near = place as u32;
+    stands_at(entries, place, next)
+}
+
+/// Whether at this place an entry has the key of another and at most its delay.
+#[inline]
+fn stands_at(entries: &[Entry], place: usize, next: &Entry) -> bool
+    ensures { IsTrue result ↔ StandsAt entries.now place next.now }
+{
     place < entries.len() && stands_for(&entries[place], next)
 }
 
 /// Where an entry with this key stands, if there is one; it is sought from a place on in steps that double.
-fn place_of(entries: &[Entry], key: &Entry, near: usize) -> usize
+pub(crate) fn place_of(entries: &[Entry], key: &Entry, near: usize) -> usize
     ensures { IsPlace entries.now key.now result }
 {
-    let (low, high) = if near < entries.len() && is_before(&entries[near], key) {
+    let (low, high) = if near < entries.len() && entries[near].is_before(key) {
         spread_up(entries, key, near)
     } else {
         spread_down(entries, key, near.min(entries.len()))
@@ -39,7 +56,7 @@ fn spread_up(entries: &[Entry], key: &Entry, near: usize) -> (usize, usize)
     let mut low = near + 1;
     let mut step = 1;
     while step < entries.len() - low {
-        if !is_before(&entries[low + step], key) {
+        if !entries[low + step].is_before(key) {
             return (low, low + step);
         }
         low += step + 1;
@@ -57,7 +74,7 @@ fn spread_down(entries: &[Entry], key: &Entry, near: usize) -> (usize, usize)
     let mut high = near;
     let mut step = 1;
     while step < high {
-        if is_before(&entries[high - step], key) {
+        if entries[high - step].is_before(key) {
             return (high - step + 1, high);
         }
         high -= step;
@@ -75,40 +92,13 @@ fn narrow(entries: &[Entry], key: &Entry, low: usize, high: usize) -> usize
     let mut high = high;
     while low < high {
         let middle = low + (high - low) / 2;
-        if is_before(&entries[middle], key) {
+        if entries[middle].is_before(key) {
             low = middle + 1;
         } else {
             high = middle;
         }
     }
     low
-}
-
-/// Whether the first of the counts, phase and times that differs is less in the first entry.
-fn is_before(lower: &Entry, upper: &Entry) -> bool
-    ensures { IsTrue result ↔ IsBefore (digits_of lower.now) (digits_of upper.now) }
-{
-    let [a0, a1, a2, a3] = lower.counts;
-    let [b0, b1, b2, b3] = upper.counts;
-    if a0 != b0 {
-        return a0 < b0;
-    }
-    if a1 != b1 {
-        return a1 < b1;
-    }
-    if a2 != b2 {
-        return a2 < b2;
-    }
-    if a3 != b3 {
-        return a3 < b3;
-    }
-    if lower.phase != upper.phase {
-        return lower.phase < upper.phase;
-    }
-    if lower.since != upper.since {
-        return lower.since < upper.since;
-    }
-    lower.at < upper.at
 }
 
 /// Whether an entry has the key of another and at most its delay.

@@ -3,6 +3,7 @@ mod Apart
 mod EntryLaws
 mod Feeds
 mod FirstFault
+mod LengthLaws
 mod Many
 mod TailLaws
 mod WholeLaws

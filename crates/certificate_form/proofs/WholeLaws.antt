@@ -1,5 +1,5 @@
 -- The whole text: what is read is spelled so, and what is spelled so is read.
-use Rattle.std.proofs.Common.{◌≡◌, ℕ, ◌+◌, ◌<◌, ◌≤◌, List, ◌++◌, length, Ok, sym, ap, ◌∙◌, length-append, arith}
+use Rattle.std.proofs.Common.{◌≡◌, ℕ, ◌+◌, ◌<◌, ◌≤◌, List, ◌++◌, length, Ok, refl, sym, ap, ◌∙◌, length-append, arith}
 use Rattle.std.specs.Prelude.{codes}
 use Rattle.std.proofs.lemmas.List.{append_cancel_left}
 use Rattle.instance_form.specs.Answers.{IsWant}
@@ -79,3 +79,12 @@ pub text_below : (bytes : List ℕ) (c : Claim) (most : ℕ) → bytes ≡ certi
 text_below bytes c most e few =
     let tail = tail_text (length c.problem.plan) c.answer c.entries in
     omega (arith, ap length (e ∙ certificate_is c), length-append (codes "certificate 1\n") (problem_text c.problem ++ tail), length-append (problem_text c.problem) tail)
+
+-- no two certificates share a text
+pub one-text : (c d : Claim) → HasText c → HasText d → certificate_text c ≡ certificate_text d → c ≡ d
+one-text c d fits others e =
+    let p = c.problem in
+    let after = tail_text (length p.plan) c.answer c.entries in
+    let line = 2 + line_count p.plan p.lists in
+    read_only p fits.instance (certificate_text c) after line (certificate_is c ∙ sym (front-append p after)) refl c.answer c.entries
+    (tail_again (length p.plan) fits.instance.count.0 fits.instance.count.1 line c.answer c.entries fits.answer fits.entries) d others e

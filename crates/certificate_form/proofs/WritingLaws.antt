@@ -1,9 +1,10 @@
 -- What is written line by line is the one spelling.
-use Rattle.std.proofs.Common.{◌≡◌, ℕ, ◌^◌, ◌<◌, ◌≤◌, List, [], ◌∷◌, ◌++◌, length, map, sum, take, get_or, All, zero, suc, refl, sym, ap, ◌∙◌, append_assoc, arith}
+use Rattle.std.proofs.Common.{◌≡◌, ℕ, ◌+◌, ◌^◌, ◌<◌, ◌≤◌, List, [], ◌∷◌, ◌++◌, length, map, sum, take, drop, get_or, All, zero, suc, refl, sym, ap, ◌∙◌, append_assoc, length-append, arith}
 use Rattle.std.specs.Prelude.{codes}
 use Rattle.std.specs.Fmt.{decimal}
 use Rattle.std.specs.List.{flat_map, join_with_byte}
-use Rattle.std.proofs.lemmas.List.{append-nil, get_or_past}
+use Rattle.std.proofs.lemmas.Fmt.{length-decimal-le}
+use Rattle.std.proofs.lemmas.List.{append-nil, drop_more, get_or_past}
 use Rattle.std.proofs.lemmas.List.Elements.{All-from_get_or}
 use Rattle.std.proofs.lemmas.List.Sums.{sum-map, sum_by-cons}
 use Rattle.std.proofs.lemmas.List.Concat.{flat_map-append}
@@ -33,34 +34,49 @@ line_behind t word front back ns e =
     ap (λ (y : List ℕ). t ++ y) (written_line word ns ∙ sym (append_assoc word (flat_map after_space ns) (10 ∷ [])) ∙ ap (λ (y : List ℕ). y ++ 10 ∷ []) e ∙ append_assoc front back (10 ∷ []))
     ∙ sym (append_assoc t front (back ++ 10 ∷ []))
 
-pub plan_behind : (t : List ℕ) (ks : List ℕ) (d : ℕ) → t ++ answer_line (Plan ks d) ≡ ((t ++ (codes "answer " ++ decimal d)) ++ flat_map after_space ks) ++ 10 ∷ []
-plan_behind t ks d = line_behind t (codes "answer") (codes "answer " ++ decimal d) (flat_map after_space ks) (d ∷ ks) refl ∙ sym (append_assoc (t ++ (codes "answer " ++ decimal d)) (flat_map after_space ks) (10 ∷ []))
+pub plan_behind : (t : List ℕ) (ks : List ℕ) (d : ℕ) → t ++ answer_line (Plan ks d) ≡ (((t ++ codes "answer ") ++ decimal d) ++ flat_map after_space ks) ++ 10 ∷ []
+plan_behind t ks d =
+    line_behind t (codes "answer") (codes "answer " ++ decimal d) (flat_map after_space ks) (d ∷ ks) refl
+    ∙ sym (append_assoc (t ++ (codes "answer " ++ decimal d)) (flat_map after_space ks) (10 ∷ []))
+    ∙ ap (λ (y : List ℕ). (y ++ flat_map after_space ks) ++ 10 ∷ []) (sym (append_assoc t (codes "answer ") (decimal d)))
 
-regroup : (a b p s t d : List ℕ) → ((a ++ b) ++ (32 ∷ (p ++ 32 ∷ s))) ++ (32 ∷ (t ++ 32 ∷ (d ++ 10 ∷ [])))
-    ≡ a ++ ((b ++ (32 ∷ (p ++ (32 ∷ (s ++ (32 ∷ (t ++ (32 ∷ (d ++ []))))))))) ++ 10 ∷ [])
-regroup a b p s t d =
-    let end = 10 ∷ [] in
-    let last = 32 ∷ (t ++ 32 ∷ (d ++ end)) in
-    let words = 32 ∷ (p ++ (32 ∷ (s ++ (32 ∷ (t ++ (32 ∷ (d ++ []))))))) in
-    let joined : words ++ end ≡ 32 ∷ (p ++ 32 ∷ (s ++ last)) =
-    ap (λ (y : List ℕ). 32 ∷ y) (append_assoc p (32 ∷ (s ++ (32 ∷ (t ++ (32 ∷ (d ++ [])))))) end
-    ∙ ap (λ (y : List ℕ). p ++ 32 ∷ y) (append_assoc s (32 ∷ (t ++ (32 ∷ (d ++ [])))) end
-    ∙ ap (λ (y : List ℕ). s ++ 32 ∷ y) (append_assoc t (32 ∷ (d ++ [])) end
-    ∙ ap (λ (y : List ℕ). t ++ 32 ∷ (y ++ end)) (append-nil d)))) in
-    append_assoc (a ++ b) (32 ∷ (p ++ 32 ∷ s)) last
-    ∙ ap (λ (y : List ℕ). (a ++ b) ++ 32 ∷ y) (append_assoc p (32 ∷ s) last)
-    ∙ append_assoc a b (32 ∷ (p ++ 32 ∷ (s ++ last)))
-    ∙ ap (λ (y : List ℕ). a ++ (b ++ y)) (sym joined)
-    ∙ ap (λ (y : List ℕ). a ++ y) (sym (append_assoc b words end))
+regroup : (b p s t d : List ℕ) → (b ++ (32 ∷ (p ++ (32 ∷ (s ++ (32 ∷ (t ++ (32 ∷ (d ++ []))))))))) ++ 10 ∷ [] ≡ b ++ (32 ∷ (p ++ 32 ∷ (s ++ 32 ∷ (t ++ 32 ∷ (d ++ 10 ∷ [])))))
+regroup b p s t d = simp append_assoc
 
-pub entry_behind : (t : List ℕ) (phases : ℕ) (e : Entry) → t ++ entry_line phases e
-    ≡ (((t ++ codes "entry") ++ flat_map after_space (take phases e.counts)) ++ (32 ∷ (decimal e.phase ++ 32 ∷ decimal e.since))) ++ (32 ∷ (decimal e.at ++ 32 ∷ (decimal e.delay ++ 10 ∷ [])))
-entry_behind t phases e =
+-- an entry's line, as it is filled from its end
+pub entry_is : (phases : ℕ) (e : Entry) → entry_line phases e
+    ≡ codes "entry" ++ (flat_map after_space (take phases e.counts) ++ (32 ∷ (decimal e.phase ++ 32 ∷ (decimal e.since ++ 32 ∷ (decimal e.at ++ 32 ∷ (decimal e.delay ++ 10 ∷ []))))))
+entry_is phases e =
     let counts = take phases e.counts in
     let head = e.phase ∷ e.since ∷ e.at ∷ e.delay ∷ [] in
-    line_behind t (codes "entry") (codes "entry") (flat_map after_space (counts ++ head)) (counts ++ head) refl
-    ∙ ap (λ (y : List ℕ). (t ++ codes "entry") ++ (y ++ 10 ∷ [])) (flat_map-append after_space counts head)
-    ∙ sym (regroup (t ++ codes "entry") (flat_map after_space counts) (decimal e.phase) (decimal e.since) (decimal e.at) (decimal e.delay))
+    written_line (codes "entry") (counts ++ head)
+    ∙ ap (λ (y : List ℕ). codes "entry" ++ (y ++ 10 ∷ [])) (flat_map-append after_space counts head)
+    ∙ ap (λ (y : List ℕ). codes "entry" ++ y) (regroup (flat_map after_space counts) (decimal e.phase) (decimal e.since) (decimal e.at) (decimal e.delay))
+
+pub entry-filled : (phases : ℕ) (e : Entry) (a b c d f g h : List ℕ) (at since phase : ℕ) → a ≡ 10 ∷ [] → b ≡ 32 ∷ (decimal e.delay ++ a) → c ≡ 32 ∷ (decimal at ++ b) → at ≡ e.at → d ≡ 32 ∷ (decimal since ++ c) → since ≡ e.since
+    → f ≡ 32 ∷ (decimal phase ++ d) → phase ≡ e.phase → g ≡ flat_map after_space (take phases e.counts) ++ f → h ≡ codes "entry" ++ g → h ≡ entry_line phases e
+entry-filled phases e a b c d f g h at since phase ea eb ec is_at ed is_since ef is_phase eg eh = cc (entry_is phases e)
+
+-- one more count in front of those behind it
+pub counts-more : (counts : List ℕ) (i : ℕ) (line now initial : List ℕ) → i < length counts → now ≡ 32 ∷ (decimal (get_or counts i 0) ++ line) → line ≡ flat_map after_space (drop (i + 1) counts) ++ initial → now ≡ flat_map after_space (drop i counts) ++ initial
+counts-more counts i line now initial h a b =
+    a ∙ ap (λ (y : List ℕ). 32 ∷ (decimal (get_or counts i 0) ++ y)) b
+    ∙ sym (append_assoc (after_space (get_or counts i 0)) (flat_map after_space (drop (i + 1) counts)) initial)
+    ∙ ap (λ (ys : List ℕ). flat_map after_space ys ++ initial) (sym (drop_more counts i 0 h))
+
+-- how long numbers are
+pub digits-byte : (n : ℕ) → n < 2 ^ 8 → length (decimal n) ≤ 3
+digits-byte n h = length-decimal-le 3 n (omega arith) (omega arith) (omega arith)
+
+pub digits-word : (n : ℕ) → n < 2 ^ 32 → length (decimal n) ≤ 10
+digits-word n h = length-decimal-le 10 n (omega arith) (omega arith) (omega arith)
+
+pub digits-long : (n : ℕ) → n < 2 ^ 64 → length (decimal n) ≤ 20
+digits-long n h = length-decimal-le 20 n (omega arith) (omega arith) (omega arith)
+
+-- a line with one more number
+pub spaced-length : (line now : List ℕ) (n k : ℕ) → now ≡ 32 ∷ (decimal n ++ line) → length (decimal n) ≤ k → length now ≤ length line + k + 1
+spaced-length line now n k e h = omega (arith, ap length e, length-append (decimal n) line)
 
 -- the front and the tail of a text
 pub text_parts : (c : Claim) → certificate_text c ≡ (codes "certificate 1\n" ++ instance_text c.problem.plan c.problem.head c.problem.lists)

@@ -5,5 +5,5 @@ mod lines;
 mod reading;
 mod writing;
 
-pub use reading::{CertText, read_certificate};
+pub use reading::{CertText, one_certificate, read_certificate};
 pub use writing::write_certificate;

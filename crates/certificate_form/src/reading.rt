@@ -93,6 +93,13 @@ pub fn read_certificate(alloc: Global, bytes: &[u8]) -> Result<Certificate, Cert
     }
 }
 
+/// No two certificates share a text.
+///
+/// docs/FORMATS.md, "Certificate text".
+pub fn one_certificate()
+    ensures { (c d : Claim) → HasText c → HasText d → certificate_text c ≡ certificate_text d → c ≡ d }
+{}
+
 /// What the lines of a certificate's text say.
 fn read_lines(alloc: Global, bytes: &[u8]) -> Result<Lines, FormFault>
     requires { length bytes.now < 2 ^ 32 }

@@ -1,19 +1,22 @@
 //! Writing a certificate's text.
 
-ghost use Rattle.std.specs.Prelude.{◌≡◌, ◌++◌, ◌^◌, ◌<◌, ◌≤◌, All, codes, length, IfOk, OnOk, string_bytes};
+ghost use Rattle.std.specs.Prelude.{[], ◌≡◌, ◌+◌, ◌*◌, ◌++◌, ◌^◌, ◌<◌, ◌≤◌, All, codes, length, IfOk, OnOk};
 ghost use Rattle.std.specs.List.{flat_map};
 ghost use Rattle.instance_form.specs.InstanceText.{instance_text};
 ghost use Rattle.instance_form.specs.InstanceText as form;
 ghost use Rattle.dp_certificate.specs.Certificates.{IsCertificate};
+ghost use Rattle.dp_certificate.specs.Numbers.{sequence_of};
 ghost use Rattle.certificate_form.specs.Answers.{Spells};
 ghost use Rattle.certificate_form.specs.CertificateText.{IsWritableAnswer, after_space, answer_line, certificate_text, entry_line};
 
 use dp_certificate::{Certificate, Entry};
+use number_text::{Line, push_number};
 use schedule_meaning::{Answer, Instance, write_instance};
 use std::alloc::{AllocError, Global};
 
 /// The one spelling of a certificate, which `read_certificate` reads as that certificate where it has fewer than 2^32
-/// bytes. An `Err` comes where memory runs out.
+/// bytes: 48 for each entry at the most, 4 for each place of the answer's sequence, and 3,000. An `Err` comes where
+/// memory runs out.
 ///
 /// docs/FORMATS.md, "Certificate text".
 #[tactic(auto, using(crate::proofs::WritingLaws::text_parts))]
@@ -21,97 +24,118 @@ pub fn write_certificate(alloc: Global, c: &Certificate) -> Result<Vec<u8>, Allo
     ensures text { IfOk result (λ text. text.items ≡ certificate_text c.now) }
     ensures lawful { IsCertificate c.now }
     ensures spells { IfOk result (λ text. Spells text.items c.now) }
+    ensures short { IfOk result (λ text. length text.items ≤ 48 * length c.now.entries + 4 * length (sequence_of c.now.answer) + 3000) }
 {
     let entries = c.entries();
     let phases = usize::from(c.instance().plan().count());
-    let mut text = write_front(alloc, c.instance())?;
-    let tail = write_tail(alloc, phases, c.answer(), entries)?;
-    text.extend_from_slice(tail.as_bytes())?;
+    let mut text = Vec::with_capacity(alloc, 48 * entries.len() + 10_000)?;
+    write_front(alloc, c.instance(), &mut text)?;
+    write_tail(phases, c.answer(), entries, &mut text)?;
     Ok(text)
 }
 
-/// The first line, and an instance behind it.
-fn write_front(alloc: Global, i: &Instance) -> Result<Vec<u8>, AllocError>
-    ensures text { IfOk result (λ text. text.items ≡ codes "certificate 1\n" ++ instance_text i.now.plan i.now.head i.now.lists) }
+/// Writes the first line, and an instance behind it, into an empty text.
+fn write_front(alloc: Global, i: &Instance, text: &mut Vec<u8>) -> Result<(), AllocError>
+    requires { text.old.items ≡ [] }
+    ensures text { OnOk result (text.new.items ≡ codes "certificate 1\n" ++ instance_text i.now.plan i.now.head i.now.lists) }
     ensures fits { OnOk result (form.HasText i.now.plan i.now.head i.now.lists) }
 {
     let instance = write_instance(alloc, i)?;
-    let mut text = String::from_str(alloc, "certificate 1\n")?.into_bytes();
+    text.extend_from_slice(b"certificate 1\n")?;
     text.extend_from_slice(&instance)?;
-    Ok(text)
+    Ok(())
 }
 
-/// The lines behind an instance with so many phases.
+/// Writes the lines behind an instance with so many phases.
 fn write_tail(
-    alloc: Global,
     phases: usize,
     answer: &Answer,
     entries: &[Entry],
-) -> Result<String, AllocError>
+    text: &mut Vec<u8>,
+) -> Result<(), AllocError>
     requires { phases ≤ 4 }
-    ensures text { IfOk result (λ text. string_bytes text ≡ answer_line answer.now ++ (flat_map (entry_line phases) entries.now ++ codes "end\n")) }
+    ensures text { OnOk result (text.new.items ≡ text.old.items ++ (answer_line answer.now ++ (flat_map (entry_line phases) entries.now ++ codes "end\n"))) }
     ensures answer { OnOk result (IsWritableAnswer answer.now) }
     ensures places { OnOk result (All (λ e. length e.counts ≡ 4) entries.now) }
 {
-    let mut text = String::new(alloc);
-    write_answer(&mut text, answer)?;
-    write_entries(&mut text, phases, entries)?;
-    text.push_str("end\n")?;
-    Ok(text)
+    write_answer(text, answer)?;
+    write_entries(text, phases, entries)?;
+    text.extend_from_slice(b"end\n")?;
+    Ok(())
 }
 
 /// Writes the line of an answer behind a text.
-fn write_answer(text: &mut String, answer: &Answer) -> Result<(), AllocError>
-    ensures text { OnOk result (string_bytes text.new ≡ string_bytes text.old ++ answer_line answer.now) }
+fn write_answer(text: &mut Vec<u8>, answer: &Answer) -> Result<(), AllocError>
+    ensures text { OnOk result (text.new.items ≡ text.old.items ++ answer_line answer.now) }
     ensures fits { OnOk result (IsWritableAnswer answer.now) }
 {
     match answer {
-        Answer::NoPlan => text.push_str("answer none\n"),
+        Answer::NoPlan => text.extend_from_slice(b"answer none\n"),
         Answer::Plan { sequence, delay } => write_plan(text, sequence.as_slice(), *delay),
     }
 }
 
 /// Writes the line of a plan behind a text.
-fn write_plan(text: &mut String, sequence: &[u8], delay: u64) -> Result<(), AllocError>
-    ensures text { OnOk result (string_bytes text.new ≡ string_bytes text.old ++ answer_line (Answer.Plan sequence.now delay)) }
+fn write_plan(text: &mut Vec<u8>, sequence: &[u8], delay: u64) -> Result<(), AllocError>
+    ensures text { OnOk result (text.new.items ≡ text.old.items ++ answer_line (Answer.Plan sequence.now delay)) }
     ensures fits { OnOk result (All (λ k. k < 2 ^ 8) sequence.now × (delay < 2 ^ 64)) }
 {
-    write!(text, "answer {delay}")?;
+    text.extend_from_slice(b"answer ")?;
+    push_number(text, delay)?;
     write_numbers(text, sequence)?;
-    text.push_str("\n")
-}
-
-/// Writes the lines of entries with so many counts behind a text.
-fn write_entries(text: &mut String, phases: usize, entries: &[Entry]) -> Result<(), AllocError>
-    requires { phases ≤ 4 }
-    ensures text { OnOk result (string_bytes text.new ≡ string_bytes text.old ++ flat_map (entry_line phases) entries.now) }
-    ensures places { OnOk result (All (λ e. length e.counts ≡ 4) entries.now) }
-{
-    for entry in entries {
-        write_entry(text, phases, entry)?;
-    }
-    Ok(())
-}
-
-/// Writes the line of an entry with so many counts behind a text.
-fn write_entry(text: &mut String, phases: usize, entry: &Entry) -> Result<(), AllocError>
-    requires { phases ≤ 4 }
-    ensures text { OnOk result (string_bytes text.new ≡ string_bytes text.old ++ entry_line phases entry.now) }
-    ensures places { length entry.now.counts ≡ 4 }
-{
-    text.push_str("entry")?;
-    write_numbers(text, &entry.counts[..phases])?;
-    write!(text, " {} {}", entry.phase, entry.since)?;
-    writeln!(text, " {} {}", entry.at, entry.delay)
+    text.extend_from_slice(b"\n")
 }
 
 /// Writes numbers behind a text, each after one space.
-fn write_numbers(text: &mut String, numbers: &[u8]) -> Result<(), AllocError>
-    ensures text { OnOk result (string_bytes text.new ≡ string_bytes text.old ++ flat_map after_space numbers.now) }
+fn write_numbers(text: &mut Vec<u8>, numbers: &[u8]) -> Result<(), AllocError>
+    ensures text { OnOk result (text.new.items ≡ text.old.items ++ flat_map after_space numbers.now) }
     ensures bytes { All (λ n. n < 2 ^ 8) numbers.now }
 {
     for number in numbers {
-        write!(text, " {number}")?;
+        text.extend_from_slice(b" ")?;
+        push_number(text, u64::from(*number))?;
     }
     Ok(())
+}
+
+/// Writes the lines of entries with so many counts behind a text.
+fn write_entries(text: &mut Vec<u8>, phases: usize, entries: &[Entry]) -> Result<(), AllocError>
+    requires { phases ≤ 4 }
+    ensures text { OnOk result (text.new.items ≡ text.old.items ++ flat_map (entry_line phases) entries.now) }
+    ensures places { OnOk result (All (λ e. length e.counts ≡ 4) entries.now) }
+{
+    let mut line = Line::new();
+    for entry in entries {
+        put_entry(&mut line, phases, entry);
+        text.extend_from_slice(line.as_bytes())?;
+    }
+    Ok(())
+}
+
+/// Makes the line of an entry with so many counts.
+fn put_entry(line: &mut Line, phases: usize, entry: &Entry)
+    requires { phases ≤ 4 }
+    ensures text { line.new ≡ entry_line phases entry.now }
+    ensures places { length entry.now.counts ≡ 4 }
+{
+    line.clear();
+    line.put_byte(b'\n');
+    line.put_spaced(entry.delay);
+    line.put_spaced(u64::from(entry.at));
+    line.put_spaced(u64::from(entry.since));
+    line.put_spaced(u64::from(entry.phase));
+    put_counts(line, &entry.counts[..phases]);
+    line.put_word(b"entry");
+}
+
+/// Puts counts in front of a line, each after one space.
+fn put_counts(line: &mut Line, counts: &[u8])
+    requires few { length counts.now ≤ 4 }
+    requires room { length line.old ≤ 100 }
+    ensures text { line.new ≡ flat_map after_space counts.now ++ line.old }
+    ensures room { length line.new ≤ length line.old + 16 }
+{
+    for place in (0..counts.len()).rev() {
+        line.put_spaced(u64::from(counts[place]));
+    }
 }

@@ -18,7 +18,7 @@ pub record IsSensing (net : Net) (entries : List ℕ) (links : List LinkSense) (
   pub amounts : sum_by amount links ≤ 242000 * i
 
 pub sensing-none : (net : Net) (entries : List ℕ) → IsSensing net entries [] 0
-sensing-none net entries = record { order = refl; coming = λ k d lt. absurd (omega arith); amounts = omega arith; }
+sensing-none net entries = record { order = refl; coming = λ k d lt. absurd (omega arith); amounts = omega arith }
 
 pub sensing-more : (net : Net) (entries : List ℕ) (links more : List LinkSense) (i : ℕ) (s : LinkSense) → IsSensing net entries links i → i < length entries → s.link ≡ get_or entries i 0
     → length s.coming ≡ (link_at net s.link).travel → s.queue ≤ 2000 → sum s.coming ≤ 240000 → more ≡ links ++ s ∷ [] → IsSensing net entries more (i + 1)

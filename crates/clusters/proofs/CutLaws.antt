@@ -1,11 +1,10 @@
 -- Runs grow second by second, and a series is cut run by run.
-use Rattle.std.proofs.Common.{◌≡◌, ℕ, zero, suc, ◌+◌, ◌-◌, ◌*◌, ◌<◌, ◌≤◌, ◌⊎◌, Bool, true, false, cond, nat_lt, List, [], ◌∷◌, ◌++◌, All, length, get_or, take, filter, refl, sym, ap, subst, ◌∙◌, inl, inr, ⊎_elim, arith, add-one, length-append, append_assoc}
-use Rattle.std.specs.List.{concat, range_with_len}
-use Rattle.std.proofs.lemmas.List.Elements.{filter-append, All-get_or, All-push}
+use Rattle.std.proofs.Common.{◌≡◌, ℕ, zero, suc, ◌+◌, ◌-◌, ◌<◌, ◌≤◌, Bool, nat_lt, List, [], ◌∷◌, ◌++◌, length, get_or, filter, refl, sym, ap, ◌∙◌, inl, inr, arith}
+use Rattle.std.specs.List.{range_with_len}
+use Rattle.std.proofs.lemmas.List.Elements.{filter-append}
 use Rattle.std.proofs.lemmas.Bool.{cases_lt, cond_below, cond_above}
-use Rattle.road_net.proofs.Ends.{concat-push}
-use Rattle.clusters.specs.Cuts.{filled_from, filled, first_of, last_of, IsRun, CannotJoin, run_at, IsCut}
-use Rattle.clusters.specs.Steps.{IsEmpty, IsNext, IsRunUpTo, IsClosed}
+use Rattle.clusters.specs.Cuts.{filled_from, filled, first_of, last_of, IsRun}
+use Rattle.clusters.specs.Steps.{IsEmpty, IsRunUpTo, IsClosed}
 use Rattle.clusters.proofs.ListLaws.{range-append, get_or-push-last, get_or-push-at, get_or-push-other, length-push}
 
 abbrev is_filled : List ℕ → ℕ → Bool
@@ -61,9 +60,9 @@ run-grows gap most run x h near span = record {
         rw (get_or-push-at run x 0 (k + 1) at, get_or-push-other run x 0 k (omega arith), e) near
   ];
   span =
-    let some = h.some in
-    let end : length (run ++ x ∷ []) - 1 ≡ length run = omega (arith, length-push run x) in
-    rw (end, get_or-push-last run x 0, get_or-push-other run x 0 0 (omega arith)) span;
+      let some = h.some in
+      let end : length (run ++ x ∷ []) - 1 ≡ length run = omega (arith, length-push run x) in
+      rw (end, get_or-push-last run x 0, get_or-push-other run x 0 0 (omega arith)) span;
 }
 
 pub first-grows : (run : List ℕ) (x : ℕ) → 1 ≤ length run → first_of (run ++ x ∷ []) ≡ first_of run

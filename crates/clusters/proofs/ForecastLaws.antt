@@ -1,12 +1,12 @@
 -- A forecast's rows are put in their seconds one after another.
-use Rattle.std.proofs.Common.{◌≡◌, ◌≢◌, ℕ, suc, ◌+◌, ◌-◌, ◌*◌, ◌<◌, ◌≤◌, ◌⊎◌, Bool, true, false, cond, nat_lt, nat_eq, List, [], ◌∷◌, ◌++◌, Option, None, Some, All, length, get_or, set, take, map, find, sum, unwrap_or, refl, sym, ap, subst, ◌∙◌, inl, inr, arith, add-one, length-set, get_or-set_other, get_or-set_same}
+use Rattle.std.proofs.Common.{◌≡◌, ◌≢◌, ℕ, ◌+◌, ◌*◌, ◌<◌, ◌≤◌, ◌⊎◌, Bool, true, false, cond, nat_lt, nat_eq, List, [], ◌∷◌, Option, None, Some, All, length, get_or, set, take, find, sum, unwrap_or, refl, sym, ap, ◌∙◌, inl, inr, arith, get_or-set_other, get_or-set_same}
 use Rattle.std.specs.Option.{option_map, option_or}
 use Rattle.std.specs.List.Sorted.{IsStrictlyIncreasing}
 use Rattle.std.proofs.lemmas.List.{length-take, take_more, get_or-map, get_or-take, length-map, take_all}
 use Rattle.std.proofs.lemmas.List.Elements.{All-from_get_or, All-get_or}
 use Rattle.std.proofs.lemmas.List.Folds.{find-append}
 use Rattle.std.proofs.lemmas.List.Sums.{sum_by-set}
-use Rattle.std.proofs.lemmas.Bool.{eq-eqb, eqb-true, cases_lt, cond_below, cond_above, cond-true, cond-false}
+use Rattle.std.proofs.lemmas.Bool.{eq-eqb, cases_lt, cond_below, cond_above}
 use Rattle.std.proofs.lemmas.Bool.Decides.{eqb_tells}
 use Rattle.board_model.specs.declared.forecasts.Row.{Row}
 use Rattle.board_model.specs.Forecasts.{IsForecast, IsRow, amount_at, seconds}
@@ -45,11 +45,11 @@ amount-same rows i s lt rising e =
     let hit : nat_eq row.second s ≡ true = eq-eqb row.second s e in
     let one : find (has s) (row ∷ []) ≡ Some row = rw hit refl in
     let earlier : All (λ r. has s r ≡ false) (take i rows) = All-from_get_or (λ r. has s r ≡ false) (take i rows) no_row (λ k below.
-        let inside : k < i = omega (arith, length-take i rows, below) in
-        let same : get_or (take i rows) k no_row ≡ get_or rows k no_row = get_or-take i rows k no_row inside in
-        let second : (j : ℕ) → j < length rows → get_or (seconds rows) j 0 ≡ (get_or rows j no_row).second = λ j b. get_or-map (λ r. r.second) rows j no_row 0 b in
-        let apart : get_or (seconds rows) k 0 < get_or (seconds rows) i 0 = rising-apart (seconds rows) rising k i inside (rw (length-map rows (λ r. r.second)) lt) in
-        rw same (ne-eqb (get_or rows k no_row).second s (λ f. omega (arith, apart, second k (omega arith), second i lt, e, f))))
+    let inside : k < i = omega (arith, length-take i rows, below) in
+    let same : get_or (take i rows) k no_row ≡ get_or rows k no_row = get_or-take i rows k no_row inside in
+    let second : (j : ℕ) → j < length rows → get_or (seconds rows) j 0 ≡ (get_or rows j no_row).second = λ j b. get_or-map (λ r. r.second) rows j no_row 0 b in
+    let apart : get_or (seconds rows) k 0 < get_or (seconds rows) i 0 = rising-apart (seconds rows) rising k i inside (rw (length-map rows (λ r. r.second)) lt) in
+    rw same (ne-eqb (get_or rows k no_row).second s (λ f. omega (arith, apart, second k (omega arith), second i lt, e, f))))
     in
     let none : find (has s) (take i rows) ≡ None = find-none (has s) (take i rows) earlier in
     ap amount_of (ap (find (has s)) (take_more rows i no_row lt) ∙ find-append (has s) (take i rows) (row ∷ []) ∙ ap (λ o. option_or o (find (has s) (row ∷ []))) none ∙ one)
@@ -74,8 +74,8 @@ pub putting-skip : (now from : ℕ) (rows : List Row) (before amounts : List ℕ
 putting-skip now from rows before amounts i h lt out = record {
   near = h.near;
   far = λ k le below.
-    let ne : (get_or rows i no_row).second ≢ now + k = λ e. elim out [ inl early ↦ omega arith | inr late ↦ omega arith ] in
-    h.far k le below ∙ sym (amount-other rows i (now + k) lt ne);
+      let ne : (get_or rows i no_row).second ≢ now + k = λ e. elim out [ inl early ↦ omega arith | inr late ↦ omega arith ] in
+      h.far k le below ∙ sym (amount-other rows i (now + k) lt ne);
   total = omega (arith, h.total);
 }
 
@@ -95,8 +95,8 @@ putting-put now from rows before amounts i place rows_are h same lt le below e =
         rw get_or-set_other (h.far k far inside ∙ sym (amount-other rows i (now + k) lt miss))
   ];
   total =
-    let row : IsRow (get_or rows i no_row) = All-get_or IsRow rows i no_row lt rows_are.each in
-    omega (arith, h.total, sum_by-set (λ x. x) amounts place (get_or rows i no_row).amount 0 (omega arith), row.most);
+      let row : IsRow (get_or rows i no_row) = All-get_or IsRow rows i no_row lt rows_are.each in
+      omega (arith, h.total, sum_by-set (λ x. x) amounts place (get_or rows i no_row).amount 0 (omega arith), row.most);
 }
 
 pub putting-all : (now from : ℕ) (rows : List Row) (before amounts : List ℕ) (i : ℕ) → IsPutting now from rows before amounts i → length rows ≤ i

@@ -1,6 +1,6 @@
 -- The platoons of a phase are what planning and forecasting ask.
-use Rattle.std.proofs.Common.{◌≡◌, ◌≢◌, ℕ, suc, ◌+◌, ◌-◌, ◌*◌, ◌<◌, ◌≤◌, List, [], ◌∷◌, ◌++◌, All, length, get_or, take, map, sum, sum_by, min, refl, sym, ap, subst, ◌∙◌, inl, inr, arith, add-one}
-use Rattle.std.specs.List.{range_with_len, slice_range}
+use Rattle.std.proofs.Common.{◌≡◌, ℕ, ◌+◌, ◌-◌, ◌*◌, ◌<◌, ◌≤◌, List, [], ◌∷◌, ◌++◌, All, length, get_or, map, sum_by, refl, sym, ap, subst, ◌∙◌, inl, inr, arith, add-one}
+use Rattle.std.specs.List.{range_with_len}
 use Rattle.std.specs.List.Sorted.{IsStrictlyIncreasing}
 use Rattle.std.proofs.lemmas.List.{get_or-map, length-map, get_or_past}
 use Rattle.std.proofs.lemmas.Simd.{map-map}
@@ -9,29 +9,27 @@ use Rattle.std.proofs.lemmas.List.FromFn.{get_or-map-range_with_len, length-map-
 use Rattle.std.proofs.lemmas.List.Elements.{All-get_or, All-from_get_or, All-map, All-weaker}
 use Rattle.std.proofs.lemmas.Bool.{cases_lt}
 use Rattle.phase_plan.specs.declared.Phase.{Phase}
-use Rattle.phase_plan.specs.Phases.{IsPhase, phase_at}
-use Rattle.switch_rules.specs.Sequences.{IsSpaced, cluster_at}
+use Rattle.phase_plan.specs.Phases.{phase_at}
+use Rattle.switch_rules.specs.Sequences.{cluster_at}
 use Rattle.switch_rules.specs.Serving.{IsCluster}
-use Rattle.switch_rules.specs.declared.Cluster.{Cluster}
 use Rattle.board_model.specs.declared.boards.Heard.{Heard}
 use Rattle.net_numbers.specs.Numbers.{Net, no_link}
 use Rattle.net_numbers.specs.Outline.{IsOutline, IsLink, ArePhaseLinks, link_at, phases_at, phase_links_at, plan_at}
-use Rattle.net_numbers.specs.declared.roads.Link.{Link}
 use Rattle.road_net.specs.Network.{IsNetwork}
 use Rattle.road_net.specs.declared.senses.Sensed.{Sensed}
 use Rattle.clusters.specs.declared.shapes.Part.{Part}
 use Rattle.clusters.specs.declared.shapes.Platoon.{Platoon}
 use Rattle.clusters.specs.Smoothing.{smoothed, left_by}
 use Rattle.clusters.specs.Inflow.{inflow, inflow_at, leaving, sense_of, forecast_of}
-use Rattle.clusters.specs.Cuts.{first_of, last_of, run_at, IsRun, IsCut}
-use Rattle.clusters.specs.Platoons.{ArePlatoons, ArePlatoonsOf, most_of, platoons_at, part_of, platoon_of, platoon_within, streams_of, together, whole_of}
+use Rattle.clusters.specs.Cuts.{first_of, last_of, run_at, IsCut}
+use Rattle.clusters.specs.Platoons.{ArePlatoonsOf, most_of, platoons_at, part_of, platoon_of, platoon_within, streams_of, together, whole_of}
 use Rattle.clusters.specs.Sound.{IsPart, IsPlatoon, AreOfNode, AreOfPhase, cluster_lists, AreSpacedClusters, clusters_of}
 use Rattle.clusters.specs.Windows.{IsRising, arrivals}
 use Rattle.clusters.specs.Steps.{AreGathered, AreStreams, IsRunBefore}
 use Rattle.net_draft.specs.declared.drafts.Run.{Run}
 use Rattle.clusters.proofs.ListLaws.{get_or-push-at, get_or-push-other, length-push}
 use Rattle.clusters.proofs.SmoothLaws.{left-more}
-use Rattle.clusters.proofs.TogetherLaws.{AreSmall, brought, length-slice_range, All-slice_range, whole-some, whole-few}
+use Rattle.clusters.proofs.TogetherLaws.{brought, length-slice_range, All-slice_range, whole-some, whole-few}
 
 -- no more leaves in a second than can
 left-le : (sat : ℕ) (amounts : List ℕ) (k : ℕ) → left_by sat amounts (k + 1) - left_by sat amounts k ≤ sat
@@ -78,7 +76,7 @@ streams-links net sensed heard (l ∷ links) = ap (λ ls. l ∷ ls) (streams-lin
 links-few : (net : Net) (node phase : ℕ) → IsOutline net → node < length net.node_names → phase < length (plan_at net node) → length (phase_links_at net node phase) ≤ 16
 links-few net node phase h there exists =
     let phases : All (ArePhaseLinks (length net.link_names)) (phases_at net node) =
-        All-get_or (λ ps. All (ArePhaseLinks (length net.link_names)) ps) net.phase_links node [] (omega (arith, h.phases_count)) h.phase_links in
+    All-get_or (λ ps. All (ArePhaseLinks (length net.link_names)) ps) net.phase_links node [] (omega (arith, h.phases_count)) h.phase_links in
     (All-get_or (ArePhaseLinks (length net.link_names)) (phases_at net node) phase [] (omega (arith, h.phase_counts node there)) phases).count
 
 part-small : (net : Net) (look : ℕ) (s : Part) → IsOutline net → IsPart net look s → All (λ amount. amount ≤ 5000) s.amounts
@@ -102,8 +100,8 @@ platoon-parts net look now first end streams links h order le = record {
   arr = omega arith;
   order = map-map (λ part. part.link) (part_of first end) streams ∙ order;
   parts =
-    All-map (IsPart net (end - first)) (part_of first end) streams
-    (All-weaker (IsPart net look) (λ s. IsPart net (end - first) (part_of first end s))
+      All-map (IsPart net (end - first)) (part_of first end) streams
+      (All-weaker (IsPart net look) (λ s. IsPart net (end - first) (part_of first end s))
       (λ s p. record {
         count = length-slice_range s.amounts first end (omega (arith, p.count));
         amounts = All-slice_range (λ amount. amount ≤ (link_at net s.link).sat) s.amounts first end p.amounts;
@@ -159,11 +157,11 @@ phase-made net node phase sensed heard series streams list h early are sound bri
     let short : net.run.look ≤ 180 = h.outline.run.look.1 in
     let count : length series ≡ net.run.look = ap length brings ∙ length-map-range_with_len (λ x. sum_by (brought x) streams) 0 net.run.look in
     let each : (k : ℕ) → k < length made.runs → IsRunBefore net.run.gap (most_of net node phase) series (length series) (run_at made.runs k) =
-        λ k lt. each-run net.run.gap (most_of net node phase) series made.runs k lt made.each in
+    λ k lt. each-run net.run.gap (most_of net node phase) series made.runs k lt made.each in
     let parts : All (IsPart net net.run.look) streams = let P : List Part → Type 0 = λ ss. All (IsPart net net.run.look) ss in subst P (sym are) (streams-parts net sensed heard (phase_links_at net node phase)) in
     let order : map (λ part. part.link) streams ≡ phase_links_at net node phase = ap (map (λ (part : Part). part.link)) are ∙ streams-links net sensed heard (phase_links_at net node phase) in
     let filled : (x : ℕ) → x < net.run.look → get_or series x 0 ≡ sum_by (brought x) streams =
-        λ x lt. ap (λ xs. get_or xs x 0) brings ∙ get_or-map-range_with_len (λ y. sum_by (brought y) streams) 0 net.run.look x x 0 lt (omega arith) in
+    λ x lt. ap (λ xs. get_or xs x 0) brings ∙ get_or-map-range_with_len (λ y. sum_by (brought y) streams) 0 net.run.look x x 0 lt (omega arith) in
     let platoons : List Platoon = map (platoon_of now streams) runs in
     let size : length list ≡ length made.runs = ap length made.made ∙ length-map made.runs (platoon_of sensed.now streams) in
     record {
@@ -173,34 +171,34 @@ phase-made net node phase sensed heard series streams list h early are sound bri
         each = made.made ∙ ap (λ ss. map (platoon_of sensed.now ss) made.runs) are;
       };
       parts =
-        let P : List Platoon → Type 0 = All (IsPlatoon net sensed.now (phase_links_at net node phase)) in
-        subst P (sym made.made)
-        (All-map (IsPlatoon net sensed.now (phase_links_at net node phase)) (platoon_of sensed.now streams) made.runs
+          let P : List Platoon → Type 0 = All (IsPlatoon net sensed.now (phase_links_at net node phase)) in
+          subst P (sym made.made)
+          (All-map (IsPlatoon net sensed.now (phase_links_at net node phase)) (platoon_of sensed.now streams) made.runs
           (All-weaker (IsRunBefore net.run.gap (most_of net node phase) series (length series)) (λ run. IsPlatoon net sensed.now (phase_links_at net node phase) (platoon_of sensed.now streams run))
-            (λ run r. platoon-parts net net.run.look sensed.now (first_of run) (last_of run + 1) streams (phase_links_at net node phase) parts order (omega (arith, r.before, count)))
-            made.runs made.each));
+          (λ run r. platoon-parts net net.run.look sensed.now (first_of run) (last_of run + 1) streams (phase_links_at net node phase) parts order (omega (arith, r.before, count)))
+          made.runs made.each));
       clusters =
-        let P : List Platoon → Type 0 = λ ps. AreSpacedClusters (clusters_of ps) in
-        subst P (sym made.made)
-        (record {
-          each =
-            All-map IsCluster (λ p. p.cluster) (map (platoon_of sensed.now streams) made.runs)
-            (All-map (λ p. IsCluster p.cluster) (platoon_of sensed.now streams) made.runs
-              (All-weaker (IsRunBefore net.run.gap (most_of net node phase) series (length series)) (λ run. IsCluster (platoon_of sensed.now streams run).cluster)
+          let P : List Platoon → Type 0 = λ ps. AreSpacedClusters (clusters_of ps) in
+          subst P (sym made.made)
+          (record {
+            each =
+                All-map IsCluster (λ p. p.cluster) (map (platoon_of sensed.now streams) made.runs)
+                (All-map (λ p. IsCluster p.cluster) (platoon_of sensed.now streams) made.runs
+                (All-weaker (IsRunBefore net.run.gap (most_of net node phase) series (length series)) (λ run. IsCluster (platoon_of sensed.now streams run).cluster)
                 (λ run r. platoon-cluster net.run.look sensed.now (first_of run) (last_of run + 1) streams sound early short (omega (arith, r.order)) (omega (arith, r.before, count))
-                  (omega (arith, r.filled, filled (first_of run) (omega (arith, r.order, r.before, count)))))
+                (omega (arith, r.filled, filled (first_of run) (omega (arith, r.order, r.before, count)))))
                 made.runs made.each));
-          spaced = λ k lt.
-            let below : k + 1 < length made.runs = omega (arith, lt, length-map (map (platoon_of sensed.now streams) made.runs) (λ (p : Platoon). p.cluster), length-map made.runs (platoon_of sensed.now streams)) in
-            rw (cluster-at sensed.now streams made.runs k (omega arith), cluster-at sensed.now streams made.runs (k + 1) below)
-            (omega (arith, made.order k below, (each k (omega arith)).order));
-        });
+            spaced = λ k lt.
+                let below : k + 1 < length made.runs = omega (arith, lt, length-map (map (platoon_of sensed.now streams) made.runs) (λ (p : Platoon). p.cluster), length-map made.runs (platoon_of sensed.now streams)) in
+                rw (cluster-at sensed.now streams made.runs k (omega arith), cluster-at sensed.now streams made.runs (k + 1) below)
+                (omega (arith, made.order k below, (each k (omega arith)).order));
+          });
       rising = record {
         few = omega (arith, size, made.few, count);
         rising =
-          let P : List Platoon → Type 0 = λ ps. IsStrictlyIncreasing (arrivals ps) in
-          subst P (sym made.made)
-          (λ k lt.
+            let P : List Platoon → Type 0 = λ ps. IsStrictlyIncreasing (arrivals ps) in
+            subst P (sym made.made)
+            (λ k lt.
             let below : k + 1 < length made.runs = omega (arith, lt, length-map (map (platoon_of sensed.now streams) made.runs) (λ (p : Platoon). p.cluster.arr), length-map made.runs (platoon_of sensed.now streams)) in
             rw (arrival-at sensed.now streams made.runs k (omega arith), arrival-at sensed.now streams made.runs (k + 1) below)
             (omega (arith, made.order k below, (each k (omega arith)).order)));
@@ -226,7 +224,7 @@ pub record ArePhases (net : Net) (node : ℕ) (sensed : Sensed) (heard : List He
   pub each : (k : ℕ) → k < i → AreOfPhase net node k sensed heard (platoons_at lists k)
 
 pub phases-none : (net : Net) (node : ℕ) (sensed : Sensed) (heard : List Heard) → ArePhases net node sensed heard [] 0
-phases-none net node sensed heard = record { count = refl; each = λ k lt. absurd (omega arith); }
+phases-none net node sensed heard = record { count = refl; each = λ k lt. absurd (omega arith) }
 
 pub phases-more : (net : Net) (node : ℕ) (sensed : Sensed) (heard : List Heard) (lists more : List (List Platoon)) (list : List Platoon) (i : ℕ)
     → ArePhases net node sensed heard lists i → AreOfPhase net node i sensed heard list → more ≡ lists ++ list ∷ [] → ArePhases net node sensed heard more (i + 1)
@@ -245,11 +243,11 @@ phases-more net node sensed heard lists more list i h one pushed =
 
 pub phases-platoons : (net : Net) (node : ℕ) (sensed : Sensed) (heard : List Heard) (lists : List (List Platoon)) (i : ℕ) → ArePhases net node sensed heard lists i → i ≡ length (plan_at net node)
     → ArePlatoonsOf net node sensed heard lists
-phases-platoons net node sensed heard lists i h e = record { count = omega (arith, h.count, e); each = λ k lt. (h.each k (omega (arith, h.count))).platoons; }
+phases-platoons net node sensed heard lists i h e = record { count = omega (arith, h.count, e); each = λ k lt. (h.each k (omega (arith, h.count))).platoons }
 
 pub phases-node : (net : Net) (node : ℕ) (sensed : Sensed) (heard : List Heard) (lists : List (List Platoon)) (i : ℕ) → ArePhases net node sensed heard lists i → i ≡ length (plan_at net node)
     → AreOfNode net node sensed.now lists
-phases-node net node sensed heard lists i h e = record { count = omega (arith, h.count, e); each = λ k lt. (h.each k (omega (arith, h.count))).parts; }
+phases-node net node sensed heard lists i h e = record { count = omega (arith, h.count, e); each = λ k lt. (h.each k (omega (arith, h.count))).parts }
 
 pub phases-clusters : (net : Net) (node : ℕ) (sensed : Sensed) (heard : List Heard) (lists : List (List Platoon)) (i : ℕ) → ArePhases net node sensed heard lists i
     → All AreSpacedClusters (cluster_lists lists)

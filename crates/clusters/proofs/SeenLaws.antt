@@ -1,6 +1,6 @@
 -- What is seen coming, and the inflow that it makes with a forecast.
 use Rattle.std.proofs.Math.Seq.{take-append_seam}
-use Rattle.std.proofs.Common.{◌≡◌, ◌≢◌, ℕ, suc, Bool, true, false, Some, find, unwrap_or, drop, ◌+◌, ◌-◌, ◌*◌, ◌<◌, ◌≤◌, cond, nat_lt, nat_eq, List, [], ◌∷◌, ◌++◌, length, get_or, set, take, map, min, sum, sum_by, replicate, refl, sym, ap, subst, ◌∙◌, inl, inr, arith, length-set, length-append, get_or-set_other, get_or-set_same}
+use Rattle.std.proofs.Common.{◌≡◌, ◌≢◌, ℕ, Bool, true, false, Some, find, unwrap_or, drop, ◌+◌, ◌-◌, ◌<◌, ◌≤◌, cond, nat_lt, nat_eq, List, [], ◌∷◌, ◌++◌, length, get_or, set, take, map, min, sum, sum_by, replicate, refl, sym, ap, subst, ◌∙◌, inl, inr, arith, length-set, length-append, get_or-set_other, get_or-set_same}
 use Rattle.std.specs.List.{range_with_len}
 use Rattle.std.proofs.lemmas.List.{get_or_append_left, get_or-append-add, get_or-take, get_or-replicate, get_or_past, length-take, length-replicate, ext_get_or}
 use Rattle.std.proofs.lemmas.List.FromFn.{get_or-map-range_with_len, length-map-range_with_len}
@@ -66,7 +66,7 @@ seen-made look travel queue coming xs seen some far_off e made =
     ] in
     let nothing : (k : ℕ) → travel ≤ k → get_or xs k 0 ≡ 0 = λ k le. ap (λ ys. get_or ys k 0) made ∙ padded-behind-of coming seen (look - seen) k (omega arith) (omega arith) in
     let total : sum xs ≤ sum coming =
-        omega (arith, ap sum made, sum_by-append (λ x. x) (take seen coming) (zeros (look - seen)), sum_by-replicate (λ x. x) (look - seen) 0, sum_by-take-le (λ x. x) coming seen) in
+    omega (arith, ap sum made, sum_by-append (λ x. x) (take seen coming) (zeros (look - seen)), sum_by-replicate (λ x. x) (look - seen) 0, sum_by-take-le (λ x. x) coming seen) in
     record {
       count = length-set xs 0 (get_or xs 0 0 + queue) ∙ count;
       near = λ k lt near. elim (eqb_tells k 0) [
@@ -93,35 +93,35 @@ inflow-made now look travel queue coming rows seen amounts h same value some =
     ext_get_or 0 amounts (map (inflow_at now travel queue coming rows) (range_with_len now look))
     (omega (arith, same, h.count, length-map-range_with_len (inflow_at now travel queue coming rows) now look))
     (λ k lt.
-      let within : k < look = omega (arith, same, h.count) in
-      let back : now + k - now ≡ k = omega arith in
-      value k (omega arith)
-      ∙ (elim (cases_lt k travel) [
-        | inl near ↦
-            let at : cond (nat_eq (now + k) now) queue 0 ≡ cond (nat_eq k 0) queue 0 = elim (eqb_tells k 0) [
-              | inl equal ↦ cond-true (nat_eq (now + k) now) queue 0 (eq-eqb (now + k) now (omega (arith, equal.1))) ∙ sym (cond-true (nat_eq k 0) queue 0 equal.0)
-              | inr other ↦ elim (eqb_tells (now + k) now) [
-                | inl bad ↦ absurd (other.1 (omega (arith, bad.1)))
-                | inr differ ↦ cond-false (nat_eq (now + k) now) queue 0 differ.0 ∙ sym (cond-false (nat_eq k 0) queue 0 other.0)
-              ]
-            ] in
-            let come : get_or coming (now + k - now) 0 ≡ get_or coming k 0 = ap (λ j. get_or coming j 0) back in
-            sym (cond_below (now + k) (now + travel) (get_or seen k 0) (amount_at rows (now + k)) (omega arith))
-            ∙ h.near k within near
-            ∙ sym (omega (arith, at, come, cond_below (now + k) (now + travel) (get_or coming (now + k - now) 0) (amount_at rows (now + k)) (omega arith)))
-        | inr far ↦
-            let at : cond (nat_eq (now + k) now) queue 0 ≡ 0 = elim (eqb_tells (now + k) now) [
-              | inl bad ↦ absurd (omega (arith, bad.1))
-              | inr differ ↦ cond-false (nat_eq (now + k) now) queue 0 differ.0
-            ] in
-            omega (
-              arith,
-              at,
-              cond_above (now + k) (now + travel) (get_or seen k 0) (amount_at rows (now + k)) (amount_at rows (now + k)) (omega arith) refl,
-              cond_above (now + k) (now + travel) (get_or coming (now + k - now) 0) (amount_at rows (now + k)) (amount_at rows (now + k)) (omega arith) refl,
-            )
-      ])
-      ∙ sym (get_or-map-range_with_len (inflow_at now travel queue coming rows) now look k (now + k) 0 within refl))
+    let within : k < look = omega (arith, same, h.count) in
+    let back : now + k - now ≡ k = omega arith in
+    value k (omega arith)
+    ∙ (elim (cases_lt k travel) [
+      | inl near ↦
+          let at : cond (nat_eq (now + k) now) queue 0 ≡ cond (nat_eq k 0) queue 0 = elim (eqb_tells k 0) [
+            | inl equal ↦ cond-true (nat_eq (now + k) now) queue 0 (eq-eqb (now + k) now (omega (arith, equal.1))) ∙ sym (cond-true (nat_eq k 0) queue 0 equal.0)
+            | inr other ↦ elim (eqb_tells (now + k) now) [
+              | inl bad ↦ absurd (other.1 (omega (arith, bad.1)))
+              | inr differ ↦ cond-false (nat_eq (now + k) now) queue 0 differ.0 ∙ sym (cond-false (nat_eq k 0) queue 0 other.0)
+            ]
+          ] in
+          let come : get_or coming (now + k - now) 0 ≡ get_or coming k 0 = ap (λ j. get_or coming j 0) back in
+          sym (cond_below (now + k) (now + travel) (get_or seen k 0) (amount_at rows (now + k)) (omega arith))
+          ∙ h.near k within near
+          ∙ sym (omega (arith, at, come, cond_below (now + k) (now + travel) (get_or coming (now + k - now) 0) (amount_at rows (now + k)) (omega arith)))
+      | inr far ↦
+          let at : cond (nat_eq (now + k) now) queue 0 ≡ 0 = elim (eqb_tells (now + k) now) [
+            | inl bad ↦ absurd (omega (arith, bad.1))
+            | inr differ ↦ cond-false (nat_eq (now + k) now) queue 0 differ.0
+          ] in
+          omega (
+            arith,
+            at,
+            cond_above (now + k) (now + travel) (get_or seen k 0) (amount_at rows (now + k)) (amount_at rows (now + k)) (omega arith) refl,
+            cond_above (now + k) (now + travel) (get_or coming (now + k - now) 0) (amount_at rows (now + k)) (amount_at rows (now + k)) (omega arith) refl,
+          )
+    ])
+    ∙ sym (get_or-map-range_with_len (inflow_at now travel queue coming rows) now look k (now + k) 0 within refl))
 
 -- what was written through a loan of a whole list
 pub written : (xs ys : List ℕ) (n : ℕ) → length ys ≡ length xs → n ≡ length xs → take n (ys ++ drop (length ys) xs) ≡ ys

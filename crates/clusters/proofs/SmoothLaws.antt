@@ -1,5 +1,4 @@
-use Rattle.std.proofs.Common.{◌≡◌, ℕ, zero, suc, ◌+◌, ◌-◌, ◌*◌, ◌<◌, ◌≤◌, ◌≢◌, List, length, take, sum, set, get_or, map, length-set, below_more, get_or-set_other, get_or-set_same, min, refl, sym, ap, ◌∙◌, arith, add-one}
-use Rattle.std.specs.List.{range_with_len}
+use Rattle.std.proofs.Common.{◌≡◌, ℕ, zero, suc, ◌+◌, ◌-◌, ◌*◌, ◌<◌, ◌≤◌, ◌≢◌, List, length, take, sum, set, get_or, below_more, get_or-set_other, get_or-set_same, min, refl, arith, add-one}
 use Rattle.std.proofs.lemmas.List.Sums.{sum_by_more, sum_by-take-le}
 use Rattle.std.proofs.lemmas.List.FromFn.{fill_by_all}
 use Rattle.clusters.specs.Smoothing.{least_to, left_by, smoothed}
@@ -27,7 +26,7 @@ left-more sat amounts n =
     let f : ℕ → ℕ = λ m. sum (take m amounts) + sat * (n - m) in
     let g : ℕ → ℕ = λ m. sum (take m amounts) + sat * (suc n - m) in
     let raised : least_to g n ≡ least_to f n + sat =
-        least-raised f g sat n (λ m le. let e : sat * (suc n - m) ≡ sat * (n - m) + sat = rate-more sat n m (n - m) (omega arith) in omega (arith, e)) in
+    least-raised f g sat n (λ m le. let e : sat * (suc n - m) ≡ sat * (n - m) + sat = rate-more sat n m (n - m) (omega arith) in omega (arith, e)) in
     let none : suc n - suc n ≡ 0 = omega arith in
     let last : g (suc n) ≡ sum (take (suc n) amounts) = rw none (omega arith) in
     rw (raised, last) refl
@@ -69,8 +68,8 @@ smoothing-more sat amounts places i carry amount h same lt e =
     let one = carried sat amounts i carry (get_or places i 0) (omega arith) (h.rest i (omega arith)) h.carried in
     record {
       done = below_more _ _
-        (λ k below. let ne : k ≢ i = omega arith in rw get_or-set_other (h.done k below))
-        (rw get_or-set_same (omega (arith, one.0)));
+          (λ k below. let ne : k ≢ i = omega arith in rw get_or-set_other (h.done k below))
+          (rw get_or-set_same (omega (arith, one.0)));
       rest = λ k above. let ne : k ≢ i = omega arith in rw get_or-set_other (h.rest k (omega arith));
       carried = omega (arith, one.0, one.1);
     }

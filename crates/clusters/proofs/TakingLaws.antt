@@ -1,23 +1,22 @@
 -- The steps of taking platoons into a window.
-use Rattle.std.proofs.Common.{◌≡◌, ◌≢◌, ℕ, zero, suc, ◌+◌, ◌-◌, ◌*◌, ◌<◌, ◌≤◌, ◌⊎◌, List, [], ◌∷◌, ◌++◌, Option, Some, None, All, length, get_or, set, take, map, min, sum, replicate, refl, sym, ap, subst, ◌∙◌, inl, inr, arith, add-one, length-set, get_or-set_other, get_or-set_same}
+use Rattle.std.proofs.Common.{◌≡◌, ◌≢◌, ℕ, zero, suc, ◌+◌, ◌-◌, ◌*◌, ◌<◌, ◌≤◌, List, [], ◌∷◌, Option, Some, None, All, length, get_or, set, take, map, min, sum, replicate, refl, sym, ap, subst, ◌∙◌, inl, inr, arith, length-set, get_or-set_other, get_or-set_same}
 use Rattle.std.proofs.lemmas.List.{get_or-map, length-map, get_or_past, get_or-replicate, length-replicate, length-take, get_or-take, take-map, ext_get_or, take_all}
 use Rattle.std.proofs.lemmas.List.Elements.{All-get_or, All-take, All-from_get_or, All-map, All-weaker}
 use Rattle.std.proofs.lemmas.List.Folds.{sum_by-replicate}
-use Rattle.std.proofs.lemmas.List.Sums.{sum_by-cons, sum_by-set, sum_by_more}
+use Rattle.std.proofs.lemmas.List.Sums.{sum_by-set, sum_by_more}
 use Rattle.std.proofs.lemmas.Grind.{get_or_default_zero}
 use Rattle.std.proofs.lemmas.Bool.{cases_lt}
 use Rattle.std.proofs.lemmas.Bool.Decides.{eqb_tells}
 use Rattle.switch_rules.specs.Orders.{orders, orders_of}
-use Rattle.switch_rules.specs.Sequences.{IsSpaced, cluster_at}
+use Rattle.switch_rules.specs.Sequences.{IsSpaced}
 use Rattle.switch_rules.specs.Serving.{IsCluster}
 use Rattle.switch_rules.specs.declared.Cluster.{Cluster}
 use Rattle.net_numbers.specs.Numbers.{Net}
 use Rattle.net_numbers.specs.Outline.{phase_links_at}
 use Rattle.clusters.specs.declared.shapes.Platoon.{Platoon}
-use Rattle.clusters.specs.declared.shapes.Window.{Window}
 use Rattle.clusters.specs.Platoons.{platoons_at}
 use Rattle.clusters.specs.Sound.{AreOfNode, ArePlannable, AreSpacedClusters, IsPlatoon, cluster_lists, clusters_of}
-use Rattle.clusters.specs.Windows.{ComesFirst, IsFront, IsLongest, IsRising, IsSmall, IsWindow, arrival, arrivals, counts_of}
+use Rattle.clusters.specs.Windows.{IsFront, IsLongest, IsRising, IsSmall, IsWindow, arrival, counts_of}
 use Rattle.clusters.specs.Taking.{AreFronts, IsEarlier, IsFirstAmong, IsFirstOf}
 use Rattle.clusters.proofs.WindowLaws.{front-grows, full-longest, more_of, stuck-longest, whole-longest}
 
@@ -107,8 +106,8 @@ taking-none lists n e =
         before = λ j k taken waiting was. absurd (omega (arith, none-at n j));
       };
       orders =
-        let one : length (orders (none_of n)) ≡ 1 = ap (λ t. length (orders_of t (none_of n))) total in
-        omega (arith, one);
+          let one : length (orders (none_of n)) ≡ 1 = ap (λ t. length (orders_of t (none_of n))) total in
+          omega (arith, one);
       total = total;
     }
 
@@ -124,7 +123,7 @@ taking-more lists counts i first rising h next few = record {
 }
 
 small-of : (lists : List (List Platoon)) (counts : List ℕ) (i : ℕ) → IsTaking lists counts i → i ≤ 40 → IsSmall counts
-small-of lists counts i h le = record { clusters = omega (arith, h.total); orders = h.orders; }
+small-of lists counts i h le = record { clusters = omega (arith, h.total); orders = h.orders }
 
 pub taking-whole : (lists : List (List Platoon)) (counts : List ℕ) (i : ℕ) → IsTaking lists counts i → i ≤ 40
     → ((k : ℕ) → k < length lists → length (platoons_at lists k) ≤ get_or counts k 0) → IsLongest lists counts
@@ -208,7 +207,7 @@ pub record IsCutting (before : List (List Platoon)) (counts : List ℕ) (lists :
   pub rest : (k : ℕ) → i ≤ k → platoons_at lists k ≡ platoons_at before k
 
 pub cutting-none : (before : List (List Platoon)) (counts : List ℕ) → IsCutting before counts before 0
-cutting-none before counts = record { count = refl; done = λ k lt. absurd (omega arith); rest = λ k le. refl; }
+cutting-none before counts = record { count = refl; done = λ k lt. absurd (omega arith); rest = λ k le. refl }
 
 pub cutting-more : (before : List (List Platoon)) (counts : List ℕ) (lists : List (List Platoon)) (i : ℕ) (list : List Platoon) → IsCutting before counts lists i → i < length lists
     → list ≡ take (get_or counts i 0) (platoons_at lists i) → IsCutting before counts (set lists i list) (i + 1)
@@ -243,8 +242,8 @@ fronts-counts : (lists : List (List Platoon)) (counts : List ℕ) (fronts : List
 fronts-counts lists counts fronts h front =
     ext_get_or 0 (counts_of fronts) counts (omega (arith, length-map fronts (λ (list : List Platoon). length list), h.count, front.phases))
     (λ k lt.
-      let below : k < length fronts = omega (arith, length-map fronts (λ (list : List Platoon). length list)) in
-      get_or-map length fronts k [] 0 below ∙ ap length (h.each k) ∙ omega (arith, length-take (get_or counts k 0) (platoons_at lists k), front.there k))
+    let below : k < length fronts = omega (arith, length-map fronts (λ (list : List Platoon). length list)) in
+    get_or-map length fronts k [] 0 below ∙ ap length (h.each k) ∙ omega (arith, length-take (get_or counts k 0) (platoons_at lists k), front.there k))
 
 pub window-made : (lists : List (List Platoon)) (counts : List ℕ) (fronts : List (List Platoon)) (waiting : ℕ) → AreFronts lists counts fronts → IsLongest lists counts
     → waiting + sum counts ≡ sum (counts_of lists) → IsWindow lists (record { lists = fronts; waiting = waiting })
@@ -265,9 +264,9 @@ spaced-take n list h =
     (record {
       each = All-take IsCluster n (clusters_of list) h.each;
       spaced = λ k lt.
-        let inside : k + 1 < n = omega (arith, lt, length-take n (clusters_of list)) in
-        rw (get_or-take n (clusters_of list) k _ (omega arith), get_or-take n (clusters_of list) (k + 1) _ inside)
-        (h.spaced k (omega (arith, lt, length-take n (clusters_of list))));
+          let inside : k + 1 < n = omega (arith, lt, length-take n (clusters_of list)) in
+          rw (get_or-take n (clusters_of list) k _ (omega arith), get_or-take n (clusters_of list) (k + 1) _ inside)
+          (h.spaced k (omega (arith, lt, length-take n (clusters_of list))));
     })
 
 fronts-clusters : (lists : List (List Platoon)) (counts : List ℕ) (fronts : List (List Platoon)) → AreFronts lists counts fronts
@@ -275,12 +274,12 @@ fronts-clusters : (lists : List (List Platoon)) (counts : List ℕ) (fronts : Li
 fronts-clusters lists counts fronts h all =
     All-map AreSpacedClusters clusters_of fronts
     (All-from_get_or (λ list. AreSpacedClusters (clusters_of list)) fronts [] (λ k lt.
-      let P : List Platoon → Type 0 = λ list. AreSpacedClusters (clusters_of list) in
-      let Q : List Cluster → Type 0 = AreSpacedClusters in
-      let there : k < length lists = omega (arith, h.count) in
-      let one : AreSpacedClusters (get_or (cluster_lists lists) k []) = All-get_or AreSpacedClusters (cluster_lists lists) k [] (omega (arith, length-map lists clusters_of)) all in
-      let same : get_or (cluster_lists lists) k [] ≡ clusters_of (platoons_at lists k) = get_or-map clusters_of lists k [] [] there in
-      subst P (sym (h.each k)) (spaced-take (get_or counts k 0) (platoons_at lists k) (subst Q same one))))
+    let P : List Platoon → Type 0 = λ list. AreSpacedClusters (clusters_of list) in
+    let Q : List Cluster → Type 0 = AreSpacedClusters in
+    let there : k < length lists = omega (arith, h.count) in
+    let one : AreSpacedClusters (get_or (cluster_lists lists) k []) = All-get_or AreSpacedClusters (cluster_lists lists) k [] (omega (arith, length-map lists clusters_of)) all in
+    let same : get_or (cluster_lists lists) k [] ≡ clusters_of (platoons_at lists k) = get_or-map clusters_of lists k [] [] there in
+    subst P (sym (h.each k)) (spaced-take (get_or counts k 0) (platoons_at lists k) (subst Q same one))))
 
 clusters-counts : (lists : List (List Platoon)) → map (λ (list : List Cluster). length list) (cluster_lists lists) ≡ counts_of lists
 clusters-counts [] = refl
@@ -305,6 +304,6 @@ pub fronts-node : (net : Net) (node now : ℕ) (lists : List (List Platoon)) (co
 fronts-node net node now lists counts fronts h all = record {
   count = h.count ∙ all.count;
   each = λ k lt.
-    let P : List Platoon → Type 0 = All (IsPlatoon net now (phase_links_at net node k)) in
-    subst P (sym (h.each k)) (All-take (IsPlatoon net now (phase_links_at net node k)) (get_or counts k 0) (platoons_at lists k) (all.each k (omega (arith, h.count))));
+      let P : List Platoon → Type 0 = All (IsPlatoon net now (phase_links_at net node k)) in
+      subst P (sym (h.each k)) (All-take (IsPlatoon net now (phase_links_at net node k)) (get_or counts k 0) (platoons_at lists k) (all.each k (omega (arith, h.count))));
 }

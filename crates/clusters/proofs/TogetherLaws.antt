@@ -1,6 +1,6 @@
 -- What streams bring together, stream by stream; and how much that is.
 use Rattle.std.proofs.Common.{◌≡◌, ℕ, ◌+◌, ◌-◌, ◌*◌, ◌<◌, ◌≤◌, List, [], ◌∷◌, ◌++◌, All, length, get_or, take, drop, map, sum, sum_by, refl, sym, ap, subst, ◌∙◌, arith}
-use Rattle.std.specs.List.{range_with_len, slice_range}
+use Rattle.std.specs.List.{slice_range}
 use Rattle.std.proofs.lemmas.List.{take_more, map-append, get_or-drop, get_or-take, length-take, length-drop, take_all}
 use Rattle.std.proofs.lemmas.List.FromFn.{fill_by_all}
 use Rattle.std.proofs.lemmas.List.Elements.{All-get_or, All-head, All-tail, All-take, All-drop, All-weaker}
@@ -52,7 +52,7 @@ pub first-in-slice : (xs : List ℕ) (first end : ℕ) → first < end → end �
 first-in-slice xs first end lt le =
     let zero_at : first + 0 ≡ first = omega arith in
     let e : get_or (slice_range xs first end) 0 0 ≡ get_or xs first 0 =
-        get_or-take (end - first) (drop first xs) 0 0 (omega arith) ∙ get_or-drop first xs 0 0 ∙ ap (λ k. get_or xs k 0) zero_at in
+    get_or-take (end - first) (drop first xs) 0 0 (omega arith) ∙ get_or-drop first xs 0 0 ∙ ap (λ k. get_or xs k 0) zero_at in
     omega (arith, e, get_or-le-sum_by (λ x. x) (slice_range xs first end) 0 0 (omega (arith, length-slice_range xs first end le)))
 
 pub stream-small : (streams : List Part) (i : ℕ) (s : Part) → AreSmall streams → i < length streams → s ≡ get_or streams i s → All (λ amount. amount ≤ 5000) s.amounts
@@ -65,7 +65,7 @@ pub record IsSizing (first end : ℕ) (streams parts : List Part) (i size : ℕ)
   pub fits : size ≤ 900000 * i
 
 pub sizing-none : (first end : ℕ) (streams : List Part) → IsSizing first end streams [] 0 0
-sizing-none first end streams = record { made = refl; whole = refl; fits = omega arith; }
+sizing-none first end streams = record { made = refl; whole = refl; fits = omega arith }
 
 pub sizing-more : (first end : ℕ) (streams parts more : List Part) (i size sum_of_it : ℕ) (s : Part) (amounts : List ℕ)
     → IsSizing first end streams parts i size → i < length streams → s ≡ get_or streams i s → AreSmall streams → end ≤ 180
@@ -75,23 +75,23 @@ sizing-more first end streams parts more i size sum_of_it s amounts h lt e small
     let one : Part → List Part = λ p. p ∷ [] in
     let same : part_of first end s ≡ record { link = s.link; amounts = amounts } = ap (λ xs. let p : Part = record { link = s.link; amounts = xs } in p) (sym cut) in
     let made : more ≡ map (part_of first end) (take (i + 1) streams) =
-        pushed ∙ ap (λ ps. ps ++ record { link = s.link; amounts = amounts } ∷ []) h.made
-        ∙ ap (λ p. map (part_of first end) (take i streams) ++ p ∷ []) (sym same)
-        ∙ sym (ap (map (part_of first end)) (take_more streams i s lt) ∙ map-append (part_of first end) (take i streams) (get_or streams i s ∷ [])
-          ∙ ap (λ x. map (part_of first end) (take i streams) ++ part_of first end x ∷ []) (sym e)) in
+    pushed ∙ ap (λ ps. ps ++ record { link = s.link; amounts = amounts } ∷ []) h.made
+    ∙ ap (λ p. map (part_of first end) (take i streams) ++ p ∷ []) (sym same)
+    ∙ sym (ap (map (part_of first end)) (take_more streams i s lt) ∙ map-append (part_of first end) (take i streams) (get_or streams i s ∷ [])
+    ∙ ap (λ x. map (part_of first end) (take i streams) ++ part_of first end x ∷ []) (sym e)) in
     let each : All (λ x. x ≤ 5000) s.amounts = stream-small streams i s small lt e in
     record {
       made = made;
       whole =
-        omega (
-          arith,
-          h.whole,
-          total,
-          ap whole_of pushed,
-          sum_by-append (λ (part : Part). sum part.amounts) parts (record { link = s.link; amounts = amounts } ∷ []),
-          sum_by-cons (λ (part : Part). sum part.amounts) (record { link = s.link; amounts = amounts }) [],
-          ap sum cut,
-        );
+          omega (
+            arith,
+            h.whole,
+            total,
+            ap whole_of pushed,
+            sum_by-append (λ (part : Part). sum part.amounts) parts (record { link = s.link; amounts = amounts } ∷ []),
+            sum_by-cons (λ (part : Part). sum part.amounts) (record { link = s.link; amounts = amounts }) [],
+            ap sum cut,
+          );
       fits = omega (arith, h.fits, total, sum-slice_range-le s.amounts first end each le);
     }
 

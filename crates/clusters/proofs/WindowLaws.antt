@@ -1,18 +1,17 @@
 -- Fronts of platoons grow one by one, and the longest one that can be planned at once is the window.
-use Rattle.std.proofs.Common.{◌≡◌, ◌≢◌, ℕ, zero, suc, ◌+◌, ◌-◌, ◌*◌, ◌<◌, ◌≤◌, ◌⊎◌, List, [], ◌∷◌, ◌++◌, Option, Some, None, All, length, get_or, set, take, map, sum, replicate, refl, sym, ap, subst, ◌∙◌, inl, inr, arith, add-one, length-set, get_or-set_other, get_or-set_same}
+use Rattle.std.proofs.Common.{◌≡◌, ◌≢◌, ℕ, zero, suc, ◌+◌, ◌-◌, ◌*◌, ◌<◌, ◌≤◌, List, [], ◌∷◌, All, length, get_or, set, sum, refl, sym, ap, subst, ◌∙◌, inl, inr, arith, length-set, get_or-set_other, get_or-set_same}
 use Rattle.std.proofs.Math.Nat.{mul-le-mul_left, mul_comm}
-use Rattle.std.specs.List.Sorted.{IsStrictlyIncreasing}
-use Rattle.std.proofs.lemmas.List.{get_or-map, length-map, get_or_past, get_or-replicate, length-replicate, length-take, get_or-take, take-map, ext_get_or}
-use Rattle.std.proofs.lemmas.List.Elements.{All-get_or, All-take, All-from_get_or, All-map}
-use Rattle.std.proofs.lemmas.List.Sums.{sum_by-cons, sum_by-set}
+use Rattle.std.proofs.lemmas.List.{length-map, get_or_past}
+use Rattle.std.proofs.lemmas.List.Elements.{All-get_or}
+use Rattle.std.proofs.lemmas.List.Sums.{sum_by-cons}
 use Rattle.std.proofs.lemmas.Bool.{cases_lt}
 use Rattle.std.proofs.lemmas.Bool.Decides.{eqb_tells}
 use Rattle.switch_rules.specs.Orders.{orders, mixtures, choose}
 use Rattle.switch_rules.proofs.Counting.{length-orders_of}
 use Rattle.clusters.specs.declared.shapes.Platoon.{Platoon}
 use Rattle.clusters.specs.Platoons.{platoons_at}
-use Rattle.clusters.specs.Windows.{ComesFirst, IsFront, IsLongest, IsRising, IsSmall, arrival, arrivals, counts_of}
-use Rattle.clusters.specs.Taking.{IsFirstAmong, IsFirstOf}
+use Rattle.clusters.specs.Windows.{ComesFirst, IsFront, IsLongest, IsRising, IsSmall, arrival, arrivals}
+use Rattle.clusters.specs.Taking.{IsFirstAmong}
 use Rattle.clusters.proofs.ListLaws.{rising-apart}
 
 -- more of some phases make no fewer orders
@@ -97,7 +96,7 @@ rising-at lists k h = elim (cases_lt k (length lists)) [
   | inr past ↦
       let e : platoons_at lists k ≡ [] = get_or_past lists k [] past in
       let P : List Platoon → Type 0 = IsRising in
-      subst P (sym e) (record { few = omega arith; rising = λ i lt. absurd (omega arith); })
+      subst P (sym e) (record { few = omega arith; rising = λ i lt. absurd (omega arith) })
 ]
 
 length-arrivals : (list : List Platoon) → length (arrivals list) ≡ length list
@@ -180,9 +179,9 @@ front-within lists counts more q h g lt k = elim (cases_lt (get_or more k 0) (ge
   | inr fine ↦ fine
   | inl less ↦ absurd (
       let one : ComesFirst (arrival lists k (get_or more k 0)) k (arrival lists q (get_or counts q 0)) q =
-          h.before k q (get_or more k 0) (get_or counts q 0) less (omega arith) (omega (arith, g.there q)) in
+      h.before k q (get_or more k 0) (get_or counts q 0) less (omega arith) (omega (arith, g.there q)) in
       let other : ComesFirst (arrival lists q (get_or counts q 0)) q (arrival lists k (get_or more k 0)) k =
-          g.before q k (get_or counts q 0) (get_or more k 0) lt (omega arith) (omega (arith, h.there k)) in
+      g.before q k (get_or counts q 0) (get_or more k 0) lt (omega arith) (omega (arith, h.there k)) in
       let same : k ≡ q = both-first (arrival lists k (get_or more k 0)) k (arrival lists q (get_or counts q 0)) q one other in
       omega (arith, ap (λ x. get_or more x 0) same, ap (λ x. get_or counts x 0) same))
 ]
@@ -195,7 +194,7 @@ front-has lists counts more first q g next lt = elim (cases_lt (get_or counts fi
   | inr less ↦ absurd (
       let there : get_or counts q 0 < length (platoons_at lists q) = omega (arith, g.there q) in
       let one : ComesFirst (arrival lists q (get_or counts q 0)) q (arrival lists first.1 (get_or counts first.1 0)) first.1 =
-          g.before q first.1 (get_or counts q 0) (get_or counts first.1 0) lt less next.waits in
+      g.before q first.1 (get_or counts q 0) (get_or counts first.1 0) lt less next.waits in
       let comes : ComesFirst first.0 first.1 (arrival lists q (get_or counts q 0)) q = next.comes q (below-there lists q (get_or counts q 0) there) there in
       let P : ℕ → Type 0 = λ a. ComesFirst a first.1 (arrival lists q (get_or counts q 0)) q in
       let same : q ≡ first.1 = both-first (arrival lists q (get_or counts q 0)) q (arrival lists first.1 (get_or counts first.1 0)) first.1 one (subst P next.arr comes) in
@@ -220,7 +219,7 @@ stuck-longest lists counts first h small next many = record {
           | inr other ↦ let ne : k ≢ first.1 = other.1 in rw get_or-set_other (front-within lists counts more less.0 h g less.1 k)
         ] in
         let grows : length (orders (more_of counts first.1)) ≤ length (orders more) =
-            orders-grow (more_of counts first.1) more (length-set counts first.1 (get_or counts first.1 0 + 1) ∙ same) below in
+        orders-grow (more_of counts first.1) more (length-set counts first.1 (get_or counts first.1 0 + 1) ∙ same) below in
         omega (arith, grows, many, fits.orders))
   ];
 }
@@ -237,4 +236,4 @@ whole-longest lists counts h small none = record {
 }
 
 pub full-longest : (lists : List (List Platoon)) (counts : List ℕ) → IsFront lists counts → IsSmall counts → sum counts ≡ 40 → IsLongest lists counts
-full-longest lists counts h small e = record { front = h; small = small; longest = λ more g fits. omega (arith, fits.clusters, e); }
+full-longest lists counts h small e = record { front = h; small = small; longest = λ more g fits. omega (arith, fits.clusters, e) }

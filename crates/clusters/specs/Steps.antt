@@ -1,5 +1,5 @@
 -- What the steps of the work make: an inflow, and the runs of a series.
-use Rattle.std.specs.Prelude.{◌≡◌, ℕ, ◌+◌, ◌-◌, ◌<◌, ◌≤◌, ◌⊎◌, List, map, length, slice_index, sum, All, nat_lt, ◌==◌, if◌then◌else◌}
+use Rattle.std.specs.Prelude.{◌≡◌, ℕ, ◌+◌, ◌-◌, ◌<◌, ◌≤◌, ◌⊎◌, List, map, length, slice_index, sum, All, ◌==◌, if◌then◌else◌}
 use Rattle.clusters.specs.declared.shapes.Part.{Part}
 use Rattle.clusters.specs.declared.shapes.Platoon.{Platoon}
 use Rattle.clusters.specs.Cuts.{IsCut, IsRun, filled_from, first_of, last_of, run_at}

@@ -1,5 +1,5 @@
 -- The window: the platoons that one planning takes up.
-use Rattle.std.specs.Prelude.{◌≡◌, ℕ, ◌+◌, ◌<◌, ◌≤◌, ◌⊎◌, List, [], length, map, slice_index, slice_index_or, sum, take}
+use Rattle.std.specs.Prelude.{◌≡◌, ℕ, ◌+◌, ◌<◌, ◌≤◌, ◌⊎◌, List, length, map, slice_index, sum, take}
 use Rattle.std.specs.List.Sorted.{IsStrictlyIncreasing}
 use Rattle.switch_rules.specs.Bounds.{most_clusters, most_orders}
 use Rattle.switch_rules.specs.Orders.{orders}

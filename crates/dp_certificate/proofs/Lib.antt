@@ -1,2 +1,4 @@
+pub mod NextLaws
+pub mod RestLaws
 pub mod Servings
 pub mod Stages

@@ -1,6 +1,7 @@
 -- When the entries of a certificate prove its answer.
 use Rattle.std.specs.Prelude.{◌≡◌, ℕ, ◌+◌, ◌-◌, ◌*◌, ◌≤◌, ◌⊎◌, ◌&&◌, ◌==◌, List, length, drop, sum, sum_by, All, slice_index, Contains, Some, IfSome}
 use Rattle.std.specs.List.{range_with_len}
+use Rattle.switch_rules.specs.declared.Cluster.{Cluster}
 use Rattle.schedule_meaning.specs.Instances.{Problem, list_at}
 use Rattle.schedule_meaning.specs.Timing.{delay_of}
 use Rattle.schedule_meaning.specs.declared.planners.Answer.{Answer}
@@ -17,9 +18,13 @@ key_of_entry e = record { counts = e.counts; phase = e.phase; since = e.since; a
 abbrev pub stage_of_entry : Problem → Entry → Stage
 stage_of_entry p e = record { counts = e.counts; head = head_of e ((sum e.counts == 0) && (e.phase == p.head.phase) && (e.since == p.head.since) && (e.at == p.head.at) && p.head.fresh); delay = e.delay }
 
+-- what one cluster costs that waits until t
+abbrev pub wait_until : ℕ → Cluster → ℕ
+wait_until t c = c.size * (t - c.arr)
+
 -- what the clusters that are not yet served cost at the least, when the green is free at t: each waits until then
 abbrev pub rest_of : Problem → List ℕ → ℕ → ℕ
-rest_of p counts t = sum_by (λ k. sum_by (λ c. c.size * (t - c.arr)) (drop (slice_index counts k) (list_at p.lists k))) (range_with_len 0 (length p.lists))
+rest_of p counts t = sum_by (λ k. sum_by (wait_until t) (drop (slice_index counts k) (list_at p.lists k))) (range_with_len 0 (length p.lists))
 
 -- the claimed plan is feasible and has the claimed delay
 abbrev pub IsPlanned : Problem → Answer → Type 0

@@ -1,7 +1,8 @@
 ghost use Rattle.std.specs.Prelude.{◌≡◌, ◌+◌, ◌^◌, ◌<◌, ◌≤◌, ◌↔◌, ℕ, All, length, slice_index, IfNone, IfSome, IsTrue, false};
 ghost use Rattle.switch_rules.specs.Serving.{IsHead};
 ghost use Rattle.schedule_meaning.specs.Instances.{list_at};
-ghost use Rattle.dp_certificate.specs.Certificates.{AreRising, IsBefore, IsEntry, digits_of, head_of};
+ghost use Rattle.dp_certificate.specs.Certificates.{AreRising, IsEntry, head_of};
+ghost use Rattle.dp_certificate.specs.Numbers.{AreLengths};
 ghost use Rattle.dp_certificate.specs.Faults.{IsFirstLow, IsFirstOut};
 
 use super::Entry;
@@ -38,7 +39,7 @@ impl CrossesThreads for Certificate {}
 /// Why an instance, entries and an answer are no certificate. Entries are numbered from 1.
 ///
 /// docs/RULES.md, "Certificate".
-#[derive(Clone, Copy)]
+#[derive(Debug, Clone, Copy, PartialEq, Eq)]
 pub enum CertFault {
     /// The first entry that is out of its bounds.
     Entry(u32),
@@ -117,17 +118,34 @@ fn first_out_of_bounds(i: &Instance, entries: &[Entry]) -> Option<usize>
     ensures none { IfNone result (All (IsEntry i.now) entries.now) }
     ensures some { IfSome result (IsFirstOut i.now entries.now) }
 {
-    entries.iter().position(|entry| !is_in_bounds(i, entry))
+    let lengths = list_lengths(i);
+    entries
+        .iter()
+        .position(|entry| !is_in_bounds(i, &lengths, entry))
 }
 
-/// Whether an entry is within its bounds.
-fn is_in_bounds(i: &Instance, entry: &Entry) -> bool
+/// How many clusters each of four phases has; none where a phase is past the last.
+///
+/// docs/RULES.md, "Table".
+pub fn list_lengths(i: &Instance) -> [u8; 4]
+    ensures { AreLengths i.now.lists result }
+{
+    let mut lengths = [0; 4];
+    for phase in 0..i.plan().count() {
+        lengths[phase as usize] = i.list(phase).len() as u8;
+    }
+    lengths
+}
+
+/// Whether an entry is within its bounds, given how many clusters each phase has.
+fn is_in_bounds(i: &Instance, lengths: &[u8; 4], entry: &Entry) -> bool
+    requires { AreLengths i.now.lists lengths.now }
     ensures { IsTrue result ↔ IsEntry i.now entry.now }
 {
     if entry.at > 104_000 || entry.delay > 2_880_000_000_000 {
         return false;
     }
-    is_head(i, entry) && are_counts(i, &entry.counts)
+    is_head(i, entry) && are_counts(lengths, &entry.counts)
 }
 
 /// Whether the phase of an entry exists, and its time is within the greatest green.
@@ -140,27 +158,12 @@ fn is_head(i: &Instance, entry: &Entry) -> bool
     entry.at - entry.since <= i.plan().phase(entry.phase).greatest
 }
 
-/// Whether no phase has a count above the number of its clusters.
-fn are_counts(i: &Instance, counts: &[u8; 4]) -> bool
-    ensures { IsTrue result ↔ ((k : ℕ) → slice_index counts.now k ≤ length (list_at i.now.lists k)) }
+/// Whether no count is above the one of the same phase.
+fn are_counts(lengths: &[u8; 4], counts: &[u8; 4]) -> bool
+    ensures { IsTrue result ↔ ((k : ℕ) → slice_index counts.now k ≤ slice_index lengths.now k) }
 {
-    for phase in 0..4 {
-        if usize::from(counts[phase as usize]) > cluster_count(i, phase) {
-            return false;
-        }
-    }
-    true
-}
-
-/// How many clusters a phase has; none where it is past the last.
-fn cluster_count(i: &Instance, phase: u8) -> usize
-    ensures { result ≡ length (list_at i.now.lists phase) }
-{
-    if phase < i.plan().count() {
-        i.list(phase).len()
-    } else {
-        0
-    }
+    let [first, second, third, fourth] = *lengths;
+    counts[0] <= first && counts[1] <= second && counts[2] <= third && counts[3] <= fourth
 }
 
 /// The index of the first entry whose key is not above the key before it.
@@ -169,42 +172,9 @@ fn first_low(entries: &[Entry]) -> Option<usize>
     ensures some { IfSome result (IsFirstLow entries.now) }
 {
     for index in 1..entries.len() {
-        if !is_before(&digits(&entries[index - 1]), &digits(&entries[index])) {
+        if !entries[index - 1].is_before(&entries[index]) {
             return Some(index);
         }
     }
     None
-}
-
-/// What an entry is sorted by.
-fn digits(entry: &Entry) -> [u32; 7]
-    ensures { result ≡ digits_of entry.now }
-{
-    let [first, second, third, fourth] = entry.counts;
-    [
-        u32::from(first),
-        u32::from(second),
-        u32::from(third),
-        u32::from(fourth),
-        u32::from(entry.phase),
-        entry.since,
-        entry.at,
-    ]
-}
-
-/// Whether the first number that differs is less in the first list.
-fn is_before(lower: &[u32], upper: &[u32]) -> bool
-    ensures { IsTrue result ↔ IsBefore lower.now upper.now }
-{
-    let Some((first, lower)) = lower.split_first() else {
-        return false;
-    };
-    let Some((second, upper)) = upper.split_first() else {
-        return false;
-    };
-    if first == second {
-        is_before(lower, upper)
-    } else {
-        first < second
-    }
 }

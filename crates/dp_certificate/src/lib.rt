@@ -2,14 +2,18 @@
 #![tactic(auto)]
 
 mod certificates;
+mod nexts;
+mod rests;
 
-pub use certificates::{CertFault, Certificate};
+pub use certificates::{CertFault, Certificate, list_lengths};
 use foundation::threads::CrossesThreads;
+pub use nexts::serve_next;
+pub use rests::rest_of;
 
 /// One entry of a table of least delays: a key, which is what decides how a plan can go on, with a delay.
 ///
 /// docs/RULES.md, "Table".
-#[derive(Clone, Copy)]
+#[derive(Debug, Clone, Copy, PartialEq, Eq)]
 pub struct Entry {
     /// How many clusters of each phase are served; 0 for a phase past the last.
     pub counts: [u8; 4],
@@ -21,6 +25,41 @@ pub struct Entry {
     pub at: u32,
     /// A delay, in thousandths of a vehicle times seconds.
     pub delay: u64,
+}
+
+impl Entry {
+    ghost use Rattle.std.specs.Prelude.{◌↔◌, IsTrue};
+    ghost use Rattle.dp_certificate.specs.Certificates.{IsBefore, digits_of};
+
+    /// Whether the key of this entry is below that of another: the first of the counts, phase and times that differs is
+    /// less in this one.
+    ///
+    /// docs/RULES.md, "Certificate".
+    pub fn is_before(&self, other: &Entry) -> bool
+        ensures { IsTrue result ↔ IsBefore (digits_of self.now) (digits_of other.now) }
+    {
+        let [a0, a1, a2, a3] = self.counts;
+        let [b0, b1, b2, b3] = other.counts;
+        if a0 != b0 {
+            return a0 < b0;
+        }
+        if a1 != b1 {
+            return a1 < b1;
+        }
+        if a2 != b2 {
+            return a2 < b2;
+        }
+        if a3 != b3 {
+            return a3 < b3;
+        }
+        if self.phase != other.phase {
+            return self.phase < other.phase;
+        }
+        if self.since != other.since {
+            return self.since < other.since;
+        }
+        self.at < other.at
+    }
 }
 
 impl CrossesThreads for Entry {}

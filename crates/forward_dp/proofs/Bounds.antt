@@ -1,16 +1,25 @@
--- The bounds of stages that fit prefixes lead to, and that their keys have numbers.
-use Rattle.std.proofs.Common.{◌≡◌, ℕ, suc, ◌+◌, ◌≤◌, ◌<◌, ◌&&◌, List, [], ◌∷◌, length, sum, get_or, Some, refl, sym, ap, subst, ◌∙◌, length-set, arith}
+-- The bounds of stages that fit prefixes lead to.
+use Rattle.std.proofs.Common.{◌≡◌, ℕ, suc, ◌+◌, ◌*◌, ◌≤◌, ◌<◌, ◌&&◌, ◌==◌, List, [], ◌∷◌, length, sum, get_or, Some, refl, sym, ap, subst, ◌∙◌, length-set, arith}
 use Rattle.std.proofs.lemmas.Bool.{ne_eqb}
-use Rattle.std.proofs.lemmas.List.Sums.{sum_by-cons, get_or-le-sum_by}
+use Rattle.std.proofs.lemmas.List.Sums.{sum_by-cons}
 use Rattle.std.proofs.lemmas.Option.{slice_get_within}
 use Rattle.phase_plan.specs.Phases.{no_phase}
+use Rattle.switch_rules.specs.Serving.{IsHead}
 use Rattle.schedule_meaning.specs.Instances.{Problem, IsInstance, list_at, counts_of}
 use Rattle.schedule_meaning.proofs.Sequences.{get_or-counts, under-way-start}
 use Rattle.dp_certificate.specs.Prefixes.{Stage, stage_after, stage_from, first_stage, stage_of}
 use Rattle.dp_certificate.proofs.Servings.{serving-keeps}
 use Rattle.dp_certificate.proofs.Stages.{behind, from-begins, listed-cluster, listed-phase, more-within, none-counted, some-same, step-begins, sum-one_more}
-use Rattle.forward_dp.specs.Layers.{IsStage}
-use Rattle.forward_dp.specs.Numbers.{FitsNumber}
+
+-- a stage within its bounds, behind so many servings
+pub record IsStage (p : Problem) (served : ℕ) (s : Stage) : Type 0 where
+  pub places : length s.counts ≡ 4
+  pub counts : (k : ℕ) → get_or s.counts k 0 ≤ length (list_at p.lists k)
+  pub total : sum s.counts ≡ served
+  pub head : IsHead p.plan s.head
+  pub reach : s.head.at ≤ 104000
+  pub fresh : s.head.fresh ≡ ((served == 0) && p.head.fresh)
+  pub delay : s.delay ≤ 72000000000 * served
 
 -- a step keeps the bounds
 pub stage-after-bounds : (p : Problem) → IsInstance p → (n : ℕ) (s t : Stage) (k : ℕ) → IsStage p n s → stage_after p s k ≡ Some t → IsStage p (n + 1) t
@@ -60,13 +69,3 @@ sum-le (x ∷ xs) (y ∷ ys) h = omega (arith, sum_by-cons (λ n. n) x xs, sum_b
 -- no more is served than there is
 pub stage-few : (p : Problem) → IsInstance p → (n : ℕ) (s : Stage) → IsStage p n s → n ≤ sum (counts_of p.lists)
 stage-few p lawful n s stage = omega (arith, stage.total, sum-le s.counts (counts_of p.lists) (λ k. omega (arith, stage.counts k, get_or-counts p.lists k)))
-
--- the key of a stage has a number
-pub fits-number : (p : Problem) → IsInstance p → (n : ℕ) (s : Stage) → IsStage p n s → FitsNumber s.counts s.head
-fits-number p lawful n s stage = record {
-  places = stage.places;
-  digits = λ k d h. omega (arith, get_or-le-sum_by (λ n. n) s.counts k d h, stage.total, stage-few p lawful n s stage, lawful.few);
-  phase = omega (arith, stage.head.phase, lawful.plan.count.1);
-  since = omega (arith, stage.head.begun, stage.reach);
-  at = omega (arith, stage.reach);
-}

@@ -1,9 +1,11 @@
-pub mod Beginnings
-pub mod Bounds
-pub mod Collecting
-pub mod Digits
-pub mod KeyOrder
-pub mod Orders
-pub mod Sorted
-pub mod Tables
-pub mod Wholes
+mod Beginnings
+mod Bounds
+mod Cells
+mod Digits
+mod Few
+mod Filling
+mod Growing
+mod KeyOrder
+mod Orders
+mod Rows
+mod Wholes

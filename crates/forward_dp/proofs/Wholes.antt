@@ -1,40 +1,55 @@
 -- The whole table with the best answer is a certificate that proves it.
 use Rattle.std.specs.Prelude.{option_and_then, IfOk, IsOk, OnErr}
-use Rattle.std.proofs.Common.{◌≡◌, ℕ, ◌+◌, ◌≤◌, ◌⊎◌, ◌==◌, ◌&&◌, false, List, [], ◌∷◌, ◌++◌, length, sum, get_or, Option, Some, IfSome, Result, Ok, Err, refl, sym, ap, subst, ◌∙◌, inl, eq-eqb, arith}
-use Rattle.std.specs.List.Sorted.{IsNonDecreasingBy, IsPermutation}
-use Rattle.std.proofs.lemmas.Bool.{ne_eqb}
-use Rattle.std.proofs.lemmas.List.Elements.{All-weaker}
+use Rattle.std.proofs.Common.{◌≡◌, ℕ, ◌+◌, ◌-◌, ◌<◌, ◌≤◌, ◌⊎◌, List, [], ◌∷◌, ◌++◌, length, sum, get_or, map, take, drop, All, Contains, Option, Some, None, IfSome, Result, Ok, Err, refl, sym, ap, subst, ◌∙◌, inl, inr, arith}
+use Rattle.std.proofs.lemmas.List.{get_or-map, get_or_default, length-map}
+use Rattle.std.proofs.lemmas.List.Elements.{All-map, All-weaker}
+use Rattle.std.proofs.lemmas.List.Sums.{sum_by-cons}
 use Rattle.std.proofs.lemmas.Option.{none-some}
 use Rattle.schedule_meaning.specs.Best.{IsBest, IsLeast}
-use Rattle.schedule_meaning.specs.Instances.{Problem, IsInstance, counts_of}
+use Rattle.schedule_meaning.specs.Instances.{Problem, IsInstance, counts_of, list_at}
 use Rattle.schedule_meaning.specs.Timing.{delay_of}
 use Rattle.schedule_meaning.specs.declared.planners.Answer.{Answer}
 use Rattle.schedule_meaning.specs.declared.planners.Answer.TheVariants.{Plan, NoPlan}
 use Rattle.schedule_meaning.proofs.Choosing.{best-least}
-use Rattle.schedule_meaning.proofs.Sequences.{get_or-counts}
-use Rattle.dp_certificate.specs.Certificates.{Claim, IsCertificate, IsEntry}
-use Rattle.dp_certificate.specs.Numbers.{IsShort}
+use Rattle.schedule_meaning.proofs.Sequences.{get_or-counts, none-unless}
+use Rattle.dp_certificate.specs.Certificates.{Claim, IsBefore, IsCertificate, IsEntry, digits_of, entry_at, no_entry}
+use Rattle.dp_certificate.specs.Numbers.{AreLengths, IsShort, sequence_of}
 use Rattle.dp_certificate.specs.Prefixes.{Key, Stage, first_stage, key_of, stage_after, stage_of}
 use Rattle.dp_certificate.specs.Proves.{HasEntry, IsClosed, IsEnded, IsNoCheaper, IsPlanned, IsTooDear, Proves, stage_of_entry}
 use Rattle.dp_certificate.specs.Whole.{IsOfPrefix, IsWhole}
 use Rattle.dp_certificate.specs.declared.Entry.{Entry}
-use Rattle.dp_certificate.proofs.Stages.{delay-of-stage, some-same, stage-of-delay, stage-push}
-use Rattle.indexmap.specs.IndexMap.{IndexMap}
-use Rattle.forward_dp.specs.Found.{AreEntriesOf, AreFound}
-use Rattle.forward_dp.specs.Layers.{IsAnswerOf, IsBestWay, IsLayer, IsStage, ways_of}
-use Rattle.forward_dp.specs.declared.layers.Way.{Way}
-use Rattle.forward_dp.proofs.Bounds.{stage-bounds, stage-few, sum-le}
-use Rattle.forward_dp.proofs.Sorted.{entry_for, found-sorted, whole-table}
-use Rattle.forward_dp.proofs.Tables.{best-answer, if-each, if-some}
+use Rattle.dp_certificate.proofs.Stages.{delay-of-stage, stage-of-delay, stage-push}
+use Rattle.flat_table.specs.Groups.{no_row, row_at}
+use Rattle.flat_table.specs.Rows.{IsNoWorse}
+use Rattle.flat_table.specs.declared.rows.Row.{Row}
+use Rattle.flat_table.proofs.Keeping.{no-worse-trans}
+use Rattle.forward_dp.specs.Numbers.{counts_number, order_number}
+use Rattle.forward_dp.specs.Tables.{IsFrom, IsReached, IsWholeTable}
+use Rattle.forward_dp.proofs.Bounds.{IsStage, stage-bounds, stage-few, sum-le}
+use Rattle.forward_dp.proofs.Cells.{IsCell, cell-is, led-at}
+use Rattle.forward_dp.proofs.Few.{rows-few}
+use Rattle.forward_dp.proofs.Filling.{small-last}
+use Rattle.forward_dp.proofs.KeyOrder.{keys-rise}
+use Rattle.forward_dp.proofs.Orders.{best-none, best-plan}
+use Rattle.forward_dp.proofs.Rows.{entry_for, entry-stage, four, led, reached-led, same-parts}
+
+if-some : {X : Type 0} (P : X → Type 0) (o : Option X) (x : X) → o ≡ Some x → IfSome o P → P x
+if-some P o x e h = subst (λ o. IfSome o P) e h
+
+if-each : {X : Type 0} (P : X → Type 0) (o : Option X) → ((x : X) → o ≡ Some x → P x) → IfSome o P
+if-each P None h = tt
+if-each P (Some x) h = h x refl
 
 -- the entry of a fit prefix is that of its stage
 entry-same : (p : Problem) (e : Entry) (o : IsOfPrefix p e) → e ≡ entry_for o.stage o.stage.delay
+unfolding entry_for
 entry-same p e o =
     ap (λ (k : Key). let x : Entry = record { counts = k.counts; phase = k.phase; since = k.since; at = k.at; delay = e.delay } in x) o.key
     ∙ ap (entry_for o.stage) o.delay
 
 -- and is within its bounds
 entry-bounds : (p : Problem) → IsInstance p → (e : Entry) → IsOfPrefix p e → IsEntry p e
+unfolding entry_for
 entry-bounds p lawful e o =
     let s = o.stage in
     let b : IsStage p (length o.prefix) s = stage-bounds p lawful o.prefix s o.leads in
@@ -58,23 +73,13 @@ pub best-short : (p : Problem) (answer : Answer) → IsInstance p → IsBest p a
 best-short p (Plan sequence delay) lawful best = omega (arith, (stage-of-delay p lawful sequence delay best.feasible).3, lawful.few)
 best-short p NoPlan lawful best = tt
 
--- the stage that the entry of a stage stands for is that stage, since the green is fresh at the start alone
-stage-same : (p : Problem) → IsInstance p → (u : List ℕ) (s : Stage) → stage_of p u ≡ Some s → stage_of_entry p (entry_for s s.delay) ≡ s
-stage-same p lawful [] s e = subst (λ (s : Stage). stage_of_entry p (entry_for s s.delay) ≡ s) (some-same (first_stage p) s e)
-    (rw (eq-eqb p.head.phase p.head.phase refl) (rw (eq-eqb p.head.since p.head.since refl) (rw (eq-eqb p.head.at p.head.at refl) refl)))
-stage-same p lawful (k ∷ u) s e =
-    let b : IsStage p (length (k ∷ u)) s = stage-bounds p lawful (k ∷ u) s e in
-    let some : (sum s.counts == 0) ≡ false = ne_eqb (sum s.counts) 0 (λ z. omega (arith, b.total)) in
-    let stale : s.head.fresh ≡ false = b.fresh ∙ ap (λ t. t && p.head.fresh) (ne_eqb (length (k ∷ u)) 0 (λ z. omega arith)) in
-    rw some (ap (λ f. let x : Stage = record { counts = s.counts; head = record { phase = s.head.phase; since = s.head.since; at = s.head.at; fresh = f }; delay = s.delay } in x) (sym stale))
-
 -- what is served next behind an entry has an entry
 entry-closed : (c : Claim) → IsInstance c.problem → IsWhole c.problem c.entries → (e : Entry) → IsOfPrefix c.problem e → IsClosed c e
 entry-closed c lawful whole e o k =
     let p = c.problem in
     let s = o.stage in
     let Met : Stage → Type 0 = λ t. HasEntry c.entries (key_of t) t.delay ⊎ IsTooDear p c.answer t in
-    let same : stage_of_entry p e ≡ s = ap (stage_of_entry p) (entry-same p e o) ∙ stage-same p lawful o.prefix s o.leads in
+    let same : stage_of_entry p e ≡ s = entry-stage p lawful o.prefix s e o.leads o.key ∙ ap (λ d. let x : Stage = record { counts = s.counts; head = s.head; delay = d } in x) o.delay in
     subst (λ (x : Stage). IfSome (stage_after p x k) (λ t. HasEntry c.entries (key_of t) t.delay ⊎ IsTooDear p c.answer t)) (sym same) (if-each Met (stage_after p s k) (λ t et.
     let leads : stage_of p (o.prefix ++ k ∷ []) ≡ Some t = stage-push p (first_stage p) o.prefix k ∙ ap (option_and_then (λ s. stage_after p s k)) o.leads ∙ et in
     inl (if-some (λ s. HasEntry c.entries (key_of s) s.delay) (stage_of p (o.prefix ++ k ∷ [])) t leads (whole.all (o.prefix ++ k ∷ [])))))
@@ -111,27 +116,146 @@ whole-proves p entries answer lawful whole best =
       ended = All-weaker (IsOfPrefix p) (IsEnded c) (entry-ended c lawful least) entries whole.each;
     }
 
+-- ---- the rows as entries
+
+-- what is of a fit prefix
+row-of : (p : Problem) (r : Row) → IsReached p r → IsOfPrefix p r.entry
+row-of p r h = record { prefix = h.prefix; stage = stage_of_entry p r.entry; leads = h.leads; key = refl; delay = refl }
+
+entry-of-row : (rows : List Row) (k : ℕ) → k < length rows → entry_at (map (λ r. r.entry) rows) k ≡ (row_at rows k).entry
+entry-of-row rows k h = get_or-map (λ (r : Row). r.entry) rows k no_row no_entry h
+
+whole-rows : (p : Problem) → IsInstance p → (rows : List Row) → IsWholeTable p rows → IsWhole p (map (λ r. r.entry) rows)
+whole-rows p lawful rows table = record {
+  rising = λ k inside.
+      let here : k + 1 < length rows = omega (arith, inside, length-map rows (λ (r : Row). r.entry)) in
+      let a = led-at p lawful rows table.made k (omega (arith, here)) in
+      let b = led-at p lawful rows table.made (k + 1) here in
+      let rise = keys-rise p a.0 b.0 (row_at rows k) (row_at rows (k + 1)) a.1 b.1 (table.made.rising k (k + 1) no_row (omega arith) here) in
+      subst (λ e. IsBefore (digits_of e) (digits_of (entry_at (map (λ r. r.entry) rows) (k + 1)))) (sym (entry-of-row rows k (omega (arith, here)))) (subst (λ e. IsBefore (digits_of (row_at rows k).entry) (digits_of e)) (sym (entry-of-row rows (k + 1) here)) rise);
+  each = All-map (IsOfPrefix p) (λ r. r.entry) rows (λ i d h. row-of p _ (table.made.each i d h));
+  all = λ u. if-each (λ s. HasEntry (map (λ r. r.entry) rows) (key_of s) s.delay) (stage_of p u) (λ s e.
+      let has = table.all u s e in
+      let k = has.among.0 in
+      record {
+        entry = has.row.entry;
+        among = (k, omega (arith, has.among.1, length-map rows (λ (r : Row). r.entry)), get_or-map (λ (r : Row). r.entry) rows k has.row has.row.entry has.among.1 ∙ ap (λ (r : Row). r.entry) has.among.2);
+        key_is = has.key;
+        delay = less has.row s.delay (order_number u) has.no_worse;
+      });
+}
+  where
+    less : (r : Row) (d o : ℕ) → IsNoWorse r d o → r.entry.delay ≤ d
+    less r d o (inl h) = omega arith
+    less r d o (inr h) = omega (arith, h.0)
+
+-- ---- the best answer
+
+sum-four : (a b c d : ℕ) → sum (a ∷ b ∷ c ∷ d ∷ []) ≡ a + b + c + d
+sum-four a b c d = omega (arith, sum_by-cons (λ n. n) a (b ∷ c ∷ d ∷ []), sum_by-cons (λ n. n) b (c ∷ d ∷ []), sum_by-cons (λ n. n) c (d ∷ []), sum_by-cons (λ n. n) d [])
+
+-- the rows of whole sequences
+pub record IsLast (p : Problem) (rows source : List Row) : Type 0 where
+  pub each : (n : ℕ) (d : Row) → n < length source → (u : List ℕ) × (stage_of p u ≡ Some (stage_of_entry p (get_or source n d).entry)) × ((get_or source n d).order ≡ order_number u) × (length u ≡ sum (counts_of p.lists))
+  pub all : (u : List ℕ) (d : ℕ) → delay_of p u ≡ Some d → (r : Row) × Contains source r × IsNoWorse r d (order_number u)
+
+last-rows : (p : Problem) → IsInstance p → (rows source : List Row) (start : ℕ) (last : List ℕ) → IsWholeTable p rows → AreLengths p.lists last → IsCell rows source start last → IsLast p rows source
+last-rows p lawful rows source start last table lengths cell = record {
+  each = λ n d h.
+      let at : get_or source n d ≡ row_at source n = get_or_default source n d no_row h in
+      let r : IsReached p (get_or source n d) = subst (IsReached p) (sym (at ∙ cell.slice.at n h)) (table.made.each (start + n) no_row (omega (arith, h, cell.slice.inside))) in
+      let l = reached-led p lawful (get_or source n d) r in
+      let counts : (get_or source n d).entry.counts ≡ last = ap (λ (r : Row). r.entry.counts) at ∙ cell.each n h in
+      let total : sum (get_or source n d).entry.counts ≡ sum (counts_of p.lists) = ap sum counts ∙ last-sum in
+      (r.prefix, r.leads, r.order, sym l.stage.total ∙ total);
+  all = λ u d e.
+      let led_to : (t : Stage) × (stage_of p u ≡ Some t) × (t.delay ≡ d) × (length u ≡ sum (counts_of p.lists)) = stage-of-delay p lawful u d e in
+      let has = table.all u led_to.0 led_to.1 in
+      let q = has.among.0 in
+      let there : row_at rows q ≡ has.row = get_or_default rows q no_row has.row has.among.1 ∙ has.among.2 in
+      let b : IsStage p (length u) led_to.0 = stage-bounds p lawful u led_to.0 led_to.1 in
+      let full : led_to.0.counts ≡ last = all-served led_to.0.counts b.places (λ k. b.counts k) (b.total ∙ led_to.3) in
+      let only = cell.only q has.among.1 (ap (λ (r : Row). r.entry.counts) there ∙ ap (λ (x : Key). x.counts) has.key ∙ full) in
+      let inside : q - start < length source = omega (arith, only.0, only.1) in
+      let read : get_or source (q - start) has.row ≡ has.row = get_or_default source (q - start) has.row no_row inside ∙ cell.slice.at (q - start) inside ∙ ap (row_at rows) (let eq : start + (q - start) ≡ q = omega (arith, only.0) in eq) ∙ there in
+      (has.row, (q - start, inside, read), subst (λ n. IsNoWorse has.row n (order_number u)) led_to.2 has.no_worse);
+}
+  where
+    last-sum : sum last ≡ sum (counts_of p.lists)
+    last-sum =
+        let up : sum last ≤ sum (counts_of p.lists) = sum-le last (counts_of p.lists) (λ k. omega (arith, lengths.each k, get_or-counts p.lists k)) in
+        let down : sum (counts_of p.lists) ≤ sum last = sum-le (counts_of p.lists) last (λ k. omega (arith, lengths.each k, get_or-counts p.lists k)) in
+        omega arith
+
+    all-served : (xs : List ℕ) → length xs ≡ 4 → ((k : ℕ) → get_or xs k 0 ≤ length (list_at p.lists k)) → sum xs ≡ sum (counts_of p.lists) → xs ≡ last
+    all-served xs places within total =
+        let a = ap sum (four xs places) ∙ sum-four (get_or xs 0 0) (get_or xs 1 0) (get_or xs 2 0) (get_or xs 3 0) in
+        let b = ap sum (four last lengths.places) ∙ sum-four (get_or last 0 0) (get_or last 1 0) (get_or last 2 0) (get_or last 3 0) in
+        let all : get_or xs 0 0 + get_or xs 1 0 + get_or xs 2 0 + get_or xs 3 0 ≡ get_or last 0 0 + get_or last 1 0 + get_or last 2 0 + get_or last 3 0 = omega (arith, a, b, total, last-sum) in
+        four xs places
+        ∙ same-parts (get_or xs 0 0) (get_or xs 1 0) (get_or xs 2 0) (get_or xs 3 0) (get_or last 0 0) (get_or last 1 0) (get_or last 2 0) (get_or last 3 0)
+        (omega (arith, all, within 0, within 1, within 2, within 3, lengths.each 0, lengths.each 1, lengths.each 2, lengths.each 3))
+        (omega (arith, all, within 0, within 1, within 2, within 3, lengths.each 0, lengths.each 1, lengths.each 2, lengths.each 3))
+        (omega (arith, all, within 0, within 1, within 2, within 3, lengths.each 0, lengths.each 1, lengths.each 2, lengths.each 3))
+        (omega (arith, all, within 0, within 1, within 2, within 3, lengths.each 0, lengths.each 1, lengths.each 2, lengths.each 3))
+        ∙ sym (four last lengths.places)
+
+-- no row of whole sequences: no plan
+pub none-best : (p : Problem) → IsInstance p → (rows source : List Row) → IsLast p rows source → source ≡ [] → IsBest p NoPlan
+none-best p lawful rows source last none = best-none p (λ u. none-unless (delay_of p u) (λ d e.
+    let there = last.all u d e in
+    absurd (omega (arith, there.1.1, ap (length {A = Row}) none))))
+
+-- the best of them: the best plan
+pub some-best : (p : Problem) → IsInstance p → (rows source : List Row) (best : Row) (answer : Answer) → IsLast p rows source → Contains source best → All (λ r. IsNoWorse best r.entry.delay r.order) source
+    → ((s : List ℕ) → length s ≡ sum (counts_of p.lists) → All (λ k. k < 4) s → order_number s ≡ best.order → answer ≡ Plan s best.entry.delay) → IsBest p answer
+some-best p lawful rows source best answer last among no_worse is =
+    let row = last.each among.0 best among.1 in
+    let same : get_or source among.0 best ≡ best = among.2 in
+    let u = row.0 in
+    let s = stage_of_entry p (get_or source among.0 best).entry in
+    let below : All (λ k. k < 4) u = (led p lawful u s row.1).phases in
+    let order : best.order ≡ order_number u = ap (λ (r : Row). r.order) (sym same) ∙ row.2 in
+    let delay : s.delay ≡ best.entry.delay = ap (λ (r : Row). r.entry.delay) same in
+    let feasible : delay_of p u ≡ Some best.entry.delay = delay-of-stage p lawful u s row.1 row.3 ∙ ap (λ d. let o : Option ℕ = Some d in o) delay in
+    subst (IsBest p) (sym (is u row.3 below (sym order))) (best-plan p u best.entry.delay (omega (arith, lawful.lists, lawful.plan.count.1)) feasible (λ w.
+    if-each (λ e. (best.entry.delay < e) ⊎ ((best.entry.delay ≡ e) × (order_number u ≤ order_number w))) (delay_of p w) (λ d e.
+    let r = last.all w d e in
+    let first : IsNoWorse best r.0.entry.delay r.0.order = subst (λ (x : Row). IsNoWorse best x.entry.delay x.order) r.1.2 (no_worse r.1.0 r.0 r.1.1) in
+    subst (λ n. (best.entry.delay < d) ⊎ ((best.entry.delay ≡ d) × (n ≤ order_number w))) order (no-worse-trans best r.0 d (order_number w) first r.2))))
+
+-- the cell of the last counts
+pub last-cell : (p : Problem) → IsInstance p → (rows : List Row) (last : List ℕ) (start end : ℕ) → IsWholeTable p rows → AreLengths p.lists last → IsFrom rows 0 (counts_number last) start → IsFrom rows start (counts_number last + 1) end → IsLast p rows (take (end - start) (drop start rows))
+last-cell p lawful rows last start end table lengths first second =
+    last-rows p lawful rows (take (end - start) (drop start rows)) start last table lengths
+    (cell-is p lawful rows last 0 start end table.made lengths.places (small-last p last lawful lengths) first second (λ place h. absurd (omega arith)))
+
 -- the whole table and the best answer of an instance
 pub record AreParts (p : Problem) (entries : List Entry) (answer : Answer) : Type 0 where
   pub lawful : IsInstance p
   pub whole : IsWhole p entries
   pub best : IsBest p answer
+  pub few : length entries ≤ 2000001
 
--- the last layer gives the answer, and what all layers hold, once sorted, the entries
-pub parts : {S : Type 0} (p : Problem) (places : ℕ) (layer : IndexMap ℕ Way S) (best : Option Way) (answer : Answer) (found sorted slice : List (ℕ × ℕ)) (entries : List Entry) → IsInstance p → places ≡ sum (counts_of p.lists)
-    → IsLayer p (sum (counts_of p.lists)) (ways_of layer) → IsBestWay (ways_of layer) best → IsAnswerOf best places answer
-    → AreFound p (sum (counts_of p.lists) + 1) found → IsPermutation found sorted → IsNonDecreasingBy (λ f. f.0) sorted → slice ≡ sorted → AreEntriesOf slice entries → AreParts p entries answer
-parts p places layer best answer found sorted slice entries lawful all is_layer is_best is_answer h moved rises same made = record {
+pub parts : (p : Problem) (rows slice : List Row) (entries : List Entry) (answer : Answer) → IsInstance p → IsWholeTable p rows → slice ≡ rows → entries ≡ map (λ r. r.entry) slice → IsBest p answer → AreParts p entries answer
+parts p rows slice entries answer lawful table same made best = record {
   lawful = lawful;
-  whole = whole-table p (sum (counts_of p.lists) + 1) sorted entries lawful (omega arith) (found-sorted p (sum (counts_of p.lists) + 1) found sorted h moved) rises (subst (λ xs. AreEntriesOf xs entries) same made);
-  best = best-answer p places (ways_of layer) best answer lawful all (subst (λ n. IsLayer p n (ways_of layer)) (sym all) is_layer) is_best is_answer;
+  whole = subst (IsWhole p) (sym (made ∙ ap (map (λ (r : Row). r.entry)) same)) (whole-rows p lawful rows table);
+  best = best;
+  few = omega (arith, ap length (made ∙ ap (map (λ (r : Row). r.entry)) same), length-map rows (λ (r : Row). r.entry), rows-few p lawful rows table.made);
 }
+
+-- a best answer has at most 40 places
+pub best-few : (p : Problem) (answer : Answer) → IsInstance p → IsBest p answer → length (sequence_of answer) ≤ 40
+best-few p (Plan sequence delay) lawful best = omega (arith, (stage-of-delay p lawful sequence delay best.feasible).3, lawful.few)
+best-few p NoPlan lawful best = omega arith
 
 -- a certificate made of these parts has what it promises
 pub record IsCertified (p : Problem) (c : Claim) : Type 0 where
   pub whole : IsWhole p c.entries
   pub best : IsBest p c.answer
   pub proves : Proves c
+  pub few : (length c.entries ≤ 2000001) × (length (sequence_of c.answer) ≤ 40)
 
 pub certified : {E : Type 0} (p given : Problem) (entries : List Entry) (answer : Answer) (r : Result Claim E) (made : Claim) → AreParts p entries answer → given ≡ p
     → IfOk r (λ c. (c ≡ record { problem = given; entries = entries; answer = answer }) × IsCertificate c) → r ≡ Ok made → IsCertified p made
@@ -139,7 +263,7 @@ certified p given entries answer r made h same ok e =
     let c : Claim = record { problem = p; entries = entries; answer = answer } in
     let out : (made ≡ record { problem = given; entries = entries; answer = answer }) × IsCertificate made = subst (λ r. IfOk r (λ c. (c ≡ record { problem = given; entries = entries; answer = answer }) × IsCertificate c)) e ok in
     let is : made ≡ c = out.0 ∙ ap (λ (q : Problem). let x : Claim = record { problem = q; entries = entries; answer = answer } in x) same in
-    let here : IsCertified p c = record { whole = h.whole; best = h.best; proves = whole-proves p entries answer h.lawful h.whole h.best } in
+    let here : IsCertified p c = record { whole = h.whole; best = h.best; proves = whole-proves p entries answer h.lawful h.whole h.best; few = (h.few, best-few p answer h.lawful h.best) } in
     subst (IsCertified p) (sym is) here
 
 -- and is not refused

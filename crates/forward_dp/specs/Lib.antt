@@ -1,6 +1,5 @@
-pub mod Found
-pub mod Layers
 pub mod Numbers
+pub mod Tables
 pub use Rattle.schedule_meaning.specs.Best
 pub use Rattle.schedule_meaning.specs.Instances
 pub use Rattle.dp_certificate.specs.Prefixes

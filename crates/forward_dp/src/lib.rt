@@ -1,34 +1,32 @@
-//! The best answer of an instance by a table that grows forward: layer by layer, one way is kept for each key that fit
-//! prefixes of one length reach. The whole table can be had as a certificate of that answer.
+//! The best answer of an instance by a table that grows forward: one row is kept for each key that fit prefixes reach. The
+//! whole table can be had as a certificate of that answer.
 #![tactic(auto)]
 
-ghost use Rattle.std.specs.Prelude.{◌≡◌, ◌+◌, ◌*◌, ◌≤◌, List, length, sum, IfOk, IsTrue};
+ghost use Rattle.std.specs.Prelude.{◌≡◌, ◌⊎◌, ◌+◌, ◌*◌, ◌≤◌, ◌<◌, [], All, Contains, List, length, sum, slice_index, IfNone, IfOk, IfSome};
 ghost use Rattle.schedule_meaning.specs.Best.{IsBest, IsLeast};
 ghost use Rattle.schedule_meaning.specs.Instances.{IsInstance, counts_of};
+ghost use Rattle.dp_certificate.specs.Numbers.{AreLengths};
 ghost use Rattle.dp_certificate.specs.Prefixes.{HasAllKeys, Key};
-ghost use Rattle.forward_dp.specs.Found.{AreFound};
-ghost use Rattle.forward_dp.specs.Layers.{IsAnswerOf, IsLayer, ways_of};
+ghost use Rattle.flat_table.specs.Rows.{IsNoWorse};
+ghost use Rattle.forward_dp.specs.Tables.{IsWholeTable};
 
 mod answers;
 mod certifying;
-mod keys;
-mod layers;
+mod table;
 
 use answers::sequence_of;
 pub use certifying::certify;
-use certifying::collect;
+use dp_certificate::list_lengths;
+use flat_table::{Row, better_of};
 use foundation::items::Items;
 use foundation::steps::Steps;
 use foundation::threads::CrossesThreads;
-use indexmap::IndexMap;
-use layers::{Layer, Way, best_of, extend, first_layer};
 use schedule_meaning::{Answer, Instance, Planner};
 use std::alloc::{AllocError, Global};
-use std::mem;
 use std::sync::ledger::Ledger;
+use table::{cell, table};
 
-/// The best answer of an instance by a table: for each number of servings one layer, with one way for each key that so
-/// many servings reach. A key is how many clusters of each phase are served, the green phase, since when, and up to
+/// The best answer of an instance by a table with a row for each key that fit prefixes reach. A key is how many clusters of each phase are served, the green phase, since when, and up to
 /// which second its time is spent.
 ///
 /// It takes at most as many steps, for each key that fit prefixes reach at all, as the instance has phases; also where
@@ -44,36 +42,44 @@ pub fn layered<L: Ledger>(
     ensures least { IfOk result (IsLeast i.now) }
     ensures servings { (keys : List Key) → HasAllKeys i.now keys → steps.new ≤ steps.old + length i.now.plan * length keys }
 {
-    let (layer, _) = run_layers(alloc, i, false, steps)?;
-    answer_of(alloc, best_of(&layer), count_places(i))
+    let rows = table(alloc, i, steps)?;
+    answer_of(alloc, i, rows.as_slice())
 }
 
-/// The layer of the whole sequences, and, if `collects`, the numbers and the delays of the keys of all layers.
-fn run_layers<L: Ledger>(
-    alloc: Global,
-    i: &Instance,
-    collects: bool,
-    steps: &mut Steps<L>,
-) -> Result<(Layer, Vec<(u64, u64)>), AllocError>
-    ensures layer { IfOk result (λ made. IsLayer i.now (sum (counts_of i.now.lists)) (ways_of made.0)) }
-    ensures found { IfOk result (λ made. IsTrue collects → AreFound i.now (sum (counts_of i.now.lists) + 1) made.1.items) }
-    ensures servings { (keys : List Key) → HasAllKeys i.now keys → steps.new ≤ steps.old + length i.now.plan * length keys }
+/// The answer of the best of the rows of whole sequences.
+fn answer_of(alloc: Global, i: &Instance, rows: &[Row]) -> Result<Answer, AllocError>
+    requires { IsWholeTable i.now rows.now }
+    ensures best { IfOk result (IsBest i.now) }
+    ensures instance { IsInstance i.now }
 {
-    let places = count_places(i);
-    let mut layer = first_layer(alloc, i)?;
-    let mut next = IndexMap::new(alloc);
-    let mut found = Vec::new(alloc);
-    for served in 0..places {
-        collect(&layer, collects, &mut found)?;
-        extend(i, &layer, served, &mut next, steps)?;
-        mem::swap(&mut layer, &mut next);
+    let last = list_lengths(i);
+    let places = places(i);
+    let (start, end) = cell(rows, 0, &last);
+    let Some(best) = best_of(&rows[start..end]) else {
+        return Ok(Answer::NoPlan);
+    };
+    let sequence = sequence_of(alloc, best.order, places)?;
+    Ok(Answer::Plan {
+        sequence: Items::from_vec(sequence),
+        delay: best.entry.delay,
+    })
+}
+
+/// The row with the least delay, and of several with that delay the one with the first order.
+fn best_of(rows: &[Row]) -> Option<Row>
+    ensures none { IfNone result (rows.now ≡ []) }
+    ensures among { IfSome result (Contains rows.now) }
+    ensures best { IfSome result (λ best. All (λ r. IsNoWorse best r.entry.delay r.order) rows.now) }
+{
+    let mut best = *rows.first()?;
+    for row in rows {
+        best = better_of(&best, row);
     }
-    collect(&layer, collects, &mut found)?;
-    Ok((layer, found))
+    Some(best)
 }
 
 /// How many clusters there are in all.
-fn count_places(i: &Instance) -> u32
+fn places(i: &Instance) -> u32
     ensures value { result ≡ sum (counts_of i.now.lists) }
     ensures instance { IsInstance i.now }
 {
@@ -81,21 +87,6 @@ fn count_places(i: &Instance) -> u32
     let counts = &mut counts[..i.plan().count() as usize];
     i.count(counts);
     counts.iter().sum()
-}
-
-/// The answer of the best way of the last layer.
-fn answer_of(alloc: Global, best: Option<Way>, places: u32) -> Result<Answer, AllocError>
-    requires { places ≤ 40 }
-    ensures { IfOk result (IsAnswerOf best places) }
-{
-    let Some(way) = best else {
-        return Ok(Answer::NoPlan);
-    };
-    let sequence = sequence_of(alloc, way.order, places)?;
-    Ok(Answer::Plan {
-        sequence: Items::from_vec(sequence),
-        delay: way.delay,
-    })
 }
 
 /// The planner that answers by `layered`.

@@ -1,4 +1,5 @@
 pub mod Counts
+pub mod Entries
 pub mod Lists
 pub mod Ordered
 pub mod Players

@@ -14,6 +14,12 @@ count node history = count_by (λ n. n == node) history
 abbrev pub earlier : List ℕ → ℕ → ℕ
 earlier history place = count (slice_index history place) (take place history)
 
+-- the entry of a node behind so many earlier ones stands at this place
+pub record IsEntry (history : List ℕ) (node before place : ℕ) : Type 0 where
+  pub inside : place < length history
+  pub node_there : slice_index history place ≡ node
+  pub counted : count node (take place history) ≡ before
+
 -- the nodes below a number each do all their steps, in number order
 abbrev pub turns : (ℕ → List BoardStep) → ℕ → List ℕ
 turns steps nodes = flat_map (λ node. replicate (length (steps node)) node) (range_with_len 0 nodes)

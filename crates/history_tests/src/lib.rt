@@ -2,7 +2,7 @@
 #![tactic(auto)]
 
 #[cfg(test)]
-mod histories;
+mod lawful;
 #[cfg(test)]
 mod merges;
 #[cfg(test)]

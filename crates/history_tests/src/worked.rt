@@ -1,7 +1,7 @@
 //! The worked network, and what is asked of it.
 ghost use Rattle.std.specs.Prelude.{◌≤◌, length};
 
-use crate::histories::{judged, steps_shown};
+use crate::lawful::{judged, steps_shown};
 use road_net::{Network, read_network};
 use std::alloc::{AllocError, Global};
 

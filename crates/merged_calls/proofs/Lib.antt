@@ -1,4 +1,3 @@
-pub mod Entries
 pub mod Forecasts
 pub mod EventKinds
 pub mod Marks

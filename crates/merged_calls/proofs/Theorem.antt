@@ -17,15 +17,15 @@ use Rattle.board_model.specs.Boards.{Log}
 use Rattle.net_numbers.specs.Numbers.{Net}
 use Rattle.net_numbers.specs.Outline.{link_at}
 use Rattle.road_net.specs.Network.{IsNetwork}
-use Rattle.histories.specs.Histories.{count, HasRounds, IsLawful, version_at}
+use Rattle.histories.specs.Histories.{count, HasRounds, IsEntry, IsLawful, version_at}
 use Rattle.histories.specs.Merges.{IsMerge}
 use Rattle.histories.specs.Steps.{board_steps, step_if, AreSteps}
 use Rattle.histories.specs.declared.steps.BoardStep.TheVariants as step
 use Rattle.histories.proofs.Players.{are-steps}
 use Rattle.merged_calls.proofs.Sorted.{marked}
-use Rattle.merged_calls.specs.Places.{publisher, IsEntry, StandsAt, AreTold}
+use Rattle.merged_calls.specs.Places.{publisher, StandsAt, AreTold}
 use Rattle.merged_calls.proofs.Marks.{Marked, AreMarked, IsMarkedMerge, of_node, step_in}
-use Rattle.merged_calls.proofs.Entries.{entry}
+use Rattle.histories.proofs.Entries.{entry}
 use Rattle.histories.proofs.Lists.{filter-yes, filter-no}
 use Rattle.merged_calls.proofs.Nodes.{mark, of-node, one-merge}
 use Rattle.merged_calls.proofs.Rounds.{nodes, has, lawful, count-is}

@@ -1,11 +1,11 @@
 -- The calls in the history that their logs tell.
-use Rattle.std.specs.Prelude.{◌≡◌, ℕ, ◌<◌, false, Some, List, [], ◌∷◌, length, map, filter, take, slice_get, slice_index, slice_index_or, unwrap_or}
+use Rattle.std.specs.Prelude.{◌≡◌, ℕ, ◌<◌, false, Some, List, [], ◌∷◌, length, map, filter, slice_get, slice_index, slice_index_or, unwrap_or}
 use Rattle.board_model.specs.declared.calls.Call.{Call}
 use Rattle.board_model.specs.declared.forecasts.Row.{Row}
 use Rattle.net_numbers.specs.Numbers.{Net}
 use Rattle.net_numbers.specs.Outline.{link_at}
 use Rattle.histories.specs.declared.steps.BoardStep.{BoardStep}
-use Rattle.histories.specs.Histories.{count, earlier, step_at, version_at}
+use Rattle.histories.specs.Histories.{earlier, step_at, version_at, IsEntry}
 use Rattle.histories.specs.Steps.{is_publish_of}
 use Rattle.merged_calls.specs.Calls.{step_of}
 
@@ -16,12 +16,6 @@ sent link calls = map (λ call. call.forecast) (filter (λ call. is_publish_of l
 -- the node that publishes on a link: that at its begin
 abbrev pub publisher : Net → ℕ → ℕ
 publisher net link = unwrap_or (link_at net link).from 0
-
--- the entry of a node behind so many earlier ones stands at this place
-pub record IsEntry (history : List ℕ) (node before place : ℕ) : Type 0 where
-  pub inside : place < length history
-  pub node_there : slice_index history place ≡ node
-  pub counted : count node (take place history) ≡ before
 
 -- Each node has these steps in a round, and made these calls; of each link this node publishes on it.
 module _ (steps : ℕ → List BoardStep) (from : ℕ → ℕ) (calls : ℕ → List Call) where

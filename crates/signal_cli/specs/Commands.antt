@@ -1,5 +1,5 @@
 -- The commands: their words, the texts that they read, and what they write.
-use Rattle.std.specs.Prelude.{◌≡◌, ℕ, List, [], ◌∷◌, codes}
+use Rattle.std.specs.Prelude.{◌≡◌, ℕ, ◌≤◌, List, [], ◌∷◌, codes, length}
 use Rattle.schedule_meaning.specs.Best.{IsBest, IsLeast}
 use Rattle.schedule_meaning.specs.declared.planners.Answer.{Answer}
 use Rattle.dp_certificate.specs.Certificates.{Claim}
@@ -9,7 +9,8 @@ use Rattle.certificate_form.specs.CertificateText.{certificate_text}
 use Rattle.cert_checker.specs.Verdicts.{IsWhy}
 use Rattle.cert_checker.specs.declared.Why.{Why}
 use Rattle.signal_cli.specs.Answers.{answer_text}
-use Rattle.signal_cli.specs.Texts.{AllSaid, CertificateText, InstanceText, Next, NoMore, Texts}
+use Rattle.signal_cli.specs.Limits.{most_bytes}
+use Rattle.signal_cli.specs.Texts.{AllSaid, CertificateText, InstanceText, Next, NoMore, Spells, Texts}
 use Rattle.signal_cli.specs.Verdicts.{accepted_line, rejected_line}
 use Rattle.signal_cli.specs.declared.commands.Command.{Command as Told}
 use Rattle.signal_cli.specs.declared.commands.Command.TheVariants as told
@@ -42,10 +43,18 @@ texts_of (Plan file) = Next InstanceText file (λ said. NoMore)
 texts_of (Certify file) = Next InstanceText file (λ said. NoMore)
 texts_of (Check file) = Next CertificateText file (λ said. NoMore)
 
+-- These bytes are a certificate's text that `check` accepts: the text is within the limit, and spells this certificate and no
+-- other; and the certificate proves its answer.
+pub record IsAcceptedText (bytes : List ℕ) (c : Claim) : Type 0 where
+  pub short : length bytes ≤ most_bytes
+  pub spells : Spells CertificateText bytes c
+  pub only : (other : Claim) → Spells CertificateText bytes other → other ≡ c
+  pub proves : Proves c
+
 -- what is written where the work is done
 abbrev pub IsTextOf : (call : Call) → AllSaid (texts_of call) → List ℕ → Type 0
 IsTextOf (Plan file) said bytes = (answer : Answer) × IsBest said.0 answer × IsLeast said.0 answer × (bytes ≡ answer_text answer)
-IsTextOf (Certify file) said bytes = (c : Claim) × (c.problem ≡ said.0) × IsWhole c.problem c.entries × IsBest c.problem c.answer × Proves c × (bytes ≡ certificate_text c)
+IsTextOf (Certify file) said bytes = (c : Claim) × (c.problem ≡ said.0) × IsWhole c.problem c.entries × IsBest c.problem c.answer × (bytes ≡ certificate_text c) × IsAcceptedText bytes c
 IsTextOf (Check file) said bytes = Proves said.0 × IsLeast said.0.problem said.0.answer × (bytes ≡ accepted_line)
 
 -- the verdict of a command goes against its texts; only `check` judges

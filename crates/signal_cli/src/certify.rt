@@ -1,6 +1,7 @@
 //! The command `certify FILE`.
-ghost use Rattle.std.specs.Prelude.{◌≡◌, ◌<◌, IfOk};
+ghost use Rattle.std.specs.Prelude.{◌≡◌, ◌<◌, ◌≤◌, IfOk, length};
 ghost use Rattle.schedule_meaning.specs.Best.{IsBest};
+ghost use Rattle.dp_certificate.specs.Numbers.{sequence_of};
 ghost use Rattle.dp_certificate.specs.Proves.{Proves};
 ghost use Rattle.dp_certificate.specs.Whole.{IsWhole};
 ghost use Rattle.signal_cli.specs.Commands.{Certify};
@@ -11,7 +12,7 @@ use super::ending::{Made, end};
 use super::refusals::{Place, Refusal};
 use super::status::Status;
 use super::texts::fetch_instance;
-use certificate_form::write_certificate;
+use certificate_form::{one_certificate, write_certificate};
 use dp_certificate::Certificate;
 use foundation::steps::Steps;
 use outside_world::{Shelf, Sink};
@@ -26,6 +27,7 @@ fn certified(alloc: Global, i: &Instance) -> Result<Certificate, AllocError>
     ensures whole { IfOk result (λ c. IsWhole i.now c.entries) }
     ensures best { IfOk result (λ c. IsBest i.now c.answer) }
     ensures proves { IfOk result Proves }
+    ensures few { IfOk result (λ c. (length c.entries ≤ 2000001) × (length (sequence_of c.answer) ≤ 40)) }
 {
     counted::<Brand>(alloc, i, Blank::new(1))
 }
@@ -39,6 +41,7 @@ fn counted<L: Ledger>(alloc: Global, i: &Instance, blank: Blank) -> Result<Certi
     ensures whole { IfOk result (λ c. IsWhole i.now c.entries) }
     ensures best { IfOk result (λ c. IsBest i.now c.answer) }
     ensures proves { IfOk result Proves }
+    ensures few { IfOk result (λ c. (length c.entries ≤ 2000001) × (length (sequence_of c.answer) ≤ 40)) }
 {
     let mut steps = Steps::<L>::new(blank);
     forward_dp::certify(alloc, i, &mut steps)
@@ -51,11 +54,13 @@ fn written<S: Shelf>(alloc: Global, shelf: &mut S, file: &str) -> Result<Made, R
     let instance = fetch_instance(alloc, shelf, Place::First, file)?;
     let certificate = certified(alloc, &instance)?;
     let text = write_certificate(alloc, &certificate)?;
+    one_certificate();
     Ok(Made::Done(text))
 }
 
 /// The command `certify FILE`: writes the certificate of the instance that the file's text spells, with its best answer
-/// and the whole table of entries, which prove it.
+/// and the whole table of entries, which prove it. `check` accepts that text: it is within the limit of a text, and spells
+/// this certificate and no other.
 ///
 /// Each status has its cause, and each refusal writes its line to `err`, as `signal` says.
 ///

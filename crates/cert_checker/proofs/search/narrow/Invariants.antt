@@ -1,5 +1,5 @@
 use Rattle.std.proofs.Common.{◌-◌}
-use Rattle.cert_checker.specs.Nexts.{IsSpan}
+use Rattle.cert_checker.specs.Places.{IsSpan}
 use Rattle.cert_checker.proofs.search.narrow.Given as goal
 
 -- the place is still in the span

@@ -4,8 +4,8 @@ use Rattle.phase_plan.specs.declared.Phase.{Phase}
 use Rattle.schedule_meaning.specs.Instances.{Problem, IsInstance}
 use Rattle.dp_certificate.specs.Prefixes.{stage_after}
 use Rattle.dp_certificate.specs.Proves.{stage_of_entry}
-use Rattle.cert_checker.specs.Nexts.{stage_behind}
-use Rattle.cert_checker.proofs.Nexts.{closed-all, closed-at}
+use Rattle.dp_certificate.specs.Nexts.{stage_behind}
+use Rattle.cert_checker.proofs.Closing.{closed-all, closed-at}
 use Rattle.cert_checker.proofs.walk.open_phase.Goals as goal
 
 pub loop-phase-preserved : goal.loop-phase-preserved

@@ -8,5 +8,5 @@ pub loop-entry-preserved : goal.loop-entry-preserved
 loop-entry-preserved c =
     record {
       text = grind (arith, common_steps);
-      places = All-more (λ (e : Entry). length e.counts ≡ 4) c.args.entries.now c.loop-entry.entry-index _ (omega arith) c.loop-entry.invariant.places c.write_entry.ensures.places;
+      places = All-more (λ (e : Entry). length e.counts ≡ 4) c.args.entries.now c.loop-entry.entry-index _ (omega arith) c.loop-entry.invariant.places c.put_entry.ensures.places;
     }

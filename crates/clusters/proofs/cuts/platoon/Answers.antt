@@ -1,5 +1,4 @@
-use Rattle.std.proofs.Common.{◌≡◌, ◌∙◌, ◌≤◌, ap, arith, sum, All, rules, slice_range}
-use Rattle.std.proofs.lemmas.List.Elements.{All-get_or}
+use Rattle.std.proofs.Common.{◌∙◌, ap, arith, sum, slice_range}
 use Rattle.clusters.proofs.TogetherLaws.{sizing-more, sum-slice_range-le, stream-small}
 use Rattle.clusters.proofs.cuts.platoon.Goals as goal
 
@@ -8,7 +7,7 @@ total-requires c =
     omega (
       arith,
       sum-slice_range-le c.as_slice.result.now c.args.first c.args.end
-      (rw c.as_slice.ensures (stream-small c.args.streams.now c.loop-stream.stream-index c.stream-item.result c.requires.amounts (omega arith) c.stream-item.is)) c.requires.end,
+          (rw c.as_slice.ensures (stream-small c.args.streams.now c.loop-stream.stream-index c.stream-item.result c.requires.amounts (omega arith) c.stream-item.is)) c.requires.end,
     )
 
 pub overflow_add-size : goal.overflow_add-size
@@ -17,7 +16,7 @@ overflow_add-size c =
       arith,
       c.loop-stream.invariant.fits,
       sum-slice_range-le c.as_slice.result.now c.args.first c.args.end
-      (rw c.as_slice.ensures (stream-small c.args.streams.now c.loop-stream.stream-index c.stream-item.result c.requires.amounts (omega arith) c.stream-item.is)) c.requires.end,
+          (rw c.as_slice.ensures (stream-small c.args.streams.now c.loop-stream.stream-index c.stream-item.result c.requires.amounts (omega arith) c.stream-item.is)) c.requires.end,
     )
 
 pub loop-stream-preserved : goal.loop-stream-preserved

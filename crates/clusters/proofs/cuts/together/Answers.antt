@@ -1,4 +1,4 @@
-use Rattle.std.proofs.Common.{◌≡◌, ◌∙◌, ap, arith, get_or}
+use Rattle.std.proofs.Common.{ap, arith, get_or}
 use Rattle.clusters.proofs.TogetherLaws.{together-fits, together-all}
 use Rattle.clusters.proofs.cuts.together.Goals as goal
 

@@ -1,4 +1,4 @@
-use Rattle.std.proofs.Common.{◌≡◌, ◌∙◌, ap, arith, rules, length, get_or}
+use Rattle.std.proofs.Common.{◌∙◌, arith}
 use Rattle.clusters.proofs.SeenLaws.{inflow-made, written}
 use Rattle.clusters.proofs.inflows.inflow.Goals as goal
 

@@ -1,4 +1,4 @@
-use Rattle.std.proofs.Common.{◌≡◌, ◌∙◌, ap, arith, rules}
+use Rattle.std.proofs.Common.{◌∙◌, ap, arith}
 use Rattle.clusters.proofs.SeenLaws.{leaving-made, sense-within, written}
 use Rattle.clusters.proofs.inflows.leaving.Goals as goal
 

@@ -1,4 +1,4 @@
-use Rattle.std.proofs.Common.{◌≡◌, map, take}
+use Rattle.std.proofs.Common.{◌≡◌, take}
 use Rattle.clusters.specs.Platoons.{streams_of}
 use Rattle.clusters.proofs.inflows.streams.Given as goal
 

@@ -1,4 +1,4 @@
-use Rattle.std.proofs.Common.{◌≡◌, ◌<◌, ◌∙◌, length, refl, arith}
+use Rattle.std.proofs.Common.{◌<◌, length, refl, arith}
 use Rattle.clusters.specs.Taking.{IsFirstAmong}
 use Rattle.clusters.proofs.TakingLaws.{few-orders, many-orders, one-back, one-more, taking-more, taking-stuck, taking-whole}
 use Rattle.clusters.proofs.windows.taken.Goals as goal
@@ -22,4 +22,4 @@ loop-taken-preserved c =
     let room : c.in-Some.first.1 < length c.loop-taken.counts.items = omega (arith, first.phase, c.loop-taken.invariant.front.phases) in
     rw (one-more c.loop-taken.counts.items _ c.in-Some.first.1 c.index_mut.result.now c.index_mut.ensures.value room refl)
     (taking-more c.args.lists.now c.loop-taken.counts.items c.loop-taken._taken c.in-Some.first c.requires.rising c.loop-taken.invariant first
-      (few-orders c.loop-taken.counts.items c.as_slice-in-loop-taken.result.now c.in-Some.first.1 c.index_mut.result.now c.ways.result c.index_mut.ensures.value room c.as_slice-in-loop-taken.ensures.value c.ways.ensures c.if-ways-gt-MOST_ORDERS.false))
+    (few-orders c.loop-taken.counts.items c.as_slice-in-loop-taken.result.now c.in-Some.first.1 c.index_mut.result.now c.ways.result c.index_mut.ensures.value room c.as_slice-in-loop-taken.ensures.value c.ways.ensures c.if-ways-gt-MOST_ORDERS.false))

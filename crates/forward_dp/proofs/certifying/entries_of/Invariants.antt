@@ -1,11 +1,6 @@
-use Rattle.std.proofs.Common.{◌≡◌, ℕ, ◌<◌, length, get_or}
-use Rattle.dp_certificate.specs.Certificates.{entry_at}
-use Rattle.forward_dp.specs.Found.{IsEntryOf}
+use Rattle.std.proofs.Common.{◌≡◌, map, take}
 use Rattle.forward_dp.proofs.certifying.entries_of.Given as goal
 
 -- the entries so far
-abbrev pub invariant-loop-pair : goal.invariant-loop-pair
-invariant-loop-pair l = record {
-  count : length l.entries.items ≡ l.pair-index;
-  each : (k : ℕ) → k < l.pair-index → IsEntryOf (get_or l.found k (0, 0)) (entry_at l.entries.items k);
-}
+abbrev pub invariant-loop-row : goal.invariant-loop-row
+invariant-loop-row l = l.entries.items ≡ map (λ r. r.entry) (take l.row-index l.rows)

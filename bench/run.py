@@ -1,0 +1,100 @@
+#!/usr/bin/env python3
+"""Compares the built program with a plain-Rust program for the same job.
+
+PEER is a folder with a Cargo package whose one binary understands the words `plan FILE`, `certify FILE` and
+`check FILE`. It is built into a folder of its own. Both programs then run by turns on each instance of this folder,
+and what is printed is, for each command and instance, the best time of many runs and its ratio, and, where valgrind is
+there, the instructions that callgrind counts and their ratio. The answers must be equal. The exit status is 0 where
+they are, and 1 where any differs.
+"""
+
+import argparse
+import os
+import re
+import shutil
+import subprocess
+import sys
+import tempfile
+import time
+from pathlib import Path
+
+HERE = Path(__file__).resolve().parent
+INSTANCES = ("nine_and_nine.txt", "four_phases.txt", "two_clusters.txt")
+COMMANDS = ("plan", "certify", "check")
+
+
+def peer_built(folder, target):
+    """The peer's program, built from a folder with its package."""
+    environment = dict(os.environ, CARGO_TARGET_DIR=str(target))
+    subprocess.run(["cargo", "build", "--release", "--quiet"], cwd=folder, env=environment, check=True)
+    programs = [p for p in (target / "release").iterdir() if p.is_file() and os.access(p, os.X_OK)]
+    if len(programs) != 1:
+        sys.exit(f"one program is wanted in {target / 'release'}, not {len(programs)}")
+    return programs[0]
+
+
+def answer(program, words):
+    run = subprocess.run([program, *words], stdin=subprocess.DEVNULL, capture_output=True)
+    return run.returncode, run.stdout, run.stderr
+
+
+def seconds(program, words):
+    """How long one run takes, its output going nowhere."""
+    begin = time.perf_counter()
+    subprocess.run([program, *words], stdin=subprocess.DEVNULL, stdout=subprocess.DEVNULL, stderr=subprocess.DEVNULL)
+    return time.perf_counter() - begin
+
+
+def best_seconds(programs, words, runs):
+    """The best time of each program, which run by turns."""
+    best = [float("inf")] * len(programs)
+    for _ in range(runs):
+        for place, program in enumerate(programs):
+            best[place] = min(best[place], seconds(program, words))
+    return best
+
+
+def instructions(program, words, work):
+    """The instructions of one run, by callgrind."""
+    command = ["valgrind", "--tool=callgrind", f"--callgrind-out-file={work / 'calls'}", str(program), *words]
+    run = subprocess.run(command, stdin=subprocess.DEVNULL, stdout=subprocess.DEVNULL, stderr=subprocess.PIPE)
+    found = re.search(rb"Collected : (\d+)", run.stderr)
+    return int(found.group(1)) if found else None
+
+
+def compare(name, words, programs, runs, work):
+    """Prints one line of figures. Whether both answer alike."""
+    alike = answer(programs[0], words) == answer(programs[1], words)
+    ours, theirs = best_seconds(programs, words, runs)
+    line = f"{words[0]:8} {name:18} {ours * 1e3:8.2f} ms {theirs * 1e3:8.2f} ms  {ours / theirs:5.2f}"
+    if shutil.which("valgrind"):
+        counts = [instructions(program, words, work) for program in programs]
+        if all(counts):
+            line += f"   {counts[0] / 1e6:8.1f} M {counts[1] / 1e6:8.1f} M  {counts[0] / counts[1]:5.2f}"
+    print(line if alike else line + "   the answers differ", flush=True)
+    return alike
+
+
+def main():
+    parser = argparse.ArgumentParser(description=__doc__.split("\n", 1)[0])
+    parser.add_argument("peer", type=Path, help="the folder with the peer's package")
+    parser.add_argument("--program", type=Path, default=HERE.parent / "crates/signal_program/out/signal_program")
+    parser.add_argument("--runs", type=int, default=60)
+    options = parser.parse_args()
+    with tempfile.TemporaryDirectory() as place:
+        work = Path(place)
+        programs = (options.program.resolve(), peer_built(options.peer, work / "target"))
+        print(f"{'':27} {'ours':>11} {'peer':>11}  ratio   {'ours':>10} {'peer':>10}  ratio")
+        alike = True
+        for name in INSTANCES:
+            instance = str(HERE / name)
+            certificate = work / "certificate"
+            certificate.write_bytes(answer(programs[1], ("certify", instance))[1])
+            for command in COMMANDS:
+                file = str(certificate) if command == "check" else instance
+                alike &= compare(name, (command, file), programs, options.runs, work)
+    return 0 if alike else 1
+
+
+if __name__ == "__main__":
+    sys.exit(main())

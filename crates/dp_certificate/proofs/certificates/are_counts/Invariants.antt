@@ -1,7 +1,0 @@
-use Rattle.std.proofs.Common.{ℕ, ◌<◌, ◌≤◌, length, get_or}
-use Rattle.schedule_meaning.specs.Instances.{list_at}
-use Rattle.dp_certificate.proofs.certificates.are_counts.Given as goal
-
--- the counts so far are no more than there are clusters
-abbrev pub invariant-loop-phase : goal.invariant-loop-phase
-invariant-loop-phase l = (k : ℕ) → k < l.phase → get_or l.counts k 0 ≤ length (list_at l.i.lists k)

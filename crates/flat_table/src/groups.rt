@@ -1,0 +1,101 @@
+//! One step of a table: what is reached from rows with the same counts by the next cluster of one phase.
+
+use crate::greens::Greens;
+use crate::rows::{Row, merge, push_row};
+use dp_certificate::serve_next;
+use foundation::steps::Steps;
+use schedule_meaning::Instance;
+use std::alloc::{AllocError, Global};
+use std::sync::ledger::Ledger;
+use switch_rules::{Cluster, Served};
+
+/// What is reached from rows with the same counts by one phase: in new greens, and in greens that go on. It keeps its
+/// memory from one group to the next.
+///
+/// docs/RULES.md, "Table".
+#[derive(Drop)]
+pub struct Reached {
+    greens: Greens,
+    fresh: Vec<Row>,
+    kept: Vec<Row>,
+}
+
+impl Reached {
+    ghost use Rattle.std.specs.Prelude.{◌≡◌, ◌+◌, ◌-◌, ◌<◌, ◌≤◌, IfOk, OnOk, true, false, length, [], Contains, ◌⊎◌};
+    ghost use Rattle.flat_table.specs.Groups.{AreJoined, AreReachedBy, IsEmpty, IsSource};
+    ghost use Rattle.flat_table.specs.Rows.{AreBestOf, AreLater, AreRisingPlaces, AreUpTo, IsOffered, time_of};
+
+    /// Nothing is reached. An `Err` comes where memory runs out.
+    ///
+    /// docs/RULES.md, "Table".
+    pub fn new(alloc: Global) -> Result<Reached, AllocError>
+        ensures { IfOk result IsEmpty }
+    {
+        Ok(Reached {
+            greens: Greens::new(alloc)?,
+            fresh: Vec::new(alloc),
+            kept: Vec::new(alloc),
+        })
+    }
+
+    /// Takes in all that is reached from rows by a cluster of a phase, which is the next one behind each of them. It is
+    /// one step for each row. An `Err` comes where memory runs out.
+    ///
+    /// docs/RULES.md, "Table".
+    pub fn reach<L: Ledger>(
+        &mut self,
+        i: &Instance,
+        source: &[Row],
+        phase: u8,
+        cluster: &Cluster,
+        steps: &mut Steps<L>,
+    ) -> Result<(), AllocError>
+        requires phase { phase < length i.now.plan }
+        requires source { IsSource i.now phase cluster.now source.now }
+        requires empty { IsEmpty self.old }
+        ensures reached { OnOk result (AreReachedBy i.now phase cluster.now source.now (length source.now) self.new) }
+        ensures cost { steps.new ≤ steps.old + length source.now }
+    {
+        for row in source {
+            if let Some((served, entry)) = serve_next(i, &row.entry, phase, cluster, steps) {
+                let order = row.order * 4 + u128::from(phase);
+                self.take_in(&served, cluster, Row { entry, order })?;
+            }
+        }
+        Ok(())
+    }
+
+    /// Takes in one row by a cluster that was served so.
+    fn take_in(&mut self, served: &Served, cluster: &Cluster, row: Row) -> Result<(), AllocError>
+        requires kept { served.now.kept ≡ true → AreLater self.old.kept.items × AreUpTo (time_of row) self.old.kept.items }
+        requires wait { (cluster.now.arr ≤ served.now.start) × (served.now.start - cluster.now.arr ≤ 3600) }
+        ensures kept { OnOk result (served.now.kept ≡ true → AreLater self.new.kept.items × AreBestOf (λ c. Contains self.old.kept.items c ⊎ (c ≡ row)) self.new.kept.items × (self.new.greens ≡ self.old.greens)) }
+        ensures fresh { OnOk result (self.new.fresh.items ≡ self.old.fresh.items) }
+        ensures anew { OnOk result (served.now.kept ≡ false → IsOffered self.old.greens self.new.greens (served.now.start - cluster.now.arr) row × (self.new.kept.items ≡ self.old.kept.items)) }
+    {
+        if served.kept {
+            push_row(&mut self.kept, row)
+        } else {
+            self.greens.offer(served.start - cluster.arr, row);
+            Ok(())
+        }
+    }
+
+    /// Puts what is reached behind other rows, in the order of their times, and is empty again. An `Err` comes where
+    /// memory runs out.
+    ///
+    /// docs/RULES.md, "Table".
+    pub fn put_behind(&mut self, rows: &mut Vec<Row>) -> Result<(), AllocError>
+        requires later { AreLater self.old.kept.items }
+        requires rising { AreRisingPlaces self.old.greens }
+        requires fresh { self.old.fresh.items ≡ [] }
+        ensures joined { OnOk result (AreJoined self.old rows.old.items rows.new.items) }
+        ensures empty { OnOk result (IsEmpty self.new) }
+    {
+        self.greens.drain(&mut self.fresh)?;
+        merge(self.fresh.as_slice(), self.kept.as_slice(), rows)?;
+        self.fresh.clear();
+        self.kept.clear();
+        Ok(())
+    }
+}

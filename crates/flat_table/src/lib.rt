@@ -1,0 +1,10 @@
+//! The rows of a table of least delays, and how those of one group, with the same counts and the same green phase, follow
+//! from the rows before them.
+#![tactic(auto)]
+
+mod greens;
+mod groups;
+mod rows;
+
+pub use groups::Reached;
+pub use rows::{Row, better_of};

@@ -1,0 +1,121 @@
+-- The table: its rows, and how far it is made.
+use Rattle.std.specs.Prelude.{◌≡◌, ℕ, zero, suc, ◌+◌, ◌-◌, ◌*◌, ◌<◌, ◌≤◌, ◌++◌, List, length, slice_index, AllPairs, All, Contains, Some}
+use Rattle.schedule_meaning.specs.Instances.{Problem, IsInstance, list_at}
+use Rattle.dp_certificate.specs.Prefixes.{Stage, key_of, stage_of}
+use Rattle.dp_certificate.specs.Proves.{key_of_entry, stage_of_entry}
+use Rattle.flat_table.specs.Groups.{row_at}
+use Rattle.flat_table.specs.Rows.{IsNoWorse, time_of}
+use Rattle.flat_table.specs.declared.rows.Row.{Row}
+use Rattle.forward_dp.specs.Numbers.{counts_number, order_number}
+
+-- the counts and the phase of a row as one number: its group
+abbrev pub row_group : Row → ℕ
+row_group r = counts_number r.entry.counts * 4 + r.entry.phase
+
+-- and with its times
+abbrev pub row_number : Row → ℕ
+row_number r = row_group r * 18446744073709551616 + time_of r
+
+-- the group of a stage
+abbrev pub stage_group : Stage → ℕ
+stage_group s = counts_number s.counts * 4 + s.head.phase
+
+-- the number of the counts of the row at a place
+abbrev pub counts_number_at : List Row → ℕ → ℕ
+counts_number_at rows place = counts_number (row_at rows place).entry.counts
+
+-- a row is that of a fit prefix: the prefix leads to the stage of its entry, and has its order
+pub record IsReached (p : Problem) (r : Row) : Type 0 where
+  pub prefix : List ℕ
+  pub leads : stage_of p prefix ≡ Some (stage_of_entry p r.entry)
+  pub order : r.order ≡ order_number prefix
+
+-- one of the rows has the key of a stage, and is no worse than one with the stage's delay and this order
+pub record HasRowFor (rows : List Row) (s : Stage) (order : ℕ) : Type 0 where
+  pub row : Row
+  pub among : Contains rows row
+  pub key : key_of_entry row.entry ≡ key_of s
+  pub no_worse : IsNoWorse row s.delay order
+
+-- rows of fit prefixes, in the order of their groups and times
+pub record AreRows (p : Problem) (rows : List Row) : Type 0 where
+  pub each : All (IsReached p) rows
+  pub rising : AllPairs (λ a b. row_number a < row_number b) rows
+
+-- the table as far as the groups below this one: each stage of these has a row that is no worse
+pub record IsTable (p : Problem) (group : ℕ) (rows : List Row) : Type 0 where
+  pub made : AreRows p rows
+  pub below : All (λ r. row_group r < group) rows
+  pub all : (prefix : List ℕ) (s : Stage) → stage_of p prefix ≡ Some s → stage_group s < group → HasRowFor rows s (order_number prefix)
+
+-- the whole table
+pub record IsWholeTable (p : Problem) (rows : List Row) : Type 0 where
+  pub made : AreRows p rows
+  pub all : (prefix : List ℕ) (s : Stage) → stage_of p prefix ≡ Some s → HasRowFor rows s (order_number prefix)
+
+-- the first place, from one on, of a row whose counts have at least this number: what stands before it has less
+pub record IsFrom (rows : List Row) (from least place : ℕ) : Type 0 where
+  pub rise : from ≤ place
+  pub within : place ≤ length rows
+  pub below : from < place → counts_number_at rows (place - 1) < least
+  pub here : place < length rows → least ≤ counts_number_at rows place
+
+-- of the counts within the last, these are the next
+pub record IsNextCounts (last old new : List ℕ) : Type 0 where
+  pub places : length new ≡ 4
+  pub within : (k : ℕ) → slice_index new k ≤ slice_index last k
+  pub above : counts_number old < counts_number new
+  pub least : (c : List ℕ) → ((k : ℕ) → slice_index c k ≤ slice_index last k) → counts_number c < counts_number new → counts_number c ≤ counts_number old
+
+-- what the number of counts gains with one more of phase k
+abbrev pub unit_of : ℕ → ℕ
+unit_of zero = 262144
+unit_of (suc zero) = 4096
+unit_of (suc (suc zero)) = 64
+unit_of (suc (suc (suc k))) = 1
+
+-- the rows before a place have counts that, with one more of phase k, have less than this number
+abbrev pub AreBelow : List Row → ℕ → ℕ → ℕ → Type 0
+AreBelow rows k number end = (place : ℕ) → place < end → counts_number_at rows place + unit_of k < number
+
+-- these counts can be reached by phase k from rows that stand from a place on
+pub record CanFill (p : Problem) (counts : List ℕ) (k from : ℕ) (rows : List Row) : Type 0 where
+  pub lawful : IsInstance p
+  pub places : length counts ≡ 4
+  pub within : (j : ℕ) → slice_index counts j ≤ length (list_at p.lists j)
+  pub phase : k < length p.plan
+  pub some : 0 < slice_index counts k
+  pub table : IsTable p (counts_number counts * 4 + k) rows
+  pub known : from ≤ length rows
+  pub behind : AreBelow rows k (counts_number counts) from
+
+-- and are reached, by rows behind the others, from rows that end at a place
+pub record IsFilled (p : Problem) (counts : List ℕ) (k : ℕ) (old new : List Row) (end : ℕ) : Type 0 where
+  pub table : IsTable p (counts_number counts * 4 + k + 1) new
+  pub made : List Row
+  pub longer : new ≡ old ++ made
+  pub known : end ≤ length old
+  pub behind : AreBelow old k (counts_number counts + 1) end
+
+-- for each phase a place before which all rows were served by it that lead to counts below a number, or, from a phase on,
+-- below that number less one
+pub record AreEnds (phases : ℕ) (rows : List Row) (number phase : ℕ) (ends : List ℕ) : Type 0 where
+  pub places : length ends ≡ 4
+  pub within : (k : ℕ) → slice_index ends k ≤ length rows
+  pub none : (k : ℕ) → phases ≤ k → slice_index ends k ≡ 0
+  pub behind : (k : ℕ) → AreBelow rows k number (slice_index ends k)
+  pub ahead : (k : ℕ) → phase ≤ k → (place : ℕ) → place < slice_index ends k → counts_number_at rows place + unit_of k + 1 < number
+
+-- the cell with these counts can be made, of which some are not zero
+pub record CanFillCell (p : Problem) (counts : List ℕ) (rows : List Row) (ends : List ℕ) : Type 0 where
+  pub lawful : IsInstance p
+  pub places : length counts ≡ 4
+  pub within : (j : ℕ) → slice_index counts j ≤ length (list_at p.lists j)
+  pub some : 0 < counts_number counts
+  pub table : IsTable p (counts_number counts * 4) rows
+  pub known : AreEnds (length p.plan) rows (counts_number counts + 1) 0 ends
+
+-- the cell is made
+pub record IsCellFilled (p : Problem) (counts : List ℕ) (new : List Row) (ends : List ℕ) : Type 0 where
+  pub table : IsTable p (counts_number counts * 4 + 4) new
+  pub known : AreEnds (length p.plan) new (counts_number counts + 1) 4 ends

@@ -1,0 +1,176 @@
+//! The table, cell by cell: a cell holds the rows with the same counts, and follows from the cells with one less.
+
+ghost use Rattle.std.specs.Prelude.{◌≡◌, ℕ, ◌+◌, ◌*◌, ◌<◌, ◌≤◌, [], ◌∷◌, List, length, slice_index, sum, IfNone, IfOk, IfSome, OnOk};
+ghost use Rattle.schedule_meaning.specs.Instances.{IsInstance};
+ghost use Rattle.dp_certificate.specs.Prefixes.{HasAllKeys, Key};
+ghost use Rattle.flat_table.specs.Groups.{IsEmpty};
+ghost use Rattle.forward_dp.specs.Numbers.{counts_number};
+ghost use Rattle.forward_dp.specs.Tables.{CanFill, CanFillCell, IsCellFilled, IsFilled, IsFrom, IsNextCounts, IsWholeTable};
+
+use dp_certificate::{Entry, list_lengths};
+use flat_table::{Reached, Row};
+use foundation::steps::Steps;
+use schedule_meaning::Instance;
+use std::alloc::{AllocError, Global};
+use std::sync::ledger::Ledger;
+
+/// The whole table: a row for each key that a fit prefix reaches.
+pub(crate) fn table<L: Ledger>(
+    alloc: Global,
+    i: &Instance,
+    steps: &mut Steps<L>,
+) -> Result<Vec<Row>, AllocError>
+    ensures whole { IfOk result (λ rows. IsWholeTable i.now rows.items) }
+    ensures servings { (keys : List Key) → HasAllKeys i.now keys → steps.new ≤ steps.old + length i.now.plan * length keys }
+{
+    let last = list_lengths(i);
+    let mut reached = Reached::new(alloc)?;
+    let mut rows = Vec::new(alloc);
+    rows.push(first_row(i))?;
+    let mut counts = [0; 4];
+    let mut ends = [0; 4];
+    while let Some(next) = next_counts(&counts, &last) {
+        fill_cell(i, &next, &mut ends, &mut reached, &mut rows, steps)?;
+        counts = next;
+    }
+    Ok(rows)
+}
+
+/// The row of the sequence of no places.
+fn first_row(i: &Instance) -> Row
+    ensures row { result ≡ record { entry = record { counts = 0 ∷ 0 ∷ 0 ∷ 0 ∷ []; phase = i.now.head.phase; since = i.now.head.since; at = i.now.head.at; delay = 0 }; order = 0 } }
+    ensures instance { IsInstance i.now }
+{
+    let head = i.head();
+    Row {
+        entry: Entry {
+            counts: [0; 4],
+            phase: head.phase,
+            since: head.since,
+            at: head.at,
+            delay: 0,
+        },
+        order: 0,
+    }
+}
+
+/// The next counts, in their order, none of which is above the last; none behind the last.
+fn next_counts(counts: &[u8; 4], last: &[u8; 4]) -> Option<[u8; 4]>
+    requires small { (k : ℕ) → slice_index last.now k < 64 }
+    requires within { (k : ℕ) → slice_index counts.now k ≤ slice_index last.now k }
+    ensures some { IfSome result (IsNextCounts last.now counts.now) }
+    ensures none { IfNone result ((c : List ℕ) → ((k : ℕ) → slice_index c k ≤ slice_index last.now k) → counts_number c ≤ counts_number counts.now) }
+{
+    let [first, second, third, fourth] = *counts;
+    if fourth < last[3] {
+        return Some([first, second, third, fourth + 1]);
+    }
+    if third < last[2] {
+        return Some([first, second, third + 1, 0]);
+    }
+    if second < last[1] {
+        return Some([first, second + 1, 0, 0]);
+    }
+    if first < last[0] {
+        return Some([first + 1, 0, 0, 0]);
+    }
+    None
+}
+
+/// Puts the rows with these counts behind the others. For each phase it is known where the last rows end from which the
+/// phase was served.
+fn fill_cell<L: Ledger>(
+    i: &Instance,
+    counts: &[u8; 4],
+    ends: &mut [usize; 4],
+    reached: &mut Reached,
+    rows: &mut Vec<Row>,
+    steps: &mut Steps<L>,
+) -> Result<(), AllocError>
+    requires cell { CanFillCell i.now counts.now rows.old.items ends.old }
+    requires empty { IsEmpty reached.old }
+    ensures filled { OnOk result (IsCellFilled i.now counts.now rows.new.items ends.new) }
+    ensures empty { OnOk result (IsEmpty reached.new) }
+    ensures cost { OnOk result (steps.new + sum ends.old ≤ steps.old + sum ends.new) }
+    ensures most { (keys : List Key) → HasAllKeys i.now keys → steps.new + sum ends.old ≤ steps.old + length i.now.plan * length keys }
+{
+    for phase in 0..i.plan().count() {
+        if counts[phase as usize] > 0 {
+            ends[phase as usize] = fill_group(
+                i,
+                counts,
+                phase,
+                ends[phase as usize],
+                reached,
+                rows,
+                steps,
+            )?;
+        }
+    }
+    Ok(())
+}
+
+/// Puts the rows with these counts and this phase behind the others, and tells where the rows end from which they are
+/// reached; these stand from a place on.
+fn fill_group<L: Ledger>(
+    i: &Instance,
+    counts: &[u8; 4],
+    phase: u8,
+    from: usize,
+    reached: &mut Reached,
+    rows: &mut Vec<Row>,
+    steps: &mut Steps<L>,
+) -> Result<usize, AllocError>
+    requires group { CanFill i.now counts.now phase from rows.old.items }
+    requires empty { IsEmpty reached.old }
+    ensures filled { IfOk result (λ end. IsFilled i.now counts.now phase rows.old.items rows.new.items end) }
+    ensures empty { OnOk result (IsEmpty reached.new) }
+    ensures cost { IfOk result (λ end. steps.new + from ≤ steps.old + end) }
+    ensures most { steps.new + from ≤ steps.old + length rows.old.items }
+{
+    let mut before = *counts;
+    before[phase as usize] -= 1;
+    let cluster = &i.list(phase)[before[phase as usize] as usize];
+    let (start, end) = cell(rows.as_slice(), from, &before);
+    reached.reach(i, &rows.as_slice()[start..end], phase, cluster, steps)?;
+    reached.put_behind(rows)?;
+    Ok(end)
+}
+
+/// Where the rows with these counts begin and end; they stand from a place on.
+pub(crate) fn cell(rows: &[Row], from: usize, counts: &[u8; 4]) -> (usize, usize)
+    requires from { from ≤ length rows.now }
+    ensures start { IsFrom rows.now from (counts_number counts.now) result.0 }
+    ensures end { IsFrom rows.now result.0 (counts_number counts.now + 1) result.1 }
+{
+    let number = number(counts);
+    let start = first_from(rows, from, number);
+    (start, first_from(rows, start, number + 1))
+}
+
+/// The first place, from one on, of a row whose counts have at least this number, by halves.
+fn first_from(rows: &[Row], from: usize, least: u32) -> usize
+    requires { from ≤ length rows.now }
+    ensures { IsFrom rows.now from least result }
+{
+    let mut low = from;
+    let mut high = rows.len();
+    while low < high {
+        let middle = low + (high - low) / 2;
+        if number(&rows[middle].entry.counts) < least {
+            low = middle + 1;
+        } else {
+            high = middle;
+        }
+    }
+    low
+}
+
+/// The counts as one number, which rises as they do.
+fn number(counts: &[u8; 4]) -> u32
+    ensures value { result ≡ counts_number counts.now }
+    ensures bounds { result < 100000000 }
+{
+    let [first, second, third, fourth] = *counts;
+    ((u32::from(first) * 64 + u32::from(second)) * 64 + u32::from(third)) * 64 + u32::from(fourth)
+}

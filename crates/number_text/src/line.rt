@@ -1,0 +1,95 @@
+//! A line that is filled from its end.
+
+use itoa::write_digits;
+use std::marker::Model;
+
+/// How many bytes a line has room for.
+const ROOM: usize = 128;
+
+/// A line of at most 128 bytes that grows at its front. Contracts see its bytes.
+#[derive(Drop)]
+pub struct Line {
+    bytes: [u8; ROOM],
+    start: usize,
+}
+
+impl Model for Line {
+    ghost use Rattle.std.specs.Prelude.{◌≤◌, ℕ, List, drop};
+
+    ghost Value = { List ℕ };
+
+    ghost view = { λ line. drop line.start line.bytes };
+
+    ghost invariant = { λ line. line.start ≤ 128 };
+}
+
+impl Line {
+    ghost use Rattle.std.specs.Prelude.{◌≡◌, ◌+◌, ◌<◌, ◌≤◌, [], ◌∷◌, ◌++◌, length};
+    ghost use Rattle.std.specs.Fmt.{decimal};
+
+    /// An empty line.
+    pub fn new() -> Line
+        ensures { result ≡ [] }
+    {
+        Line {
+            bytes: [0; ROOM],
+            start: ROOM,
+        }
+    }
+
+    /// Takes all bytes away.
+    #[inline]
+    pub fn clear(&mut self)
+        ensures { self.new ≡ [] }
+    {
+        self.start = ROOM;
+    }
+
+    /// Puts one byte in front.
+    #[inline]
+    pub fn put_byte(&mut self, byte: u8)
+        requires { length self.old < 128 }
+        ensures { self.new ≡ byte ∷ self.old }
+    {
+        self.start -= 1;
+        self.bytes[self.start] = byte;
+    }
+
+    /// Puts the digits of a number in front.
+    #[inline]
+    pub fn put_number(&mut self, number: u64)
+        requires { length self.old + length (decimal number) ≤ 128 }
+        ensures { self.new ≡ decimal number ++ self.old }
+    {
+        self.start = write_digits(number, &mut self.bytes, self.start);
+    }
+
+    /// Puts a space and the digits of a number in front.
+    #[inline]
+    pub fn put_spaced(&mut self, number: u64)
+        requires { length self.old + length (decimal number) < 128 }
+        ensures { self.new ≡ 32 ∷ (decimal number ++ self.old) }
+    {
+        self.put_number(number);
+        self.put_byte(b' ');
+    }
+
+    /// Puts a word in front.
+    #[inline]
+    pub fn put_word(&mut self, word: &[u8])
+        requires { length self.old + length word.now ≤ 128 }
+        ensures { self.new ≡ word.now ++ self.old }
+    {
+        let end = self.start;
+        self.start -= word.len();
+        self.bytes[self.start..end].copy_from_slice(word);
+    }
+
+    /// The bytes, from the first to the last.
+    #[inline]
+    pub fn as_bytes(&self) -> &[u8]
+        ensures { result.now ≡ self.now }
+    {
+        &self.bytes[self.start..]
+    }
+}

@@ -1,0 +1,4 @@
+pub mod AddLaws
+pub mod ForecastLaws
+pub mod RowLaws
+pub mod ServedLaws

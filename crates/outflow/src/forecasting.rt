@@ -1,0 +1,69 @@
+//! Forecasts of what comes to the end of an exit link.
+ghost use Rattle.std.specs.Prelude.{◌≡◌, ◌+◌, ◌-◌, ◌<◌, ◌≤◌, ℕ, All, Contains, IfOk, length, slice_index};
+ghost use Rattle.std.specs.List.{range_with_len};
+ghost use Rattle.net_numbers.specs.Outline.{link_at, plan_at};
+ghost use Rattle.road_net.specs.Network.{exit_links};
+ghost use Rattle.clusters.specs.Sound.{AreOfNode};
+ghost use Rattle.clusters.specs.Windows.{counts_of};
+ghost use Rattle.outflow.specs.Outflow.{AreServed, departures, forecast_of, positive_rows};
+
+use crate::arriving::arriving;
+use board_model::{Forecast, Row};
+use clusters::Window;
+use road_net::Network;
+use std::alloc::{AllocError, Global};
+use switch_rules::Served;
+
+/// When the vehicles of these servings will come to the end of an exit link of the node: for each second before
+/// `now` + look, what turns into the exit of all that leaves in time, where that is more than nothing.
+///
+/// `now` is at most 18,000. The window's platoons are the node's from `now` on, each with a part for each link of its phase,
+/// in their order, with an amount for each second of at most the link's `sat`. The servings are those of one feasible
+/// sequence of the window's clusters, or none at all.
+///
+/// The rows are at most 180, each of 1 to 80,000 in a second before `now` + look, and none comes before `now` + travel of the
+/// exit. No servings make the empty forecast. An `Err` comes only where memory runs out.
+///
+/// docs/RULES.md, "Predicted outflow".
+pub fn forecast(
+    alloc: Global,
+    net: &Network,
+    node: u32,
+    w: &Window,
+    phases: &[u8],
+    served: &[Served],
+    exit: u32,
+    now: u32,
+) -> Result<Forecast, AllocError>
+    requires node { node < length net.now.node_names }
+    requires now { now ≤ 18000 }
+    requires exit { Contains (exit_links net.now node) exit }
+    requires platoons { AreOfNode net.now node now w.now.lists }
+    requires served { AreServed (plan_at net.now node) w.now.lists phases.now served.now }
+    ensures value { IfOk result (λ forecast. forecast ≡ forecast_of net.now exit now (departures w.now.lists (counts_of w.now.lists) phases.now served.now)) }
+    ensures later { IfOk result (λ forecast. All (λ row. now + (link_at net.now exit).travel ≤ row.second) forecast) }
+{
+    // The exit is one of these links, so it exists.
+    let _exits = net.exit_links(node);
+    let amounts = arriving(alloc, net, node, w, phases, served, exit, now)?;
+    rows(alloc, now, amounts.as_slice())
+}
+
+/// The rows of the seconds in which something comes, the first amount being that of the second `now`.
+fn rows(alloc: Global, now: u32, amounts: &[u32]) -> Result<Forecast, AllocError>
+    requires now { now ≤ 18000 }
+    requires few { length amounts.now ≤ 180 }
+    requires most { (k : ℕ) → slice_index amounts.now k ≤ 80000 }
+    ensures { IfOk result (λ forecast. forecast ≡ positive_rows (λ d. slice_index amounts.now (d - now)) (range_with_len now (length amounts.now))) }
+{
+    let mut forecast = Forecast::empty(alloc);
+    for (k, amount) in amounts.iter().enumerate() {
+        if *amount > 0 {
+            forecast.push(Row {
+                second: now + k as u32,
+                amount: *amount,
+            })?;
+        }
+    }
+    Ok(forecast)
+}
