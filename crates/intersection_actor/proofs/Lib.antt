@@ -1,1 +1,4 @@
+pub mod ArrivalLaws
+pub mod LineLaws
 pub mod RoundLaws
+pub mod ServedLaws

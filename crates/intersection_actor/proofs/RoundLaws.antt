@@ -1,5 +1,5 @@
 -- How an actor goes on in its round.
-use Rattle.std.proofs.Common.{◌≡◌, ℕ, ◌+◌, List, [], ◌∷◌, ◌++◌, map, drop, length, refl, sym, ap, ◌∙◌, subst}
+use Rattle.std.proofs.Common.{◌≡◌, ℕ, ◌+◌, length-append, List, [], ◌∷◌, ◌++◌, map, drop, length, refl, sym, ap, ◌∙◌, subst}
 use Rattle.std.proofs.lemmas.List.{drop-drop, append_assoc, map-append}
 use Rattle.board_model.specs.declared.boards.Heard.{Heard}
 use Rattle.net_numbers.specs.Numbers.{Net}
@@ -41,3 +41,12 @@ heard-of net a h wants is =
       begins = is.begins;
       round = reading-in net (with_heard h a) (drop 1 a.left) (hears-on net a h wants hearing);
     }
+
+-- what a reading makes of an actor, field by field
+pub taken : (a : Acting) (reads : List ℕ) (h : Heard) (heard : List Heard) (want : Want) → a.left ≡ drop (length a.heard) reads → heard ≡ a.heard ++ h ∷ [] → want ≡ reading (drop (length heard) reads)
+    → record a { want = want; left = drop (length heard) reads; heard = heard } ≡ with_heard h a
+taken a reads h heard want left same wants =
+    let on : drop (length heard) reads ≡ drop 1 a.left =
+      ap (λ (hs : List Heard). drop (length hs) reads) same ∙ ap (λ n. drop n reads) (length-append a.heard (h ∷ [])) ∙ sym (drop-drop 1 (length a.heard) reads) ∙ ap (drop 1) (sym left) in
+    let next : want ≡ reading (drop 1 a.left) = wants ∙ ap reading on in
+    λ i. record a { want = next i; left = on i; heard = same i }
