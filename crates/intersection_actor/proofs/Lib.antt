@@ -1,4 +1,5 @@
 pub mod ArrivalLaws
 pub mod LineLaws
+pub mod PlanLaws
 pub mod RoundLaws
 pub mod ServedLaws

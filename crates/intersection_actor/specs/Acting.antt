@@ -26,6 +26,13 @@ pub record Acting : Type 0 where
   pub phases : List ℕ
   pub served : List Served
 
+-- a want to publish
+abbrev pub IsPublish : Want → Type 0
+IsPublish (Publish link) = Unit {0}
+IsPublish (Read link) = ⊥
+IsPublish Commit = ⊥
+IsPublish Done = ⊥
+
 -- with these links yet to read, a node reads the first; with none, it commits
 abbrev pub reading : List ℕ → Want
 reading [] = Commit

@@ -3,7 +3,7 @@ use Rattle.std.specs.Prelude.{◌≡◌, ℕ, ◌+◌, ◌*◌, ◌<◌, ◌≤�
 use Rattle.phase_plan.specs.declared.Phase.{Phase}
 use Rattle.switch_rules.specs.Sequences.{AreNextServings}
 use Rattle.switch_rules.specs.declared.Head.{Head}
-use Rattle.control_flow.specs.Greens.{BeginBy, IsLawful, end_of, standing}
+use Rattle.control_flow.specs.Greens.{BeginBy, IsLawful, colour_at, end_of, standing}
 use Rattle.control_flow.specs.Timelines.{rotation_of}
 use Rattle.net_numbers.specs.Numbers.{Net}
 use Rattle.net_numbers.specs.Outline.{plan_at}
@@ -12,7 +12,8 @@ use Rattle.road_net.specs.Senses.{IsSensedOf}
 use Rattle.clusters.specs.Sound.{AreOfNode, cluster_lists}
 use Rattle.clusters.specs.Windows.{counts_of}
 use Rattle.intersection_actor.specs.Acting.{Acting, reading, tells_from}
-use Rattle.intersection_actor.specs.Commits.{Commitment, IsCommit, phases_of, record_of}
+use Rattle.intersection_actor.specs.Commits.{Commitment, IsCommit, phases_of, record_of, used_of}
+use Rattle.intersection_actor.specs.declared.records.Used.{Used}
 use Rattle.intersection_actor.specs.declared.records.Want.{Want}
 use Rattle.intersection_actor.specs.declared.records.Want.TheVariants.{Read, Commit, Publish, Done}
 
@@ -64,14 +65,24 @@ pub record IsNew (net : Net) (n : ℕ) (a : Acting) : Type 0 where
   pub ahead : 0 < end_of a.line
 
 -- What a commit makes of an actor: its line is the new one, its plans are one record more, it keeps what it planned for what it
--- tells, and wants to tell on the first link. Of the round it keeps what it sensed.
-pub record IsCommitted (net : Net) (old new : Acting) (c : Commitment) : Type 0 where
-  pub is : IsCommit net old.node old.round old.line old.sensed old.heard c
+-- tells, and wants to tell on the first link. Of the round it keeps what it sensed and heard.
+pub record IsCommitted (net : Net) (old new : Acting) : Type 0 where
+  pub made : Commitment
+  pub is : IsCommit net old.node old.round old.line old.sensed old.heard made
   pub all : new ≡ record old {
-    line = c.line;
-    records = old.records ++ record_of old.node old.round old.heard c ∷ [];
+    line = made.line;
+    records = old.records ++ record_of old.node old.round old.heard made ∷ [];
     want = tells_from net old.node 0;
-    window = c.window;
-    phases = phases_of c.answer;
-    served = c.served;
+    window = made.window;
+    phases = phases_of made.answer;
+    served = made.served;
   }
+
+-- What a commit keeps: in every second before the round, the same phase is green in the new line as in the old one, since the
+-- same second, and every phase shows the same colour. The new line ends behind the begin of the next round; and the versions
+-- that were used are those of the links on which the node hears, in their order.
+pub record KeepsPast (net : Net) (old new : Acting) : Type 0 where
+  pub past : (second : ℕ) → second < old.sensed.now → standing new.line second ≡ standing old.line second
+  pub colours : (k second : ℕ) → second < old.sensed.now → colour_at (plan_at net old.node) new.line k second ≡ colour_at (plan_at net old.node) old.line k second
+  pub later : (old.round + 1) * net.run.step < end_of new.line
+  pub used : map (λ (u : Used). u.link) (used_of old.heard) ≡ heard_links net old.node

@@ -7,7 +7,7 @@ use Rattle.switch_rules.specs.declared.Cluster.{Cluster}
 use Rattle.switch_rules.specs.declared.Head.{Head}
 use Rattle.schedule_meaning.specs.Best.{IsBest}
 use Rattle.schedule_meaning.specs.Instances.{Problem, counts_of}
-use Rattle.control_flow.specs.Greens.{BeginBy, GoesOn, IsLawful, end_of, head_at, spliced}
+use Rattle.control_flow.specs.Greens.{BeginBy, GoesOn, IsLawful, Joins, end_of, head_at, spliced}
 use Rattle.control_flow.specs.declared.greens.Green.{Green}
 use Rattle.net_numbers.specs.Numbers.{Net}
 use Rattle.net_numbers.specs.Outline.{plan_at}
@@ -72,5 +72,6 @@ pub record IsPlanned (net : Net) (node : ℕ) (old : List Green) (sensed : Sense
   pub of_node : AreOfNode net node sensed.now p.window.lists
   pub phases : p.schedule.phases ≡ phases_of p.schedule.answer
   pub served : AreNextServings (plan_at net node) (cluster_lists p.window.lists) (counts_of (cluster_lists p.window.lists)) head p.schedule.phases p.schedule.served
+  pub joins : Joins old p.next
   pub line : IsNextLine (plan_at net node) head (sensed.now + net.run.look) p.next
   pub used : p.used ≡ used_of heard

@@ -1,7 +1,7 @@
 //! What a node plans in a round.
-ghost use Rattle.std.specs.Prelude.{◌≡◌, ◌+◌, ◌<◌, ◌≤◌, All, IfOk, length, Some};
+ghost use Rattle.std.specs.Prelude.{◌≡◌, ◌+◌, ◌<◌, ◌≤◌, All, IfOk, length};
 ghost use Rattle.switch_rules.specs.Serving.{IsHead};
-ghost use Rattle.control_flow.specs.Greens.{BeginBy, IsLawful, end_of, head_at};
+ghost use Rattle.control_flow.specs.Greens.{BeginBy, IsLawful, end_of};
 ghost use Rattle.control_flow.specs.Timelines.{AreServings};
 ghost use Rattle.schedule_meaning.specs.Best.{IsBest};
 ghost use Rattle.net_numbers.specs.Outline.{plan_at};
@@ -61,6 +61,8 @@ pub(crate) fn planned<P: Planner>(
     ensures { IfOk result (IsPlanned net.now node line.now sensed.entry.now heard.now) }
 {
     let plan = net.plan(node);
+    // What it says of the plan is wanted here, and not the count.
+    let _ = plan.count();
     let until = sensed.now + net.run().look;
     let head = head_at(plan, line, sensed.now);
     let window = expected(alloc, net, node, sensed, heard)?;
