@@ -1,5 +1,1 @@
-pub mod ArrivalLaws
-pub mod LineLaws
-pub mod PlanLaws
 pub mod RoundLaws
-pub mod ServedLaws

@@ -1,8 +1,7 @@
-//! One node's rounds: it senses, hears its neighbours, plans, and tells them what it will send.
+//! One node's rounds: it senses and hears its neighbours.
 #![tactic(auto)]
 
 mod actors;
-mod planning;
 mod reads;
 mod records;
 
