@@ -1,0 +1,72 @@
+-- A commit: what a node plans in a round, from its signal, what it senses and what it has heard.
+use Rattle.std.specs.Prelude.{◌≡◌, ℕ, ◌+◌, ◌*◌, List, [], Option, Some, map}
+use Rattle.std.specs.Option.{option_map}
+use Rattle.board_model.specs.declared.boards.Heard.{Heard}
+use Rattle.phase_plan.specs.declared.Phase.{Phase}
+use Rattle.switch_rules.specs.declared.Head.{Head}
+use Rattle.switch_rules.specs.declared.Served.{Served}
+use Rattle.schedule_meaning.specs.Best.{IsBest}
+use Rattle.schedule_meaning.specs.Instances.{Problem}
+use Rattle.schedule_meaning.specs.Timing.{timed}
+use Rattle.schedule_meaning.specs.declared.planners.Answer.{Answer}
+use Rattle.schedule_meaning.specs.declared.planners.Answer.TheVariants.{Plan, NoPlan}
+use Rattle.control_flow.specs.Greens.{head_at, spliced}
+use Rattle.control_flow.specs.Timelines.{line_of, rotation_of}
+use Rattle.control_flow.specs.declared.greens.Green.{Green}
+use Rattle.net_numbers.specs.Numbers.{Net}
+use Rattle.net_numbers.specs.Outline.{plan_at}
+use Rattle.road_net.specs.declared.senses.Sensed.{Sensed}
+use Rattle.clusters.specs.Platoons.{ArePlatoonsOf}
+use Rattle.clusters.specs.Sound.{cluster_lists}
+use Rattle.clusters.specs.Windows.{IsWindow}
+use Rattle.clusters.specs.declared.shapes.Platoon.{Platoon}
+use Rattle.clusters.specs.declared.shapes.Window.{Window}
+use Rattle.intersection_actor.specs.declared.records.PlanRecord.{PlanRecord}
+use Rattle.intersection_actor.specs.declared.records.Used.{Used}
+
+-- what a commit makes, in the order in which it is made
+pub record Commitment : Type 0 where
+  pub head : Head
+  pub platoons : List (List Platoon)
+  pub window : Window
+  pub problem : Problem
+  pub answer : Answer
+  pub served : List Served
+  pub next : List Green
+  pub line : List Green
+
+-- the phases of an answer, one after another; with no plan there are none
+abbrev pub phases_of : Answer → List ℕ
+phases_of (Plan sequence delay) = sequence
+phases_of NoPlan = []
+
+-- what an answer serves: with a plan what its sequence serves, with none nothing
+abbrev pub AreServedBy : Problem → Answer → List Served → Type 0
+AreServedBy p (Plan sequence delay) served = option_map (λ t. t.0) (timed p sequence) ≡ Some served
+AreServedBy p NoPlan served = served ≡ []
+
+-- the timeline of an answer from a head: with a plan that of its servings, with none the ring turns
+abbrev pub line_for : List Phase → Head → Answer → List Served → ℕ → List Green
+line_for plan head (Plan sequence delay) served until = line_of plan head sequence served until
+line_for plan head NoPlan served until = rotation_of plan head until
+
+-- A node's commit in a round: from the head that its line has now, and the window of the platoons that it expects, it takes
+-- the best answer; its new line is the old one, spliced with the timeline of that answer for as long as the network looks ahead.
+pub record IsCommit (net : Net) (node round : ℕ) (old : List Green) (sensed : Sensed) (heard : List Heard) (c : Commitment) : Type 0 where
+  pub now : sensed.now ≡ round * net.run.step
+  pub head : head_at (plan_at net node) old sensed.now ≡ Some c.head
+  pub platoons : ArePlatoonsOf net node sensed heard c.platoons
+  pub window : IsWindow c.platoons c.window
+  pub problem : c.problem ≡ record { plan = plan_at net node; head = c.head; lists = cluster_lists c.window.lists }
+  pub answer : IsBest c.problem c.answer
+  pub served : AreServedBy c.problem c.answer c.served
+  pub next : c.next ≡ line_for (plan_at net node) c.head c.answer c.served (sensed.now + net.run.look)
+  pub line : c.line ≡ spliced old c.next
+
+-- the versions that were heard, each with its link, in the order in which they were heard
+abbrev pub used_of : List Heard → List Used
+used_of heard = map (λ h. record { link = h.link; version = h.version }) heard
+
+-- the plan record of a commit
+abbrev pub record_of : ℕ → ℕ → List Heard → Commitment → PlanRecord
+record_of node round heard c = record { node = node; round = round; used = used_of heard; instance = c.problem; answer = c.answer }

@@ -1,0 +1,188 @@
+//! The actor of a node.
+use crate::reads::{heard_links, next_read};
+use crate::records::{PlanRecord, Want};
+use board_model::Heard;
+use clusters::Window;
+use control_flow::greens::Timeline;
+use control_flow::rotation;
+use foundation::items::Items;
+use foundation::threads::CrossesThreads;
+use road_net::{Network, Sensed};
+use std::alloc::{AllocError, Global};
+use std::marker::Model;
+use switch_rules::{Head, Served};
+
+/// A node that runs its rounds: it senses, reads what its neighbours tell, plans, and tells them what it will send.
+///
+/// docs/RULES.md, "A node's round".
+#[derive(Drop)]
+pub struct Actor {
+    node: u32,
+    line: Timeline,
+    records: Vec<PlanRecord>,
+    want: Want,
+    round: u32,
+    /// The links that it reads in its round.
+    reads: Vec<u32>,
+    sensed: Sensed,
+    heard: Vec<Heard>,
+    window: Window,
+    phases: Items<u8>,
+    served: Items<Served>,
+}
+
+impl Model for Actor {
+    ghost use Rattle.std.specs.Prelude.{drop, length};
+    ghost use Rattle.intersection_actor.specs.Acting.{Acting};
+
+    ghost Value = { Acting };
+
+    ghost view = { λ a. record {
+        node = a.node;
+        line = a.line;
+        records = a.records.items;
+        want = a.want;
+        round = a.round;
+        left = drop (length a.heard.items) a.reads.items;
+        sensed = a.sensed;
+        heard = a.heard.items;
+        window = a.window;
+        phases = a.phases;
+        served = a.served;
+    } };
+}
+
+impl CrossesThreads for Actor {}
+
+impl Actor {
+    ghost use Rattle.std.specs.Prelude.{◌≡◌, ℕ, ◌+◌, ◌*◌, ◌<◌, IfOk, OnErr, OnOk, length};
+    ghost use Rattle.control_flow.specs.Greens.{end_of};
+    ghost use Rattle.net_numbers.specs.Numbers.{Net};
+    ghost use Rattle.road_net.specs.Senses.{IsSensedOf};
+    ghost use Rattle.intersection_actor.specs.Acting.{begun, with_heard};
+    ghost use Rattle.intersection_actor.specs.Rounds.{IsNew, IsOf};
+
+    /// The actor of a node before its first round: its signal's ring turns from second 0, and nothing is planned.
+    ///
+    /// An `Err` comes only where memory runs out.
+    ///
+    /// docs/RULES.md, "A node's round".
+    pub fn new(alloc: Global, net: &Network, node: u32) -> Result<Actor, AllocError>
+        requires { node < length net.now.node_names }
+        ensures new { IfOk result (IsNew net.now node) }
+        ensures of { IfOk result (IsOf net.now) }
+    {
+        let head = Head {
+            phase: 0,
+            since: 0,
+            at: 0,
+            fresh: true,
+        };
+        Ok(Actor {
+            node,
+            line: rotation(alloc, net.plan(node), &head, 0)?,
+            records: Vec::new(alloc),
+            want: Want::Done,
+            round: 0,
+            reads: Vec::new(alloc),
+            sensed: Sensed {
+                now: 0,
+                links: Items::from_vec(Vec::new(alloc)),
+            },
+            heard: Vec::new(alloc),
+            window: Window {
+                lists: Items::from_vec(Vec::new(alloc)),
+                waiting: 0,
+            },
+            phases: Items::from_vec(Vec::new(alloc)),
+            served: Items::from_vec(Vec::new(alloc)),
+        })
+    }
+
+    /// What it wants to do next.
+    ///
+    /// docs/RULES.md, "A node's round".
+    pub fn want(&self) -> Want
+        ensures { result ≡ self.now.want }
+    {
+        self.want
+    }
+
+    /// The timeline of its signal.
+    ///
+    /// docs/RULES.md, "A node's round".
+    pub fn timeline(&self) -> &Timeline
+        ensures { result.now ≡ self.now.line }
+    {
+        &self.line
+    }
+
+    /// What it has planned, round by round.
+    ///
+    /// docs/RULES.md, "Plan record".
+    pub fn records(&self) -> &[PlanRecord]
+        ensures { result.now ≡ self.now.records }
+    {
+        self.records.as_slice()
+    }
+
+    /// Its timeline and what it has planned.
+    ///
+    /// docs/RULES.md, "A node's round".
+    pub fn into_parts(self) -> (Timeline, Vec<PlanRecord>)
+        ensures line { result.0 ≡ self.line }
+        ensures records { result.1.items ≡ self.records }
+    {
+        let Actor { line, records, .. } = self;
+        (line, records)
+    }
+
+    /// Begins a round, in whose first second the node senses this: it wants to read the first link on which it hears another
+    /// node, or to plan where it hears none.
+    ///
+    /// It has done the round before, the round is one of the network, and some row of its timeline ends behind the round's first
+    /// second. An `Err` comes only where memory runs out, and leaves all as it was.
+    ///
+    /// docs/RULES.md, "A node's round".
+    pub fn begin(
+        &mut self,
+        alloc: Global,
+        net: &Network,
+        round: u32,
+        sensed: Sensed,
+    ) -> Result<(), AllocError>
+        requires of { IsOf net.now self.old }
+        requires want { self.old.want ≡ Want.Done }
+        requires round { round < net.now.run.rounds }
+        requires sensed { IsSensedOf net.now self.old.node sensed }
+        requires now { sensed.now ≡ round * net.now.run.step }
+        requires ahead { sensed.now < end_of self.old.line }
+        ensures ok { OnOk result (self.new ≡ begun net.now round sensed self.old) }
+        ensures err { OnErr result (self.new ≡ self.old) }
+        ensures of { IsOf net.now self.new }
+    {
+        let reads = heard_links(alloc, net, self.node)?;
+        self.want = next_read(reads.as_slice(), 0);
+        self.round = round;
+        self.reads = reads;
+        self.sensed = sensed;
+        self.heard = Vec::new(alloc);
+        Ok(())
+    }
+
+    /// Takes what was read of the link that it wants to read: it wants the next one, or to plan once it has read all.
+    ///
+    /// An `Err` comes only where memory runs out, and leaves all as it was.
+    ///
+    /// docs/RULES.md, "A node's round".
+    pub fn take(&mut self, heard: Heard) -> Result<(), AllocError>
+        requires { self.old.want ≡ Want.Read heard.link }
+        ensures ok { OnOk result (self.new ≡ with_heard heard self.old) }
+        ensures err { OnErr result (self.new ≡ self.old) }
+        ensures of { (net : Net) → IsOf net self.old → IsOf net self.new }
+    {
+        self.heard.push(heard)?;
+        self.want = next_read(self.reads.as_slice(), self.heard.len());
+        Ok(())
+    }
+}

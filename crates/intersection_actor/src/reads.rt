@@ -1,0 +1,33 @@
+//! The links on which a node hears and tells others, one after another.
+ghost use Rattle.std.specs.Prelude.{◌≡◌, ◌<◌, All, IfOk, drop, filter, is_some, length};
+ghost use Rattle.net_numbers.specs.Outline.{link_at};
+ghost use Rattle.road_net.specs.Network.{heard_links};
+ghost use Rattle.intersection_actor.specs.Acting.{reading};
+
+use crate::records::Want;
+use road_net::Network;
+use std::alloc::{AllocError, Global};
+
+/// The links on which a node hears another one, in their order.
+pub(crate) fn heard_links(alloc: Global, net: &Network, node: u32) -> Result<Vec<u32>, AllocError>
+    requires { node < length net.now.node_names }
+    ensures { IfOk result (λ links. links.items ≡ heard_links net.now node) }
+{
+    let mut heard = Vec::new(alloc);
+    for link in net.entry_links(node) {
+        if net.link(*link).from.is_some() {
+            heard.push(*link)?;
+        }
+    }
+    Ok(heard)
+}
+
+/// What a node wants that has read so many of these links.
+pub(crate) fn next_read(links: &[u32], count: usize) -> Want
+    ensures { result ≡ reading (drop count links.now) }
+{
+    match links.get(count) {
+        Some(link) => Want::Read(*link),
+        None => Want::Commit,
+    }
+}
