@@ -20,10 +20,10 @@ hears-on net a h wants is = record {
   sensed = is.sensed;
   ahead = is.ahead;
   heard =
-    ap (λ xs. xs ++ drop 1 a.left) (map-append (λ (x : Heard). x.link) a.heard (h ∷ []))
-    ∙ append_assoc (map (λ (x : Heard). x.link) a.heard) (h.link ∷ []) (drop 1 a.left)
-    ∙ ap (λ ls. map (λ (x : Heard). x.link) a.heard ++ ls) (sym (left-is a.left h.link (sym is.want ∙ wants)))
-    ∙ is.heard;
+      ap (λ xs. xs ++ drop 1 a.left) (map-append (λ (x : Heard). x.link) a.heard (h ∷ []))
+      ∙ append_assoc (map (λ (x : Heard). x.link) a.heard) (h.link ∷ []) (drop 1 a.left)
+      ∙ ap (λ ls. map (λ (x : Heard). x.link) a.heard ++ ls) (sym (left-is a.left h.link (sym is.want ∙ wants)))
+      ∙ is.heard;
   want = refl;
 }
 
@@ -47,6 +47,6 @@ pub taken : (a : Acting) (reads : List ℕ) (h : Heard) (heard : List Heard) (wa
     → record a { want = want; left = drop (length heard) reads; heard = heard } ≡ with_heard h a
 taken a reads h heard want left same wants =
     let on : drop (length heard) reads ≡ drop 1 a.left =
-      ap (λ (hs : List Heard). drop (length hs) reads) same ∙ ap (λ n. drop n reads) (length-append a.heard (h ∷ [])) ∙ sym (drop-drop 1 (length a.heard) reads) ∙ ap (drop 1) (sym left) in
+    ap (λ (hs : List Heard). drop (length hs) reads) same ∙ ap (λ n. drop n reads) (length-append a.heard (h ∷ [])) ∙ sym (drop-drop 1 (length a.heard) reads) ∙ ap (drop 1) (sym left) in
     let next : want ≡ reading (drop 1 a.left) = wants ∙ ap reading on in
     λ i. record a { want = next i; left = on i; heard = same i }

@@ -38,17 +38,17 @@ impl Model for Actor {
     ghost Value = { Acting };
 
     ghost view = { λ a. record {
-        node = a.node;
-        line = a.line;
-        records = a.records.items;
-        want = a.want;
-        round = a.round;
-        left = drop (length a.heard.items) a.reads.items;
-        sensed = a.sensed;
-        heard = a.heard.items;
-        window = a.window;
-        phases = a.phases;
-        served = a.served;
+      node = a.node;
+      line = a.line;
+      records = a.records.items;
+      want = a.want;
+      round = a.round;
+      left = drop (length a.heard.items) a.reads.items;
+      sensed = a.sensed;
+      heard = a.heard.items;
+      window = a.window;
+      phases = a.phases;
+      served = a.served;
     } };
 }
 
