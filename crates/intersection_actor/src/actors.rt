@@ -12,7 +12,8 @@ use std::alloc::{AllocError, Global};
 use std::marker::Model;
 use switch_rules::{Head, Served};
 
-/// A node that runs its rounds: it senses, reads what its neighbours tell, plans, and tells them what it will send.
+/// A node that runs its rounds. So far it senses, and reads what its neighbours tell; planning, and telling them what it will
+/// send, are not built yet.
 ///
 /// docs/RULES.md, "A node's round".
 #[derive(Drop)]
