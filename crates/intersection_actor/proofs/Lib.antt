@@ -3,3 +3,4 @@ pub mod LineLaws
 pub mod PlanLaws
 pub mod RoundLaws
 pub mod ServedLaws
+pub mod SettleLaws
