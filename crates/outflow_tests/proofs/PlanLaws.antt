@@ -1,10 +1,11 @@
 -- What servings of a window's clusters are, for timelines and for forecasts.
-use Rattle.std.proofs.Common.{◌≡◌, ℕ, List, [], ◌∷◌, length, map, refl, ap, subst, ◌∙◌}
-use Rattle.std.proofs.lemmas.List.{length-map}
+use Rattle.std.proofs.Common.{◌≡◌, ℕ, ◌<◌, ◌≤◌, List, [], ◌∷◌, All, length, map, sum, refl, ap, subst, ◌∙◌, arith}
+use Rattle.std.proofs.lemmas.List.{get_or-map, length-map}
 use Rattle.phase_plan.specs.declared.Phase.{Phase}
 use Rattle.switch_rules.specs.Sequences.{AreNextServings, counts_of}
 use Rattle.switch_rules.specs.declared.Cluster.{Cluster}
 use Rattle.switch_rules.specs.declared.Served.{Served}
+use Rattle.switch_rules.proofs.Counting.{count-le-sum}
 use Rattle.schedule_meaning.specs.Instances.{IsInstance, Problem}
 use Rattle.control_flow.specs.Timelines.{AreServings}
 use Rattle.control_flow.proofs.SequenceLaws.{next-servings}
@@ -33,3 +34,8 @@ served-of p plan lists ks ss e f next =
 -- none at all are servings
 pub none-served : (p : Problem) (plan : List Phase) (lists : List (List Platoon)) → AreServed plan lists [] []
 none-served p plan lists = record { head = p.head; servings = tt }
+
+-- lists of few clusters are short
+pub lists-short : (lists : List (List Cluster)) → sum (counts_of lists) ≤ 40 → All (λ list. length list < 4294967296) lists
+lists-short lists few k d lt =
+    omega (arith, count-le-sum (counts_of lists) k, get_or-map length lists k d 0 lt)
