@@ -1,0 +1,2 @@
+mod NodeLaws
+mod PlanLaws
