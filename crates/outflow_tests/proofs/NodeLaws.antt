@@ -1,15 +1,14 @@
 -- What a node senses and hears, link by link.
-use Rattle.std.proofs.Common.{◌≡◌, ℕ, ◌+◌, ◌-◌, ◌*◌, ◌<◌, ◌≤◌, Bool, true, false, cond, List, [], ◌∷◌, ◌++◌, All, length, get_or, filter, take, map, sum, sum_by, refl, sym, ap, subst, ◌∙◌, inl, inr, arith}
+use Rattle.std.proofs.Common.{◌≡◌, ℕ, ◌+◌, ◌*◌, ◌<◌, ◌≤◌, List, [], ◌∷◌, ◌++◌, All, length, get_or, take, map, sum, sum_by, refl, sym, ap, subst, ◌∙◌, inl, inr, arith}
 use Rattle.std.proofs.lemmas.List.{get_or_past, take_more, map-append, take_all}
-use Rattle.std.proofs.lemmas.List.Elements.{All-push, All-get_or, filter_more}
-use Rattle.std.proofs.lemmas.List.Sums.{sum_by-append, sum_by-cons, sum_by-le}
+use Rattle.std.proofs.lemmas.List.Elements.{All-push, All-get_or}
+use Rattle.std.proofs.lemmas.List.Sums.{sum_by-append, sum_by-cons}
 use Rattle.std.proofs.lemmas.Bool.{cases_lt}
 use Rattle.net_numbers.specs.Numbers.{Net, no_link}
 use Rattle.net_numbers.specs.Outline.{IsLink, link_at}
 use Rattle.road_net.specs.Network.{IsNetwork, entry_links}
 use Rattle.road_net.specs.Senses.{IsSensedOf, amount}
 use Rattle.road_net.specs.declared.senses.LinkSense.{LinkSense}
-use Rattle.road_net.specs.declared.senses.Sensed.{Sensed}
 
 -- what is sensed of the first i links
 pub record IsSensing (net : Net) (entries : List ℕ) (links : List LinkSense) (i : ℕ) : Type 0 where

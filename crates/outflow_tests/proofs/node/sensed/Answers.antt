@@ -1,4 +1,4 @@
-use Rattle.std.proofs.Common.{◌≡◌, ◌∙◌, get_or, length, sum, refl, ap, arith}
+use Rattle.std.proofs.Common.{◌∙◌, get_or, length, sum, refl, ap, arith}
 use Rattle.net_numbers.specs.declared.roads.Link.{Link}
 use Rattle.outflow_tests.proofs.NodeLaws.{sensing-more, travel-le}
 use Rattle.outflow_tests.proofs.node.sensed.Goals as goal
