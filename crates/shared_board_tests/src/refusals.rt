@@ -1,10 +1,11 @@
 //! Calls to which memory is refused: each leaves the pass and the log as they were, and the same call then succeeds. With
 //! ample memory no call is refused; `rt try --test --fail-alloc N` refuses the Nth request for memory, once. Where that falls
 //! into the making of the boards, all is done once more.
-ghost use Rattle.std.specs.Prelude.{◌≡◌, ◌+◌, ◌<◌, IfOk};
+ghost use Rattle.std.specs.Prelude.{◌≡◌, ◌+◌, ◌<◌, ◌≤◌, IfOk};
+ghost use Rattle.board_rule.specs.Passes.{AreAllPasses};
 
-use crate::example::{Told, events_told, one_row};
-use board_model::{Forecast, OpenGate};
+use crate::example::{Told, first_events, one_row};
+use board_model::{BoardLog, Forecast, OpenGate};
 use plan_boards::{Boards, Pass};
 use std::alloc::{AllocError, Global};
 use std::sync::Wait;
@@ -51,7 +52,40 @@ fn publish_twice<R: Threads + Wait + Sync>(
     Ok((sent.version, sent.stamp))
 }
 
-/// A publishing and two readings of one pass: what they tell, how many calls it has left, and the log.
+/// A publishing and two readings of one pass: what they tell.
+fn three_calls<R: Threads + Wait + Sync>(
+    rt: &R,
+    alloc: Global,
+    boards: &Boards,
+    pass: &mut Pass,
+) -> Result<Vec<(u32, u64)>, AllocError>
+    requires boards { pass.old.boards ≡ boards.now.id }
+    requires links { 0 < boards.now.links }
+    requires left { 3 ≤ pass.old.left }
+    ensures { IfOk result (λ told. (pass.new.boards ≡ pass.old.boards) × (pass.new.number ≡ pass.old.number)) }
+{
+    let mut told = Vec::with_capacity(alloc, 3)?;
+    told.push(publish_twice(rt, boards, pass, one_row(alloc, 22)?)?)?;
+    told.push(read_twice(rt, alloc, boards, pass)?)?;
+    told.push(read_twice(rt, alloc, boards, pass)?)?;
+    Ok(told)
+}
+
+/// The logs of the boards; once more where memory was refused.
+fn close_twice(
+    alloc: Global,
+    boards: Boards,
+    passes: Vec<Pass>,
+) -> Result<Vec<BoardLog>, AllocError>
+    requires { AreAllPasses boards passes.items }
+{
+    match boards.close(alloc, passes) {
+        Ok(logs) => Ok(logs),
+        Err((boards, passes, _)) => boards.close(alloc, passes).map_err(|refused| refused.2),
+    }
+}
+
+/// What three calls of one pass tell, how many calls it has left, and the log.
 #[derive(Drop)]
 struct Refused {
     told: Vec<(u32, u64)>,
@@ -60,24 +94,11 @@ struct Refused {
 }
 
 fn run_refused<R: Threads + Wait + Sync>(rt: &R, alloc: Global) -> Result<Refused, AllocError> {
-    let mut told = Vec::with_capacity(alloc, 3)?;
     let (boards, mut passes) = Boards::new(alloc, 1, 1, 10)?;
-    let forecast = one_row(alloc, 22)?;
-    let pass = &mut passes[0];
-    told.push(publish_twice(rt, &boards, pass, forecast)?)?;
-    let pass = &mut passes[0];
-    told.push(read_twice(rt, alloc, &boards, pass)?)?;
-    let pass = &mut passes[0];
-    told.push(read_twice(rt, alloc, &boards, pass)?)?;
+    let told = three_calls(rt, alloc, &boards, &mut passes[0])?;
     let left = passes[0].calls_left();
-    let logs = match boards.close(alloc, passes) {
-        Ok(logs) => logs,
-        Err((boards, passes, _)) => boards.close(alloc, passes).map_err(|refused| refused.2)?,
-    };
-    let events = match logs.first() {
-        Some(log) => events_told(alloc, log)?,
-        None => Vec::new(alloc),
-    };
+    let logs = close_twice(alloc, boards, passes)?;
+    let events = first_events(alloc, logs.as_slice())?;
     Ok(Refused { told, left, events })
 }
 
