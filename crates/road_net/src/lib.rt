@@ -4,7 +4,7 @@
 ghost use Rattle.std.specs.Prelude.{◌≡◌, ◌<◌, ◌^◌, IfOk, IfErr, length};
 ghost use Rattle.net_draft.specs.Faults.{Unless};
 ghost use Rattle.net_numbers.specs.Numbers.{Net};
-ghost use Rattle.net_numbers.specs.Outcome.{Refuses};
+ghost use Rattle.net_numbers.specs.FirstFaults.{Refuses};
 ghost use Rattle.net_numbers.specs.Outline.{IsOutline};
 ghost use Rattle.net_numbers.specs.Parts.{net_of};
 ghost use Rattle.road_net.specs.FirstFaults.{IsJoinFault, IsDraftFault};
