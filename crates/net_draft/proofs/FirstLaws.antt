@@ -10,7 +10,7 @@ use Rattle.foundation.proofs.FirstLaws.{IsFirstAt-weaker, IsFirstAt-within}
 use Rattle.foundation.proofs.OptionLaws.{and-some, some-and, bind-none}
 use Rattle.net_draft.specs.Faults.{Misses, Blames}
 use Rattle.net_draft.specs.FirstShape.{ordinal, FromOrdinal, IsAfterRead, IsFirstUnread, IsNodeFault, IsLinkFault, IsFaultWithin, IsShapeFault}
-use Rattle.net_draft.specs.Reading.{place_within, IsFaultAmong, IsOwnFault, IsFaultOfNode, IsFaultOfLink}
+use Rattle.net_draft.specs.Reading.{IsFaultAmong, IsNodeAtFault, IsPhaseAtFault, IsLinkAtFault, IsTurnAtFault, IsConflictAtFault}
 use Rattle.net_draft.specs.Table.{NodeForm, LinkForm, TopForm, top_form, run_of, node_form, node_of, phase_of, link_form, link_of, turn_of, conflict_of, draft_of}
 use Rattle.net_draft.specs.declared.drafts.Draft.{Draft}
 use Rattle.net_draft.specs.declared.faults.NetFault.{NetFault}
@@ -52,24 +52,25 @@ none-first f good P xs i none first =
 none-after : {X Y : Type 0} (f : X → Option Y) (P : X → Type 0) (xs : List X) (number : ℕ) → ((x : X) → P x → f x ≡ None) → IsAfterRead f P xs number → each f xs ≡ None
 none-after f P xs number none h = none-first f (λ x. IsSome (f x)) P xs h.index none h.at
 
--- an element that is itself at fault is the first that is not read
-own-first : {Y : Type 0} (f : Data → Option Y) (part : Part) (place named : Place) (ds : List Data) (among : IsFaultAmong f (IsOwnFault f) part place ds named) → IsFirstUnread f ds (ordinal among.index)
-own-first f part place named ds among = record {
+-- the first element at fault is the first that is not read, under its number
+after : {Y : Type 0} (f : Data → Option Y) (at_fault : ℕ → ℕ → Data → Place → Type 0) (item : ℕ) (named : Place) (ds : List Data) (number : ℕ) (P : Data → Type 0) (among : IsFaultAmong f at_fault item ds named)
+    → number ≡ ordinal among.index → ((d : Data) → at_fault item (ordinal among.index) d named → P d) → IsAfterRead f P ds number
+after f at_fault item named ds number P among is step = record {
   index = among.index;
-  is = refl;
-  at = IsFirstAt-weaker (λ d. IsSome (f d)) (λ d. IsOwnFault f (place_within part place among.index) d named) ds (λ d. f d ≡ None) among.index (λ d h. h.1) among.first;
+  is = is;
+  at = IsFirstAt-weaker (λ d. IsSome (f d)) (λ d. at_fault item (ordinal among.index) d named) ds P among.index step among.first;
 }
 
 -- the first phase of a node that is not read, and the first turn of a link
-pub phases-fault : (d : Data) (node : NodeForm) (place named : Place) → node_form d ≡ Some node → IsFaultAmong phase_of (IsOwnFault phase_of) Phase place node.phases named → IsFaultOfNode place d named
-phases-fault d node place named is among =
-    subst (IsFaultOfNode place d) (sym among.first.here.0)
-    (refl, and-some (λ (n : NodeForm). IsFirstUnread phase_of n.phases (ordinal among.index)) (node_form d) node is (own-first phase_of Phase place named node.phases among))
+pub phases-fault : (d : Data) (node : NodeForm) (item number : ℕ) (named : Place) → node_form d ≡ Some node → IsFaultAmong phase_of IsPhaseAtFault number node.phases named → IsNodeAtFault item number d named
+phases-fault d node item number named is among =
+    let first = after phase_of IsPhaseAtFault number named node.phases (ordinal among.index) (λ d. phase_of d ≡ None) among refl (λ d h. h.1) in
+    subst (IsNodeAtFault item number d) (sym among.first.here.0) (refl, and-some (λ (n : NodeForm). IsFirstUnread phase_of n.phases (ordinal among.index)) (node_form d) node is first)
 
-pub turns-fault : (d : Data) (link : LinkForm) (place named : Place) → link_form d ≡ Some link → IsFaultAmong turn_of (IsOwnFault turn_of) Turn place link.turns named → IsFaultOfLink place d named
-turns-fault d link place named is among =
-    subst (IsFaultOfLink place d) (sym among.first.here.0)
-    (refl, and-some (λ (l : LinkForm). IsFirstUnread turn_of l.turns (ordinal among.index)) (link_form d) link is (own-first turn_of Turn place named link.turns among))
+pub turns-fault : (d : Data) (link : LinkForm) (item number : ℕ) (named : Place) → link_form d ≡ Some link → IsFaultAmong turn_of IsTurnAtFault number link.turns named → IsLinkAtFault item number d named
+turns-fault d link item number named is among =
+    let first = after turn_of IsTurnAtFault number named link.turns (ordinal among.index) (λ d. turn_of d ≡ None) among refl (λ d h. h.1) in
+    subst (IsLinkAtFault item number d) (sym among.first.here.0) (refl, and-some (λ (l : LinkForm). IsFirstUnread turn_of l.turns (ordinal among.index)) (link_form d) link is first)
 
 module _ (ms : Members) (top : TopForm) (form : top_form ms ≡ Some top) where
   -- a fault of the tables within the file is its fault
@@ -92,13 +93,9 @@ module _ (ms : Members) (top : TopForm) (form : top_form ms ≡ Some top) where
     node-within _ item sub h = absurd h.at.here
 
     -- the first node that is not read
-    pub nodes-fault : (file named : Place) → IsFaultAmong node_of IsFaultOfNode Node file top.nodes named → IsShapeFault ms named.part named.item named.sub
-    nodes-fault file named among =
-        within named.part named.item named.sub (node-within named.part named.item named.sub (record {
-          index = among.index;
-          is = among.first.here.0;
-          at = IsFirstAt-weaker (λ d. IsSome (node_of d)) (λ d. IsFaultOfNode (place_within Node file among.index) d named) top.nodes (λ d. IsNodeFault d named.part named.sub) among.index (λ d h. h.1) among.first;
-        }))
+    pub nodes-fault : (named : Place) → IsFaultAmong node_of IsNodeAtFault 0 top.nodes named → IsShapeFault ms named.part named.item named.sub
+    nodes-fault named among =
+        within named.part named.item named.sub (node-within named.part named.item named.sub (after node_of IsNodeAtFault 0 named top.nodes named.item (λ d. IsNodeFault d named.part named.sub) among among.first.here.0 (λ d h. h.1)))
 
     module _ (nodes : IsSome (each node_of top.nodes)) where
       link-within : (part : Part) (item sub : ℕ) → IsAfterRead link_of (λ d. IsLinkFault d part sub) top.links item → IsFaultWithin top part item sub
@@ -107,19 +104,15 @@ module _ (ms : Members) (top : TopForm) (form : top_form ms ≡ Some top) where
       link-within _ item sub h = absurd h.at.here
 
       -- the first link that is not read
-      pub links-fault : (file named : Place) → IsFaultAmong link_of IsFaultOfLink Link file top.links named → IsShapeFault ms named.part named.item named.sub
-      links-fault file named among =
-          within named.part named.item named.sub (link-within named.part named.item named.sub (record {
-            index = among.index;
-            is = among.first.here.0;
-            at = IsFirstAt-weaker (λ d. IsSome (link_of d)) (λ d. IsFaultOfLink (place_within Link file among.index) d named) top.links (λ d. IsLinkFault d named.part named.sub) among.index (λ d h. h.1) among.first;
-          }))
+      pub links-fault : (named : Place) → IsFaultAmong link_of IsLinkAtFault 0 top.links named → IsShapeFault ms named.part named.item named.sub
+      links-fault named among =
+          within named.part named.item named.sub (link-within named.part named.item named.sub (after link_of IsLinkAtFault 0 named top.links named.item (λ d. IsLinkFault d named.part named.sub) among among.first.here.0 (λ d h. h.1)))
 
       -- the first conflict that is not read
-      pub conflicts-fault : IsSome (each link_of top.links) → (file named : Place) → IsFaultAmong conflict_of (IsOwnFault conflict_of) Conflict file top.conflicts named → IsShapeFault ms named.part named.item named.sub
-      conflicts-fault links file named among =
-          subst (λ (n : Place). IsShapeFault ms n.part n.item n.sub) (sym among.first.here.0)
-          (within Conflict (ordinal among.index) 0 (run, nodes, links, refl, own-first conflict_of Conflict file named top.conflicts among))
+      pub conflicts-fault : IsSome (each link_of top.links) → (named : Place) → IsFaultAmong conflict_of IsConflictAtFault 0 top.conflicts named → IsShapeFault ms named.part named.item named.sub
+      conflicts-fault links named among =
+          let first = after conflict_of IsConflictAtFault 0 named top.conflicts (ordinal among.index) (λ d. conflict_of d ≡ None) among refl (λ d h. h.1) in
+          subst (λ (n : Place). IsShapeFault ms n.part n.item n.sub) (sym among.first.here.0) (within Conflict (ordinal among.index) 0 (run, nodes, links, refl, first))
 
 -- a node with a fault is not read, nor is a link
 node-none : (d : Data) (part : Part) (sub : ℕ) → IsNodeFault d part sub → node_of d ≡ None
@@ -177,10 +170,14 @@ draft-none ms Link item sub h = let (top, is, at) = some-and (λ top. IsFaultWit
 draft-none ms Turn item sub h = let (top, is, at) = some-and (λ top. IsFaultWithin top Turn item sub) (top_form ms) h in rw is (behind-none top Turn item sub at)
 draft-none ms Conflict item sub h = let (top, is, at) = some-and (λ top. IsFaultWithin top Conflict item sub) (top_form ms) h in rw is (behind-none top Conflict item sub at)
 
--- what is answered at a fault of the elements of the file
-pub draft-refused : (ms : Members) (fault : NetFault) (result : Result Draft NetFault) (P : Place → Type 0) → result ≡ Err fault → ((named : Place) → P named → IsShapeFault ms named.part named.item named.sub) → Blames fault P
-    → IfErr result (λ fault. Misses fault (draft_of ms ≡ None)) × IfErr result (λ fault. Blames fault (λ place. IsShapeFault ms place.part place.item place.sub))
-draft-refused ms fault result P is step h = rw is (
-  Blames-misses (draft_of ms ≡ None) fault (λ named k. draft-none ms named.part named.item named.sub (step named k)) h,
-  Blames-weaker fault step h,
-)
+-- what is answered where there is no draft
+pub record IsRefused (ms : Members) (result : Result Draft NetFault) : Type 0 where
+  pub refused : IfErr result (λ fault. Misses fault (draft_of ms ≡ None))
+  pub first : IfErr result (λ fault. Blames fault (λ place. IsShapeFault ms place.part place.item place.sub))
+
+-- so at a fault of the elements of the file
+pub draft-refused : (ms : Members) (fault : NetFault) (result : Result Draft NetFault) (P : Place → Type 0) → result ≡ Err fault → ((named : Place) → P named → IsShapeFault ms named.part named.item named.sub) → Blames fault P → IsRefused ms result
+draft-refused ms fault result P is step h = record {
+  refused = rw is (Blames-misses (draft_of ms ≡ None) fault (λ named k. draft-none ms named.part named.item named.sub (step named k)) h);
+  first = rw is (Blames-weaker fault step h);
+}

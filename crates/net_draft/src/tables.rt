@@ -1,12 +1,12 @@
 //! How the draft is read from the table of a network file.
-ghost use Rattle.std.specs.Prelude.{◌≡◌, option_map, option_copied, IfOk, IfErr, map};
+ghost use Rattle.std.specs.Prelude.{◌≡◌, ℕ, Option, option_map, option_copied, IfOk, IfErr, map};
 ghost use Rattle.toml.specs.Data.{Data, as_str};
 ghost use Rattle.toml.specs.View.{view, table_view};
 ghost use Rattle.foundation.specs.Options.{each};
 ghost use Rattle.net_draft.specs.declared.faults.Place.{Place};
 ghost use Rattle.net_draft.specs.Faults.{Misses, Blames};
-ghost use Rattle.net_draft.specs.FirstShape as shape;
-ghost use Rattle.net_draft.specs.Reading.{place_within, IsFaultAmong, IsOwnFault, IsFaultOfNode, IsFaultOfLink};
+ghost use Rattle.net_draft.specs.FirstShape.{IsShapeFault, ordinal};
+ghost use Rattle.net_draft.specs.Reading.{IsFaultAmong, IsNodeAtFault, IsPhaseAtFault, IsLinkAtFault, IsTurnAtFault, IsConflictAtFault};
 ghost use Rattle.net_draft.specs.Table as spec;
 
 use crate::drafts::{Draft, DraftConflict, DraftLink, DraftNode, DraftPhase, DraftTurn};
@@ -27,18 +27,17 @@ pub fn read_draft(alloc: Global, table: &Table) -> Result<Draft, NetFault>
     ensures ok { IfOk result (λ draft. spec.draft_of (table_view table.now) ≡ Some draft) }
     ensures refused { IfErr result (λ fault. Misses fault (spec.draft_of (table_view table.now) ≡ None)) }
     ensures first { IfErr result (λ fault. Blames fault (λ place.
-        shape.IsShapeFault (table_view table.now) place.part place.item place.sub)) }
+        IsShapeFault (table_view table.now) place.part place.item place.sub)) }
 {
-    let file = place(Part::Top, 0, 0);
     let Some(top) = top_form(table) else {
-        return Err(NetFault::Shape(file));
+        return Err(shape(Part::Top, 0, 0));
     };
     let Some(run) = run_of(top.run) else {
-        return Err(NetFault::Shape(place(Part::Run, 0, 0)));
+        return Err(shape(Part::Run, 0, 0));
     };
-    let nodes = read_all(alloc, top.nodes, Part::Node, file)?;
-    let links = read_all(alloc, top.links, Part::Link, file)?;
-    let conflicts = read_all(alloc, top.conflicts, Part::Conflict, file)?;
+    let nodes = read_all(alloc, top.nodes, 0)?;
+    let links = read_all(alloc, top.links, 0)?;
+    let conflicts = read_all(alloc, top.conflicts, 0)?;
     Ok(Draft {
         run,
         nodes: Items::from_vec(nodes),
@@ -47,11 +46,11 @@ pub fn read_draft(alloc: Global, table: &Table) -> Result<Draft, NetFault>
     })
 }
 
-/// A place.
-fn place(part: Part, item: u32, sub: u32) -> Place
-    ensures { result ≡ record { part = part; item = item; sub = sub } }
+/// The fault `Shape` at this place.
+fn shape(part: Part, item: u32, sub: u32) -> NetFault
+    ensures { result ≡ NetFault.Shape (record { part = part; item = item; sub = sub }) }
 {
-    Place { part, item, sub }
+    NetFault::Shape(Place { part, item, sub })
 }
 
 /// A table that stands in an array of the file.
@@ -59,47 +58,32 @@ trait Element: Sized + Drop {
     /// What the table stands for.
     ghost reading: { Data → Option Self };
 
-    /// The places that may be named where a table that stands at the first place is not read.
-    ghost at_fault: { Place → Data → Place → Type 0 };
+    /// Where the table that is not read is at fault: in the table of an item, with its number, at a place.
+    ghost at_fault: { ℕ → ℕ → Data → Place → Type 0 };
 
-    /// Reads the table that stands at this place.
-    fn read(alloc: Global, value: &Value, place: Place) -> Result<Self, NetFault>
+    /// Reads the table with this number, from 1, of an array. The item is that of the node or link with the array, and 0
+    /// where the array stands in the table of the whole file.
+    fn read(alloc: Global, value: &Value, item: u32, number: u32) -> Result<Self, NetFault>
         ensures ok { IfOk result (λ element. reading (view value.now) ≡ Some element) }
-        ensures first { IfErr result (λ fault. Blames fault (at_fault place (view value.now))) };
+        ensures first { IfErr result (λ fault. Blames fault (at_fault item number (view value.now))) };
 }
 
-/// The elements of an array of tables of this part, in order, where the table with the array stands at this place.
-fn read_all<T: Element>(
-    alloc: Global,
-    values: &[Value],
-    part: Part,
-    place: Place,
-) -> Result<Vec<T>, NetFault>
+/// The elements of an array, in order, in the table of this item.
+fn read_all<T: Element>(alloc: Global, values: &[Value], item: u32) -> Result<Vec<T>, NetFault>
     ensures ok { IfOk result (λ all. each T.reading (map view values.now) ≡ Some all.items) }
-    ensures first { IfErr result (λ fault. Blames fault (IsFaultAmong T.reading T.at_fault part place (map view values.now))) }
+    ensures first { IfErr result (λ fault. Blames fault (IsFaultAmong T.reading T.at_fault item (map view values.now))) }
 {
     let mut all = Vec::new(alloc);
     for (index, value) in values.iter().enumerate() {
-        let element = T::read(alloc, value, place_within(part, place, index))?;
+        let element = T::read(alloc, value, item, ordinal(index))?;
         all.push(element)?;
     }
     Ok(all)
 }
 
-/// The place of the element at this index, from 0, of an array of tables of this part in the table at this place.
-fn place_within(part: Part, table: Place, index: usize) -> Place
-    ensures { result ≡ place_within part table index }
-{
-    let number = ordinal(index);
-    match part {
-        Part::Phase | Part::Turn => place(part, table.item, number),
-        _ => place(part, number, 0),
-    }
-}
-
 /// The number of the element at this index, counted from 1; one past the greatest u32 stands as that one.
 fn ordinal(index: usize) -> u32
-    ensures { result ≡ shape.ordinal index }
+    ensures { result ≡ ordinal index }
 {
     u32::try_from(index).unwrap_or(u32::MAX).saturating_add(1)
 }
@@ -107,14 +91,14 @@ fn ordinal(index: usize) -> u32
 impl Element for DraftNode {
     ghost reading = { spec.node_of };
 
-    ghost at_fault = { IsFaultOfNode };
+    ghost at_fault = { IsNodeAtFault };
 
     #[tactic(auto, unfolding(crate::specs::Table::node_of))]
-    fn read(alloc: Global, value: &Value, place: Place) -> Result<DraftNode, NetFault> {
+    fn read(alloc: Global, value: &Value, item: u32, number: u32) -> Result<DraftNode, NetFault> {
         let Some((name, phases)) = node_form(value) else {
-            return Err(NetFault::Shape(place));
+            return Err(shape(Part::Node, number, 0));
         };
-        let phases = read_all(alloc, phases, Part::Phase, place)?;
+        let phases = read_all(alloc, phases, number)?;
         let name = copied(alloc, name)?;
         Ok(DraftNode {
             name,
@@ -126,15 +110,15 @@ impl Element for DraftNode {
 impl Element for DraftPhase {
     ghost reading = { spec.phase_of };
 
-    ghost at_fault = { IsOwnFault spec.phase_of };
+    ghost at_fault = { IsPhaseAtFault };
 
     #[tactic(auto, unfolding(crate::specs::Table::phase_of))]
-    fn read(alloc: Global, value: &Value, place: Place) -> Result<DraftPhase, NetFault> {
+    fn read(alloc: Global, value: &Value, item: u32, number: u32) -> Result<DraftPhase, NetFault> {
         let Some((phase, links)) = phase_form(value) else {
-            return Err(NetFault::Shape(place));
+            return Err(shape(Part::Phase, item, number));
         };
         let Some(links) = texts_of(alloc, links)? else {
-            return Err(NetFault::Shape(place));
+            return Err(shape(Part::Phase, item, number));
         };
         Ok(DraftPhase {
             phase,
@@ -146,14 +130,14 @@ impl Element for DraftPhase {
 impl Element for DraftLink {
     ghost reading = { spec.link_of };
 
-    ghost at_fault = { IsFaultOfLink };
+    ghost at_fault = { IsLinkAtFault };
 
     #[tactic(auto, unfolding(crate::specs::Table::link_of))]
-    fn read(alloc: Global, value: &Value, place: Place) -> Result<DraftLink, NetFault> {
+    fn read(alloc: Global, value: &Value, item: u32, number: u32) -> Result<DraftLink, NetFault> {
         let Some(link) = link_form(value) else {
-            return Err(NetFault::Shape(place));
+            return Err(shape(Part::Link, number, 0));
         };
-        let turns = read_all(alloc, link.turns, Part::Turn, place)?;
+        let turns = read_all(alloc, link.turns, number)?;
         Ok(DraftLink {
             name: copied(alloc, link.name)?,
             from: copied_if(alloc, link.from)?,
@@ -168,11 +152,11 @@ impl Element for DraftLink {
 impl Element for DraftTurn {
     ghost reading = { spec.turn_of };
 
-    ghost at_fault = { IsOwnFault spec.turn_of };
+    ghost at_fault = { IsTurnAtFault };
 
-    fn read(alloc: Global, value: &Value, place: Place) -> Result<DraftTurn, NetFault> {
+    fn read(alloc: Global, value: &Value, item: u32, number: u32) -> Result<DraftTurn, NetFault> {
         let Some((exit, share)) = turn_form(value) else {
-            return Err(NetFault::Shape(place));
+            return Err(shape(Part::Turn, item, number));
         };
         let exit = copied(alloc, exit)?;
         Ok(DraftTurn { exit, share })
@@ -182,11 +166,11 @@ impl Element for DraftTurn {
 impl Element for DraftConflict {
     ghost reading = { spec.conflict_of };
 
-    ghost at_fault = { IsOwnFault spec.conflict_of };
+    ghost at_fault = { IsConflictAtFault };
 
-    fn read(alloc: Global, value: &Value, place: Place) -> Result<DraftConflict, NetFault> {
+    fn read(alloc: Global, value: &Value, item: u32, number: u32) -> Result<DraftConflict, NetFault> {
         let Some((a, b)) = conflict_form(value) else {
-            return Err(NetFault::Shape(place));
+            return Err(shape(Part::Conflict, number, 0));
         };
         let a = copied(alloc, a)?;
         let b = copied(alloc, b)?;
