@@ -8,14 +8,23 @@ use Rattle.net_draft.specs.FirstShape.{IsShapeFault}
 use Rattle.net_draft.specs.Table.{draft_of}
 use Rattle.net_draft.specs.declared.drafts.Draft.{Draft}
 use Rattle.net_draft.specs.declared.faults.NetFault.{NetFault}
-use Rattle.net_draft.specs.declared.faults.NetFault.TheVariants.{NoMemory, Shape, Bound, Twice, Unknown, Ends, Crowd, Shares, Phaseless, Clash}
+use Rattle.net_draft.specs.declared.faults.NetFault.TheVariants.{NoMemory, NotToml, Shape, Bound, Twice, Unknown, Ends, Crowd, Shares, Phaseless, Clash}
 use Rattle.net_numbers.specs.Bounds.{IsBounded}
-use Rattle.net_numbers.specs.FirstFaults.{FailsBounds, FailsNumbers}
+use Rattle.net_numbers.specs.FirstFaults.{FailsBounds, FailsNumbers, Refuses}
 use Rattle.net_numbers.specs.Numbers.{Net}
+use Rattle.net_numbers.specs.Parts.{IsNetOf}
 use Rattle.road_net.specs.FirstFaults.{IsJoinFault, IsNumbersOf, IsDraftFault}
+use Rattle.road_net.specs.Network.{IsNetworkOf}
 use Rattle.road_net.specs.Stored.{Drafts}
 
 module _ (d : Draft) where
+  -- a draft with no numbers for its names has no network
+  pub numbers-none : (fault : NetFault) → Refuses fault ((net : Net) → IsNetOf d net → ⊥) → Refuses fault ((net : Net) → IsNetworkOf d net → ⊥)
+  numbers-none NoMemory h = tt
+  numbers-none NotToml h = h
+  numbers-none (Shape place) h = h
+  numbers-none _ h = λ net of. h net (record { node_names = of.node_names; link_names = of.link_names; numbers = of.numbers })
+
   pub IsDraftFault-bounds : (fault : NetFault) → FailsBounds d fault → IsDraftFault d fault
   IsDraftFault-bounds (Bound place) h = h
   IsDraftFault-bounds _ h = absurd h

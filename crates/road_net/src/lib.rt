@@ -303,7 +303,7 @@ pub fn read_network(alloc: Global, bytes: &[u8]) -> Result<Network, NetFault>
     requires { length bytes.now < 2 ^ 32 }
     ensures ok { IfOk result (IsNetworkText bytes.now) }
     ensures refused { IfErr result (λ fault. Unless fault ((net : Net) → ¬ IsNetworkText bytes.now net)) }
-    ensures cause { IfErr result (IsCause bytes.now) }
+    ensures first { IfErr result (IsCause bytes.now) }
 {
     let draft = drafted(alloc, bytes)?;
     build(alloc, draft)

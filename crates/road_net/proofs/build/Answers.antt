@@ -2,7 +2,7 @@ use Rattle.std.proofs.lemmas.Result.{err_from_is_err_and, IfErr-weaker}
 use Rattle.net_numbers.specs.Parts.{net_of}
 use Rattle.net_numbers.proofs.Outline.{outline}
 use Rattle.road_net.specs.FirstFaults.{IsDraftFault, IsNumbersOf}
-use Rattle.road_net.proofs.Building.{IsDraftFault-bounds, IsDraftFault-numbers, IsDraftFault-joins}
+use Rattle.road_net.proofs.Building.{numbers-none, IsDraftFault-bounds, IsDraftFault-numbers, IsDraftFault-joins}
 use Rattle.road_net.proofs.build.Goals as goal
 
 pub joined-requires : goal.joined-requires
@@ -17,6 +17,11 @@ pub returns-in_err-parts-clause-first : goal.returns-in_err-parts-clause-first
 returns-in_err-parts-clause-first c =
     let p = err_from_is_err_and c.from_residual-in_err-parts.result c.from_residual-in_err-parts.ensures.1 in
     rw (p.1, p.2) (IsDraftFault-numbers c.args.draft _ c.in_ok-check_bounds.ensures.ok c.in_err-parts.ensures.first)
+
+pub returns-in_err-parts-clause-refused : goal.returns-in_err-parts-clause-refused
+returns-in_err-parts-clause-refused c =
+    let p = err_from_is_err_and c.from_residual-in_err-parts.result c.from_residual-in_err-parts.ensures.1 in
+    rw (p.1, p.2) (numbers-none c.args.draft _ c.in_err-parts.ensures.refused)
 
 pub returns-clause-first : goal.returns-clause-first
 returns-clause-first c =
