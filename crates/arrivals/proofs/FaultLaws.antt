@@ -5,9 +5,9 @@ use Rattle.std.proofs.lemmas.List.{take-append-drop}
 use Rattle.std.proofs.lemmas.List.Elements.{All-head, All-tail}
 use Rattle.std.proofs.lemmas.List.Sums.{sum_by-append, sum_by-cons}
 use Rattle.std.proofs.lemmas.Option.{same_Some}
-use Rattle.foundation.specs.Options.{◌>>=◌}
-use Rattle.net_draft.specs.Faults.{each}
-use Rattle.net_draft.proofs.Each.{bind-some}
+use Rattle.foundation.specs.Options.{each}
+use Rattle.foundation.proofs.EachLaws.{each-append, each-cons, each-self}
+use Rattle.foundation.proofs.ListLaws.{All-middle, split-at}
 use Rattle.net_numbers.specs.Numbers.{Net}
 use Rattle.arrivals.specs.declared.rows.ArrivalRow.{ArrivalRow}
 use Rattle.arrivals.specs.declared.rows.RowFault.{RowFault}
@@ -17,56 +17,17 @@ use Rattle.arrivals.specs.Faults.{IsFirst, IsAtLink, IsAtBound, IsAtSum, IsRowFa
 use Rattle.arrivals.specs.Stored.{Adds}
 use Rattle.arrivals.specs.Rows.{most_of_all, IsSource, HasBounds, IsRow, AreRows, amount_of}
 
--- a reading of a list goes through its parts
-record Parts {X Y : Type 0} (f : X → Option Y) (xs ys : List X) (zs : List Y) : Type 0 where
-  front : List Y
-  back : List Y
-  reads_front : each f xs ≡ Some front
-  reads_back : each f ys ≡ Some back
-  whole : zs ≡ front ++ back
-
-parts-more : {X Y : Type 0} (f : X → Option Y) (x : X) (xs ys : List X) (y : Y) (vs zs : List Y) → f x ≡ Some y → zs ≡ y ∷ vs → Parts f xs ys vs → Parts f (x ∷ xs) ys zs
-parts-more f x xs ys y vs zs here all p =
-    record { front = y ∷ p.front; back = p.back; reads_front = rw (here, p.reads_front) refl; reads_back = p.reads_back; whole = all ∙ ap (λ l. y ∷ l) p.whole }
-
-parts : {X Y : Type 0} (f : X → Option Y) (xs ys : List X) (zs : List Y) → each f (xs ++ ys) ≡ Some zs → Parts f xs ys zs
-parts f [] ys zs e = record { front = []; back = zs; reads_front = refl; reads_back = e; whole = refl }
-parts f (x ∷ xs) ys zs e =
-    let (y, here, rest) = bind-some (f x) (λ v. each f (xs ++ ys) >>= λ vs. Some (v ∷ vs)) zs e in
-    let (vs, more, last) = bind-some (each f (xs ++ ys)) (λ vs. Some (y ∷ vs)) zs rest in
-    parts-more f x xs ys y vs zs here (sym (same_Some _ _ last)) (parts f xs ys vs more)
-
--- the first that is read
-head-of : {X Y : Type 0} (f : X → Option Y) (x : X) (xs : List X) (zs : List Y) → each f (x ∷ xs) ≡ Some zs → (y : Y) × (ys : List Y) × (f x ≡ Some y) × (zs ≡ y ∷ ys)
-head-of f x xs zs e =
-    let (y, here, rest) = bind-some (f x) (λ v. each f xs >>= λ vs. Some (v ∷ vs)) zs e in
-    let (ys, more, last) = bind-some (each f xs) (λ vs. Some (y ∷ vs)) zs rest in
-    (y, ys, here, sym (same_Some _ _ last))
-
--- what holds of all holds of the one in the middle
-in-middle : {X : Type 0} (P : X → Type 0) (xs ys : List X) (y : X) → All P (xs ++ y ∷ ys) → P y
-in-middle P [] ys y all = All-head P y ys all
-in-middle P (x ∷ xs) ys y all = in-middle P xs ys y (All-tail P x (xs ++ y ∷ ys) all)
-
 -- with a first element at fault, where what is at fault can be no lawful row, not all are rows
 pub refuses : {X : Type 0} (read : X → Option ArrivalRow) (net : Net) (all : List X) (n : ℕ) (at_fault : List ArrivalRow → X → Type 0) → IsFirst read net all n at_fault
     → ((rows : List ArrivalRow) (r : ArrivalRow) (x : X) → at_fault rows x → read x ≡ Some r → IsRow net r → sum_by amount_of rows + r.amount ≤ most_of_all → ⊥)
     → (rows : List ArrivalRow) → each read all ≡ Some rows → AreRows net rows → ⊥
 refuses read net all n at_fault first clash rows reads are =
-    let p = parts read first.before (first.here ∷ first.after) rows (rw first.are at reads) in
-    let (r, rest, is, tail) = head-of read first.here first.after p.back p.reads_back in
-    let front : p.front ≡ first.rows = same_Some p.front first.rows (sym p.reads_front ∙ first.reads) in
-    let whole : rows ≡ first.rows ++ r ∷ rest = p.whole ∙ ap (λ l. l ++ p.back) front ∙ ap (λ l. first.rows ++ l) tail in
+    let (front, back, reads_front, reads_back, joined) = each-append read first.before (first.here ∷ first.after) rows (rw first.are at reads) in
+    let (r, rest, is, others, tail) = each-cons read first.here first.after back reads_back in
+    let same : front ≡ first.rows = same_Some front first.rows (sym reads_front ∙ first.reads) in
+    let whole : rows ≡ first.rows ++ r ∷ rest = joined ∙ ap (λ l. l ++ back) same ∙ ap (λ l. first.rows ++ l) tail in
     let sums = ap (sum_by amount_of) whole ∙ sum_by-append amount_of first.rows (r ∷ rest) in
-    clash first.rows r first.here first.faulty is (in-middle (IsRow net) first.rows rest r (rw whole at are.each)) (omega (arith, sums, sum_by-cons amount_of r rest, are.few))
-
--- rows are read as themselves
-each-self : {X : Type 0} (xs : List X) → each Some xs ≡ Some xs
-each-self [] = refl
-each-self (x ∷ xs) = rw (each-self xs) refl
-
-split-at : {X : Type 0} (xs : List X) (i : ℕ) (d : X) → i < length xs → xs ≡ take i xs ++ get_or xs i d ∷ drop (i + 1) xs
-split-at xs i d h = sym (take-append-drop i xs) ∙ ap (λ l. take i xs ++ l) (rw add-one (drop-cons xs i d h))
+    clash first.rows r first.here first.faulty is (All-middle (IsRow net) first.rows rest r (rw whole at are.each)) (omega (arith, sums, sum_by-cons amount_of r rest, are.few))
 
 module _ (net : Net) (rows : List ArrivalRow) (i : ℕ) (r : ArrivalRow) (inside : i < length rows) (here : r ≡ get_or rows i r) (lawful : AreRows net (take i rows)) where
   row-first : (n : ℕ) (at_fault : List ArrivalRow → ArrivalRow → Type 0) → n ≡ i + 1 → at_fault (take i rows) r → IsFirst Some net rows n at_fault

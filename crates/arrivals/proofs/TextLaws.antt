@@ -2,9 +2,9 @@
 use Rattle.std.proofs.Common.{◌≡◌, ℕ, ◌+◌, ◌≤◌, List, [], ◌∷◌, ◌++◌, length, sum, Option, Some, None, Err, IsSomeAnd, refl, sym, ap, ◌∙◌, arith, append_assoc, length-append}
 use Rattle.std.proofs.lemmas.List.{append-nil}
 use Rattle.std.proofs.lemmas.Option.{same_Some, none-some}
-use Rattle.foundation.specs.Options.{◌>>=◌}
-use Rattle.net_draft.specs.Faults.{each}
-use Rattle.net_draft.proofs.Each.{bind-some, each-push, each-length}
+use Rattle.foundation.specs.Options.{◌>>=◌, each}
+use Rattle.foundation.proofs.EachLaws.{each-push, each-length}
+use Rattle.foundation.proofs.OptionLaws.{bind-some, and-some, and-at, and-weaker, none-and}
 use Rattle.net_numbers.specs.Numbers.{Net, number_of}
 use Rattle.arrivals.specs.declared.rows.ArrivalRow.{ArrivalRow}
 use Rattle.arrivals.specs.declared.rows.RowFault.{RowFault}
@@ -17,19 +17,6 @@ use Rattle.arrivals.specs.Stored.{Adds, Reads, added}
 use Rattle.arrivals.specs.Texts.{AreArrivalRecords, IsSourceName, IsRecordFault, HasFaultBehind, AreFaulty}
 use Rattle.arrivals.proofs.FaultLaws.{refuses}
 use Rattle.arrivals.proofs.TallyLaws.{IsTally, tally-none, tally-more, tally-count}
-
-and-some : {X : Type 0} (P : X → Type 0) (o : Option X) (x : X) → o ≡ Some x → P x → IsSomeAnd o P
-and-some P o x is holds = rw is holds
-
-some-and : {X : Type 0} (P : X → Type 0) (o : Option X) (x : X) → o ≡ Some x → IsSomeAnd o P → P x
-some-and P o x is holds = rw is at holds
-
-and-weaker : {X : Type 0} (P Q : X → Type 0) (o : Option X) → ((x : X) → P x → Q x) → IsSomeAnd o P → IsSomeAnd o Q
-and-weaker P Q None weaker h = h
-and-weaker P Q (Some x) weaker h = weaker x h
-
-none-and : {X : Type 0} (P : X → Type 0) (o : Option X) → o ≡ None → IsSomeAnd o P → ⊥
-none-and P o none h = rw none at h
 
 -- what a row was read from
 record IsToldBy (net : Net) (fields : List (List ℕ)) (r : ArrivalRow) : Type 0 where
@@ -52,7 +39,7 @@ source-name net fields r e source =
 no-source-name : (net : Net) (fields : List (List ℕ)) (r : ArrivalRow) → row_of net fields ≡ Some r → IsAtLink net r → IsSomeAnd (told_of fields) (λ t. IsSourceName net t.name → ⊥)
 no-source-name net fields r e none =
     let by = told-by net fields r e in
-    and-some (λ t. IsSourceName net t.name → ⊥) (told_of fields) by.told by.is (λ source. none (some-and (IsSource net) (number_of net.link_names by.told.name) r.link by.named source))
+    and-some (λ t. IsSourceName net t.name → ⊥) (told_of fields) by.told by.is (λ source. none (and-at (IsSource net) (number_of net.link_names by.told.name) r.link by.named source))
 
 -- The records that were read, and their rows.
 pub record IsUnder (net : Net) (all : List (List (List ℕ))) (number : ℕ) (left : List (List (List ℕ))) (a : Amounts) : Type 0 where
@@ -151,11 +138,11 @@ records-refuse net all (Link n) h =
     λ a is. refuses (row_of net) net h.records n (λ before fields. IsSomeAnd (told_of fields) (λ t. IsSourceName net t.name → ⊥)) h.first
     (λ before r x none reads row few.
     let by = told-by net x r reads in
-    some-and (λ t. IsSourceName net t.name → ⊥) (told_of x) by.told by.is none (some-and (λ t. IsSourceName net t.name) (told_of x) by.told by.is (source-name net x r reads row.source)))
+    and-at (λ t. IsSourceName net t.name → ⊥) (told_of x) by.told by.is none (and-at (λ t. IsSourceName net t.name) (told_of x) by.told by.is (source-name net x r reads row.source)))
     is.rows (rw (behind-header is.records h.records (sym is.are ∙ h.are)) at is.reads) is.arrivals.lawful
 records-refuse net all (Bound n) h =
     λ a is. refuses (row_of net) net h.records n (λ before fields. IsSomeAnd (row_of net fields) (IsAtBound net)) h.first
-    (λ before r x out reads row few. (some-and (IsAtBound net) (row_of net x) r reads out).1 row.bounds) is.rows (rw (behind-header is.records h.records (sym is.are ∙ h.are)) at is.reads) is.arrivals.lawful
+    (λ before r x out reads row few. (and-at (IsAtBound net) (row_of net x) r reads out).1 row.bounds) is.rows (rw (behind-header is.records h.records (sym is.are ∙ h.are)) at is.reads) is.arrivals.lawful
 records-refuse net all (Sum n) h =
     λ a is. refuses (row_of net) net h.records n (λ before fields. IsSomeAnd (row_of net fields) (IsAtSum net before)) h.first
-    (λ before r x over reads row few. absurd (omega (arith, (some-and (IsAtSum net before) (row_of net x) r reads over).1, few))) is.rows (rw (behind-header is.records h.records (sym is.are ∙ h.are)) at is.reads) is.arrivals.lawful
+    (λ before r x over reads row few. absurd (omega (arith, (and-at (IsAtSum net before) (row_of net x) r reads over).1, few))) is.rows (rw (behind-header is.records h.records (sym is.are ∙ h.are)) at is.reads) is.arrivals.lawful

@@ -1,6 +1,6 @@
 -- The first row at fault.
 use Rattle.std.specs.Prelude.{◌≡◌, ℕ, ◌+◌, ◌<◌, List, ◌∷◌, ◌++◌, Option, Some, length, sum_by}
-use Rattle.net_draft.specs.Faults.{each}
+use Rattle.foundation.specs.Options.{each}
 use Rattle.net_numbers.specs.Numbers.{Net}
 use Rattle.arrivals.specs.declared.rows.ArrivalRow.{ArrivalRow}
 use Rattle.arrivals.specs.declared.rows.RowFault.{RowFault}
@@ -20,14 +20,15 @@ pub record IsFirst {X : Type 0} (read : X → Option ArrivalRow) (net : Net) (al
   pub lawful : AreRows net rows
   pub faulty : at_fault rows here
 
--- a row whose link is no source; one with a source that is out of its bounds; a lawful one with which, after these rows, all
--- bring more than they may
+-- a row whose link is no source
 abbrev pub IsAtLink : Net → ArrivalRow → Type 0
 IsAtLink net r = ¬ IsSource net r.link
 
+-- a row with a source, that is out of its bounds
 abbrev pub IsAtBound : Net → ArrivalRow → Type 0
 IsAtBound net r = IsSource net r.link × ¬ HasBounds r
 
+-- a lawful row with which, after these rows, all bring more than they may
 abbrev pub IsAtSum : Net → List ArrivalRow → ArrivalRow → Type 0
 IsAtSum net rows r = IsRow net r × (most_of_all < sum_by amount_of rows + r.amount)
 

@@ -37,6 +37,7 @@ pub record Told : Type 0 where
   pub name : List ℕ
   pub amount : ℕ
 
+-- what three fields tell, where the first and the last are digits
 unfoldable pub told : List ℕ → List ℕ → List ℕ → Option Told
 told second name amount = do
   x ← digits_of second

@@ -4,13 +4,15 @@ use Rattle.net_numbers.specs.Numbers.{Net}
 use Rattle.net_numbers.specs.Outline.{link_at}
 use Rattle.arrivals.specs.declared.rows.ArrivalRow.{ArrivalRow}
 
--- the seconds in which something may enter; the most that one row may bring, and the most that all may
+-- the seconds in which something may enter
 abbrev pub seconds : ℕ
 seconds = 18000
 
+-- the most that one row may bring
 abbrev pub most_of_row : ℕ
 most_of_row = 1000000
 
+-- the most that all rows may bring
 abbrev pub most_of_all : ℕ
 most_of_all = 2000000000
 
@@ -19,15 +21,18 @@ pub record IsSource (net : Net) (link : ℕ) : Type 0 where
   pub exists : link < length net.link_names
   pub outside : (link_at net link).from ≡ None
 
+-- the second and the amount of a row
 pub record HasBounds (r : ArrivalRow) : Type 0 where
   pub second : r.second < seconds
   pub least : 1 ≤ r.amount
   pub most : r.amount ≤ most_of_row
 
+-- a lawful row
 pub record IsRow (net : Net) (r : ArrivalRow) : Type 0 where
   pub source : IsSource net r.link
   pub bounds : HasBounds r
 
+-- what a row brings
 abbrev pub amount_of : ArrivalRow → ℕ
 amount_of r = r.amount
 
@@ -36,9 +41,10 @@ pub record AreRows (net : Net) (rows : List ArrivalRow) : Type 0 where
   pub each : All (IsRow net) rows
   pub few : sum_by amount_of rows ≤ most_of_all
 
--- what enters a link in a second: the sum of the rows with both
+-- whether a row has this link and second
 abbrev pub is_at : ℕ → ℕ → ArrivalRow → Bool
 is_at link second r = (r.link == link) && (r.second == second)
 
+-- what enters a link in a second: the sum of the rows with both
 abbrev pub entering_by : List ArrivalRow → ℕ → ℕ → ℕ
 entering_by rows link second = sum_by amount_of (filter (is_at link second) rows)

@@ -1,6 +1,6 @@
 -- Which arrivals a text stands for, and why it stands for none.
 use Rattle.std.specs.Prelude.{◌≡◌, ◌≢◌, ℕ, List, ◌∷◌, None, Some, IsSomeAnd}
-use Rattle.net_draft.specs.Faults.{each}
+use Rattle.foundation.specs.Options.{each}
 use Rattle.net_numbers.specs.Numbers.{Net, number_of}
 use Rattle.arrivals.specs.declared.rows.ArrivalRow.{ArrivalRow}
 use Rattle.arrivals.specs.declared.rows.RowFault.{RowFault}
@@ -42,9 +42,10 @@ AreFaulty net all NoMemory = Unit {0}
 AreFaulty net all Header = (records : List (List (List ℕ))) → all ≢ header ∷ records
 AreFaulty net all fault = HasFaultBehind net all fault
 
--- the arrivals of a text are those of its records, and so is the fault of one that has none
+-- the arrivals of a text are those of its records
 abbrev pub IsArrivalText : Net → List ℕ → Amounts → Type 0
 IsArrivalText net bytes a = AreArrivalRecords net (records_of bytes) a
 
+-- the fault of a text with no arrivals is that of its records
 abbrev pub IsTextFault : Net → List ℕ → RowFault → Type 0
 IsTextFault net bytes fault = AreFaulty net (records_of bytes) fault

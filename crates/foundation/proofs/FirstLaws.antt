@@ -31,3 +31,11 @@ module _ {X : Type 0} (good at_fault : X → Type 0) (xs : List X) where
   -- another fault of the element that follows from the first one
   pub IsFirstAt-weaker : (worse : X → Type 0) (i : ℕ) → ((x : X) → at_fault x → worse x) → IsFirstAt good at_fault xs i → IsFirstAt good worse xs i
   IsFirstAt-weaker worse i more first = record { element = first.element; there = first.there; before = first.before; here = more first.element first.here }
+
+  -- at the exit of a loop, under a number counted from 1
+  pub FromOne-here : (i : ℕ) (x : X) (number : ℕ) → number ≡ i + 1 → i < length xs → x ≡ get_or xs i x → All good (take i xs) → at_fault x → FromOne (IsFirstAt good at_fault xs) number
+  FromOne-here i x number is h at before here = FromOne-at (IsFirstAt good at_fault xs) i number is (IsFirstAt-here i x h at before here)
+
+  -- under such a number too, not all elements are good
+  pub FromOne-not : (number : ℕ) → ((x : X) → at_fault x → good x → ⊥) → FromOne (IsFirstAt good at_fault xs) number → All good xs → ⊥
+  FromOne-not number bad first all = IsFirstAt-not (number - 1) bad first.at all

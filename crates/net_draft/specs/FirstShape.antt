@@ -1,8 +1,9 @@
 -- Why a table stands for no draft: the first table at fault, in the order of docs/FORMATS.md, "Places and faults". Of each
 -- table its own form comes before the tables within it.
-use Rattle.std.specs.Prelude.{◌≡◌, ℕ, ◌+◌, ◌-◌, ◌^◌, min, List, take, slice_get, Option, None, IsSome, IsSomeAnd}
+use Rattle.std.specs.Prelude.{◌≡◌, ℕ, ◌+◌, ◌-◌, ◌^◌, min, List, Option, None, IsSome, IsSomeAnd}
 use Rattle.toml.specs.Data.{Data, Members}
-use Rattle.net_draft.specs.Faults.{each}
+use Rattle.foundation.specs.Firsts.{IsFirstAt}
+use Rattle.foundation.specs.Options.{each}
 use Rattle.net_draft.specs.Table.{TopForm, top_form, run_of, node_form, node_of, phase_of, link_form, link_of, turn_of, conflict_of}
 use Rattle.net_draft.specs.declared.faults.Part.{Part}
 use Rattle.net_draft.specs.declared.faults.Part.TheVariants.{Top, Run, Node, Phase, Link, Turn, Conflict}
@@ -11,11 +12,16 @@ use Rattle.net_draft.specs.declared.faults.Part.TheVariants.{Top, Run, Node, Pha
 abbrev pub ordinal : ℕ → ℕ
 ordinal index = min (index + 1) (2 ^ 32 - 1)
 
--- P holds of the element with this number, and f reads all before it. A list here may be longer than the numbers go, and
--- many elements then share the greatest; `IsFirst` of net_numbers is for lists whose elements have numbers of their own.
+-- This holds of an index, from 0, that belongs to the number. A list here may be longer than the numbers go, and many
+-- elements then share the greatest; `FromOne` is for lists whose elements have numbers of their own.
+pub record FromOrdinal (place : ℕ → Type 0) (number : ℕ) : Type 0 where
+  pub index : ℕ
+  pub is : number ≡ ordinal index
+  pub at : place index
+
+-- P holds of the element with this number, and f reads all before it
 abbrev pub IsAfterRead : {X Y : Type 0} → (X → Option Y) → (X → Type 0) → List X → ℕ → Type 0
-IsAfterRead f P xs number =
-    (index : ℕ) × (number ≡ ordinal index) × IsSome (each f (take index xs)) × IsSomeAnd (slice_get xs index) P
+IsAfterRead f P xs number = FromOrdinal (IsFirstAt (λ x. IsSome (f x)) P xs) number
 
 -- f does not read the element with this number, and reads all before it
 abbrev pub IsFirstUnread : {X Y : Type 0} → (X → Option Y) → List X → ℕ → Type 0

@@ -1,3 +1,4 @@
 pub mod Faults
 pub mod FirstShape
+pub mod Reading
 pub mod Table

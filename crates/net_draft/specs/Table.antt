@@ -3,8 +3,8 @@ use Rattle.std.specs.Prelude.{codes, ℕ, ◌-◌, ◌^◌, nat_lt, ℤ, pos, ne
 use Rattle.std.specs.List.{list_any}
 use Rattle.std.specs.Str.{bytes_eq}
 use Rattle.toml.specs.Data.{Data, Items, no_items, item, Members, no_members, member, get_member, as_str, as_integer, as_array, as_table}
-use Rattle.foundation.specs.Options.{◌>>=◌}
-use Rattle.net_draft.specs.Faults.{each}
+use Rattle.foundation.specs.Options.{◌>>=◌, each}
+use Rattle.phase_plan.specs.declared.Phase.{Phase}
 use Rattle.net_draft.specs.declared.drafts.Run.{Run}
 use Rattle.net_draft.specs.declared.drafts.Draft.{Draft}
 use Rattle.net_draft.specs.declared.drafts.DraftNode.{DraftNode}
@@ -32,49 +32,55 @@ has_only keys (member key d ms) = list_any (bytes_eq key) keys && has_only keys 
 unfoldable pub only : List (List ℕ) → Members → Option Members
 only keys ms = if has_only keys ms then Some ms else None
 
--- what stands at a key, where it has the right kind
+-- the whole number at a key; nothing, here and below, where the key is absent or has another kind
 unfoldable pub number_at : List ℕ → Members → Option ℕ
 number_at key ms = do
   d ← get_member key ms
   z ← as_integer d
   Some (field_of z)
 
+-- the text at a key
 unfoldable pub text_at : List ℕ → Members → Option (List ℕ)
 text_at key ms = do
   d ← get_member key ms
   as_str d
 
+-- the table at a key
 unfoldable pub table_at : List ℕ → Members → Option Members
 table_at key ms = do
   d ← get_member key ms
   as_table d
 
+-- the elements of the array at a key
 unfoldable pub list_at : List ℕ → Members → Option (List Data)
 list_at key ms = do
   d ← get_member key ms
   ds ← as_array d
   Some (list_of ds)
 
--- the same where the key may be absent
+-- a text that may be absent
 abbrev pub text_if : Option Data → Option (Option (List ℕ))
 text_if None = Some None
 text_if (Some d) = do
   text ← as_str d
   Some (Some text)
 
+-- the text at a key that may be absent
 unfoldable pub optional_text_at : List ℕ → Members → Option (Option (List ℕ))
 optional_text_at key ms = text_if (get_member key ms)
 
+-- an array that may be absent; an absent one is empty
 abbrev pub list_if : Option Data → Option (List Data)
 list_if None = Some []
 list_if (Some d) = do
   ds ← as_array d
   Some (list_of ds)
 
+-- the elements of the array at a key that may be absent
 unfoldable pub optional_list_at : List ℕ → Members → Option (List Data)
 optional_list_at key ms = list_if (get_member key ms)
 
--- what each table stands for, where it has its keys and no other, each of its kind
+-- the run of a table that has its keys and no other, each of its kind, as all tables below must
 unfoldable pub run_of : Members → Option Run
 run_of ms = do
   ms ← only (codes "step" ∷ codes "look" ∷ codes "gap" ∷ codes "rounds" ∷ []) ms
@@ -88,8 +94,14 @@ run_of ms = do
 unfoldable pub phase_keys : List (List ℕ)
 phase_keys = codes "least" ∷ codes "greatest" ∷ codes "yellow" ∷ codes "clear" ∷ codes "loss" ∷ codes "wait" ∷ codes "links" ∷ []
 
-unfoldable pub phase_of : Data → Option DraftPhase
-phase_of d = do
+-- a phase as it stands in the file, the names of its links not yet read
+pub record PhaseForm : Type 0 where
+  pub phase : Phase
+  pub links : List Data
+
+-- the own form of a phase
+unfoldable pub phase_form : Data → Option PhaseForm
+phase_form d = do
   ms ← as_table d
   ms ← only phase_keys ms
   least ← number_at (codes "least") ms
@@ -99,14 +111,21 @@ phase_of d = do
   loss ← number_at (codes "loss") ms
   wait ← number_at (codes "wait") ms
   links ← list_at (codes "links") ms
-  links ← each as_str links
   Some (record { phase = record { least = least; greatest = greatest; yellow = yellow; clear = clear; loss = loss; wait = wait }; links = links })
+
+-- a phase with the names of its links
+unfoldable pub phase_of : Data → Option DraftPhase
+phase_of d = do
+  form ← phase_form d
+  links ← each as_str form.links
+  Some (record { phase = form.phase; links = links })
 
 -- a node as it stands in the file, its phases not yet read
 pub record NodeForm : Type 0 where
   pub name : List ℕ
   pub phases : List Data
 
+-- the own form of a node
 unfoldable pub node_form : Data → Option NodeForm
 node_form d = do
   ms ← as_table d
@@ -115,12 +134,14 @@ node_form d = do
   phases ← list_at (codes "phase") ms
   Some (record { name = name; phases = phases })
 
+-- a node with its phases
 unfoldable pub node_of : Data → Option DraftNode
 node_of d = do
   node ← node_form d
   phases ← each phase_of node.phases
   Some (record { name = node.name; phases = phases })
 
+-- a turn
 unfoldable pub turn_of : Data → Option DraftTurn
 turn_of d = do
   ms ← as_table d
@@ -138,6 +159,7 @@ pub record LinkForm : Type 0 where
   pub sat : ℕ
   pub turns : List Data
 
+-- the own form of a link
 unfoldable pub link_form : Data → Option LinkForm
 link_form d = do
   ms ← as_table d
@@ -150,12 +172,14 @@ link_form d = do
   turns ← optional_list_at (codes "turn") ms
   Some (record { name = name; from = from; to = to; travel = travel; sat = sat; turns = turns })
 
+-- a link with its turns
 unfoldable pub link_of : Data → Option DraftLink
 link_of d = do
   link ← link_form d
   turns ← each turn_of link.turns
   Some (record { name = link.name; from = link.from; to = link.to; travel = link.travel; sat = link.sat; turns = turns })
 
+-- a conflict
 unfoldable pub conflict_of : Data → Option DraftConflict
 conflict_of d = do
   ms ← as_table d
@@ -171,6 +195,7 @@ pub record TopForm : Type 0 where
   pub links : List Data
   pub conflicts : List Data
 
+-- the own form of the whole file
 unfoldable pub top_form : Members → Option TopForm
 top_form ms = do
   ms ← only (codes "run" ∷ codes "node" ∷ codes "link" ∷ codes "conflict" ∷ []) ms

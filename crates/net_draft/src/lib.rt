@@ -3,7 +3,9 @@
 
 mod drafts;
 mod faults;
+mod forms;
 mod tables;
+mod values;
 
 pub use drafts::{Draft, DraftConflict, DraftLink, DraftNode, DraftPhase, DraftTurn, Run};
 pub use faults::{NetFault, Part, Place};

@@ -1,18 +1,19 @@
 //! How the draft is read from the table of a network file.
-ghost use Rattle.std.specs.Prelude.{◌≡◌, option_map, option_copied, IfOk, IfErr, map};
-ghost use Rattle.std.specs.List.{list_any};
-ghost use Rattle.std.specs.Str.{bytes_eq};
-ghost use Rattle.toml.specs.Data.{get_member, as_str, as_array, as_table};
+ghost use Rattle.std.specs.Prelude.{◌≡◌, ℕ, Option, option_map, option_copied, IfOk, IfErr, map};
+ghost use Rattle.toml.specs.Data.{Data, as_str};
 ghost use Rattle.toml.specs.View.{view, table_view};
-ghost use Rattle.net_draft.specs.Faults.{Blames, Gives, GivesAt, GivesOr, each};
-ghost use Rattle.net_draft.specs.FirstShape as shape;
+ghost use Rattle.foundation.specs.Options.{each};
+ghost use Rattle.net_draft.specs.declared.faults.Place.{Place};
+ghost use Rattle.net_draft.specs.Faults.{Misses, Blames};
+ghost use Rattle.net_draft.specs.FirstShape.{IsShapeFault, ordinal};
+ghost use Rattle.net_draft.specs.Reading.{IsFaultAmong, IsNodeAtFault, IsPhaseAtFault, IsLinkAtFault, IsTurnAtFault, IsConflictAtFault};
 ghost use Rattle.net_draft.specs.Table as spec;
 
-use crate::drafts::{Draft, DraftConflict, DraftLink, DraftNode, DraftPhase, DraftTurn, Run};
+use crate::drafts::{Draft, DraftConflict, DraftLink, DraftNode, DraftPhase, DraftTurn};
 use crate::faults::{NetFault, Part, Place};
+use crate::forms::{conflict_form, link_form, node_form, phase_form, run_of, top_form, turn_form};
 use foundation::items::Items;
 use foundation::text::Text;
-use phase_plan::Phase;
 use std::alloc::{AllocError, Global};
 use toml::{Table, Value};
 
@@ -21,26 +22,22 @@ use toml::{Table, Value};
 /// The fault is `NoMemory`, or `Shape` of the first table, in the order of "Places and faults" there, that
 /// lacks a key, has a further key or one of the wrong kind, or is no table. The bounds of the draft are not
 /// tested here: a whole number that is no u32 is read as the greatest u32, which is out of every bound.
-#[tactic(auto, unfolding(crate::specs::Table::draft_of, crate::specs::Table::top_form))]
+#[tactic(auto, unfolding(crate::specs::Table::draft_of))]
 pub fn read_draft(alloc: Global, table: &Table) -> Result<Draft, NetFault>
-    ensures draft { Gives (λ draft. draft) result (spec.draft_of (table_view table.now)) }
+    ensures ok { IfOk result (λ draft. spec.draft_of (table_view table.now) ≡ Some draft) }
+    ensures refused { IfErr result (λ fault. Misses fault (spec.draft_of (table_view table.now) ≡ None)) }
     ensures first { IfErr result (λ fault. Blames fault (λ place.
-        shape.IsShapeFault (table_view table.now) place.part place.item place.sub)) }
+        IsShapeFault (table_view table.now) place.part place.item place.sub)) }
 {
-    let place = Place {
-        part: Part::Top,
-        item: 0,
-        sub: 0,
+    let Some(top) = top_form(table) else {
+        return Err(shape(Part::Top, 0, 0));
     };
-    let table = only(table, &["run", "node", "link", "conflict"], place)?;
-    let run = table_at(table, "run", place)?;
-    let nodes = list_at(table, "node", place)?;
-    let links = list_at(table, "link", place)?;
-    let conflicts = optional_list_at(table, "conflict", place)?;
-    let run = read_run(run)?;
-    let nodes = read_nodes(alloc, nodes)?;
-    let links = read_links(alloc, links)?;
-    let conflicts = read_conflicts(alloc, conflicts)?;
+    let Some(run) = run_of(top.run) else {
+        return Err(shape(Part::Run, 0, 0));
+    };
+    let nodes = read_all(alloc, top.nodes, 0)?;
+    let links = read_all(alloc, top.links, 0)?;
+    let conflicts = read_all(alloc, top.conflicts, 0)?;
     Ok(Draft {
         run,
         nodes: Items::from_vec(nodes),
@@ -49,252 +46,150 @@ pub fn read_draft(alloc: Global, table: &Table) -> Result<Draft, NetFault>
     })
 }
 
-/// The numbers of the run.
-#[tactic(auto, unfolding(crate::specs::Table::run_of))]
-fn read_run(table: &Table) -> Result<Run, NetFault>
-    ensures { GivesAt (record { part = Part.Run; item = 0; sub = 0 }) (λ run. run) result (spec.run_of (table_view table.now)) }
+/// The fault `Shape` at this place.
+fn shape(part: Part, item: u32, sub: u32) -> NetFault
+    ensures { result ≡ NetFault.Shape (record { part = part; item = item; sub = sub }) }
 {
-    let place = Place {
-        part: Part::Run,
-        item: 0,
-        sub: 0,
-    };
-    let table = only(table, &["step", "look", "gap", "rounds"], place)?;
-    let step = number_at(table, "step", place)?;
-    let look = number_at(table, "look", place)?;
-    let gap = number_at(table, "gap", place)?;
-    let rounds = number_at(table, "rounds", place)?;
-    Ok(Run {
-        step,
-        look,
-        gap,
-        rounds,
-    })
+    NetFault::Shape(Place { part, item, sub })
 }
 
-/// The nodes of these tables, in order.
-fn read_nodes(alloc: Global, values: &[Value]) -> Result<Vec<DraftNode>, NetFault>
-    ensures { GivesOr (λ named. shape.IsAfterRead spec.node_of (λ node. shape.IsNodeFault node named.part named.sub) (map view values.now) named.item)
-        (λ nodes. nodes.items) result (each spec.node_of (map view values.now)) }
+/// A table that stands in an array of the file.
+trait Element: Sized + Drop {
+    /// What the table stands for.
+    ghost reading: { Data → Option Self };
+
+    /// Where the table that is not read is at fault: in the table of an item, with its number, at a place.
+    ghost at_fault: { ℕ → ℕ → Data → Place → Type 0 };
+
+    /// Reads the table with this number, from 1, of an array. The item is that of the node or link with the array, and 0
+    /// where the array stands in the table of the whole file.
+    fn read(alloc: Global, value: &Value, item: u32, number: u32) -> Result<Self, NetFault>
+        ensures ok { IfOk result (λ element. reading (view value.now) ≡ Some element) }
+        ensures first { IfErr result (λ fault. Blames fault (at_fault item number (view value.now))) };
+}
+
+/// The elements of an array, in order, in the table of this item.
+fn read_all<T: Element>(alloc: Global, values: &[Value], item: u32) -> Result<Vec<T>, NetFault>
+    ensures ok { IfOk result (λ all. each T.reading (map view values.now) ≡ Some all.items) }
+    ensures first { IfErr result (λ fault. Blames fault (IsFaultAmong T.reading T.at_fault item (map view values.now))) }
 {
-    let mut nodes = Vec::new(alloc);
+    let mut all = Vec::new(alloc);
     for (index, value) in values.iter().enumerate() {
-        let node = read_node(alloc, value, ordinal(index))?;
-        nodes.push(node)?;
+        let element = T::read(alloc, value, item, ordinal(index))?;
+        all.push(element)?;
     }
-    Ok(nodes)
+    Ok(all)
 }
 
-/// A node with its phases.
-#[tactic(auto, unfolding(crate::specs::Table::node_of, crate::specs::Table::node_form))]
-fn read_node(alloc: Global, value: &Value, item: u32) -> Result<DraftNode, NetFault>
-    ensures { GivesOr (λ named. (named.item ≡ item) × shape.IsNodeFault (view value.now) named.part named.sub)
-        (λ node. node) result (spec.node_of (view value.now)) }
+/// The number of the element at this index, counted from 1; one past the greatest u32 stands as that one.
+fn ordinal(index: usize) -> u32
+    ensures { result ≡ ordinal index }
 {
-    let place = Place {
-        part: Part::Node,
-        item,
-        sub: 0,
-    };
-    let table = table_of(value, place)?;
-    let table = only(table, &["name", "phase"], place)?;
-    let name = text_at(table, "name", place)?;
-    let phases = list_at(table, "phase", place)?;
-    let phases = read_phases(alloc, phases, item)?;
-    let name = copied(alloc, name)?;
-    Ok(DraftNode {
-        name,
-        phases: Items::from_vec(phases),
-    })
+    u32::try_from(index).unwrap_or(u32::MAX).saturating_add(1)
 }
 
-/// The phases of these tables, in order.
-fn read_phases(alloc: Global, values: &[Value], item: u32) -> Result<Vec<DraftPhase>, NetFault>
-    ensures { GivesOr (λ named. (named.part ≡ Part.Phase) × (named.item ≡ item) × shape.IsFirstUnread spec.phase_of (map view values.now) named.sub)
-        (λ phases. phases.items) result (each spec.phase_of (map view values.now)) }
-{
-    let mut phases = Vec::new(alloc);
-    for (index, value) in values.iter().enumerate() {
-        let place = Place {
-            part: Part::Phase,
-            item,
-            sub: ordinal(index),
+impl Element for DraftNode {
+    ghost reading = { spec.node_of };
+
+    ghost at_fault = { IsNodeAtFault };
+
+    #[tactic(auto, unfolding(crate::specs::Table::node_of))]
+    fn read(alloc: Global, value: &Value, item: u32, number: u32) -> Result<DraftNode, NetFault> {
+        let Some((name, phases)) = node_form(value) else {
+            return Err(shape(Part::Node, number, 0));
         };
-        let phase = read_phase(alloc, value, place)?;
-        phases.push(phase)?;
+        let phases = read_all(alloc, phases, number)?;
+        let name = copied(alloc, name)?;
+        Ok(DraftNode {
+            name,
+            phases: Items::from_vec(phases),
+        })
     }
-    Ok(phases)
 }
 
-/// A phase with the names of its links.
-#[tactic(auto, unfolding(crate::specs::Table::phase_of))]
-fn read_phase(alloc: Global, value: &Value, place: Place) -> Result<DraftPhase, NetFault>
-    ensures { GivesAt place (λ phase. phase) result (spec.phase_of (view value.now)) }
-{
-    let table = table_of(value, place)?;
-    let table = only_phase_keys(table, place)?;
-    let least = number_at(table, "least", place)?;
-    let greatest = number_at(table, "greatest", place)?;
-    let yellow = number_at(table, "yellow", place)?;
-    let clear = number_at(table, "clear", place)?;
-    let loss = number_at(table, "loss", place)?;
-    let wait = number_at(table, "wait", place)?;
-    let links = list_at(table, "links", place)?;
-    let links = read_texts(alloc, links, place)?;
-    Ok(DraftPhase {
-        phase: Phase {
-            least,
-            greatest,
-            yellow,
-            clear,
-            loss,
-            wait,
-        },
-        links: Items::from_vec(links),
-    })
-}
+impl Element for DraftPhase {
+    ghost reading = { spec.phase_of };
 
-/// The table, which must have no key beside those of a phase.
-#[tactic(auto, unfolding(crate::specs::Table::phase_keys))]
-fn only_phase_keys(table: &Table, place: Place) -> Result<&Table, NetFault>
-    ensures { GivesAt place (λ table. table_view table.now) result (spec.only spec.phase_keys (table_view table.now)) }
-{
-    let keys = [
-        "least", "greatest", "yellow", "clear", "loss", "wait", "links",
-    ];
-    only(table, &keys, place)
-}
+    ghost at_fault = { IsPhaseAtFault };
 
-/// The links of these tables, in order.
-fn read_links(alloc: Global, values: &[Value]) -> Result<Vec<DraftLink>, NetFault>
-    ensures { GivesOr (λ named. shape.IsAfterRead spec.link_of (λ link. shape.IsLinkFault link named.part named.sub) (map view values.now) named.item)
-        (λ links. links.items) result (each spec.link_of (map view values.now)) }
-{
-    let mut links = Vec::new(alloc);
-    for (index, value) in values.iter().enumerate() {
-        let link = read_link(alloc, value, ordinal(index))?;
-        links.push(link)?;
-    }
-    Ok(links)
-}
-
-/// A link with its turns.
-#[tactic(auto, unfolding(crate::specs::Table::link_of, crate::specs::Table::link_form))]
-fn read_link(alloc: Global, value: &Value, item: u32) -> Result<DraftLink, NetFault>
-    ensures { GivesOr (λ named. (named.item ≡ item) × shape.IsLinkFault (view value.now) named.part named.sub)
-        (λ link. link) result (spec.link_of (view value.now)) }
-{
-    let place = Place {
-        part: Part::Link,
-        item,
-        sub: 0,
-    };
-    let table = table_of(value, place)?;
-    let keys = ["name", "from", "to", "travel", "sat", "turn"];
-    let table = only(table, &keys, place)?;
-    let name = text_at(table, "name", place)?;
-    let travel = number_at(table, "travel", place)?;
-    let sat = number_at(table, "sat", place)?;
-    let from = optional_text_at(table, "from", place)?;
-    let to = optional_text_at(table, "to", place)?;
-    let turns = optional_list_at(table, "turn", place)?;
-    let turns = read_turns(alloc, turns, item)?;
-    let name = copied(alloc, name)?;
-    let from = copied_if(alloc, from)?;
-    let to = copied_if(alloc, to)?;
-    Ok(DraftLink {
-        name,
-        from,
-        to,
-        travel,
-        sat,
-        turns: Items::from_vec(turns),
-    })
-}
-
-/// The turns of these tables, in order.
-fn read_turns(alloc: Global, values: &[Value], item: u32) -> Result<Vec<DraftTurn>, NetFault>
-    ensures { GivesOr (λ named. (named.part ≡ Part.Turn) × (named.item ≡ item) × shape.IsFirstUnread spec.turn_of (map view values.now) named.sub)
-        (λ turns. turns.items) result (each spec.turn_of (map view values.now)) }
-{
-    let mut turns = Vec::new(alloc);
-    for (index, value) in values.iter().enumerate() {
-        let place = Place {
-            part: Part::Turn,
-            item,
-            sub: ordinal(index),
+    #[tactic(auto, unfolding(crate::specs::Table::phase_of))]
+    fn read(alloc: Global, value: &Value, item: u32, number: u32) -> Result<DraftPhase, NetFault> {
+        let Some((phase, links)) = phase_form(value) else {
+            return Err(shape(Part::Phase, item, number));
         };
-        let turn = read_turn(alloc, value, place)?;
-        turns.push(turn)?;
-    }
-    Ok(turns)
-}
-
-/// A turn.
-#[tactic(auto, unfolding(crate::specs::Table::turn_of))]
-fn read_turn(alloc: Global, value: &Value, place: Place) -> Result<DraftTurn, NetFault>
-    ensures { GivesAt place (λ turn. turn) result (spec.turn_of (view value.now)) }
-{
-    let table = table_of(value, place)?;
-    let table = only(table, &["exit", "share"], place)?;
-    let exit = text_at(table, "exit", place)?;
-    let share = number_at(table, "share", place)?;
-    let exit = copied(alloc, exit)?;
-    Ok(DraftTurn { exit, share })
-}
-
-/// The conflicts of these tables, in order.
-fn read_conflicts(alloc: Global, values: &[Value]) -> Result<Vec<DraftConflict>, NetFault>
-    ensures { GivesOr (λ named. (named.part ≡ Part.Conflict) × (named.sub ≡ 0) × shape.IsFirstUnread spec.conflict_of (map view values.now) named.item)
-        (λ conflicts. conflicts.items) result (each spec.conflict_of (map view values.now)) }
-{
-    let mut conflicts = Vec::new(alloc);
-    for (index, value) in values.iter().enumerate() {
-        let place = Place {
-            part: Part::Conflict,
-            item: ordinal(index),
-            sub: 0,
+        let Some(links) = texts_of(alloc, links)? else {
+            return Err(shape(Part::Phase, item, number));
         };
-        let conflict = read_conflict(alloc, value, place)?;
-        conflicts.push(conflict)?;
+        Ok(DraftPhase {
+            phase,
+            links: Items::from_vec(links),
+        })
     }
-    Ok(conflicts)
 }
 
-/// A conflict.
-#[tactic(auto, unfolding(crate::specs::Table::conflict_of))]
-fn read_conflict(alloc: Global, value: &Value, place: Place) -> Result<DraftConflict, NetFault>
-    ensures { GivesAt place (λ conflict. conflict) result (spec.conflict_of (view value.now)) }
-{
-    let table = table_of(value, place)?;
-    let table = only(table, &["a", "b"], place)?;
-    let a = text_at(table, "a", place)?;
-    let b = text_at(table, "b", place)?;
-    let a = copied(alloc, a)?;
-    let b = copied(alloc, b)?;
-    Ok(DraftConflict { a, b })
+impl Element for DraftLink {
+    ghost reading = { spec.link_of };
+
+    ghost at_fault = { IsLinkAtFault };
+
+    #[tactic(auto, unfolding(crate::specs::Table::link_of))]
+    fn read(alloc: Global, value: &Value, item: u32, number: u32) -> Result<DraftLink, NetFault> {
+        let Some(link) = link_form(value) else {
+            return Err(shape(Part::Link, number, 0));
+        };
+        let turns = read_all(alloc, link.turns, number)?;
+        Ok(DraftLink {
+            name: copied(alloc, link.name)?,
+            from: copied_if(alloc, link.from)?,
+            to: copied_if(alloc, link.to)?,
+            travel: link.travel,
+            sat: link.sat,
+            turns: Items::from_vec(turns),
+        })
+    }
 }
 
-/// The texts of an array, in order.
-fn read_texts(alloc: Global, values: &[Value], place: Place) -> Result<Vec<Text>, NetFault>
-    ensures { GivesAt place (λ texts. texts.items) result (each as_str (map view values.now)) }
+impl Element for DraftTurn {
+    ghost reading = { spec.turn_of };
+
+    ghost at_fault = { IsTurnAtFault };
+
+    fn read(alloc: Global, value: &Value, item: u32, number: u32) -> Result<DraftTurn, NetFault> {
+        let Some((exit, share)) = turn_form(value) else {
+            return Err(shape(Part::Turn, item, number));
+        };
+        let exit = copied(alloc, exit)?;
+        Ok(DraftTurn { exit, share })
+    }
+}
+
+impl Element for DraftConflict {
+    ghost reading = { spec.conflict_of };
+
+    ghost at_fault = { IsConflictAtFault };
+
+    fn read(alloc: Global, value: &Value, item: u32, number: u32) -> Result<DraftConflict, NetFault> {
+        let Some((a, b)) = conflict_form(value) else {
+            return Err(shape(Part::Conflict, number, 0));
+        };
+        let a = copied(alloc, a)?;
+        let b = copied(alloc, b)?;
+        Ok(DraftConflict { a, b })
+    }
+}
+
+/// The texts of an array, in order, where each element is one.
+fn texts_of(alloc: Global, values: &[Value]) -> Result<Option<Vec<Text>>, AllocError>
+    ensures { IfOk result (λ texts. option_map (λ list. list.items) texts ≡ each as_str (map view values.now)) }
 {
     let mut texts = Vec::new(alloc);
     for value in values {
-        let text = read_text(alloc, value, place)?;
-        texts.push(text)?;
+        let Some(text) = value.as_str() else {
+            return Ok(None);
+        };
+        texts.push(copied(alloc, text)?)?;
     }
-    Ok(texts)
-}
-
-/// A text.
-fn read_text(alloc: Global, value: &Value, place: Place) -> Result<Text, NetFault>
-    ensures { GivesAt place (λ text. text) result (as_str (view value.now)) }
-{
-    match value.as_str() {
-        Some(text) => Ok(copied(alloc, text)?),
-        None => Err(NetFault::Shape(place)),
-    }
+    Ok(Some(texts))
 }
 
 /// A copy of the text.
@@ -312,151 +207,4 @@ fn copied_if(alloc: Global, text: Option<&str>) -> Result<Option<Text>, AllocErr
         Some(text) => Ok(Some(copied(alloc, text)?)),
         None => Ok(None),
     }
-}
-
-/// The number of the element at this index, counted from 1; one past the greatest u32 stands as that one.
-fn ordinal(index: usize) -> u32
-    ensures { result ≡ shape.ordinal index }
-{
-    u32::try_from(index).unwrap_or(u32::MAX).saturating_add(1)
-}
-
-/// The value at a key.
-fn member<'a>(table: &'a Table, key: &str) -> Option<&'a Value>
-    ensures { option_map (λ value. view value.now) result ≡ get_member key.now (table_view table.now) }
-{
-    table.get(key)
-}
-
-/// The whole number at a key.
-#[tactic(auto, unfolding(crate::specs::Table::number_at))]
-fn number_at(table: &Table, key: &str, place: Place) -> Result<u32, NetFault>
-    ensures { GivesAt place (λ number. number) result (spec.number_at key.now (table_view table.now)) }
-{
-    match member(table, key) {
-        Some(value) => match value.as_integer() {
-            Some(number) => Ok(field_of(number)),
-            None => Err(NetFault::Shape(place)),
-        },
-        None => Err(NetFault::Shape(place)),
-    }
-}
-
-/// The number, or the greatest u32 where it is no u32.
-fn field_of(number: i64) -> u32
-    ensures { result ≡ spec.field_of number }
-{
-    if (0..=4_294_967_295).contains(&number) {
-        number as u32
-    } else {
-        u32::MAX
-    }
-}
-
-/// The text at a key.
-#[tactic(auto, unfolding(crate::specs::Table::text_at))]
-fn text_at<'a>(table: &'a Table, key: &str, place: Place) -> Result<&'a str, NetFault>
-    ensures { GivesAt place (λ text. text.now) result (spec.text_at key.now (table_view table.now)) }
-{
-    match member(table, key) {
-        Some(value) => value.as_str().ok_or(NetFault::Shape(place)),
-        None => Err(NetFault::Shape(place)),
-    }
-}
-
-/// The text at a key that may be absent.
-#[tactic(auto, unfolding(crate::specs::Table::optional_text_at))]
-fn optional_text_at<'a>(
-    table: &'a Table,
-    key: &str,
-    place: Place,
-) -> Result<Option<&'a str>, NetFault>
-    ensures { GivesAt place (λ text. option_copied text) result (spec.optional_text_at key.now (table_view table.now)) }
-{
-    match member(table, key) {
-        Some(value) => match value.as_str() {
-            Some(text) => Ok(Some(text)),
-            None => Err(NetFault::Shape(place)),
-        },
-        None => Ok(None),
-    }
-}
-
-/// The table that the value is.
-fn table_of(value: &Value, place: Place) -> Result<&Table, NetFault>
-    ensures { GivesAt place (λ table. table_view table.now) result (as_table (view value.now)) }
-{
-    match value.as_table() {
-        Some(table) => Ok(table),
-        None => Err(NetFault::Shape(place)),
-    }
-}
-
-/// The table at a key.
-#[tactic(auto, unfolding(crate::specs::Table::table_at))]
-fn table_at<'a>(table: &'a Table, key: &str, place: Place) -> Result<&'a Table, NetFault>
-    ensures { GivesAt place (λ found. table_view found.now) result (spec.table_at key.now (table_view table.now)) }
-{
-    match member(table, key) {
-        Some(value) => table_of(value, place),
-        None => Err(NetFault::Shape(place)),
-    }
-}
-
-/// The elements of the array that the value is.
-fn list_of(value: &Value, place: Place) -> Result<&[Value], NetFault>
-    ensures { GivesAt place (λ values. map view values.now) result (option_map spec.list_of (as_array (view value.now))) }
-{
-    match value.as_array() {
-        Some(values) => Ok(values.as_slice()),
-        None => Err(NetFault::Shape(place)),
-    }
-}
-
-/// The elements of the array at a key.
-#[tactic(auto, unfolding(crate::specs::Table::list_at))]
-fn list_at<'a>(table: &'a Table, key: &str, place: Place) -> Result<&'a [Value], NetFault>
-    ensures { GivesAt place (λ values. map view values.now) result (spec.list_at key.now (table_view table.now)) }
-{
-    match member(table, key) {
-        Some(value) => list_of(value, place),
-        None => Err(NetFault::Shape(place)),
-    }
-}
-
-/// The array at a key; an absent one is empty.
-#[tactic(auto, unfolding(crate::specs::Table::optional_list_at))]
-fn optional_list_at<'a>(table: &'a Table, key: &str, place: Place) -> Result<&'a [Value], NetFault>
-    ensures { GivesAt place (λ values. map view values.now) result (spec.optional_list_at key.now (table_view table.now)) }
-{
-    match member(table, key) {
-        Some(value) => list_of(value, place),
-        None => Ok(&[]),
-    }
-}
-
-/// The table, which must have no key beside these.
-#[tactic(auto, unfolding(crate::specs::Table::only))]
-fn only<'a>(table: &'a Table, keys: &[&str], place: Place) -> Result<&'a Table, NetFault>
-    ensures { GivesAt place (λ table. table_view table.now) result (spec.only (map (λ key. key.now) keys.now) (table_view table.now)) }
-{
-    if has_only(table, keys) {
-        Ok(table)
-    } else {
-        Err(NetFault::Shape(place))
-    }
-}
-
-/// Whether each key of the table is one of these. It stops at the first that is not.
-fn has_only(table: &Table, keys: &[&str]) -> bool
-    ensures { result ≡ spec.has_only (map (λ key. key.now) keys.now) (table_view table.now) }
-{
-    table.keys().all(|key| is_one_of(key.as_str(), keys))
-}
-
-/// Whether the key is one of these.
-fn is_one_of(key: &str, keys: &[&str]) -> bool
-    ensures { result ≡ list_any (λ other. bytes_eq key.now other.now) keys.now }
-{
-    keys.iter().any(|other| key == *other)
 }

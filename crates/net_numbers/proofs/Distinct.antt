@@ -1,26 +1,17 @@
 -- Names of which no two are the same.
-use Rattle.std.proofs.Common.{◌≡◌, ◌≢◌, ℕ, zero, suc, ◌+◌, ◌-◌, ◌<◌, Bool, true, false, not, ◌||◌, List, [], ◌∷◌, ◌++◌, length, get_or, take, map, if◌then◌else◌, Option, Some, None, is_none, refl, ap, ◌∙◌, sym, arith, length-take, IsNone, IfSome, Contains, slice_get, ◌↔◌}
+use Rattle.std.proofs.Common.{◌≡◌, ◌≢◌, ℕ, ◌+◌, ◌<◌, Bool, true, false, not, List, [], ◌∷◌, ◌++◌, length, get_or, take, map, if◌then◌else◌, Option, Some, None, is_none, refl, ap, ◌∙◌, sym, arith, length-take, IsNone, IfSome, Contains, slice_get, ◌↔◌}
 use Rattle.std.proofs.lemmas.Bool.{true≢false}
 use Rattle.std.proofs.lemmas.List.{get_or-take, get_or-map, length-map, take-map, map_more}
 use Rattle.std.proofs.lemmas.List.Quantifiers.{all_pairs_push, position-Some}
 use Rattle.std.proofs.lemmas.Slice.Eq.{bytes_eq-Decides}
 use Rattle.std.proofs.lemmas.Option.{slice_get-get_or, slice_get_read, slice_get_within, get_or_from_slice_get}
-use Rattle.std.specs.List.{list_any}
 use Rattle.std.specs.Str.{bytes_eq}
+use Rattle.foundation.specs.Firsts.{FromOne}
+use Rattle.foundation.proofs.FirstLaws.{FromOne-at}
 use Rattle.net_numbers.specs.FirstFaults.{IsFirstTwice}
 use Rattle.net_numbers.specs.Numbers.{AreDistinct, number_of}
 use Rattle.net_numbers.proofs.Known.{number_of-known}
-use Rattle.net_numbers.proofs.Places.{list_any-position}
-
-or_true : (b : Bool) → (b || true) ≡ true
-or_true true = refl
-or_true false = refl
-
--- an element that passes is among those that any passes
-pub list_any-at : {X : Type 0} (p : X → Bool) (xs : List X) (k : ℕ) (d : X) → k < length xs → p (get_or xs k d) ≡ true → list_any p xs ≡ true
-list_any-at p [] k d h here = absurd (omega arith)
-list_any-at p (x ∷ xs) zero d h here = rw here
-list_any-at p (x ∷ xs) (suc k) d h here = rw (list_any-at p xs k d (omega arith) here) (or_true (p x))
+use Rattle.foundation.proofs.PositionLaws.{list_any-at, list_any-position}
 
 -- a name that has no number yet is a new one
 pub AreDistinct-push : (names : List (List ℕ)) (name : List ℕ) → AreDistinct names → is_none (number_of names name) ≡ true → AreDistinct (names ++ name ∷ [])
@@ -39,30 +30,28 @@ Contains-old names name old = by (number_of names name) refl old
     by (Some k) e none = number_of-known names name k e
 
 -- where a name stands before its own place, not all names differ
-pub IsFirstTwice-not : (names : List (List ℕ)) (number : ℕ) → IsFirstTwice names number → AreDistinct names → ⊥
-IsFirstTwice-not names number first differ =
+pub IsFirstTwice-not : (names : List (List ℕ)) (index : ℕ) → IsFirstTwice names index → AreDistinct names → ⊥
+IsFirstTwice-not names index first differ =
     let (k, within, same) = first.again in
-    let below : k < number - 1 = omega (arith, length-take (number - 1) names) in
-    let there = get_or_from_slice_get names (number - 1) first.name first.name first.there in
-    differ k (number - 1) first.name below (slice_get_within names (number - 1) first.name first.there)
-    (sym (get_or-take (number - 1) names k first.name below) ∙ same ∙ sym there)
+    let below : k < index = omega (arith, length-take index names) in
+    let there = get_or_from_slice_get names index first.name first.name first.there in
+    differ k index first.name below (slice_get_within names index first.name first.there)
+    (sym (get_or-take index names k first.name below) ∙ same ∙ sym there)
 
 -- a loop over elements with names: the element at i, after the names of those before it
 module _ {X : Type 0} (f : X → List ℕ) (xs : List X) (i : ℕ) (x : X) (h : i < length xs) (at : x ≡ get_or xs i x) (names : List (List ℕ)) (name : List ℕ) (added : Bool)
     (same : names ≡ map f (take i xs)) (its : name ≡ f x) (tells : added ≡ is_none (number_of names name)) where
-  pub names-twice : (number : ℕ) → number ≡ i + 1 → added ≡ false → AreDistinct names → IsFirstTwice (map f xs) number
+  pub names-twice : (number : ℕ) → number ≡ i + 1 → added ≡ false → AreDistinct names → FromOne (IsFirstTwice (map f xs)) number
   names-twice number is old differ =
-      let index : number - 1 ≡ i = omega arith in
       let inside : i < length (map f xs) = simp length-map h in
       let here : name ≡ get_or (map f xs) i name = its ∙ ap f at ∙ sym (get_or-map f xs i x name h) in
-      let earlier : take (number - 1) (map f xs) ≡ names = rw (index, take-map f i xs, ← same) refl in
-      record {
+      let earlier : take i (map f xs) ≡ names = rw (take-map f i xs, ← same) refl in
+      FromOne-at (IsFirstTwice (map f xs)) i number is (record {
         name = name;
-        from_one = omega arith;
-        there = rw index (slice_get_read (map f xs) (length (map f xs)) i name refl inside here);
+        there = slice_get_read (map f xs) (length (map f xs)) i name refl inside here;
         before = rw earlier differ;
         again = rw earlier (Contains-old names name (sym tells ∙ old));
-      }
+      })
 
   pub names-more : (new : List (List ℕ)) → added ≡ true → new ≡ (if added then names ++ name ∷ [] else names) → AreDistinct names → (new ≡ map f (take (i + 1) xs)) × AreDistinct new
   names-more new fresh is differ =

@@ -5,14 +5,14 @@ use Rattle.std.proofs.lemmas.Option.{same_Some}
 use Rattle.std.proofs.lemmas.Slice.Eq.{bytes_eq-Decides}
 use Rattle.std.specs.Str.{bytes_eq}
 use Rattle.foundation.specs.Options.{◌>>=◌}
-use Rattle.net_draft.specs.Faults.{each}
-use Rattle.net_draft.proofs.Each.{bind-some}
+use Rattle.foundation.specs.Options.{each}
+use Rattle.foundation.proofs.OptionLaws.{bind-some}
 use Rattle.net_draft.specs.declared.drafts.Draft.{Draft}
 use Rattle.net_draft.specs.declared.drafts.DraftLink.{DraftLink}
 use Rattle.net_numbers.specs.declared.roads.Link.{Link}
 use Rattle.net_numbers.specs.declared.roads.Turn.{Turn}
 use Rattle.net_numbers.specs.Numbers.{Net, AreDistinct, number_of, number_if, plan_of, phases_of, link_of, turns_of, conflict_of, roads_of, node_names, link_names, numbered}
-use Rattle.net_numbers.proofs.Places.{position-first}
+use Rattle.foundation.proofs.PositionLaws.{position-first}
 
 -- the parts of the network of a draft
 pub record IsNumbered (d : Draft) (net : Net) : Type 0 where

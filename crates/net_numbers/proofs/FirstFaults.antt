@@ -1,6 +1,7 @@
 -- The first fault of a draft.
-use Rattle.std.proofs.Common.{◌≡◌, ℕ, ◌+◌, ◌-◌, ◌<◌, List, length, get_or, take, All, Some, Result, Err, IfErr, refl, subst, arith}
-use Rattle.std.proofs.lemmas.Option.{slice_get_read, slice_get_within, get_or_from_slice_get}
+use Rattle.std.proofs.Common.{◌≡◌, ℕ, ◌-◌, All, Some, Result, Err, IfErr}
+use Rattle.foundation.specs.Firsts.{IsFirstAt, FromOne}
+use Rattle.foundation.proofs.FirstLaws.{FromOne-not}
 use Rattle.net_draft.specs.declared.drafts.Draft.{Draft}
 use Rattle.net_draft.specs.declared.faults.Part.{Part}
 use Rattle.net_draft.specs.declared.faults.Part.TheVariants.{Top, Run, Node, Phase, Link, Turn, Conflict}
@@ -8,26 +9,13 @@ use Rattle.net_draft.specs.declared.faults.Place.{Place}
 use Rattle.net_draft.specs.declared.faults.NetFault.{NetFault}
 use Rattle.net_draft.specs.declared.faults.NetFault.TheVariants.{NoMemory, NotToml, Shape, Bound, Twice, Unknown, Ends, Crowd, Shares, Phaseless, Clash}
 use Rattle.net_numbers.specs.declared.numbering.Parts.{Parts}
-use Rattle.net_numbers.specs.FirstFaults.{IsFirst, IsKnownPhase, IsKnownNode, IsKnownTurn, IsKnownLink, IsKnownConflict, IsUnknownInNode, IsUnknownInLink, IsTwiceFault, IsUnknownFault, FailsNumbers}
+use Rattle.net_numbers.specs.FirstFaults.{IsKnownPhase, IsKnownNode, IsKnownTurn, IsKnownLink, IsKnownConflict, IsUnknownInNode, IsUnknownInLink, IsTwiceFault, IsUnknownFault, FailsNumbers, Refuses}
 use Rattle.net_numbers.specs.Numbers.{Net, AreDistinct, node_names, link_names, numbered}
-use Rattle.net_numbers.specs.Outcome.{Refuses, IsBoundAt, IsTwiceAt, IsUnknownAt}
-use Rattle.net_numbers.specs.Parts.{Numbers}
+use Rattle.net_numbers.specs.Outcome.{IsBoundAt, IsTwiceAt, IsUnknownAt}
+use Rattle.net_numbers.specs.Parts.{IsNetOf}
 use Rattle.net_numbers.proofs.Distinct.{IsFirstTwice-not}
 use Rattle.net_numbers.proofs.DraftParts.{IsNumbered, numbered-parts}
 use Rattle.net_numbers.proofs.Known.{nodes-known, links-known, conflicts-known}
-
-module _ {X : Type 0} (good at_fault : X → Type 0) (xs : List X) where
-  -- at the exit of a loop: the element at i, after those before it
-  pub IsFirst-at : (i : ℕ) (x : X) (number : ℕ) → number ≡ i + 1 → i < length xs → x ≡ get_or xs i x → All good (take i xs) → at_fault x → IsFirst good at_fault xs number
-  IsFirst-at i x number is h at before here =
-      let index : number - 1 ≡ i = omega arith in
-      record { element = x; from_one = omega arith; there = rw index (slice_get_read xs (length xs) i x refl h at); before = rw index before; here = here }
-
-  -- then not all elements are good
-  IsFirst-not : (number : ℕ) → ((x : X) → at_fault x → good x → ⊥) → IsFirst good at_fault xs number → All good xs → ⊥
-  IsFirst-not number bad first all =
-      let there = get_or_from_slice_get xs (number - 1) first.element first.element first.there in
-      bad first.element first.here (subst good there (all (number - 1) first.element (slice_get_within xs (number - 1) first.element first.there)))
 
 -- what the fault of a part says of the whole
 pub IsBoundAt-weaker : (why why' : Place → Type 0) (fault : NetFault) → ((place : Place) → why place → why' place) → IsBoundAt why fault → IsBoundAt why' fault
@@ -86,21 +74,21 @@ module _ (d : Draft) where
   FailsNumbers-unknown nodes links why (Clash a b) f h = h
 
   -- the first fault of a link is the first of the draft, where all phases name links
-  pub IsUnknownFault-link : All (IsKnownNode (link_names d)) d.nodes → (part : Part) (item sub : ℕ) → IsFirst (IsKnownLink (node_names d) (link_names d)) (λ l. IsUnknownInLink (node_names d) (link_names d) l part sub) d.links item → IsUnknownFault d part item sub
-  IsUnknownFault-link nodes Top item sub first = first.here
-  IsUnknownFault-link nodes Run item sub first = first.here
-  IsUnknownFault-link nodes Node item sub first = first.here
-  IsUnknownFault-link nodes Phase item sub first = absurd first.here
+  pub IsUnknownFault-link : All (IsKnownNode (link_names d)) d.nodes → (part : Part) (item sub : ℕ) → FromOne (IsFirstAt (IsKnownLink (node_names d) (link_names d)) (λ l. IsUnknownInLink (node_names d) (link_names d) l part sub) d.links) item → IsUnknownFault d part item sub
+  IsUnknownFault-link nodes Top item sub first = first.at.here
+  IsUnknownFault-link nodes Run item sub first = first.at.here
+  IsUnknownFault-link nodes Node item sub first = first.at.here
+  IsUnknownFault-link nodes Phase item sub first = absurd first.at.here
   IsUnknownFault-link nodes Link item sub first = (nodes, first)
   IsUnknownFault-link nodes Turn item sub first = (nodes, first)
-  IsUnknownFault-link nodes Conflict item sub first = absurd first.here
+  IsUnknownFault-link nodes Conflict item sub first = absurd first.at.here
 
   IsTwiceFault-not : (part : Part) (item sub : ℕ) → IsTwiceFault d part item sub → AreDistinct (node_names d) → AreDistinct (link_names d) → ⊥
   IsTwiceFault-not Top item sub h nodes links = h
   IsTwiceFault-not Run item sub h nodes links = h
-  IsTwiceFault-not Node item sub h nodes links = IsFirstTwice-not (node_names d) item h.1 nodes
+  IsTwiceFault-not Node item sub h nodes links = IsFirstTwice-not (node_names d) (item - 1) h.1.at nodes
   IsTwiceFault-not Phase item sub h nodes links = h
-  IsTwiceFault-not Link item sub h nodes links = IsFirstTwice-not (link_names d) item h.2 links
+  IsTwiceFault-not Link item sub h nodes links = IsFirstTwice-not (link_names d) (item - 1) h.2.at links
   IsTwiceFault-not Turn item sub h nodes links = h
   IsTwiceFault-not Conflict item sub h nodes links = h
 
@@ -116,25 +104,25 @@ module _ (d : Draft) where
     IsUnknownFault-not Run item sub h = h
     IsUnknownFault-not Node item sub h = h
     IsUnknownFault-not Phase item sub h =
-        IsFirst-not (IsKnownNode (link_names d)) (λ n. IsUnknownInNode (link_names d) n sub) d.nodes item
-        (λ n no ok. IsFirst-not (IsKnownPhase (link_names d)) (λ p. IsKnownPhase (link_names d) p → ⊥) n.phases sub (λ p not yes. not yes) no ok) h known_nodes
+        FromOne-not (IsKnownNode (link_names d)) (λ n. IsUnknownInNode (link_names d) n sub) d.nodes item
+        (λ n no ok. FromOne-not (IsKnownPhase (link_names d)) (λ p. IsKnownPhase (link_names d) p → ⊥) n.phases sub (λ p not yes. not yes) no ok) h known_nodes
     IsUnknownFault-not Link item sub h =
-        IsFirst-not (IsKnownLink (node_names d) (link_names d)) (λ l. IsUnknownInLink (node_names d) (link_names d) l Link sub) d.links item (λ l no ok. no.1 ok.ends) h.1 known_links
+        FromOne-not (IsKnownLink (node_names d) (link_names d)) (λ l. IsUnknownInLink (node_names d) (link_names d) l Link sub) d.links item (λ l no ok. no.1 ok.ends) h.1 known_links
     IsUnknownFault-not Turn item sub h =
-        IsFirst-not (IsKnownLink (node_names d) (link_names d)) (λ l. IsUnknownInLink (node_names d) (link_names d) l Turn sub) d.links item
-        (λ l no ok. IsFirst-not (IsKnownTurn (link_names d)) (λ t. IsKnownTurn (link_names d) t → ⊥) l.turns sub (λ t not yes. not yes) no.1 ok.turns) h.1 known_links
+        FromOne-not (IsKnownLink (node_names d) (link_names d)) (λ l. IsUnknownInLink (node_names d) (link_names d) l Turn sub) d.links item
+        (λ l no ok. FromOne-not (IsKnownTurn (link_names d)) (λ t. IsKnownTurn (link_names d) t → ⊥) l.turns sub (λ t not yes. not yes) no.1 ok.turns) h.1 known_links
     IsUnknownFault-not Conflict item sub h =
-        IsFirst-not (IsKnownConflict (link_names d)) (λ c. IsKnownConflict (link_names d) c → ⊥) d.conflicts item (λ c not yes. not yes) h.3
+        FromOne-not (IsKnownConflict (link_names d)) (λ c. IsKnownConflict (link_names d) c → ⊥) d.conflicts item (λ c not yes. not yes) h.3
         (conflicts-known (link_names d) d.conflicts net.conflicts is.conflicts)
 
   -- so a fault comes only where the draft has no numbers
-  FailsNumbers-refuses : (fault : NetFault) → FailsNumbers d fault → Refuses fault ((net : Net) → AreDistinct (node_names d) → AreDistinct (link_names d) → numbered d ≡ Some net → ⊥)
+  FailsNumbers-refuses : (fault : NetFault) → FailsNumbers d fault → Refuses fault ((net : Net) → IsNetOf d net → ⊥)
   FailsNumbers-refuses NoMemory h = tt
   FailsNumbers-refuses NotToml h = h
   FailsNumbers-refuses (Shape place) h = h
   FailsNumbers-refuses (Bound place) h = absurd h
-  FailsNumbers-refuses (Twice place) h = λ net nodes links is. IsTwiceFault-not place.part place.item place.sub h nodes links
-  FailsNumbers-refuses (Unknown place) h = λ net nodes links is. IsUnknownFault-not net (numbered-parts d net is) place.part place.item place.sub h.2
+  FailsNumbers-refuses (Twice place) h = λ net it. IsTwiceFault-not place.part place.item place.sub h it.node_names it.link_names
+  FailsNumbers-refuses (Unknown place) h = λ net it. IsUnknownFault-not net (numbered-parts d net it.numbers) place.part place.item place.sub h.2
   FailsNumbers-refuses (Ends link) h = absurd h
   FailsNumbers-refuses (Crowd node) h = absurd h
   FailsNumbers-refuses (Shares link) h = absurd h
@@ -142,5 +130,5 @@ module _ (d : Draft) where
   FailsNumbers-refuses (Clash a b) h = absurd h
 
   -- at the exit of a `?`
-  pub numbered-fails : (fault : NetFault) (result : Result Parts NetFault) → result ≡ Err fault → FailsNumbers d fault → Numbers d result × IfErr result (FailsNumbers d)
+  pub numbered-fails : (fault : NetFault) (result : Result Parts NetFault) → result ≡ Err fault → FailsNumbers d fault → IfErr result (λ fault. Refuses fault ((net : Net) → IsNetOf d net → ⊥)) × IfErr result (FailsNumbers d)
   numbered-fails fault result is fails = rw is (FailsNumbers-refuses fault fails, fails)

@@ -1,13 +1,13 @@
 -- The names that a draft uses are there where they have numbers.
-use Rattle.std.proofs.Common.{◌≡◌, ℕ, List, [], ◌∷◌, get_or, map, All, Contains, Option, Some, None, IfSome, sym}
+use Rattle.std.proofs.Common.{◌≡◌, ℕ, List, get_or, map, All, Contains, Option, Some, None, IfSome, sym}
 use Rattle.std.proofs.lemmas.List.{get_or-map, length-map}
-use Rattle.std.proofs.lemmas.List.Elements.{All-nil, All-cons}
 use Rattle.std.proofs.lemmas.List.Quantifiers.{position-Some}
 use Rattle.std.proofs.lemmas.Slice.Eq.{bytes_eq-Decides}
 use Rattle.std.specs.Str.{bytes_eq}
 use Rattle.foundation.specs.Options.{◌>>=◌}
-use Rattle.net_draft.specs.Faults.{each}
-use Rattle.net_draft.proofs.Each.{bind-some}
+use Rattle.foundation.specs.Options.{each}
+use Rattle.foundation.proofs.EachLaws.{each-good}
+use Rattle.foundation.proofs.OptionLaws.{bind-some}
 use Rattle.net_draft.specs.declared.drafts.DraftNode.{DraftNode}
 use Rattle.net_draft.specs.declared.drafts.DraftPhase.{DraftPhase}
 use Rattle.net_draft.specs.declared.drafts.DraftLink.{DraftLink}
@@ -17,14 +17,6 @@ use Rattle.net_numbers.specs.declared.roads.Link.{Link}
 use Rattle.net_numbers.specs.declared.roads.Turn.{Turn}
 use Rattle.net_numbers.specs.Numbers.{number_of, number_if, phases_of, link_of, turn_of, turns_of, conflict_of}
 use Rattle.net_numbers.specs.FirstFaults.{IsKnownPhase, IsKnownNode, HasKnownEnds, IsKnownTurn, IsKnownLink, IsKnownConflict}
-
--- what gives a number is good, so all of a list are good where all give numbers
-pub each-good : {X Y : Type 0} (f : X → Option Y) (good : X → Type 0) → ((x : X) (y : Y) → f x ≡ Some y → good x) → (xs : List X) (ys : List Y) → each f xs ≡ Some ys → All good xs
-each-good f good step [] ys all = All-nil good
-each-good f good step (x ∷ xs) ys all =
-    let (y, here, rest) = bind-some (f x) (λ v. each f xs >>= λ vs. Some (v ∷ vs)) ys all in
-    let (zs, more, last) = bind-some (each f xs) (λ vs. Some (y ∷ vs)) ys rest in
-    All-cons good x xs (step x y here) (each-good f good step xs zs more)
 
 -- a name of a list
 pub number_of-known : (names : List (List ℕ)) (name : List ℕ) (n : ℕ) → number_of names name ≡ Some n → Contains names name

@@ -5,8 +5,9 @@ use Rattle.std.proofs.lemmas.List.{length-map, get_or-map, get_or_default}
 use Rattle.std.proofs.lemmas.List.Elements.{All-map, All-weaker}
 use Rattle.std.proofs.lemmas.Option.{same_Some}
 use Rattle.phase_plan.specs.Phases.{IsPlan}
-use Rattle.net_draft.specs.Faults.{each}
-use Rattle.net_draft.proofs.Each.{bind-some, each-length, each-at, each-All}
+use Rattle.foundation.specs.Options.{each}
+use Rattle.foundation.proofs.OptionLaws.{bind-some}
+use Rattle.foundation.proofs.EachLaws.{each-length, each-at, each-All}
 use Rattle.net_draft.specs.declared.drafts.Draft.{Draft}
 use Rattle.net_draft.specs.declared.drafts.DraftNode.{DraftNode}
 use Rattle.net_draft.specs.declared.drafts.DraftPhase.{DraftPhase}

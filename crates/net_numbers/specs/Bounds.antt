@@ -17,6 +17,7 @@ pub record IsName (name : List ℕ) : Type 0 where
   pub count : (1 ≤ length name) × (length name ≤ 16)
   pub bytes : All IsNameByte name
 
+-- the numbers of a run, and that a round is no longer than a planning looks ahead
 pub record IsRun (run : Run) : Type 0 where
   pub step : (1 ≤ run.step) × (run.step ≤ 30)
   pub look : (10 ≤ run.look) × (run.look ≤ 180)
@@ -24,6 +25,7 @@ pub record IsRun (run : Run) : Type 0 where
   pub gap : run.gap ≤ 10
   pub rounds : (1 ≤ run.rounds) × (run.rounds ≤ 600)
 
+-- a phase and how many links it names
 pub record IsBoundedPhase (p : DraftPhase) : Type 0 where
   pub phase : IsPhase p.phase
   pub links : length p.links ≤ 16
@@ -33,10 +35,12 @@ pub record HasNodeBounds (n : DraftNode) : Type 0 where
   pub name : IsName n.name
   pub count : (2 ≤ length n.phases) × (length n.phases ≤ 4)
 
+-- a node with its phases
 pub record IsBoundedNode (n : DraftNode) : Type 0 where
   pub own : HasNodeBounds n
   pub phases : All IsBoundedPhase n.phases
 
+-- a share is at most the whole
 abbrev pub IsBoundedTurn : DraftTurn → Type 0
 IsBoundedTurn t = t.share ≤ 1000
 
@@ -47,6 +51,7 @@ pub record HasLinkBounds (l : DraftLink) : Type 0 where
   pub sat : (1 ≤ l.sat) × (l.sat ≤ 5000)
   pub count : length l.turns ≤ 16
 
+-- a link with its turns
 pub record IsBoundedLink (l : DraftLink) : Type 0 where
   pub own : HasLinkBounds l
   pub turns : All IsBoundedTurn l.turns
@@ -57,6 +62,7 @@ pub record HasCounts (d : Draft) : Type 0 where
   pub links : (1 ≤ length d.links) × (length d.links ≤ 320)
   pub conflicts : length d.conflicts ≤ 1024
 
+-- a draft with all in it
 pub record IsBounded (d : Draft) : Type 0 where
   pub counts : HasCounts d
   pub run : IsRun d.run

@@ -3,8 +3,7 @@ use Rattle.std.specs.Prelude.{◌≢◌, ℕ, ◌==◌, Bool, List, [], Option, 
 use Rattle.std.specs.List.{list_any}
 use Rattle.std.specs.Str.{bytes_eq}
 use Rattle.phase_plan.specs.declared.Phase.{Phase}
-use Rattle.foundation.specs.Options.{◌>>=◌}
-use Rattle.net_draft.specs.Faults.{each}
+use Rattle.foundation.specs.Options.{◌>>=◌, each}
 use Rattle.net_draft.specs.declared.drafts.Run.{Run}
 use Rattle.net_draft.specs.declared.drafts.Draft.{Draft}
 use Rattle.net_draft.specs.declared.drafts.DraftNode.{DraftNode}
@@ -53,9 +52,11 @@ abbrev pub phase_of : List (List (List ℕ)) → ℕ → Option ℕ → ℕ
 phase_of phase_links link None = 0
 phase_of phase_links link (Some node) = unwrap_or (position (has_link link) (slice_index_or phase_links node [])) 0
 
+-- the links of each phase of a node
 abbrev pub phases_of : List (List ℕ) → DraftNode → Option (List (List ℕ))
 phases_of links node = each (λ p. each (number_of links) p.links) node.phases
 
+-- a link by numbers
 unfoldable pub link_of : List (List ℕ) → List (List ℕ) → List (List (List ℕ)) → DraftLink → Option Link
 link_of nodes links phase_links l = do
   from ← number_if nodes l.from
@@ -63,11 +64,13 @@ link_of nodes links phase_links l = do
   link ← number_of links l.name
   Some (record { from = from; to = to; travel = l.travel; sat = l.sat; phase = phase_of phase_links link to })
 
+-- a turn by numbers
 unfoldable pub turn_of : List (List ℕ) → DraftTurn → Option Turn
 turn_of links t = do
   exit ← number_of links t.exit
   Some (record { exit = exit; share = t.share })
 
+-- the turns of a link
 abbrev pub turns_of : List (List ℕ) → DraftLink → Option (List Turn)
 turns_of links l = each (turn_of links) l.turns
 
@@ -78,16 +81,18 @@ roads_of nodes links phase_links ls = do
   turns ← each (turns_of links) ls
   Some (roads, turns)
 
+-- a conflict by numbers
 unfoldable pub conflict_of : List (List ℕ) → DraftConflict → Option (ℕ × ℕ)
 conflict_of links c = do
   a ← number_of links c.a
   b ← number_of links c.b
   Some (a, b)
 
--- the names of the nodes and of the links of a draft, in order
+-- the names of the nodes of a draft, in order
 abbrev pub node_names : Draft → List (List ℕ)
 node_names d = map (λ n. n.name) d.nodes
 
+-- the names of its links, in order
 abbrev pub link_names : Draft → List (List ℕ)
 link_names d = map (λ l. l.name) d.links
 

@@ -1,23 +1,12 @@
--- What the steps from a draft to a network answer.
+-- What the steps from a draft to a network answer. No public clause names these words.
 use Rattle.std.specs.Prelude.{◌≡◌, ℕ, List, Option, Some, Result, Ok, Err}
+use Rattle.foundation.specs.Firsts.{FromOne}
 use Rattle.net_draft.specs.declared.faults.Part.{Part}
 use Rattle.net_draft.specs.declared.faults.Place.{Place}
 use Rattle.net_draft.specs.declared.faults.NetFault.{NetFault}
 use Rattle.net_draft.specs.declared.faults.NetFault.TheVariants.{NoMemory, NotToml, Shape, Bound, Twice, Unknown}
 use Rattle.net_numbers.specs.FirstFaults.{IsFirstTwice}
 use Rattle.net_numbers.specs.Numbers.{AreDistinct}
-
--- A draft can be refused with the fault. Unless it is want of memory, the fact holds.
-abbrev pub Refuses : NetFault → Type 0 → Type 0
-Refuses NoMemory fact = Unit {0}
-Refuses NotToml fact = ⊥
-Refuses (Shape place) fact = ⊥
-Refuses _ fact = fact
-
--- a test answers Ok where the fact holds, and a fault only where it does not
-abbrev pub Tests : Type 0 → Result (Unit {0}) NetFault → Type 0
-Tests fact (Ok _) = fact
-Tests fact (Err fault) = Refuses fault (¬ fact)
 
 -- the fault is `Bound`, at a place where `why` holds
 abbrev pub IsBoundAt : (Place → Type 0) → NetFault → Type 0
@@ -44,7 +33,7 @@ Checks fact why (Err fault) = IsBoundAt why fault
 -- names were numbered in order, where no two are the same; otherwise the first that comes again is named, at its place
 abbrev pub Lists : Part → List (List ℕ) → Result (List (List ℕ)) NetFault → Type 0
 Lists part names (Ok made) = (made ≡ names) × AreDistinct names
-Lists part names (Err fault) = IsTwiceAt (λ place. (place.part ≡ part) × (place.sub ≡ 0) × IsFirstTwice names place.item) fault
+Lists part names (Err fault) = IsTwiceAt (λ place. (place.part ≡ part) × (place.sub ≡ 0) × FromOne (IsFirstTwice names) place.item) fault
 
 -- what was made, seen by `view`, is what the names stand for; otherwise a place is named where `why` holds
 abbrev pub Makes : {X Y : Type 0} → (X → Y) → Result X NetFault → Option Y → (Place → Type 0) → Type 0

@@ -7,24 +7,31 @@ use Rattle.net_numbers.specs.declared.roads.Turn.{Turn}
 use Rattle.net_numbers.specs.Bounds.{IsName, IsRun}
 use Rattle.net_numbers.specs.Numbers.{Net, AreDistinct, no_link, phase_of}
 
+-- the link with this number
 abbrev pub link_at : Net → ℕ → Link
 link_at net l = slice_index_or net.links l no_link
 
+-- its turns
 abbrev pub turns_at : Net → ℕ → List Turn
 turns_at net l = slice_index_or net.turns l []
 
+-- the plan of a node
 abbrev pub plan_at : Net → ℕ → List Phase
 plan_at net n = slice_index_or net.plans n []
 
+-- the links of each of its phases
 abbrev pub phases_at : Net → ℕ → List (List ℕ)
 phases_at net n = slice_index_or net.phase_links n []
 
+-- the links of one of its phases
 abbrev pub phase_links_at : Net → ℕ → ℕ → List ℕ
 phase_links_at net n k = slice_index_or (phases_at net n) k []
 
+-- the name of a node
 abbrev pub node_name_at : Net → ℕ → List ℕ
 node_name_at net n = slice_index_or net.node_names n []
 
+-- the name of a link
 abbrev pub link_name_at : Net → ℕ → List ℕ
 link_name_at net l = slice_index_or net.link_names l []
 

@@ -1,7 +1,8 @@
 //! The bounds of what stands in a draft.
-ghost use Rattle.std.specs.Prelude.{◌≡◌, ◌≤◌, ◌↔◌, IfErr, IsTrue, All, length};
-ghost use Rattle.net_numbers.specs.Outcome.{Tests, Checks};
-ghost use Rattle.net_numbers.specs.FirstFaults.{IsFirst, IsNodeFault, IsLinkFault, FailsBounds};
+ghost use Rattle.std.specs.Prelude.{◌≡◌, ◌≤◌, ◌↔◌, OnOk, IfErr, IsTrue, All, length};
+ghost use Rattle.foundation.specs.Firsts.{IsFirstAt, IsFirstNot, FromOne};
+ghost use Rattle.net_numbers.specs.Outcome.{Checks};
+ghost use Rattle.net_numbers.specs.FirstFaults.{IsNodeFault, IsLinkFault, FailsBounds, Refuses};
 ghost use Rattle.net_numbers.specs.Bounds.{IsNameByte, IsName, IsRun, HasCounts, HasNodeBounds, HasLinkBounds, IsBoundedPhase, IsBoundedNode, IsBoundedTurn, IsBoundedLink, IsBounded};
 
 use net_draft::{Draft, DraftLink, DraftNode, DraftPhase, DraftTurn, NetFault, Part, Place, Run};
@@ -10,7 +11,8 @@ use net_draft::{Draft, DraftLink, DraftNode, DraftPhase, DraftTurn, NetFault, Pa
 ///
 /// docs/FORMATS.md, "Places and faults".
 pub fn check_bounds(draft: &Draft) -> Result<(), NetFault>
-    ensures fact { Tests (IsBounded draft.now) result }
+    ensures ok { OnOk result (IsBounded draft.now) }
+    ensures refused { IfErr result (λ fault. Refuses fault (¬ IsBounded draft.now)) }
     ensures first { IfErr result (FailsBounds draft.now) }
 {
     if !has_counts(draft) {
@@ -54,7 +56,7 @@ fn is_run(run: &Run) -> bool
 fn check_nodes(nodes: &[DraftNode]) -> Result<(), NetFault>
     requires { length nodes.now ≤ 64 }
     ensures { Checks (All IsBoundedNode nodes.now)
-        (λ place. IsFirst IsBoundedNode (λ n. IsNodeFault n place.part place.sub) nodes.now place.item) result }
+        (λ place. FromOne (IsFirstAt IsBoundedNode (λ n. IsNodeFault n place.part place.sub) nodes.now) place.item) result }
 {
     for (index, node) in nodes.iter().enumerate() {
         check_node(node, index as u32 + 1)?;
@@ -85,7 +87,7 @@ fn check_phases(phases: &[DraftPhase], item: u32) -> Result<(), NetFault>
     requires { length phases.now ≤ 4 }
     ensures { Checks (All IsBoundedPhase phases.now)
         (λ place. (place.part ≡ Part.Phase) × (place.item ≡ item)
-        × IsFirst IsBoundedPhase (λ p. ¬ IsBoundedPhase p) phases.now place.sub) result }
+        × FromOne (IsFirstNot IsBoundedPhase phases.now) place.sub) result }
 {
     for (index, phase) in phases.iter().enumerate() {
         if !is_bounded_phase(phase) {
@@ -106,7 +108,7 @@ fn is_bounded_phase(phase: &DraftPhase) -> bool
 fn check_links(links: &[DraftLink]) -> Result<(), NetFault>
     requires { length links.now ≤ 320 }
     ensures { Checks (All IsBoundedLink links.now)
-        (λ place. IsFirst IsBoundedLink (λ l. IsLinkFault l place.part place.sub) links.now place.item) result }
+        (λ place. FromOne (IsFirstAt IsBoundedLink (λ l. IsLinkFault l place.part place.sub) links.now) place.item) result }
 {
     for (index, link) in links.iter().enumerate() {
         check_link(link, index as u32 + 1)?;
@@ -140,7 +142,7 @@ fn check_turns(turns: &[DraftTurn], item: u32) -> Result<(), NetFault>
     requires { length turns.now ≤ 16 }
     ensures { Checks (All IsBoundedTurn turns.now)
         (λ place. (place.part ≡ Part.Turn) × (place.item ≡ item)
-        × IsFirst IsBoundedTurn (λ t. ¬ IsBoundedTurn t) turns.now place.sub) result }
+        × FromOne (IsFirstNot IsBoundedTurn turns.now) place.sub) result }
 {
     for (index, turn) in turns.iter().enumerate() {
         if turn.share > 1000 {

@@ -1,12 +1,13 @@
 //! Numbers for the names of a draft.
 ghost use Rattle.std.specs.Prelude.{◌≡◌, ◌≤◌, ◌<◌, IfOk, IfErr, IfSome, All, Contains, length, map, position};
-ghost use Rattle.net_draft.specs.Faults.{each};
+ghost use Rattle.foundation.specs.Firsts.{IsFirstAt, IsFirstNot, FromOne};
+ghost use Rattle.foundation.specs.Options.{each};
 ghost use Rattle.net_numbers.specs.Bounds.{IsBoundedNode, IsBoundedPhase, IsBounded};
-ghost use Rattle.net_numbers.specs.FirstFaults.{IsFirst, IsKnownPhase, IsKnownNode, HasKnownEnds, IsKnownTurn, IsKnownLink, IsKnownConflict, IsUnknownInNode, IsUnknownInLink, FailsNumbers};
+ghost use Rattle.net_numbers.specs.FirstFaults.{IsKnownPhase, IsKnownNode, HasKnownEnds, IsKnownTurn, IsKnownLink, IsKnownConflict, IsUnknownInNode, IsUnknownInLink, FailsNumbers, Refuses};
 ghost use Rattle.net_numbers.specs.Outcome.{Makes, Lists};
 ghost use Rattle.net_numbers.specs.Numbers as spec;
-ghost use Rattle.net_numbers.specs.Numbers.{number_of, number_if, has_link};
-ghost use Rattle.net_numbers.specs.Parts.{Numbers};
+ghost use Rattle.net_numbers.specs.Numbers.{Net, number_of, number_if, has_link};
+ghost use Rattle.net_numbers.specs.Parts.{net_of, IsNetOf};
 
 use crate::names::Names;
 use crate::roads::{Link, Turn};
@@ -40,7 +41,8 @@ pub struct Parts {
 #[tactic(auto, unfolding(crate::specs::Numbers::numbered))]
 pub fn numbered(alloc: Global, draft: &Draft) -> Result<Parts, NetFault>
     requires { IsBounded draft.now }
-    ensures numbers { Numbers draft.now result }
+    ensures ok { IfOk result (λ parts. IsNetOf draft.now (net_of parts)) }
+    ensures refused { IfErr result (λ fault. Refuses fault ((net : Net) → ¬ IsNetOf draft.now net)) }
     ensures first { IfErr result (FailsNumbers draft.now) }
 {
     let node_names = node_names(alloc, draft.nodes.as_slice())?;
@@ -146,7 +148,7 @@ fn phase_links(
     requires bounds { All IsBoundedNode nodes.now }
     ensures { Makes (λ lists. lists.items) result (each (spec.phases_of names.now) nodes.now)
         (λ place. (place.part ≡ Part.Phase)
-        × IsFirst (IsKnownNode names.now) (λ n. IsUnknownInNode names.now n place.sub) nodes.now place.item) }
+        × FromOne (IsFirstAt (IsKnownNode names.now) (λ n. IsUnknownInNode names.now n place.sub) nodes.now) place.item) }
 {
     let mut lists = Vec::new(alloc);
     for (index, node) in nodes.iter().enumerate() {
@@ -166,7 +168,7 @@ fn links_of_phases(
     requires { length phases.now ≤ 4 }
     ensures { Makes (λ lists. lists.items) result (each (λ p. each (number_of names.now) p.links) phases.now)
         (λ place. (place.part ≡ Part.Phase) × (place.item ≡ item)
-        × IsFirst (IsKnownPhase names.now) (λ p. ¬ IsKnownPhase names.now p) phases.now place.sub) }
+        × FromOne (IsFirstNot (IsKnownPhase names.now) phases.now) place.sub) }
 {
     let mut lists = Vec::new(alloc);
     for (index, phase) in phases.iter().enumerate() {
@@ -199,8 +201,8 @@ fn roads(
     requires own { All (λ l. Contains names.now.links.now l.name) links.now }
     ensures { Makes (λ roads. (roads.0.items, roads.1.items)) result
         (spec.roads_of names.now.nodes.now names.now.links.now names.now.phase_links.now links.now)
-        (λ place. IsFirst (IsKnownLink names.now.nodes.now names.now.links.now)
-        (λ l. IsUnknownInLink names.now.nodes.now names.now.links.now l place.part place.sub) links.now place.item) }
+        (λ place. FromOne (IsFirstAt (IsKnownLink names.now.nodes.now names.now.links.now)
+        (λ l. IsUnknownInLink names.now.nodes.now names.now.links.now l place.part place.sub) links.now) place.item) }
 {
     let mut roads = Vec::new(alloc);
     let mut lists = Vec::new(alloc);
@@ -276,7 +278,7 @@ fn turns(
     requires { length turns.now ≤ 16 }
     ensures { Makes (λ turns. turns.items) result (each (spec.turn_of names.now) turns.now)
         (λ place. (place.part ≡ Part.Turn) × (place.item ≡ item)
-        × IsFirst (IsKnownTurn names.now) (λ t. ¬ IsKnownTurn names.now t) turns.now place.sub) }
+        × FromOne (IsFirstNot (IsKnownTurn names.now) turns.now) place.sub) }
 {
     let mut numbered = Vec::new(alloc);
     for (index, turn) in turns.iter().enumerate() {
@@ -308,7 +310,7 @@ fn conflicts(
     requires { length conflicts.now ≤ 1024 }
     ensures { Makes (λ pairs. pairs.items) result (each (spec.conflict_of names.now) conflicts.now)
         (λ place. (place.part ≡ Part.Conflict) × (place.sub ≡ 0)
-        × IsFirst (IsKnownConflict names.now) (λ c. ¬ IsKnownConflict names.now c) conflicts.now place.item) }
+        × FromOne (IsFirstNot (IsKnownConflict names.now) conflicts.now) place.item) }
 {
     let mut pairs = Vec::new(alloc);
     for (index, conflict) in conflicts.iter().enumerate() {

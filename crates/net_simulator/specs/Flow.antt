@@ -12,6 +12,7 @@ pub record Passed : Type 0 where
   pub entered : ℕ
   pub left : ℕ
 
+-- nothing passed
 abbrev pub nothing : Passed
 nothing = record { entered = 0; left = 0 }
 
@@ -45,6 +46,7 @@ abbrev pub discharged_to : Net → (ℕ → Option (ℕ × ℕ)) → (ℕ → �
 discharged_to net shown past x l None = waiting net past x l
 discharged_to net shown past x l (Some node) = if may_go net past x l node (shown node) then min (link_at net l).sat (waiting net past x l) else 0
 
+-- what a link discharges in second x, by the node where it ends
 abbrev pub discharged : Net → (ℕ → Option (ℕ × ℕ)) → (ℕ → ℕ → Passed) → ℕ → ℕ → ℕ
 discharged net shown past x l = discharged_to net shown past x l (link_at net l).to
 

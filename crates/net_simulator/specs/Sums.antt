@@ -20,10 +20,11 @@ arrived net arriving n = total (λ x. total (arriving x) (length net.link_names)
 abbrev pub AreFew : Net → (ℕ → ℕ → ℕ) → Type 0
 AreFew net arriving = (n : ℕ) → arrived net arriving n ≤ 2000000000
 
--- all that left the network in the first n seconds, and all that is in it then
+-- all that left the network in the first n seconds
 abbrev pub gone : Net → (ℕ → ℕ → Passed) → ℕ → ℕ
 gone net past n = total (λ l. outward (link_at net l).to (past n l).left) (length net.link_names)
 
+-- all that is in it then
 abbrev pub on_road : Net → (ℕ → ℕ → Passed) → ℕ → ℕ
 on_road net past n = total (λ l. (past n l).entered - (past n l).left) (length net.link_names)
 

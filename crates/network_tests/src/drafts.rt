@@ -1,12 +1,15 @@
 //! Networks made of drafts.
-use crate::shown::{Asked, answered};
 use foundation::items::Items;
 use foundation::text::Text;
 use phase_plan::Phase;
-use road_net::{Draft, DraftConflict, DraftLink, DraftNode, DraftPhase, DraftTurn, Run, build};
+use road_net::{
+    Draft, DraftConflict, DraftLink, DraftNode, DraftPhase, DraftTurn, NetFault, Network, Part,
+    Place, Run, build,
+};
 use std::alloc::{AllocError, Global};
 use std::test::Fail;
 
+/// A text.
 fn text(alloc: Global, text: &str) -> Result<Text, AllocError> {
     Ok(Text::from_string(String::from_str(alloc, text)?))
 }
@@ -32,6 +35,7 @@ fn phase(alloc: Global, from: u32, to: u32) -> Result<DraftPhase, AllocError> {
     })
 }
 
+/// A node of two phases, which serve the entry links from `first` up to `last`.
 fn node(alloc: Global, name: &str, first: u32, last: u32) -> Result<DraftNode, AllocError> {
     let middle = first / 2 + last / 2;
     let mut phases = Vec::new(alloc);
@@ -43,6 +47,7 @@ fn node(alloc: Global, name: &str, first: u32, last: u32) -> Result<DraftNode, A
     })
 }
 
+/// The entry link with this number.
 fn entry_link(alloc: Global, number: u32) -> Result<DraftLink, AllocError> {
     let mut turns = Vec::new(alloc);
     turns.push(DraftTurn {
@@ -110,24 +115,44 @@ fn crossing(alloc: Global, entries: u32, further: u32) -> Result<Draft, AllocErr
     })
 }
 
+/// The nodes and links of a network that was made, or its fault.
+fn counts_of(made: Result<Network, NetFault>) -> Result<(u32, u32), NetFault> {
+    match made {
+        Ok(network) => Ok((network.nodes(), network.links())),
+        Err(fault) => Err(fault),
+    }
+}
+
+/// More of something than a network may have.
+const TOO_MANY: NetFault = NetFault::Bound(Place {
+    part: Part::Top,
+    item: 0,
+    sub: 0,
+});
+
+/// More links than a phase may serve.
+const TOO_MANY_SERVED: NetFault = NetFault::Bound(Place {
+    part: Part::Phase,
+    item: 1,
+    sub: 1,
+});
+
 /// How many entry links and further nodes a crossing has, and what it is as a network: its nodes and links, or its fault.
-const CROSSINGS: &[(u32, u32, &str)] = &[
-    (1, 0, "1 2"),
-    (16, 63, "64 17"),
-    (17, 0, "crowd 0"),
-    (1, 64, "bound top 0 0"),
-    (320, 0, "bound top 0 0"),
-    (34, 0, "bound phase 1 1"),
+const CROSSINGS: &[(u32, u32, Result<(u32, u32), NetFault>)] = &[
+    (1, 0, Ok((1, 2))),
+    (16, 63, Ok((64, 17))),
+    (17, 0, Err(NetFault::Crowd(0))),
+    (1, 64, Err(TOO_MANY)),
+    (320, 0, Err(TOO_MANY)),
+    (34, 0, Err(TOO_MANY_SERVED)),
 ];
 
 #[test]
 fn counts_of_nodes_and_entry_links(rt: HostRuntime) -> Result<(), Fail> {
     let alloc = rt.alloc();
-    for &(entries, further, line) in CROSSINGS {
+    for &(entries, further, wanted) in CROSSINGS {
         let made = build(alloc, crossing(alloc, entries, further)?);
-        let mut found = String::new(alloc);
-        answered(&mut found, made, &Asked::Counts)?;
-        assert_eq!(rt; found.as_str(), line);
+        assert_eq!(rt; counts_of(made), wanted);
     }
     Ok(())
 }

@@ -77,9 +77,11 @@ const PIECES: &[(&str, u32, u32)] = &[
 const SERVED: &str =
     "], least = 1, greatest = 240, yellow = 10, clear = 10, loss = 10, wait = 3600 }, ";
 
+/// A phase that serves no link.
 const SERVING_NONE: &str =
     "{ links = [], least = 1, greatest = 240, yellow = 10, clear = 10, loss = 10, wait = 3600 }, ";
 
+/// A node whose phases serve no link.
 const NODE: &str = r#"[[node]]
 name = "n#"
 phase = [
@@ -88,6 +90,7 @@ phase = [
 ]
 "#;
 
+/// A link that enters at the first node.
 const ENTRY_LINK: &str = r#"[[link]]
 name = "e#"
 to = "n0"
@@ -96,6 +99,7 @@ sat = 5000
 turn = [{ exit = "x0", share = 1000 }]
 "#;
 
+/// A link that enters at the second node.
 const OTHER_ENTRY_LINK: &str = r#"[[link]]
 name = "f#"
 to = "n1"
@@ -104,6 +108,7 @@ sat = 1
 turn = [{ exit = "y0", share = 1000 }]
 "#;
 
+/// A conflict, and the same reversed.
 const CONFLICTS: &str = r#"[[conflict]]
 a = "f0"
 b = "f15"
@@ -127,6 +132,7 @@ fn add_pieces(
     Ok(())
 }
 
+/// The text of the greatest network.
 fn greatest(alloc: Global) -> Result<String, AllocError> {
     let mut text = String::new(alloc);
     for &(piece, from, to) in PIECES {

@@ -14,6 +14,4 @@ mod refusals;
 #[cfg(test)]
 mod rows;
 #[cfg(test)]
-mod shown;
-#[cfg(test)]
 mod texts;

@@ -1,8 +1,8 @@
 //! Each fault at each kind of place, and what is accepted.
 use crate::orders::{BOUNDS_IN_ORDER, JOINS_IN_ORDER, NAMES_IN_ORDER, SHAPES_IN_ORDER, STAGES};
-use crate::rows::{TOLD, WRONG, misjudged};
-use crate::shown::{Asked, asked_of};
+use crate::rows::{TOLD, WRONG, fault_of, misjudged};
 use crate::texts::{BARE, WORKED};
+use road_net::{NetFault, Part, Place};
 use std::alloc::{AllocError, Global};
 use std::test::Fail;
 
@@ -243,6 +243,7 @@ x -> no table => toml";
 /// A change that changes nothing.
 const UNCHANGED: &str = "step = 5 -> step = 5 => ok";
 
+/// A change that changes nothing, of the text with empty arrays.
 const UNCHANGED_BARE: &str = "step = 5 -> step = 5 => bound top 0 0";
 
 /// The texts that are changed, the rows that change them, and what is told of those that are judged otherwise.
@@ -276,28 +277,35 @@ fn each_text_is_judged_as_its_row_says(rt: HostRuntime) -> Result<(), Fail> {
     Ok(())
 }
 
-/// What the worked network is judged with these bytes behind it.
-fn with_tail(alloc: Global, tail: &[u8]) -> Result<String, AllocError> {
+/// The fault of the worked network with these bytes behind it.
+fn with_tail(alloc: Global, tail: &[u8]) -> Result<Option<NetFault>, AllocError> {
     let mut bytes = Vec::from_slice(alloc, WORKED.as_bytes())?;
     bytes.extend_from_slice(tail)?;
-    asked_of(alloc, bytes.as_slice(), &Asked::Nothing)
+    Ok(fault_of(alloc, bytes.as_slice()))
 }
 
-/// Bytes behind the worked network, and what it is judged with them.
-const TAILS: &[(&[u8], &str)] = &[
-    (b"# \xc3\xa9", "ok"),
-    (b"# \xff\n", "toml"),
-    (b"# \xe2\x82", "toml"),
-    (b"c = \"\xc3\xa9\"\n", "shape conflict 2 0"),
-    (b"c = \"\xff\"\n", "toml"),
-    (b"c = \"\xc3\"\n", "toml"),
+/// A further key in the last table.
+const LAST_TABLE: NetFault = NetFault::Shape(Place {
+    part: Part::Conflict,
+    item: 2,
+    sub: 0,
+});
+
+/// Bytes behind the worked network, and its fault with them.
+const TAILS: &[(&[u8], Option<NetFault>)] = &[
+    (b"# \xc3\xa9", None),
+    (b"# \xff\n", Some(NetFault::NotToml)),
+    (b"# \xe2\x82", Some(NetFault::NotToml)),
+    (b"c = \"\xc3\xa9\"\n", Some(LAST_TABLE)),
+    (b"c = \"\xff\"\n", Some(NetFault::NotToml)),
+    (b"c = \"\xc3\"\n", Some(NetFault::NotToml)),
 ];
 
 #[test]
 fn bytes_that_are_no_text_are_no_toml(rt: HostRuntime) -> Result<(), Fail> {
     for &(tail, wanted) in TAILS {
         let found = with_tail(rt.alloc(), tail)?;
-        assert_eq!(rt; found.as_str(), wanted);
+        assert_eq!(rt; found, wanted);
     }
     Ok(())
 }

@@ -4,8 +4,8 @@
 //! `OLD -> NEW`, where OLD stands once in the text, or `ANCHOR .. OLD -> NEW`, where ANCHOR stands once in it
 //! and the first OLD behind it is changed. A bar is the end of a line. An edit that does not fit the text has
 //! an outcome of its own, which no row asks for.
-use crate::shown::{Asked, asked_of};
-use crate::texts::WORKED;
+use crate::texts::{WORKED, fault_named};
+use road_net::{NetFault, read_network};
 use std::alloc::{AllocError, Global};
 use std::test::Fail;
 
@@ -77,24 +77,46 @@ pub(crate) fn worked_with(alloc: Global, edits: &str) -> Result<String, Fail> {
     }
 }
 
-fn judged(alloc: Global, base: &str, edits: &str) -> Result<String, AllocError> {
-    match changed(alloc, base, edits)? {
-        Some(text) => asked_of(alloc, text.as_bytes(), &Asked::Nothing),
-        None => String::from_str(alloc, "an edit does not fit"),
+/// The fault of a text, or none where it is a network. Of a text that is too long for a test it is want of memory.
+pub(crate) fn fault_of(alloc: Global, bytes: &[u8]) -> Option<NetFault> {
+    if bytes.len() > 1_000_000 {
+        return Some(NetFault::NoMemory);
+    }
+    read_network(alloc, bytes).err()
+}
+
+/// Whether a text is judged as a row says: a network, or with this fault.
+fn is_judged(fault: Option<NetFault>, wanted: &str) -> bool {
+    match fault {
+        Some(fault) => fault_named(wanted) == Some(fault),
+        None => wanted == "ok",
     }
 }
 
-/// The rows that are not judged as they say, each with what it is judged.
+/// The rows that are not judged as they say, each with the fault of its text.
 pub(crate) fn misjudged(alloc: Global, base: &str, rows: &str) -> Result<String, AllocError> {
     let mut wrong = String::new(alloc);
     for row in rows.lines() {
         let (edits, wanted) = row.rsplit_once(" => ").unwrap_or((row, "no outcome"));
-        let found = judged(alloc, base, edits)?;
-        if found.as_str() != wanted {
-            write!(wrong, "{row}: {found}\n")?;
+        match changed(alloc, base, edits)? {
+            Some(text) => note_misjudged(&mut wrong, row, fault_of(alloc, text.as_bytes()), wanted)?,
+            None => write!(wrong, "{row}: an edit does not fit\n")?,
         }
     }
     Ok(wrong)
+}
+
+/// Writes the row with the fault of its text, where it is not judged so.
+fn note_misjudged(
+    wrong: &mut String,
+    row: &str,
+    fault: Option<NetFault>,
+    wanted: &str,
+) -> Result<(), AllocError> {
+    if !is_judged(fault, wanted) {
+        write!(wrong, "{row}: {fault:?}\n")?;
+    }
+    Ok(())
 }
 
 /// Rows that are wrong, or whose edits do not fit, with one that is right.
@@ -108,11 +130,11 @@ step = 5 => toml
 step = 5 -> step = 6"#;
 
 /// What is told of them.
-pub(crate) const TOLD: &str = r#"step = 5 -> step = 6 => toml: ok
+pub(crate) const TOLD: &str = r#"step = 5 -> step = 6 => toml: None
 step = 6 -> step = 7 => toml: an edit does not fit
 travel = 10 -> travel = 11 => toml: an edit does not fit
 name = "c" .. step = 5 -> step = 6 => toml: an edit does not fit
 name = "xb" .. step = 5 -> step = 6 => toml: an edit does not fit
 step = 5 => toml: an edit does not fit
-step = 5 -> step = 6: ok
+step = 5 -> step = 6: None
 "#;

@@ -1,6 +1,5 @@
-//! The worked network, and faults in words.
+//! The worked network, and the faults that words name.
 use road_net::{NetFault, Part, Place};
-use std::alloc::AllocError;
 
 /// Two nodes, a and b, with a link each way, a link that enters at each, and one that leaves at b.
 pub(crate) const WORKED: &str = "[run]
@@ -103,46 +102,56 @@ gap = 1
 rounds = 4
 ";
 
-fn part_name(part: Part) -> &'static str {
-    match part {
-        Part::Top => "top",
-        Part::Run => "run",
-        Part::Node => "node",
-        Part::Phase => "phase",
-        Part::Link => "link",
-        Part::Turn => "turn",
-        Part::Conflict => "conflict",
+/// The kind of table with this name.
+fn part_named(name: &str) -> Option<Part> {
+    match name {
+        "top" => Some(Part::Top),
+        "run" => Some(Part::Run),
+        "node" => Some(Part::Node),
+        "phase" => Some(Part::Phase),
+        "link" => Some(Part::Link),
+        "turn" => Some(Part::Turn),
+        "conflict" => Some(Part::Conflict),
+        _ => None,
     }
 }
 
-fn show_place(text: &mut String, word: &str, place: Place) -> Result<(), AllocError> {
-    let part = part_name(place.part);
-    let Place { item, sub, .. } = place;
-    write!(text, "{word} {part} {item} {sub}")?;
-    Ok(())
+/// The number that these digits spell.
+fn number(digits: &str) -> Option<u32> {
+    digits.parse::<u32>().ok()
 }
 
-fn show_number(text: &mut String, word: &str, number: u32) -> Result<(), AllocError> {
-    write!(text, "{word} {number}")?;
-    Ok(())
+/// The place that these words name: a kind of table, its item and its sub.
+fn place(words: &str) -> Option<Place> {
+    let (part, numbers) = words.split_once(' ')?;
+    let (item, sub) = numbers.split_once(' ')?;
+    Some(Place {
+        part: part_named(part)?,
+        item: number(item)?,
+        sub: number(sub)?,
+    })
 }
 
-/// Writes the fault in words, with nodes and links by their numbers from 0.
-pub(crate) fn show_fault(text: &mut String, fault: NetFault) -> Result<(), AllocError> {
-    match fault {
-        NetFault::NoMemory => text.push_str("no memory"),
-        NetFault::NotToml => text.push_str("toml"),
-        NetFault::Shape(place) => show_place(text, "shape", place),
-        NetFault::Bound(place) => show_place(text, "bound", place),
-        NetFault::Twice(place) => show_place(text, "twice", place),
-        NetFault::Unknown(place) => show_place(text, "unknown", place),
-        NetFault::Ends(link) => show_number(text, "ends", link),
-        NetFault::Crowd(node) => show_number(text, "crowd", node),
-        NetFault::Shares(link) => show_number(text, "shares", link),
-        NetFault::Phaseless(link) => show_number(text, "phaseless", link),
-        NetFault::Clash { a, b } => {
-            show_number(text, "clash", a)?;
-            show_number(text, "", b)
+/// The fault that these words name, with nodes and links by their numbers from 0.
+pub(crate) fn fault_named(words: &str) -> Option<NetFault> {
+    let (word, rest) = words.split_once(' ').unwrap_or((words, ""));
+    match word {
+        "toml" => Some(NetFault::NotToml),
+        "shape" => Some(NetFault::Shape(place(rest)?)),
+        "bound" => Some(NetFault::Bound(place(rest)?)),
+        "twice" => Some(NetFault::Twice(place(rest)?)),
+        "unknown" => Some(NetFault::Unknown(place(rest)?)),
+        "ends" => Some(NetFault::Ends(number(rest)?)),
+        "crowd" => Some(NetFault::Crowd(number(rest)?)),
+        "shares" => Some(NetFault::Shares(number(rest)?)),
+        "phaseless" => Some(NetFault::Phaseless(number(rest)?)),
+        "clash" => {
+            let (a, b) = rest.split_once(' ')?;
+            Some(NetFault::Clash {
+                a: number(a)?,
+                b: number(b)?,
+            })
         }
+        _ => None,
     }
 }

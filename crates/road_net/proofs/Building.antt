@@ -1,21 +1,30 @@
 -- The faults of a text and of a draft, from those of the steps that read them.
-use Rattle.std.proofs.Common.{◌≡◌, ℕ, List, None, Some, Result, Ok, Err, IfErr}
+use Rattle.std.proofs.Common.{◌≡◌, ℕ, List, None, Some, Result, Ok, Err, IfOk, IfErr}
 use Rattle.std.specs.Prelude.{IsUtf8}
 use Rattle.toml.specs.Data.{Members}
 use Rattle.toml.specs.Parse.{parse_document}
-use Rattle.net_draft.specs.Faults.{Gives, Misses, Blames}
+use Rattle.net_draft.specs.Faults.{Misses, Blames}
 use Rattle.net_draft.specs.FirstShape.{IsShapeFault}
 use Rattle.net_draft.specs.Table.{draft_of}
 use Rattle.net_draft.specs.declared.drafts.Draft.{Draft}
 use Rattle.net_draft.specs.declared.faults.NetFault.{NetFault}
-use Rattle.net_draft.specs.declared.faults.NetFault.TheVariants.{NoMemory, Shape, Bound, Twice, Unknown, Ends, Crowd, Shares, Phaseless, Clash}
+use Rattle.net_draft.specs.declared.faults.NetFault.TheVariants.{NoMemory, NotToml, Shape, Bound, Twice, Unknown, Ends, Crowd, Shares, Phaseless, Clash}
 use Rattle.net_numbers.specs.Bounds.{IsBounded}
-use Rattle.net_numbers.specs.FirstFaults.{FailsBounds, FailsNumbers}
+use Rattle.net_numbers.specs.FirstFaults.{FailsBounds, FailsNumbers, Refuses}
 use Rattle.net_numbers.specs.Numbers.{Net}
+use Rattle.net_numbers.specs.Parts.{IsNetOf}
 use Rattle.road_net.specs.FirstFaults.{IsJoinFault, IsNumbersOf, IsDraftFault}
+use Rattle.road_net.specs.Network.{IsNetworkOf}
 use Rattle.road_net.specs.Stored.{Drafts}
 
 module _ (d : Draft) where
+  -- a draft with no numbers for its names has no network
+  pub numbers-none : (fault : NetFault) → Refuses fault ((net : Net) → IsNetOf d net → ⊥) → Refuses fault ((net : Net) → IsNetworkOf d net → ⊥)
+  numbers-none NoMemory h = tt
+  numbers-none NotToml h = h
+  numbers-none (Shape place) h = h
+  numbers-none _ h = λ net of. h net (record { node_names = of.node_names; link_names = of.link_names; numbers = of.numbers })
+
   pub IsDraftFault-bounds : (fault : NetFault) → FailsBounds d fault → IsDraftFault d fault
   IsDraftFault-bounds (Bound place) h = h
   IsDraftFault-bounds _ h = absurd h
@@ -42,6 +51,6 @@ module _ (bytes : List ℕ) (table : Members) (utf8 : IsUtf8 bytes) (toml : pars
   Drafts-fault _ none first = absurd first
 
   -- what reading the text's table answers
-  pub Drafts-read : (result : Result Draft NetFault) → Gives (λ draft. draft) result (draft_of table) → IfErr result (λ fault. Blames fault (λ place. IsShapeFault table place.part place.item place.sub)) → Drafts bytes result
-  Drafts-read (Ok draft) is first = record { utf8 = utf8; table = table; toml = toml; form = is }
-  Drafts-read (Err fault) is first = Drafts-fault fault is first
+  pub Drafts-read : (result : Result Draft NetFault) → IfOk result (λ draft. draft_of table ≡ Some draft) → IfErr result (λ fault. Misses fault (draft_of table ≡ None)) → IfErr result (λ fault. Blames fault (λ place. IsShapeFault table place.part place.item place.sub)) → Drafts bytes result
+  Drafts-read (Ok draft) is none first = record { utf8 = utf8; table = table; toml = toml; form = is }
+  Drafts-read (Err fault) is none first = Drafts-fault fault none first

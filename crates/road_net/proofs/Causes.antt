@@ -7,7 +7,7 @@ use Rattle.net_draft.specs.declared.drafts.Draft.{Draft}
 use Rattle.net_draft.specs.declared.faults.NetFault.{NetFault}
 use Rattle.net_draft.specs.declared.faults.NetFault.TheVariants.{NoMemory, NotToml, Shape}
 use Rattle.net_numbers.specs.Numbers.{Net}
-use Rattle.net_numbers.specs.Outcome.{Refuses}
+use Rattle.net_numbers.specs.FirstFaults.{Refuses}
 use Rattle.road_net.specs.FirstFaults.{IsDraftFault}
 use Rattle.road_net.specs.Network.{IsNetworkOf, IsDraftText, IsNetworkText, IsCause}
 use Rattle.road_net.specs.Stored.{Drafts}

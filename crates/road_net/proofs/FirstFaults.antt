@@ -1,21 +1,24 @@
 -- The first fault of a network, from the tests of its joins.
 use Rattle.std.proofs.Common.{◌≡◌, ℕ, ◌<◌, length, Result, Err, IfErr, IsErrAnd, List, All, ap, subst, sym}
 use Rattle.std.proofs.lemmas.Result.{err_from_is_err_and}
+use Rattle.foundation.specs.Firsts.{IsFirstWithout}
+use Rattle.foundation.proofs.ListLaws.{All-each}
 use Rattle.net_draft.specs.declared.faults.NetFault.{NetFault}
 use Rattle.net_draft.specs.declared.faults.NetFault.TheVariants.{NoMemory, Ends, Crowd, Shares, Phaseless, Clash}
 use Rattle.net_numbers.specs.declared.roads.Link.{Link}
 use Rattle.net_numbers.specs.declared.roads.Turn.{Turn}
 use Rattle.net_numbers.specs.Numbers.{Net, no_link}
 use Rattle.net_numbers.specs.declared.numbering.Parts.{Parts}
-use Rattle.net_numbers.specs.Outcome.{Refuses}
+use Rattle.net_numbers.specs.FirstFaults.{Refuses}
 use Rattle.net_numbers.specs.Parts.{net_of}
 use Rattle.road_net.specs.declared.NodeLinks.{NodeLinks}
-use Rattle.road_net.specs.FirstFaults.{IsFirstWithout, TestsEach, clash_at, IsJoinFault}
-use Rattle.road_net.specs.Joins.{HasEnds, HasEndsAt, AreRoomy, HasRoomAt, AreByNode, HasSharesAt, AreShared, IsPhasedAt, ArePhased, conflict_at, IsConflict, IsConflictAt}
+use Rattle.road_net.specs.FirstFaults.{IsJoinFault}
+use Rattle.road_net.specs.Stored.{TestsEach, clash_at, HasRoomAt}
+use Rattle.road_net.specs.Joins.{HasEnds, HasEndsAt, AreRoomy, AreByNode, HasSharesAt, AreShared, IsPhasedAt, ArePhased, conflict_at, IsConflict, IsConflictAt}
 use Rattle.road_net.specs.Network.{IsJoined}
 use Rattle.road_net.specs.Stored.{Joins, Links}
 use Rattle.road_net.specs.declared.joins.Side.TheVariants.{To}
-use Rattle.road_net.proofs.Joining.{All-each, roomy, crowded}
+use Rattle.road_net.proofs.Joining.{roomy, crowded}
 
 module _ (net : Net) where
   -- the fault of a test, where each of its faults is one of the joins

@@ -1,22 +1,18 @@
 -- What testing the joins of a network stands on.
-use Rattle.std.proofs.Common.{ℕ, ◌<◌, ◌^◌, List, length, get_or, sum_by, All, arith}
+use Rattle.std.proofs.Common.{ℕ, ◌<◌, ◌^◌, List, length, sum_by, arith}
 use Rattle.std.proofs.Math.Nat.{mul-le-mul_right}
-use Rattle.std.proofs.lemmas.List.{get_or_default}
 use Rattle.std.proofs.lemmas.List.Sums.{sum_by-le}
 use Rattle.net_numbers.specs.declared.roads.Link.{Link}
 use Rattle.net_numbers.specs.declared.roads.Turn.{Turn}
 use Rattle.net_numbers.specs.Outline.{AreTurns}
 use Rattle.road_net.specs.declared.joins.Side.TheVariants.{To}
-use Rattle.road_net.specs.FirstFaults.{IsFirstWithout}
-use Rattle.road_net.specs.Joins.{share_of, AreByNode, IsRoomy, AreRoomy, HasRoomAt}
+use Rattle.foundation.specs.Firsts.{IsFirstWithout}
+use Rattle.road_net.specs.Joins.{share_of, AreByNode, IsRoomy, AreRoomy}
+use Rattle.road_net.specs.Stored.{HasRoomAt}
 
 -- the sum of the shares of a link fits
 pub shares-small : (links : ℕ) (ts : List Turn) → AreTurns links ts → sum_by share_of ts < 2 ^ 32
 shares-small links ts bounds = omega (arith, sum_by-le share_of 1000 ts bounds.shares, mul-le-mul_right 1000 bounds.count)
-
--- what holds of the element at each index holds of all
-pub All-each : {X : Type 0} (P : X → Type 0) (xs : List X) (d : X) → ((k : ℕ) → k < length xs → P (get_or xs k d)) → All P xs
-All-each P xs d each k e h = rw (get_or_default xs k e d h) (each k h)
 
 -- lists of the links of each node, of which none is too long
 pub roomy : (links : List Link) (nodes : ℕ) (lists : List (List ℕ)) → AreByNode To links nodes lists → ((k : ℕ) → k < length lists → HasRoomAt lists k) → AreRoomy links nodes

@@ -10,7 +10,7 @@ use Rattle.std.proofs.lemmas.List.Sums.{sum_by_more}
 use Rattle.net_numbers.specs.declared.roads.Link.{Link}
 use Rattle.net_numbers.specs.declared.roads.Turn.{Turn}
 use Rattle.road_net.specs.Joins.{share_of, shares_to, part, split_of, HasShares}
-use Rattle.net_numbers.proofs.Places.{position-first, position-none}
+use Rattle.foundation.proofs.PositionLaws.{position-first, position-none}
 
 eqb-same : (a b : ℕ) → a ≡ b → eqb a b ≡ true
 eqb-same a b same = elim (eqb_tells a b) [ inl p ↦ p.0 | inr q ↦ absurd (q.1 same) ]

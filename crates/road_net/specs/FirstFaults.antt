@@ -1,6 +1,7 @@
 -- Which fault of a network is named. The tests go over the whole network one after another, each in the order of the file,
 -- and the first link, node or conflict that fails one is named: docs/FORMATS.md, "Places and faults".
-use Rattle.std.specs.Prelude.{◌≡◌, ℕ, ◌<◌, List, Some, Result, Ok, Err, length, All}
+use Rattle.std.specs.Prelude.{◌≡◌, ℕ, Some, length, All}
+use Rattle.foundation.specs.Firsts.{IsFirstWithout}
 use Rattle.net_draft.specs.declared.drafts.Draft.{Draft}
 use Rattle.net_draft.specs.declared.faults.NetFault.{NetFault}
 use Rattle.net_draft.specs.declared.faults.NetFault.TheVariants.{NoMemory, Bound, Twice, Unknown, Ends, Crowd, Shares, Phaseless, Clash}
@@ -8,23 +9,6 @@ use Rattle.net_numbers.specs.Bounds.{IsBounded}
 use Rattle.net_numbers.specs.FirstFaults.{IsBoundFault, IsTwiceFault, IsUnknownFault}
 use Rattle.net_numbers.specs.Numbers.{Net, AreDistinct, numbered, node_names, link_names}
 use Rattle.road_net.specs.Joins.{HasEnds, HasEndsAt, IsRoomy, AreRoomy, HasSharesAt, AreShared, IsPhasedAt, ArePhased, conflict_at, IsConflictAt}
-
--- the fact holds of each number before this one, and not of this one, which is below the count
-pub record IsFirstWithout (fact : ℕ → Type 0) (count number : ℕ) : Type 0 where
-  pub below : number < count
-  pub before : (k : ℕ) → k < number → fact k
-  pub here : ¬ fact number
-
--- A test of all numbers below the count answers Ok where the fact holds of each. A fault is want of memory, or the one that
--- names the first number of which the fact does not hold.
-abbrev pub TestsEach : (ℕ → NetFault) → (ℕ → Type 0) → ℕ → Result (Unit {0}) NetFault → Type 0
-TestsEach fault_at fact count (Ok _) = (k : ℕ) → k < count → fact k
-TestsEach fault_at fact count (Err NoMemory) = Unit {0}
-TestsEach fault_at fact count (Err fault) = (number : ℕ) × (fault ≡ fault_at number) × IsFirstWithout fact count number
-
--- the fault that names the conflict at this place
-abbrev pub clash_at : List (ℕ × ℕ) → ℕ → NetFault
-clash_at conflicts place = Clash (conflict_at conflicts place).0 (conflict_at conflicts place).1
 
 -- the pair of links is the first conflict of the file that can be none
 pub record IsFirstClash (net : Net) (pair : ℕ × ℕ) : Type 0 where

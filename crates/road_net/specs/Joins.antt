@@ -32,6 +32,7 @@ abbrev pub links_from : Side → ℕ → ℕ → List Link → List ℕ
 links_from side node first [] = []
 links_from side node first (l ∷ ls) = if is_node node (node_at side l) then first ∷ links_from side node (suc first) ls else links_from side node (suc first) ls
 
+-- the same of all links of a network
 abbrev pub links_of_node : Side → List Link → ℕ → List ℕ
 links_of_node side links node = links_from side node 0 links
 
@@ -49,6 +50,7 @@ IsRoomy links node = length (links_of_node To links node) ≤ 16
 abbrev pub AreRoomy : List Link → ℕ → Type 0
 AreRoomy links nodes = (node : ℕ) → node < nodes → IsRoomy links node
 
+-- the share of a turn, in thousandths
 abbrev pub share_of : Turn → ℕ
 share_of t = t.share
 
@@ -85,26 +87,27 @@ pub record IsConflict (links : List Link) (c : ℕ × ℕ) : Type 0 where
 abbrev pub conflict_at : List (ℕ × ℕ) → ℕ → ℕ × ℕ
 conflict_at conflicts place = slice_index_or conflicts place (0, 0)
 
--- what has to hold of the link with this number, of a node's list of links, and of the conflict at this place
+-- the link with this number has its ends
 abbrev pub HasEndsAt : List Link → ℕ → Type 0
 HasEndsAt links l = HasEnds (link_at links l)
 
-abbrev pub HasRoomAt : List (List ℕ) → ℕ → Type 0
-HasRoomAt lists node = length (slice_index_or lists node []) ≤ 16
-
+-- the link with this number has turns as it must
 abbrev pub HasSharesAt : List Link → List (List Turn) → ℕ → Type 0
 HasSharesAt links turns l = HasShares links (slice_index_or turns l []) (link_at links l).to
 
+-- phases name it as they must
 abbrev pub IsPhasedAt : List Link → List (List (List ℕ)) → ℕ → Type 0
 IsPhasedAt links phase_links l = IsPhased phase_links l (link_at links l).to
 
+-- the pair at this place can be a conflict
 abbrev pub IsConflictAt : List Link → List (ℕ × ℕ) → ℕ → Type 0
 IsConflictAt links conflicts place = IsConflict links (conflict_at conflicts place)
 
--- each link has turns as it must, and is named as it must
+-- each link has turns as it must
 abbrev pub AreShared : List Link → List (List Turn) → Type 0
 AreShared links turns = EachIndex links (HasSharesAt links turns)
 
+-- and phases name each as they must
 abbrev pub ArePhased : List Link → List (List (List ℕ)) → Type 0
 ArePhased links phase_links = EachIndex links (IsPhasedAt links phase_links)
 

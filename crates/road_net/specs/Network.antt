@@ -68,18 +68,19 @@ IsCause bytes NotToml = IsUtf8 bytes → parse_document bytes ≡ None
 IsCause bytes (Shape place) = HasNoDraft bytes place
 IsCause bytes fault = HasNoNetwork bytes fault
 
--- the links that end at a node and those that leave it, rising
+-- the links that end at a node, rising
 abbrev pub entry_links : Net → ℕ → List ℕ
 entry_links net n = joins.links_of_node To net.links n
 
+-- those that come from it, rising
 abbrev pub exit_links : Net → ℕ → List ℕ
 exit_links net n = joins.links_of_node From net.links n
 
--- the links on which a node hears another one, and those on which it tells one: its entry links that come from a node, and its
--- exit links that end at one, rising
+-- the links on which a node hears another one: its entry links that come from a node, rising
 abbrev pub heard_links : Net → ℕ → List ℕ
 heard_links net n = filter (λ l. is_some (link_at net l).from) (entry_links net n)
 
+-- those on which it tells one: its exit links that end at a node, rising
 abbrev pub told_links : Net → ℕ → List ℕ
 told_links net n = filter (λ l. is_some (link_at net l).to) (exit_links net n)
 

@@ -1,17 +1,18 @@
--- What the fields of the code stand for. No public clause names these words.
-use Rattle.std.specs.Prelude.{◌≡◌, ℕ, List, None, Result, Ok, Err, IsUtf8, length}
+-- What the fields of the code stand for, and what its steps answer. No public clause names these words.
+use Rattle.std.specs.Prelude.{◌≡◌, ℕ, ◌<◌, ◌≤◌, List, [], None, Result, Ok, Err, IsUtf8, length, slice_index_or}
+use Rattle.foundation.specs.Firsts.{IsFirstWithout}
 use Rattle.toml.specs.Parse.{parse_document}
 use Rattle.net_draft.specs.declared.faults.NetFault.{NetFault}
-use Rattle.net_draft.specs.declared.faults.NetFault.TheVariants.{NoMemory, NotToml, Shape}
+use Rattle.net_draft.specs.declared.faults.NetFault.TheVariants.{NoMemory, NotToml, Shape, Clash}
 use Rattle.net_draft.specs.declared.drafts.Draft.{Draft}
 use Rattle.net_numbers.specs.declared.numbering.Parts.{Parts}
 use Rattle.road_net.specs.declared.NodeLinks.{NodeLinks}
 use Rattle.road_net.specs.declared.joins.Side.TheVariants.{From, To}
-use Rattle.net_numbers.specs.Outcome.{Refuses}
+use Rattle.net_numbers.specs.FirstFaults.{Refuses}
 use Rattle.net_numbers.specs.Numbers.{Net}
 use Rattle.net_numbers.specs.Parts.{net_of}
 use Rattle.road_net.specs.FirstFaults.{IsJoinFault}
-use Rattle.road_net.specs.Joins.{AreByNode}
+use Rattle.road_net.specs.Joins.{AreByNode, conflict_at}
 use Rattle.road_net.specs.Network.{IsNetwork, IsJoined, IsDraftText, HasNoDraft}
 
 -- a network with the lists of links of each node
@@ -37,3 +38,18 @@ Drafts bytes (Err NoMemory) = Unit {0}
 Drafts bytes (Err NotToml) = IsUtf8 bytes → parse_document bytes ≡ None
 Drafts bytes (Err (Shape place)) = HasNoDraft bytes place
 Drafts bytes (Err _) = ⊥
+
+-- A test of all numbers below the count answers Ok where the fact holds of each. A fault is want of memory, or the one that
+-- names the first number of which the fact does not hold.
+abbrev pub TestsEach : (ℕ → NetFault) → (ℕ → Type 0) → ℕ → Result (Unit {0}) NetFault → Type 0
+TestsEach fault_at fact count (Ok _) = (k : ℕ) → k < count → fact k
+TestsEach fault_at fact count (Err NoMemory) = Unit {0}
+TestsEach fault_at fact count (Err fault) = (number : ℕ) × (fault ≡ fault_at number) × IsFirstWithout fact count number
+
+-- the fault that names the conflict at this place
+abbrev pub clash_at : List (ℕ × ℕ) → ℕ → NetFault
+clash_at conflicts place = Clash (conflict_at conflicts place).0 (conflict_at conflicts place).1
+
+-- the list of links of this node is not too long
+abbrev pub HasRoomAt : List (List ℕ) → ℕ → Type 0
+HasRoomAt lists node = length (slice_index_or lists node []) ≤ 16

@@ -1,8 +1,8 @@
 //! How the parts of a network are joined.
 ghost use Rattle.std.specs.Prelude.{◌≡◌, ◌≢◌, ◌≤◌, ◌<◌, ◌^◌, ◌↔◌, IsTrue, IfOk, OnOk, IfSome, ◌++◌, Some, [], All, AllPairs, length, slice_index_or, sum_by};
 ghost use Rattle.std.specs.List.{concat};
-ghost use Rattle.road_net.specs.FirstFaults.{TestsEach, clash_at};
-ghost use Rattle.road_net.specs.Joins.{HasEndsAt, HasRoomAt, link_at, node_at, is_node, links_of_node, AreByNode, HasShares, HasSharesAt, share_of, named_links, IsPhased, IsPhasedAt, IsConflict, IsConflictAt};
+ghost use Rattle.road_net.specs.Stored.{TestsEach, clash_at, HasRoomAt};
+ghost use Rattle.road_net.specs.Joins.{HasEndsAt, link_at, node_at, is_node, links_of_node, AreByNode, HasShares, HasSharesAt, share_of, named_links, IsPhased, IsPhasedAt, IsConflict, IsConflictAt};
 
 use foundation::items::Items;
 use net_draft::NetFault;

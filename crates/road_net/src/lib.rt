@@ -4,7 +4,7 @@
 ghost use Rattle.std.specs.Prelude.{◌≡◌, ◌<◌, ◌^◌, IfOk, IfErr, length};
 ghost use Rattle.net_draft.specs.Faults.{Unless};
 ghost use Rattle.net_numbers.specs.Numbers.{Net};
-ghost use Rattle.net_numbers.specs.Outcome.{Refuses};
+ghost use Rattle.net_numbers.specs.FirstFaults.{Refuses};
 ghost use Rattle.net_numbers.specs.Outline.{IsOutline};
 ghost use Rattle.net_numbers.specs.Parts.{net_of};
 ghost use Rattle.road_net.specs.FirstFaults.{IsJoinFault, IsDraftFault};
@@ -303,7 +303,7 @@ pub fn read_network(alloc: Global, bytes: &[u8]) -> Result<Network, NetFault>
     requires { length bytes.now < 2 ^ 32 }
     ensures ok { IfOk result (IsNetworkText bytes.now) }
     ensures refused { IfErr result (λ fault. Unless fault ((net : Net) → ¬ IsNetworkText bytes.now net)) }
-    ensures cause { IfErr result (IsCause bytes.now) }
+    ensures first { IfErr result (IsCause bytes.now) }
 {
     let draft = drafted(alloc, bytes)?;
     build(alloc, draft)

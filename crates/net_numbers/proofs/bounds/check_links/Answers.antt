@@ -2,15 +2,16 @@ use Rattle.std.proofs.Common.{◌∙◌, ap, Err}
 use Rattle.std.proofs.lemmas.Result.{err_from_is_err_and}
 use Rattle.net_numbers.specs.Bounds.{IsBoundedLink}
 use Rattle.net_numbers.specs.FirstFaults.{IsLinkFault}
-use Rattle.net_numbers.proofs.FirstFaults.{IsBoundAt-weaker, IsFirst-at}
-use Rattle.net_numbers.proofs.Loops.{All-step, All-end}
+use Rattle.net_numbers.proofs.FirstFaults.{IsBoundAt-weaker}
+use Rattle.foundation.proofs.FirstLaws.{FromOne-here}
+use Rattle.foundation.proofs.ListLaws.{All-step, All-end}
 use Rattle.net_numbers.proofs.bounds.check_links.Goals as goal
 
 pub returns-in_err-check_link : goal.returns-in_err-check_link
 returns-in_err-check_link c =
     let p = err_from_is_err_and c.from_residual.result c.from_residual.ensures.1 in
     rw (p.1 ∙ ap Err p.2) (IsBoundAt-weaker _ _ c.in_err-check_link.field-0.0
-    (λ place why. IsFirst-at IsBoundedLink (λ n. IsLinkFault n place.part place.sub) c.args.links.now c.loop-index.index c.index-links-index.result place.item why.0 c.loop-index-test.true c.index-links-index.is c.loop-index.invariant why.1)
+    (λ place why. FromOne-here IsBoundedLink (λ n. IsLinkFault n place.part place.sub) c.args.links.now c.loop-index.index c.index-links-index.result place.item why.0 c.loop-index-test.true c.index-links-index.is c.loop-index.invariant why.1)
     c.in_err-check_link.ensures)
 
 pub loop-index-preserved : goal.loop-index-preserved

@@ -1,12 +1,12 @@
 use Rattle.std.proofs.Common.{refl, arith}
 use Rattle.net_numbers.specs.Bounds.{IsBoundedTurn}
-use Rattle.net_numbers.proofs.FirstFaults.{IsFirst-at}
-use Rattle.net_numbers.proofs.Loops.{All-step, All-end}
+use Rattle.foundation.proofs.FirstLaws.{FromOne-here}
+use Rattle.foundation.proofs.ListLaws.{All-step, All-end}
 use Rattle.net_numbers.proofs.bounds.check_turns.Goals as goal
 
 pub returns-then-turn-gt1000 : goal.returns-then-turn-gt1000
 returns-then-turn-gt1000 c =
-    rw c.bound.ensures (refl, refl, IsFirst-at IsBoundedTurn (λ t. IsBoundedTurn t → ⊥) c.args.turns.now c.loop-index.index c.index-turns-index.result _ refl c.loop-index-test.true c.index-turns-index.is c.loop-index.invariant (λ ok. omega arith))
+    rw c.bound.ensures (refl, refl, FromOne-here IsBoundedTurn (λ t. IsBoundedTurn t → ⊥) c.args.turns.now c.loop-index.index c.index-turns-index.result _ refl c.loop-index-test.true c.index-turns-index.is c.loop-index.invariant (λ ok. omega arith))
 
 pub loop-index-preserved : goal.loop-index-preserved
 loop-index-preserved c =

@@ -1,8 +1,9 @@
 use Rattle.std.proofs.Common.{◌∙◌, ap, Err}
 use Rattle.std.proofs.lemmas.Result.{err_from_is_err_and}
 use Rattle.net_numbers.specs.Numbers.{conflict_of}
-use Rattle.net_draft.proofs.Each.{each-more}
-use Rattle.net_numbers.proofs.FirstFaults.{IsUnknownAt-weaker, IsFirst-at}
+use Rattle.foundation.proofs.EachLaws.{each-more}
+use Rattle.net_numbers.proofs.FirstFaults.{IsUnknownAt-weaker}
+use Rattle.foundation.proofs.FirstLaws.{FromOne-here}
 use Rattle.net_draft.specs.declared.faults.Place.{Place}
 use Rattle.net_numbers.specs.FirstFaults.{IsKnownConflict}
 use Rattle.net_numbers.proofs.Known.{conflicts-known}
@@ -18,7 +19,7 @@ returns-in_err-pair c =
     let same = why.0 ∙ c.place-place.ensures in (
       ap (λ (q : Place). q.part) same,
       ap (λ (q : Place). q.sub) same,
-      IsFirst-at (IsKnownConflict names) (λ x. IsKnownConflict names x → ⊥) c.args.conflicts.now c.loop-index.index c.index-conflicts-index.result place.item (ap (λ (q : Place). q.item) same) c.loop-index-test.true c.index-conflicts-index.is earlier why.1,
+      FromOne-here (IsKnownConflict names) (λ x. IsKnownConflict names x → ⊥) c.args.conflicts.now c.loop-index.index c.index-conflicts-index.result place.item (ap (λ (q : Place). q.item) same) c.loop-index-test.true c.index-conflicts-index.is earlier why.1,
     ))
     c.in_err-pair.ensures)
 

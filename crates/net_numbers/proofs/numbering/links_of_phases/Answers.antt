@@ -1,13 +1,14 @@
 use Rattle.std.proofs.Common.{◌∙◌, ap, sym, Err, Some}
 use Rattle.std.proofs.lemmas.Result.{err_from_is_err_and}
-use Rattle.net_draft.specs.Faults.{each}
+use Rattle.foundation.specs.Options.{each}
 use Rattle.net_draft.specs.declared.drafts.DraftPhase.{DraftPhase}
 use Rattle.net_numbers.specs.Numbers.{number_of}
-use Rattle.net_draft.proofs.Each.{each-more}
-use Rattle.net_numbers.proofs.FirstFaults.{IsUnknownAt-weaker, IsFirst-at}
+use Rattle.foundation.proofs.EachLaws.{each-more, each-good}
+use Rattle.net_numbers.proofs.FirstFaults.{IsUnknownAt-weaker}
+use Rattle.foundation.proofs.FirstLaws.{FromOne-here}
 use Rattle.net_draft.specs.declared.faults.Place.{Place}
 use Rattle.net_numbers.specs.FirstFaults.{IsKnownPhase}
-use Rattle.net_numbers.proofs.Known.{each-good, phase-known}
+use Rattle.net_numbers.proofs.Known.{phase-known}
 use Rattle.net_numbers.proofs.numbering.links_of_phases.Goals as goal
 
 pub returns-in_err-links : goal.returns-in_err-links
@@ -20,7 +21,7 @@ returns-in_err-links c =
     let same = why.0 ∙ c.place-place.ensures in (
       ap (λ (q : Place). q.part) same,
       ap (λ (q : Place). q.item) same,
-      IsFirst-at (IsKnownPhase names) (λ p. IsKnownPhase names p → ⊥) c.args.phases.now c.loop-index.index c.index-phases-index.result place.sub (ap (λ (q : Place). q.sub) same) c.loop-index-test.true c.index-phases-index.is earlier (rw c.as_slice.ensures at why.1),
+      FromOne-here (IsKnownPhase names) (λ p. IsKnownPhase names p → ⊥) c.args.phases.now c.loop-index.index c.index-phases-index.result place.sub (ap (λ (q : Place). q.sub) same) c.loop-index-test.true c.index-phases-index.is earlier (rw c.as_slice.ensures at why.1),
     ))
     c.in_err-links.ensures)
 

@@ -1,10 +1,10 @@
 use Rattle.std.proofs.Common.{◌∙◌, ap, Err}
 use Rattle.std.proofs.lemmas.Result.{err_from_is_err_and}
 use Rattle.net_numbers.specs.Numbers.{number_of}
-use Rattle.net_draft.proofs.Each.{each-more}
+use Rattle.foundation.proofs.EachLaws.{each-more}
 use Rattle.std.proofs.Common.{Contains}
 use Rattle.net_numbers.proofs.FirstFaults.{IsUnknownAt-weaker}
-use Rattle.net_numbers.proofs.Loops.{All-not}
+use Rattle.foundation.proofs.ListLaws.{All-not}
 use Rattle.net_numbers.proofs.numbering.numbers.Goals as goal
 
 pub returns-in_err-number : goal.returns-in_err-number

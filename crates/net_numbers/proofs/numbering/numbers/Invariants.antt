@@ -1,5 +1,5 @@
 use Rattle.std.proofs.Common.{◌≡◌, Some, take}
-use Rattle.net_draft.specs.Faults.{each}
+use Rattle.foundation.specs.Options.{each}
 use Rattle.net_numbers.specs.Numbers.{number_of}
 use Rattle.net_numbers.proofs.numbering.numbers.Given as goal
 

@@ -1,12 +1,13 @@
 use Rattle.std.proofs.Common.{◌∙◌, ap, sym, Err, Some}
 use Rattle.std.proofs.lemmas.Result.{err_from_is_err_and}
 use Rattle.net_numbers.specs.Numbers.{phases_of}
-use Rattle.net_draft.proofs.Each.{each-more}
+use Rattle.foundation.proofs.EachLaws.{each-more}
 use Rattle.net_numbers.specs.Bounds.{IsBoundedNode}
-use Rattle.net_numbers.proofs.FirstFaults.{IsUnknownAt-weaker, IsFirst-at}
+use Rattle.net_numbers.proofs.FirstFaults.{IsUnknownAt-weaker}
+use Rattle.foundation.proofs.FirstLaws.{FromOne-here}
 use Rattle.net_numbers.specs.FirstFaults.{IsKnownNode, IsUnknownInNode}
 use Rattle.net_numbers.proofs.Known.{nodes-known}
-use Rattle.net_numbers.proofs.Loops.{All-at}
+use Rattle.foundation.proofs.ListLaws.{All-at}
 use Rattle.net_numbers.proofs.numbering.phase_links.Goals as goal
 
 pub returns-in_err-phases : goal.returns-in_err-phases
@@ -16,7 +17,7 @@ returns-in_err-phases c =
     let earlier = nodes-known names _ c.loop-index.lists.items c.loop-index.invariant in
     rw (p.1 ∙ ap Err p.2) (IsUnknownAt-weaker _ _ c.in_err-phases.field-0.0
     (λ place why.
-    (why.0, IsFirst-at (IsKnownNode names) (λ n. IsUnknownInNode names n place.sub) c.args.nodes.now c.loop-index.index c.index-nodes-index.result place.item why.1 c.loop-index-test.true c.index-nodes-index.is earlier (rw c.as_slice.ensures at why.2)))
+    (why.0, FromOne-here (IsKnownNode names) (λ n. IsUnknownInNode names n place.sub) c.args.nodes.now c.loop-index.index c.index-nodes-index.result place.item why.1 c.loop-index-test.true c.index-nodes-index.is earlier (rw c.as_slice.ensures at why.2)))
     c.in_err-phases.ensures)
 
 pub links_of_phases-requires : goal.links_of_phases-requires

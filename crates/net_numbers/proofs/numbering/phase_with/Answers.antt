@@ -1,7 +1,7 @@
 use Rattle.std.proofs.Common.{[], sym}
 use Rattle.std.proofs.lemmas.List.{get_or_default}
 use Rattle.net_numbers.specs.Numbers.{has_link}
-use Rattle.net_numbers.proofs.Places.{position-first}
+use Rattle.foundation.proofs.PositionLaws.{position-first}
 use Rattle.net_numbers.proofs.numbering.phase_with.Goals as goal
 
 pub returns-then-contains : goal.returns-then-contains

@@ -1,13 +1,14 @@
 use Rattle.std.proofs.Common.{◌∙◌, ap, sym, Err, Some}
 use Rattle.std.proofs.lemmas.Result.{err_from_is_err_and}
-use Rattle.net_draft.proofs.Each.{each-more}
+use Rattle.foundation.proofs.EachLaws.{each-more}
 use Rattle.net_draft.specs.declared.faults.Part.TheVariants.{Link, Turn}
 use Rattle.net_numbers.specs.Numbers.{link_of, turns_of}
 use Rattle.std.proofs.Common.{Contains, refl}
-use Rattle.net_numbers.proofs.FirstFaults.{IsUnknownAt-weaker, IsFirst-at}
+use Rattle.net_numbers.proofs.FirstFaults.{IsUnknownAt-weaker}
+use Rattle.foundation.proofs.FirstLaws.{FromOne-here}
 use Rattle.net_numbers.specs.FirstFaults.{IsKnownLink, IsUnknownInLink}
 use Rattle.net_numbers.proofs.Known.{links-known, ends-known}
-use Rattle.net_numbers.proofs.Loops.{All-at}
+use Rattle.foundation.proofs.ListLaws.{All-at}
 use Rattle.net_draft.specs.declared.drafts.DraftLink.{DraftLink}
 use Rattle.net_numbers.proofs.numbering.roads.Goals as goal
 
@@ -23,7 +24,7 @@ returns-in_err-road c =
     let earlier = links-known links nodes c.args.names.now.phase_links.now _ c.loop-index.roads.items c.loop-index.lists.items c.loop-index.invariant.roads c.loop-index.invariant.turns in
     rw (p.1 ∙ ap Err p.2) (IsUnknownAt-weaker _ _ c.in_err-road.field-0.0
     (λ place why.
-    rw (why.0 ∙ c.place.ensures) (IsFirst-at (IsKnownLink nodes links) (λ l. IsUnknownInLink nodes links l Link 0) c.args.links.now c.loop-index.index c.index-links-index.result _ refl c.loop-index-test.true c.index-links-index.is earlier (refl, why.1)))
+    rw (why.0 ∙ c.place.ensures) (FromOne-here (IsKnownLink nodes links) (λ l. IsUnknownInLink nodes links l Link 0) c.args.links.now c.loop-index.index c.index-links-index.result _ refl c.loop-index-test.true c.index-links-index.is earlier (refl, why.1)))
     c.in_err-road.ensures)
 
 pub returns-in_err-turns : goal.returns-in_err-turns
@@ -36,7 +37,7 @@ returns-in_err-turns c =
     let ends = ends-known links nodes phase_links c.index-links-index.result c.in_ok-road.road c.in_ok-road.ensures in
     rw (p.1 ∙ ap Err p.2) (IsUnknownAt-weaker _ _ c.in_err-turns.field-0.0
     (λ place why.
-    rw why.0 (IsFirst-at (IsKnownLink nodes links) (λ l. IsUnknownInLink nodes links l Turn place.sub) c.args.links.now c.loop-index.index c.index-links-index.result place.item why.1 c.loop-index-test.true c.index-links-index.is earlier (ends, rw c.as_slice.ensures at why.2)))
+    rw why.0 (FromOne-here (IsKnownLink nodes links) (λ l. IsUnknownInLink nodes links l Turn place.sub) c.args.links.now c.loop-index.index c.index-links-index.result place.item why.1 c.loop-index-test.true c.index-links-index.is earlier (ends, rw c.as_slice.ensures at why.2)))
     c.in_err-turns.ensures)
 
 pub loop-index-preserved : goal.loop-index-preserved

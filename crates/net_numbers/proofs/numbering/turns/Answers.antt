@@ -1,11 +1,12 @@
 use Rattle.std.proofs.Common.{◌∙◌, ap, Err}
 use Rattle.std.proofs.lemmas.Result.{err_from_is_err_and}
 use Rattle.net_numbers.specs.Numbers.{turn_of}
-use Rattle.net_draft.proofs.Each.{each-more}
-use Rattle.net_numbers.proofs.FirstFaults.{IsUnknownAt-weaker, IsFirst-at}
+use Rattle.foundation.proofs.EachLaws.{each-more, each-good}
+use Rattle.net_numbers.proofs.FirstFaults.{IsUnknownAt-weaker}
+use Rattle.foundation.proofs.FirstLaws.{FromOne-here}
 use Rattle.net_draft.specs.declared.faults.Place.{Place}
 use Rattle.net_numbers.specs.FirstFaults.{IsKnownTurn}
-use Rattle.net_numbers.proofs.Known.{each-good, turn-known}
+use Rattle.net_numbers.proofs.Known.{turn-known}
 use Rattle.net_numbers.proofs.numbering.turns.Goals as goal
 
 pub returns-in_err-turn : goal.returns-in_err-turn
@@ -18,7 +19,7 @@ returns-in_err-turn c =
     let same = why.0 ∙ c.place.ensures in (
       ap (λ (q : Place). q.part) same,
       ap (λ (q : Place). q.item) same,
-      IsFirst-at (IsKnownTurn names) (λ t. IsKnownTurn names t → ⊥) c.args.turns.now c.loop-index.index c.index-turns-index.result place.sub (ap (λ (q : Place). q.sub) same) c.loop-index-test.true c.index-turns-index.is earlier why.1,
+      FromOne-here (IsKnownTurn names) (λ t. IsKnownTurn names t → ⊥) c.args.turns.now c.loop-index.index c.index-turns-index.result place.sub (ap (λ (q : Place). q.sub) same) c.loop-index-test.true c.index-turns-index.is earlier why.1,
     ))
     c.in_err-turn.ensures)
 

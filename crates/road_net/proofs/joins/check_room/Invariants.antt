@@ -1,5 +1,5 @@
 use Rattle.std.proofs.Common.{ℕ, ◌<◌}
-use Rattle.road_net.specs.Joins.{HasRoomAt}
+use Rattle.road_net.specs.Stored.{HasRoomAt}
 use Rattle.road_net.proofs.joins.check_room.Given as goal
 
 -- the lists so far have at most 16 links

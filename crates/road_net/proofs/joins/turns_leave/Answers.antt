@@ -2,7 +2,7 @@ use Rattle.std.proofs.Common.{◌≡◌, Some, rules}
 use Rattle.net_numbers.specs.declared.roads.Turn.{Turn}
 use Rattle.road_net.specs.Joins.{link_at}
 use Rattle.std.proofs.lemmas.List.Elements.{All-more}
-use Rattle.net_numbers.proofs.Loops.{All-end}
+use Rattle.foundation.proofs.ListLaws.{All-end}
 use Rattle.road_net.proofs.joins.turns_leave.Goals as goal
 
 pub loop-turn-preserved : goal.loop-turn-preserved

@@ -1,6 +1,6 @@
 use Rattle.std.proofs.Common.{◌∙◌, ap, not, string_bytes}
 use Rattle.std.specs.Str.{bytes_eq}
-use Rattle.net_numbers.proofs.Places.{list_any-position, position-map}
+use Rattle.foundation.proofs.PositionLaws.{list_any-position, position-map}
 use Rattle.net_numbers.proofs.names.Names.add.Goals as goal
 
 pub returns-clause-added : goal.returns-clause-added

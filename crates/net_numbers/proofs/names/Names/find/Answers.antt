@@ -1,6 +1,6 @@
 use Rattle.std.proofs.Common.{◌∙◌, ap, position, sym, string_bytes}
 use Rattle.std.specs.Str.{bytes_eq}
-use Rattle.net_numbers.proofs.Places.{position-map}
+use Rattle.foundation.proofs.PositionLaws.{position-map}
 use Rattle.net_numbers.proofs.names.Names.find.Goals as goal
 
 pub returns-in-Some : goal.returns-in-Some

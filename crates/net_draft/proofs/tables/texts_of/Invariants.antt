@@ -1,8 +1,8 @@
 use Rattle.std.proofs.Common.{◌≡◌, Some, take}
 use Rattle.toml.specs.Data.{as_str}
 use Rattle.toml.specs.View.{view}
-use Rattle.net_draft.specs.Faults.{each}
-use Rattle.net_draft.proofs.tables.read_texts.Given as goal
+use Rattle.foundation.specs.Options.{each}
+use Rattle.net_draft.proofs.tables.texts_of.Given as goal
 
 -- the texts are those of the values so far
 abbrev pub invariant-loop-value : goal.invariant-loop-value

@@ -4,7 +4,7 @@ use Rattle.std.proofs.lemmas.Iterator.Search.{all_from_yields_List}
 use Rattle.std.specs.List.{list_any}
 use Rattle.std.specs.Str.{bytes_eq}
 use Rattle.net_draft.proofs.Views.{has_only_view}
-use Rattle.net_draft.proofs.tables.has_only.Goals as goal
+use Rattle.net_draft.proofs.values.has_only.Goals as goal
 
 pub returns : goal.returns
 returns c =

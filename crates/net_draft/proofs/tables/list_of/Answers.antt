@@ -1,5 +1,0 @@
-use Rattle.net_draft.proofs.Views.{list_of-items_view}
-use Rattle.net_draft.proofs.tables.list_of.Goals as goal
-
-pub returns-in-Some : goal.returns-in-Some
-returns-in-Some c = rw (← c.in-Some.ensures, list_of-items_view, c.as_slice.ensures.value)

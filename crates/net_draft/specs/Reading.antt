@@ -1,0 +1,34 @@
+-- The course of the reader: which element of an array is at fault, and at which place. No public clause names these words.
+use Rattle.std.specs.Prelude.{◌≡◌, ℕ, List, Option, None, IsSome}
+use Rattle.toml.specs.Data.{Data}
+use Rattle.foundation.specs.Firsts.{IsFirstAt}
+use Rattle.net_draft.specs.FirstShape.{ordinal, IsNodeFault, IsLinkFault}
+use Rattle.net_draft.specs.Table.{phase_of, turn_of, conflict_of}
+use Rattle.net_draft.specs.declared.faults.Part.TheVariants.{Phase, Turn, Conflict}
+use Rattle.net_draft.specs.declared.faults.Place.{Place}
+
+-- The elements of an array in the table of this item: the first that f does not read is at fault, by its number, at the named
+-- place.
+pub record IsFaultAmong {Y : Type 0} (f : Data → Option Y) (at_fault : ℕ → ℕ → Data → Place → Type 0) (item : ℕ) (ds : List Data) (named : Place) : Type 0 where
+  pub index : ℕ
+  pub first : IsFirstAt (λ d. IsSome (f d)) (λ d. at_fault item (ordinal index) d named) ds index
+
+-- the node with this number is at fault, or one of its phases
+abbrev pub IsNodeAtFault : ℕ → ℕ → Data → Place → Type 0
+IsNodeAtFault item number d named = (named.item ≡ number) × IsNodeFault d named.part named.sub
+
+-- the link with this number, or one of its turns
+abbrev pub IsLinkAtFault : ℕ → ℕ → Data → Place → Type 0
+IsLinkAtFault item number d named = (named.item ≡ number) × IsLinkFault d named.part named.sub
+
+-- the phase with this number, of the node with this item
+abbrev pub IsPhaseAtFault : ℕ → ℕ → Data → Place → Type 0
+IsPhaseAtFault item number d named = (named ≡ record { part = Phase; item = item; sub = number }) × (phase_of d ≡ None)
+
+-- the turn with this number, of the link with this item
+abbrev pub IsTurnAtFault : ℕ → ℕ → Data → Place → Type 0
+IsTurnAtFault item number d named = (named ≡ record { part = Turn; item = item; sub = number }) × (turn_of d ≡ None)
+
+-- the conflict with this number
+abbrev pub IsConflictAtFault : ℕ → ℕ → Data → Place → Type 0
+IsConflictAtFault item number d named = (named ≡ record { part = Conflict; item = number; sub = 0 }) × (conflict_of d ≡ None)

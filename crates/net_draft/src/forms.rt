@@ -1,0 +1,146 @@
+//! The tables of a network file as they stand: each with its keys and no other, each of its kind. The tables within a table
+//! are not yet read.
+ghost use Rattle.std.specs.Prelude.{◌≡◌, MatchOption, option_map, option_copied, map};
+ghost use Rattle.toml.specs.Data.{as_table};
+ghost use Rattle.toml.specs.View.{view, table_view};
+ghost use Rattle.net_draft.specs.Table as spec;
+
+use crate::drafts::Run;
+use crate::values::{
+    list_at, number_at, only, optional_list_at, optional_text_at, table_at, text_at,
+};
+use phase_plan::Phase;
+use toml::{Table, Value};
+
+/// The table of the whole file.
+#[derive(Drop)]
+pub(crate) struct TopForm<'a> {
+    pub(crate) run: &'a Table,
+    pub(crate) nodes: &'a [Value],
+    pub(crate) links: &'a [Value],
+    pub(crate) conflicts: &'a [Value],
+}
+
+/// The own form of the whole file.
+#[tactic(auto, unfolding(crate::specs::Table::top_form))]
+pub(crate) fn top_form(table: &Table) -> Option<TopForm>
+    ensures { MatchOption result (spec.top_form (table_view table.now) ≡ None)
+        (λ top. spec.top_form (table_view table.now) ≡ Some (record { run = table_view top.run.now; nodes = map view top.nodes.now; links = map view top.links.now; conflicts = map view top.conflicts.now })) }
+{
+    let table = only(table, &["run", "node", "link", "conflict"])?;
+    Some(TopForm {
+        run: table_at(table, "run")?,
+        nodes: list_at(table, "node")?,
+        links: list_at(table, "link")?,
+        conflicts: optional_list_at(table, "conflict")?,
+    })
+}
+
+/// The numbers of the run.
+#[tactic(auto, unfolding(crate::specs::Table::run_of))]
+pub(crate) fn run_of(table: &Table) -> Option<Run>
+    ensures { result ≡ spec.run_of (table_view table.now) }
+{
+    let table = only(table, &["step", "look", "gap", "rounds"])?;
+    Some(Run {
+        step: number_at(table, "step")?,
+        look: number_at(table, "look")?,
+        gap: number_at(table, "gap")?,
+        rounds: number_at(table, "rounds")?,
+    })
+}
+
+/// The own form of a node: its name and its phases.
+#[tactic(auto, unfolding(crate::specs::Table::node_form))]
+pub(crate) fn node_form(value: &Value) -> Option<(&str, &[Value])>
+    ensures { MatchOption result (spec.node_form (view value.now) ≡ None)
+        (λ node. spec.node_form (view value.now) ≡ Some (record { name = node.0.now; phases = map view node.1.now })) }
+{
+    let table = only(value.as_table()?, &["name", "phase"])?;
+    let name = text_at(table, "name")?;
+    let phases = list_at(table, "phase")?;
+    Some((name, phases))
+}
+
+/// The own form of a phase: its times, and the names of its links.
+#[tactic(auto, unfolding(crate::specs::Table::phase_form))]
+pub(crate) fn phase_form(value: &Value) -> Option<(Phase, &[Value])>
+    ensures { MatchOption result (spec.phase_form (view value.now) ≡ None)
+        (λ form. spec.phase_form (view value.now) ≡ Some (record { phase = form.0; links = map view form.1.now })) }
+{
+    let table = only_phase_keys(value.as_table()?)?;
+    let phase = Phase {
+        least: number_at(table, "least")?,
+        greatest: number_at(table, "greatest")?,
+        yellow: number_at(table, "yellow")?,
+        clear: number_at(table, "clear")?,
+        loss: number_at(table, "loss")?,
+        wait: number_at(table, "wait")?,
+    };
+    let links = list_at(table, "links")?;
+    Some((phase, links))
+}
+
+/// The table, where it has no key beside those of a phase.
+#[tactic(auto, unfolding(crate::specs::Table::phase_keys))]
+fn only_phase_keys(table: &Table) -> Option<&Table>
+    ensures { option_map (λ table. table_view table.now) result ≡ spec.only spec.phase_keys (table_view table.now) }
+{
+    let keys = [
+        "least", "greatest", "yellow", "clear", "loss", "wait", "links",
+    ];
+    only(table, &keys)
+}
+
+/// A link.
+#[derive(Drop)]
+pub(crate) struct LinkForm<'a> {
+    pub(crate) name: &'a str,
+    pub(crate) from: Option<&'a str>,
+    pub(crate) to: Option<&'a str>,
+    pub(crate) travel: u32,
+    pub(crate) sat: u32,
+    pub(crate) turns: &'a [Value],
+}
+
+/// The own form of a link.
+#[tactic(auto, unfolding(crate::specs::Table::link_form))]
+pub(crate) fn link_form(value: &Value) -> Option<LinkForm>
+    ensures { MatchOption result (spec.link_form (view value.now) ≡ None)
+        (λ link. spec.link_form (view value.now) ≡ Some (record { name = link.name.now; from = option_copied link.from; to = option_copied link.to; travel = link.travel; sat = link.sat; turns = map view link.turns.now })) }
+{
+    let keys = ["name", "from", "to", "travel", "sat", "turn"];
+    let table = only(value.as_table()?, &keys)?;
+    Some(LinkForm {
+        name: text_at(table, "name")?,
+        travel: number_at(table, "travel")?,
+        sat: number_at(table, "sat")?,
+        from: optional_text_at(table, "from")?,
+        to: optional_text_at(table, "to")?,
+        turns: optional_list_at(table, "turn")?,
+    })
+}
+
+/// The own form of a turn: the name of its exit, and its share.
+#[tactic(auto, unfolding(crate::specs::Table::turn_of))]
+pub(crate) fn turn_form(value: &Value) -> Option<(&str, u32)>
+    ensures { MatchOption result (spec.turn_of (view value.now) ≡ None)
+        (λ turn. spec.turn_of (view value.now) ≡ Some (record { exit = turn.0.now; share = turn.1 })) }
+{
+    let table = only(value.as_table()?, &["exit", "share"])?;
+    let exit = text_at(table, "exit")?;
+    let share = number_at(table, "share")?;
+    Some((exit, share))
+}
+
+/// The own form of a conflict: the names of its links.
+#[tactic(auto, unfolding(crate::specs::Table::conflict_of))]
+pub(crate) fn conflict_form(value: &Value) -> Option<(&str, &str)>
+    ensures { MatchOption result (spec.conflict_of (view value.now) ≡ None)
+        (λ pair. spec.conflict_of (view value.now) ≡ Some (record { a = pair.0.now; b = pair.1.now })) }
+{
+    let table = only(value.as_table()?, &["a", "b"])?;
+    let a = text_at(table, "a")?;
+    let b = text_at(table, "b")?;
+    Some((a, b))
+}
