@@ -66,7 +66,7 @@ impl Certificate {
         requires few { vec_len entries < 2 ^ 32 }
         requires short { IsShort answer }
         ensures ok { IfOk result (λ c. (c ≡ record { problem = instance; entries = entries.items; answer = answer }) × IsCertificate c) }
-        ensures err { OnErr result (¬ IsCertificate (record { problem = instance; entries = entries.items; answer = answer })) }
+        ensures refused { OnErr result (¬ IsCertificate (record { problem = instance; entries = entries.items; answer = answer })) }
         ensures first { IfErr result (IsCertFault (record { problem = instance; entries = entries.items; answer = answer })) }
     {
         if let Some(index) = first_out_of_bounds(&instance, entries.as_slice()) {

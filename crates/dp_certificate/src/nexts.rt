@@ -32,7 +32,7 @@ pub fn serve_next<L: Ledger>(
     ensures value { option_map (λ x. stage_behind x.1) result ≡ stage_after i.now (stage_of_entry i.now entry.now) phase }
     ensures served { IfSome result (λ x. serving i.now.plan (stage_of_entry i.now entry.now).head phase cluster.now ≡ Ok (x.0, head_of x.1 false)) }
     ensures bounds { IfSome result (λ x. IsNext i.now x.1) }
-    ensures cost { steps.new ≤ steps.old + 1 }
+    ensures steps { steps.new ≤ steps.old + 1 }
 {
     let head = head_at(i, entry);
     let Ok((served, next)) = serve(i.plan(), &head, phase, cluster, steps) else {

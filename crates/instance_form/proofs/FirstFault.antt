@@ -465,7 +465,8 @@ fault_alone first bytes (Line n) fault = record {
 }
 fault_alone first bytes NoMemory fault = tt
 
-feeds_in_text : (plan : List Phase) (h : Head) (lists : List (List Cluster)) → HasText plan h lists → line_feeds (instance_text plan h lists) ≡ line_count plan lists
+-- a text has as many line feeds as lines
+pub feeds_in_text : (plan : List Phase) (h : Head) (lists : List (List Cluster)) → HasText plan h lists → line_feeds (instance_text plan h lists) ≡ line_count plan lists
 feeds_in_text plan h lists fits =
     let n = length plan in
     let count = fits.count in

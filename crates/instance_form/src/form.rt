@@ -26,7 +26,7 @@ pub struct Form {
 /// Why bytes are no instance's text.
 ///
 /// docs/FORMATS.md, "Instance text".
-#[derive(Clone, Copy)]
+#[derive(Debug, Clone, Copy, PartialEq, Eq)]
 pub enum FormFault {
     /// The first line, from 1, that has not the form of its place.
     Line(u32),

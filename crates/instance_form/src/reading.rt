@@ -83,7 +83,7 @@ pub fn read_front(alloc: Global, line: u32, bytes: &[u8]) -> Result<(Form, u32, 
     ensures only { (plan : List Phase) (h : Head) (lists : List (List Cluster)) (rest : List ℕ)
         → HasText plan h lists → bytes.now ≡ instance_text plan h lists ++ rest
         → MatchResult result (λ x. HasParts x.0 plan h lists × (x.2.now ≡ rest)) IsWant }
-    ensures line { IfErr result (IsFaultOf BeginsFront line bytes.now) }
+    ensures first { IfErr result (IsFaultOf BeginsFront line bytes.now) }
 {
     form_front(alloc, line, bytes)
 }
@@ -101,7 +101,7 @@ pub fn read_form(alloc: Global, bytes: &[u8]) -> Result<Form, FormFault>
     ensures only { (plan : List Phase) (h : Head) (lists : List (List Cluster))
         → HasText plan h lists → bytes.now ≡ instance_text plan h lists
         → MatchResult result (λ form. HasParts form plan h lists) IsWant }
-    ensures line { IfErr result (IsFaultOf BeginsText 1 bytes.now) }
+    ensures first { IfErr result (IsFaultOf BeginsText 1 bytes.now) }
 {
     let (form, line, rest) = read_front(alloc, 1, bytes)?;
     if rest.is_empty() {

@@ -1,10 +1,11 @@
 //! Writing an instance's text.
 
-ghost use Rattle.std.specs.Prelude.{◌≡◌, ◌++◌, length, IfOk, OnOk, string_bytes};
+ghost use Rattle.std.specs.Prelude.{◌≡◌, ◌≤◌, [], ◌∷◌, ◌++◌, length, IfOk, OnOk};
 ghost use Rattle.std.specs.List.{flat_map};
-ghost use Rattle.instance_form.specs.InstanceText.{count_line, phase_line, head_line, cluster_line, cluster_lines, instance_text};
+ghost use Rattle.instance_form.specs.InstanceText.{phase_line, freshness, head_line, cluster_line, cluster_lines, instance_text};
 
 use foundation::items::Items;
+use number_text::{Line, push_line};
 use phase_plan::Phase;
 use std::alloc::{AllocError, Global};
 use switch_rules::{Cluster, Head};
@@ -22,19 +23,18 @@ pub fn write_form(
 ) -> Result<Vec<u8>, AllocError>
     ensures { IfOk result (λ text. text.items ≡ instance_text phases.now head.now lists.now) }
 {
-    let mut text = String::from_str(alloc, "instance 1\n")?;
-    let count = phases.len();
-    writeln!(text, "phases {count}")?;
+    let mut text = Vec::from_slice(alloc, b"instance 1\n")?;
+    push_line(&mut text, b"phases", &[phases.len() as u64])?;
     write_phases(&mut text, phases)?;
     write_head(&mut text, head)?;
     write_lists(&mut text, lists)?;
-    text.push_str("end\n")?;
-    Ok(text.into_bytes())
+    text.extend_from_slice(b"end\n")?;
+    Ok(text)
 }
 
 /// Writes the lines of phases behind a text.
-fn write_phases(text: &mut String, phases: &[Phase]) -> Result<(), AllocError>
-    ensures { OnOk result (string_bytes text.new ≡ string_bytes text.old ++ flat_map phase_line phases.now) }
+fn write_phases(text: &mut Vec<u8>, phases: &[Phase]) -> Result<(), AllocError>
+    ensures { OnOk result (text.new.items ≡ text.old.items ++ flat_map phase_line phases.now) }
 {
     for phase in phases {
         write_phase(text, phase)?;
@@ -43,38 +43,54 @@ fn write_phases(text: &mut String, phases: &[Phase]) -> Result<(), AllocError>
 }
 
 /// Writes the line of a phase behind a text.
-fn write_phase(text: &mut String, phase: &Phase) -> Result<(), AllocError>
-    ensures { OnOk result (string_bytes text.new ≡ string_bytes text.old ++ phase_line phase.now) }
+fn write_phase(text: &mut Vec<u8>, phase: &Phase) -> Result<(), AllocError>
+    ensures { OnOk result (text.new.items ≡ text.old.items ++ phase_line phase.now) }
 {
-    write!(
-        text,
-        "phase {} {} {}",
-        phase.least, phase.greatest, phase.yellow
-    )?;
-    writeln!(text, " {} {} {}", phase.clear, phase.loss, phase.wait)
+    let numbers = [
+        u64::from(phase.least),
+        u64::from(phase.greatest),
+        u64::from(phase.yellow),
+        u64::from(phase.clear),
+        u64::from(phase.loss),
+        u64::from(phase.wait),
+    ];
+    push_line(text, b"phase", &numbers)
 }
 
 /// Writes the line of a head behind a text.
-fn write_head(text: &mut String, head: &Head) -> Result<(), AllocError>
-    ensures { OnOk result (string_bytes text.new ≡ string_bytes text.old ++ head_line head.now) }
+fn write_head(text: &mut Vec<u8>, head: &Head) -> Result<(), AllocError>
+    ensures { OnOk result (text.new.items ≡ text.old.items ++ head_line head.now) }
 {
-    write!(text, "head {} {} {} ", head.phase, head.since, head.at)?;
-    text.push_str(if head.fresh { "fresh\n" } else { "kept\n" })
+    let mut line = Line::new();
+    line.put_word(head_end(head.fresh));
+    line.put_spaced(u64::from(head.at));
+    line.put_spaced(u64::from(head.since));
+    line.put_spaced(u64::from(head.phase));
+    line.put_word(b"head");
+    text.extend_from_slice(line.as_bytes())
+}
+
+/// What the line of a head ends in.
+fn head_end(fresh: bool) -> &'static [u8]
+    ensures value { result.now ≡ 32 ∷ (freshness fresh ++ 10 ∷ []) }
+    ensures short { length result.now ≤ 7 }
+{
+    if fresh { b" fresh\n" } else { b" kept\n" }
 }
 
 /// Writes the lines of the clusters of each phase behind a text.
-fn write_lists(text: &mut String, lists: &[Items<Cluster>]) -> Result<(), AllocError>
-    ensures { OnOk result (string_bytes text.new ≡ string_bytes text.old ++ cluster_lines 0 lists.now) }
+fn write_lists(text: &mut Vec<u8>, lists: &[Items<Cluster>]) -> Result<(), AllocError>
+    ensures { OnOk result (text.new.items ≡ text.old.items ++ cluster_lines 0 lists.now) }
 {
     for (phase, list) in lists.iter().enumerate() {
-        write_list(text, phase, list.as_slice())?;
+        write_list(text, phase as u64, list.as_slice())?;
     }
     Ok(())
 }
 
 /// Writes the lines of the clusters of this phase behind a text.
-fn write_list(text: &mut String, phase: usize, list: &[Cluster]) -> Result<(), AllocError>
-    ensures { OnOk result (string_bytes text.new ≡ string_bytes text.old ++ flat_map (cluster_line phase) list.now) }
+fn write_list(text: &mut Vec<u8>, phase: u64, list: &[Cluster]) -> Result<(), AllocError>
+    ensures { OnOk result (text.new.items ≡ text.old.items ++ flat_map (cluster_line phase) list.now) }
 {
     for cluster in list {
         write_cluster(text, phase, cluster)?;
@@ -83,12 +99,14 @@ fn write_list(text: &mut String, phase: usize, list: &[Cluster]) -> Result<(), A
 }
 
 /// Writes the line of a cluster of this phase behind a text.
-fn write_cluster(text: &mut String, phase: usize, cluster: &Cluster) -> Result<(), AllocError>
-    ensures { OnOk result (string_bytes text.new ≡ string_bytes text.old ++ cluster_line phase cluster.now) }
+fn write_cluster(text: &mut Vec<u8>, phase: u64, cluster: &Cluster) -> Result<(), AllocError>
+    ensures { OnOk result (text.new.items ≡ text.old.items ++ cluster_line phase cluster.now) }
 {
-    writeln!(
-        text,
-        "cluster {phase} {} {} {}",
-        cluster.size, cluster.arr, cluster.len
-    )
+    let numbers = [
+        phase,
+        u64::from(cluster.size),
+        u64::from(cluster.arr),
+        u64::from(cluster.len),
+    ];
+    push_line(text, b"cluster", &numbers)
 }

@@ -1,5 +1,5 @@
 -- Where the digits of a number end, and how large a number is whose digits are known in part.
-use Rattle.std.proofs.Common.{◌≡◌, ℕ, zero, suc, ◌+◌, ◌*◌, ◌-◌, ◌/◌, ◌%◌, ◌^◌, ◌<◌, ◌≤◌, ◌⊎◌, List, [], ◌∷◌, ◌++◌, length, get_or, take, drop, refl, sym, ap, subst, ◌∙◌, inl, inr, append_assoc, arith}
+use Rattle.std.proofs.Common.{◌≡◌, ℕ, zero, suc, ◌+◌, ◌*◌, ◌-◌, ◌/◌, ◌%◌, ◌^◌, ◌<◌, ◌≤◌, ◌⊎◌, List, [], ◌∷◌, ◌++◌, length, get_or, take, drop, refl, sym, ap, subst, ◌∙◌, inl, inr, append_assoc, lit≤, arith}
 use Rattle.std.specs.Char.{IsAsciiDigit, digit_value}
 use Rattle.std.specs.Fmt.{decimal}
 use Rattle.std.specs.Str.Parse.{AllDigits, digits_value}
@@ -7,6 +7,8 @@ use Rattle.std.proofs.lemmas.Fmt.{decimal_is_IsNumeral, decimal_injective, first
 use Rattle.std.proofs.lemmas.Int.Digits.{digits_value_push}
 use Rattle.std.proofs.lemmas.Bool.{cases_lt}
 use Rattle.std.proofs.lemmas.List.{append-nil, take_at, take_more, drop_more, drop_all, drop-drop, take-append-drop}
+use Rattle.std.proofs.Math.Nat.{pow-le-pow_right}
+use Rattle.std.proofs.lemmas.Grind.{pow_more}
 use Rattle.std.proofs.lemmas.Str.{digit_value_digit}
 use Rattle.std.proofs.lemmas.Str.Parse.{digit_from_value, digits_value-take-le}
 
@@ -113,8 +115,15 @@ first n s bytes r (c ∷ cs) n_lt is some all e =
       bound = rw at_0 (omega (arith, below, one, whole, digit_value_digit c digit));
     }
 
+-- bytes that begin with a number begin with a digit
+pub first_is_digit : (n s : ℕ) (bytes r : List ℕ) → n < 2 ^ 64 → bytes ≡ decimal n ++ s ∷ r → IsAsciiDigit (get_or bytes 0 0)
+first_is_digit n s bytes r lt e =
+    let numeral = decimal_is_IsNumeral n lt in
+    let on = first n s bytes r (decimal n) lt refl numeral.0.0 numeral.0.1 e in
+    on.digit
+
 -- Wherever reading has come to in a number before its separator, the number ends there or has a further digit.
-pub next_is : (i v n s : ℕ) (bytes r : List ℕ) → v < 2 ^ 64 → n < 2 ^ 64 → ¬ IsAsciiDigit s → IsFront i v bytes → bytes ≡ decimal n ++ s ∷ r
+next_is : (i v n s : ℕ) (bytes r : List ℕ) → v < 2 ^ 64 → n < 2 ^ 64 → ¬ IsAsciiDigit s → IsFront i v bytes → bytes ≡ decimal n ++ s ∷ r
     → Ends i v n bytes s r ⊎ HasFurtherDigit i v n bytes
 next_is i v n s bytes r v_lt n_lt apart front e =
     elim (cases_lt 0 i) [
@@ -163,7 +172,7 @@ one_number m n s x y m_lt n_lt apart e =
         absurd (apart (subst IsAsciiDigit head (digit_from_value c all.0)))
 
 -- what follows from a spelling of a number that is at most m, wherever reading has come to
-pub record Reading (i v m s : ℕ) (bytes : List ℕ) : Type 0 where
+record Reading (i v m s : ℕ) (bytes : List ℕ) : Type 0 where
   pub front : IsFront i v bytes
   pub bound : v ≤ m
   pub wide : m < 2 ^ 64
@@ -175,16 +184,8 @@ cases i v m s bytes h n r le e =
     let wide = h.wide in
     next_is i v n s bytes r (omega arith) (omega arith) h.apart h.front e
 
--- at the separator
-pub at_separator : (i v m s : ℕ) (bytes : List ℕ) → Reading i v m s bytes → get_or bytes i 0 ≡ s → (n : ℕ) (r : List ℕ) → n ≤ m → bytes ≡ decimal n ++ s ∷ r → (v ≡ n) × (drop (i + 1) bytes ≡ r)
-at_separator i v m s bytes h here n r le e =
-    elim (cases i v m s bytes h n r le e) [
-      | inl ends ↦ (ends.value, rw (← drop-drop 1 i bytes) (ap (drop 1) ends.rest))
-      | inr on ↦ absurd (h.apart (subst IsAsciiDigit here on.digit))
-    ]
-
 -- where no further digit can be read
-pub at_other : (i v m s : ℕ) (bytes : List ℕ) → Reading i v m s bytes → (0 < i → get_or bytes i 0 ≡ s → ⊥)
+at_other : (i v m s : ℕ) (bytes : List ℕ) → Reading i v m s bytes → (0 < i → get_or bytes i 0 ≡ s → ⊥)
     → (n : ℕ) (r : List ℕ) → n ≤ m → bytes ≡ decimal n ++ s ∷ r → HasFurtherDigit i v n bytes
 at_other i v m s bytes h other n r le e =
     elim (cases i v m s bytes h n r le e) [
@@ -193,15 +194,60 @@ at_other i v m s bytes h other n r le e =
     ]
 
 -- at the end of the bytes
-pub at_end : (i v m s : ℕ) (bytes : List ℕ) → Reading i v m s bytes → length bytes ≤ i → (n : ℕ) (r : List ℕ) → n ≤ m → bytes ≡ decimal n ++ s ∷ r → ⊥
+at_end : (i v m s : ℕ) (bytes : List ℕ) → Reading i v m s bytes → length bytes ≤ i → (n : ℕ) (r : List ℕ) → n ≤ m → bytes ≡ decimal n ++ s ∷ r → ⊥
 at_end i v m s bytes h past n r le e =
     elim (cases i v m s bytes h n r le e) [
       | inl ends ↦ let within = (at_rest i s r bytes ends.rest).0 in omega arith
       | inr on ↦ let within = on.within in omega arith
     ]
 
--- One more digit is read.
-pub further : (i v m s c : ℕ) (bytes : List ℕ) → Reading i v m s bytes → IsAsciiDigit c → v * 10 + (c - 48) ≤ m → i < length bytes → get_or bytes i 0 ≡ c → (0 < i → 0 < v) → Reading (i + 1) (v * 10 + (c - 48)) m s bytes
-further i v m s c bytes h digit le lt at no_zero =
-    let wide = h.wide in
-    record { front = one_more i v c bytes (omega arith) digit lt at no_zero h.front; bound = le; wide = h.wide; apart = h.apart }
+-- where no further digit stands the number ends
+at_no_digit : (i v m s : ℕ) (bytes : List ℕ) → Reading i v m s bytes → (0 < i) × ((v ≡ 0) ⊎ (IsAsciiDigit (get_or bytes i 0) → ⊥)) → (n : ℕ) (r : List ℕ) → n ≤ m → bytes ≡ decimal n ++ s ∷ r
+    → (get_or bytes i 0 ≡ s) × (i < length bytes) × (v ≡ n) × (drop (i + 1) bytes ≡ r)
+at_no_digit i v m s bytes h other n r le e =
+    elim (cases i v m s bytes h n r le e) [
+      | inl ends ↦ let at = at_rest i s r bytes ends.rest in (at.1, at.0, ends.value, rw (← drop-drop 1 i bytes) (ap (drop 1) ends.rest))
+      | inr on ↦ absurd (elim other.1 [ inl zero_now ↦ let some = on.no_zero other.0 in omega arith | inr none ↦ none on.digit ])
+    ]
+
+-- the digits so far are the bytes before a place
+reading : (i v m s : ℕ) (bytes : List ℕ) → 0 < i → take i bytes ≡ decimal v → v ≤ m → m < 2 ^ 64 → ¬ IsAsciiDigit s → Reading i v m s bytes
+reading i v m s bytes some front le wide apart = record { front = record { nothing = λ h. absurd (omega arith); digits_so_far = λ _. front }; bound = le; wide = wide; apart = apart }
+
+-- the first digit alone
+pub one_digit : (bytes : List ℕ) (c : ℕ) → 0 < length bytes → get_or bytes 0 0 ≡ c → IsAsciiDigit c → take 1 bytes ≡ decimal (c - 48)
+one_digit bytes c some at digit =
+    let front : IsFront 1 (0 * 10 + (c - 48)) bytes = one_more 0 0 c bytes (omega arith) digit some at (λ h. absurd (omega arith)) (record { nothing = λ _. refl; digits_so_far = λ h. absurd (omega arith) }) in
+    front.digits_so_far (omega arith) ∙ ap decimal (omega arith)
+
+-- what a spelling of a number that is at most `most` says, where reading has come to a place at which it can't go on
+pub ends_here : (most place number s : ℕ) (bytes : List ℕ) → 0 < place → take place bytes ≡ decimal number → (number ≡ 0) ⊎ (IsAsciiDigit (get_or bytes place 0) → ⊥) → number < 2 ^ 64 → most < 2 ^ 64 → ¬ IsAsciiDigit s
+    → (n : ℕ) (r : List ℕ) → n ≤ most → bytes ≡ decimal n ++ s ∷ r → (get_or bytes place 0 ≡ s) × (place < length bytes) × (number ≡ n) × (drop (place + 1) bytes ≡ r)
+ends_here most place number s bytes some front last fits wide apart n r le e =
+    at_no_digit place number 18446744073709551615 s bytes (reading place number 18446744073709551615 s bytes some front (omega arith) (omega arith) apart) (some, last) n r (omega arith) e
+
+-- and where it has come to a further digit
+pub goes_past : (most place number s : ℕ) (bytes : List ℕ) → 0 < place → take place bytes ≡ decimal number → IsAsciiDigit (get_or bytes place 0) → number < 2 ^ 64 → most < 2 ^ 64 → ¬ IsAsciiDigit s
+    → (n : ℕ) (r : List ℕ) → n ≤ most → bytes ≡ decimal n ++ s ∷ r → number * 10 + (get_or bytes place 0 - 48) ≤ n
+goes_past most place number s bytes some front digit fits wide apart n r le e =
+    let h = reading place number 18446744073709551615 s bytes some front (omega arith) (omega arith) apart in
+    let on = at_other place number 18446744073709551615 s bytes h (λ _ here. apart (subst IsAsciiDigit here digit)) n r (omega arith) e in
+    on.bound
+
+-- and where nothing is left
+pub goes_out : (most place number s : ℕ) (bytes : List ℕ) → 0 < place → take place bytes ≡ decimal number → length bytes ≤ place → number < 2 ^ 64 → most < 2 ^ 64 → ¬ IsAsciiDigit s → (n : ℕ) (r : List ℕ) → n ≤ most → bytes ≡ decimal n ++ s ∷ r → ⊥
+goes_out most place number s bytes some front past fits wide apart n r le e =
+    at_end place number 18446744073709551615 s bytes (reading place number 18446744073709551615 s bytes some front (omega arith) (omega arith) apart) past n r (omega arith) e
+
+-- one digit more
+pub digit-more : (i v c : ℕ) (bytes : List ℕ) → 0 < i → take i bytes ≡ decimal v → 0 < v → v * 10 + (c - 48) < 2 ^ 64 → IsAsciiDigit c → i < length bytes → get_or bytes i 0 ≡ c → take (i + 1) bytes ≡ decimal (v * 10 + (c - 48))
+digit-more i v c bytes some front positive fits digit lt at =
+    let more = one_more i v c bytes fits digit lt at (λ _. positive) (record { nothing = λ h. absurd (omega arith); digits_so_far = λ _. front }) in
+    more.digits_so_far (omega arith)
+
+-- so many digits make less than this
+pub short : (i v c : ℕ) → IsAsciiDigit c → v < 10 ^ i → v * 10 + (c - 48) < 10 ^ (i + 1)
+short i v c digit h = omega (arith, pow_more 10 i)
+
+pub fits : (i v : ℕ) → i ≤ 19 → v < 10 ^ i → v < 10000000000000000000
+fits i v h below = let most : 10 ^ i ≤ 10 ^ 19 = pow-le-pow_right (lit≤ tt) h in omega arith

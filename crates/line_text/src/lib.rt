@@ -4,7 +4,7 @@
 //! after it, and there is none only where nothing of the kind stands there.
 #![tactic(auto)]
 
-ghost use Rattle.std.specs.Prelude.{◌≡◌, ℕ, ◌+◌, ◌*◌, ◌-◌, ◌^◌, ◌<◌, ◌≤◌, List, ◌∷◌, ◌++◌, length, IfSome, IsSomeAnd};
+ghost use Rattle.std.specs.Prelude.{◌≡◌, ℕ, ◌+◌, ◌*◌, ◌-◌, ◌^◌, ◌<◌, ◌≤◌, List, ◌∷◌, ◌++◌, ◌⊎◌, length, take, slice_index, IfSome, IsSomeAnd};
 ghost use Rattle.std.specs.Char.{IsAsciiDigit};
 ghost use Rattle.std.specs.Option.{SomeIff, option_map, option_copied};
 ghost use Rattle.std.specs.Fmt.{decimal};
@@ -76,6 +76,9 @@ pub fn field_u64(separator: u8, bytes: &[u8]) -> Option<(u64, &[u8])>
     field_up_to(u64::MAX, separator, bytes)
 }
 
+/// How many digits always make a number of 64 bits.
+const SHORT: usize = 19;
+
 /// The number at the front, if it is at most `most`, up to the separator, and the bytes after that.
 fn field_up_to(most: u64, separator: u8, bytes: &[u8]) -> Option<(u64, &[u8])>
     requires { ¬ IsAsciiDigit separator }
@@ -84,30 +87,97 @@ fn field_up_to(most: u64, separator: u8, bytes: &[u8]) -> Option<(u64, &[u8])>
         → IsSomeAnd result (λ x. (x.0 ≡ n) × (x.1.now ≡ rest)) }
     ensures shorter { IfSome result (λ x. length x.1.now < length bytes.now) }
 {
-    let mut number = 0;
-    for (index, byte) in bytes.iter().enumerate() {
-        if index > 0 {
-            if *byte == separator {
-                return Some((number, &bytes[index + 1..]));
-            }
-            if number == 0 {
-                return None;
-            }
-        }
-        number = with_digit(most, number, *byte)?;
-    }
-    None
-}
-
-/// The number with one more digit at its end, if that is a digit and the number is at most `most`.
-fn with_digit(most: u64, number: u64, byte: u8) -> Option<u64>
-    ensures { SomeIff result (IsAsciiDigit byte × (number * 10 + (byte - 48) ≤ most)) (number * 10 + (byte - 48)) }
-{
-    if !byte.is_ascii_digit() {
+    let first = *bytes.first()?;
+    if !first.is_ascii_digit() {
         return None;
     }
-    let longer = number.checked_mul(10)?.checked_add(u64::from(byte - b'0'))?;
-    if longer <= most { Some(longer) } else { None }
+    let number = u64::from(first - b'0');
+    if number == 0 {
+        return field_end(most, separator, bytes, 1, number);
+    }
+    short_field(most, separator, bytes, number)
+}
+
+/// Such a number that begins with this digit, which is not 0. Up to 19 digits can't pass 64 bits, so what they make is
+/// compared once, where they end.
+fn short_field(most: u64, separator: u8, bytes: &[u8], first: u64) -> Option<(u64, &[u8])>
+    requires apart { ¬ IsAsciiDigit separator }
+    requires digit { (0 < first) × (first < 10) }
+    requires some { 0 < length bytes.now }
+    requires front { take 1 bytes.now ≡ decimal first }
+    ensures found { IfSome result (λ x. (x.0 ≤ most) × (bytes.now ≡ decimal x.0 ++ separator ∷ x.1.now)) }
+    ensures only { (n : ℕ) (rest : List ℕ) → n ≤ most → bytes.now ≡ decimal n ++ separator ∷ rest
+        → IsSomeAnd result (λ x. (x.0 ≡ n) × (x.1.now ≡ rest)) }
+    ensures shorter { IfSome result (λ x. length x.1.now < length bytes.now) }
+{
+    let mut number = first;
+    let end = bytes.len().min(SHORT);
+    for index in 1..end {
+        let byte = bytes[index];
+        if !byte.is_ascii_digit() {
+            return field_end(most, separator, bytes, index, number);
+        }
+        number = number * 10 + u64::from(byte - b'0');
+    }
+    long_field(most, separator, bytes, end, number)
+}
+
+/// The number whose digits are the bytes before a place, if it is at most `most` and the separator follows it, and the
+/// bytes after that. No further digit stands at the place.
+#[inline]
+fn field_end(
+    most: u64,
+    separator: u8,
+    bytes: &[u8],
+    place: usize,
+    number: u64,
+) -> Option<(u64, &[u8])>
+    requires apart { ¬ IsAsciiDigit separator }
+    requires some { 0 < place }
+    requires front { take place bytes.now ≡ decimal number }
+    requires last { number ≡ 0 ⊎ (¬ IsAsciiDigit (slice_index bytes.now place)) }
+    ensures found { IfSome result (λ x. (x.0 ≤ most) × (bytes.now ≡ decimal x.0 ++ separator ∷ x.1.now)) }
+    ensures only { (n : ℕ) (rest : List ℕ) → n ≤ most → bytes.now ≡ decimal n ++ separator ∷ rest
+        → IsSomeAnd result (λ x. (x.0 ≡ n) × (x.1.now ≡ rest)) }
+    ensures shorter { IfSome result (λ x. length x.1.now < length bytes.now) }
+{
+    let byte = *bytes.get(place)?;
+    if byte != separator {
+        return None;
+    }
+    if number > most {
+        return None;
+    }
+    Some((number, &bytes[place + 1..]))
+}
+
+/// The number whose first digits are the bytes before a place, if it is at most `most`, up to the separator, and the
+/// bytes after that. It is no 0.
+fn long_field(
+    most: u64,
+    separator: u8,
+    bytes: &[u8],
+    place: usize,
+    number: u64,
+) -> Option<(u64, &[u8])>
+    requires apart { ¬ IsAsciiDigit separator }
+    requires some { (0 < place) × (0 < number) }
+    requires within { place ≤ length bytes.now }
+    requires front { take place bytes.now ≡ decimal number }
+    ensures found { IfSome result (λ x. (x.0 ≤ most) × (bytes.now ≡ decimal x.0 ++ separator ∷ x.1.now)) }
+    ensures only { (n : ℕ) (rest : List ℕ) → n ≤ most → bytes.now ≡ decimal n ++ separator ∷ rest
+        → IsSomeAnd result (λ x. (x.0 ≡ n) × (x.1.now ≡ rest)) }
+    ensures shorter { IfSome result (λ x. length x.1.now < length bytes.now) }
+{
+    let mut longer = number;
+    for index in place..bytes.len() {
+        let byte = bytes[index];
+        if !byte.is_ascii_digit() {
+            return field_end(most, separator, bytes, index, longer);
+        }
+        longer = longer.checked_mul(10)?.checked_add(u64::from(byte - b'0'))?;
+    }
+    None
 }
 
 /// Bytes begin with at most one number before a separator.

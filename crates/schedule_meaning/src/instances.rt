@@ -159,7 +159,7 @@ fn copy_lists(alloc: Global, lists: &[Items<Cluster>]) -> Result<Items<Items<Clu
 /// Refuses a head whose phase is none of the plan, or whose times are out of bounds.
 fn check_head(plan: &PhasePlan, head: &Head) -> Result<(), InstanceFault>
     ensures ok { OnOk result (IsPlan plan.now × IsHead plan.now head.now × (head.now.since ≤ 100000)) }
-    ensures err { IfErr result (IsHeadFault plan.now head.now) }
+    ensures first { IfErr result (IsHeadFault plan.now head.now) }
 {
     if head.phase >= plan.count() {
         return Err(InstanceFault::HeadPhase);
@@ -176,7 +176,7 @@ fn check_bounds(lists: &[Items<Cluster>]) -> Result<(), InstanceFault>
     requires few { length lists.now ≤ 4 }
     requires short { All (λ list. length list < 2 ^ 32) lists.now }
     ensures ok { OnOk result (All (All IsCluster) lists.now) }
-    ensures err { IfErr result (IsBoundFault lists.now) }
+    ensures first { IfErr result (IsBoundFault lists.now) }
 {
     for (phase, list) in lists.iter().enumerate() {
         if let Some(index) = first_out_of_bounds(list.as_slice()) {
@@ -212,7 +212,7 @@ fn check_order(lists: &[Items<Cluster>]) -> Result<(), InstanceFault>
     requires short { All (λ list. length list < 2 ^ 32) lists.now }
     requires bounds { All (All IsCluster) lists.now }
     ensures ok { OnOk result (All IsSpaced lists.now) }
-    ensures err { IfErr result (IsOrderFault lists.now) }
+    ensures first { IfErr result (IsOrderFault lists.now) }
 {
     for (phase, list) in lists.iter().enumerate() {
         if let Some(index) = first_too_early(list.as_slice()) {
@@ -245,7 +245,7 @@ fn check_number(lists: &[Items<Cluster>]) -> Result<(), InstanceFault>
     requires few { length lists.now ≤ 4 }
     requires short { All (λ list. length list < 2 ^ 32) lists.now }
     ensures ok { OnOk result ((sum (counts_of lists.now) ≤ most_clusters) × (length (orders (counts_of lists.now)) ≤ most_orders)) }
-    ensures err { IfErr result (λ fault. (fault ≡ InstanceFault.Many) × AreMany lists.now) }
+    ensures first { IfErr result (λ fault. (fault ≡ InstanceFault.Many) × AreMany lists.now) }
 {
     let mut counts = [0; 4];
     let counts = &mut counts[..lists.len()];

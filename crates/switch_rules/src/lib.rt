@@ -101,7 +101,7 @@ pub fn serve<L: Ledger>(
     requires phase { phase < length plan.now }
     requires cluster { IsCluster cluster.now }
     ensures value { result ≡ serving plan.now head.now phase cluster.now }
-    ensures step { steps.new ≡ steps.old + 1 }
+    ensures steps { steps.new ≡ steps.old + 1 }
     ensures times { IfOk result (λ s. IsTimed plan.now head.now phase cluster.now s.0) }
     ensures behind { IfOk result (λ s. s.1 ≡ head_behind phase s.0) }
     ensures bounds { IfOk result (λ s. IsServing plan.now s) }

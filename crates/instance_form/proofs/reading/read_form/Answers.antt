@@ -17,12 +17,12 @@ returns-else-is_empty-clause-only c = λ plan h lists fits e.
     let empty : c.in_ok-form.rest.now ≡ [] = says.1 in
     eqb-false (length c.in_ok-form.rest.now) 0 (sym c.is_empty.ensures ∙ c.if-is_empty.false) (ap length empty)
 
-pub returns-in_err-form-clause-line : goal.returns-in_err-form-clause-line
-returns-in_err-form-clause-line c =
+pub returns-in_err-form-clause-first : goal.returns-in_err-form-clause-first
+returns-in_err-form-clause-first c =
     let p = err_from_is_err_and c.from_residual.result c.from_residual.ensures.1 in
-    rw (p.1, p.2) (fault_alone 1 c.args.bytes.now c.in_err-form.field-0.0 c.in_err-form.ensures.line)
+    rw (p.1, p.2) (fault_alone 1 c.args.bytes.now c.in_err-form.field-0.0 c.in_err-form.ensures.first)
 
-pub returns-else-is_empty-clause-line : goal.returns-else-is_empty-clause-line
-returns-else-is_empty-clause-line c =
+pub returns-else-is_empty-clause-first : goal.returns-else-is_empty-clause-first
+returns-else-is_empty-clause-first c =
     let form = c.in_ok-form.form in
     trailing_fault form.phases.items form.head form.lists.items c.args.bytes.now c.in_ok-form.rest.now c.in_ok-form.line c.in_ok-form.ensures.fits c.in_ok-form.ensures.found c.in_ok-form.ensures.next

@@ -15,5 +15,5 @@ returns-clause-next c = IfOk-weaker c.form_front.result _ _ (λ x t. t.next) (fr
 pub returns-clause-only : goal.returns-clause-only
 returns-clause-only c = front_only c.args.line c.args.bytes.now c.form_front.result c.form_front.ensures
 
-pub returns-clause-line : goal.returns-clause-line
-returns-clause-line c = front_fault c.args.line c.args.bytes.now c.form_front.result c.form_front.ensures
+pub returns-clause-first : goal.returns-clause-first
+returns-clause-first c = front_fault c.args.line c.args.bytes.now c.form_front.result c.form_front.ensures

@@ -51,7 +51,7 @@ loop-index-preserved g c =
           ∙ timing-fit p l.left l.head k rest cluster (c.in-Ok.served, c.in-Ok.next) l.delay c.next_cluster-cluster.ensures.value fit;
       reached = ap (reached_from p (counts_of p.lists) p.head) (take-next seq l.index c.loop-index-test.true)
           ∙ reached-push p (counts_of p.lists) p.head (take l.index seq) l.left l.head k cluster (c.in-Ok.served, c.in-Ok.next) l.invariant.reached c.next_cluster-cluster.ensures.value fit;
-      steps = omega (arith, l.invariant.steps, c.in-Ok.ensures.step);
+      steps = omega (arith, l.invariant.steps, c.in-Ok.ensures.steps);
     }
 
 pub returns-clause-ok : goal.returns-clause-ok

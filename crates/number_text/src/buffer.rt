@@ -4,9 +4,9 @@ use itoa::write_digits;
 use std::marker::Model;
 
 /// How many bytes a line has room for.
-const ROOM: usize = 128;
+const ROOM: usize = 160;
 
-/// A line of at most 128 bytes that grows at its front. Contracts see its bytes.
+/// A line of at most 160 bytes that grows at its front. Contracts see its bytes.
 #[derive(Drop)]
 pub struct Line {
     bytes: [u8; ROOM],
@@ -20,7 +20,7 @@ impl Model for Line {
 
     ghost view = { λ line. drop line.start line.bytes };
 
-    ghost invariant = { λ line. line.start ≤ 128 };
+    ghost invariant = { λ line. line.start ≤ 160 };
 }
 
 impl Line {
@@ -48,7 +48,7 @@ impl Line {
     /// Puts one byte in front.
     #[inline]
     pub fn put_byte(&mut self, byte: u8)
-        requires { length self.old < 128 }
+        requires { length self.old < 160 }
         ensures { self.new ≡ byte ∷ self.old }
     {
         self.start -= 1;
@@ -58,7 +58,7 @@ impl Line {
     /// Puts the digits of a number in front.
     #[inline]
     pub fn put_number(&mut self, number: u64)
-        requires { length self.old + length (decimal number) ≤ 128 }
+        requires { length self.old + length (decimal number) ≤ 160 }
         ensures { self.new ≡ decimal number ++ self.old }
     {
         self.start = write_digits(number, &mut self.bytes, self.start);
@@ -67,7 +67,7 @@ impl Line {
     /// Puts a space and the digits of a number in front.
     #[inline]
     pub fn put_spaced(&mut self, number: u64)
-        requires { length self.old + length (decimal number) < 128 }
+        requires { length self.old + length (decimal number) < 160 }
         ensures { self.new ≡ 32 ∷ (decimal number ++ self.old) }
     {
         self.put_number(number);
@@ -77,7 +77,7 @@ impl Line {
     /// Puts a word in front.
     #[inline]
     pub fn put_word(&mut self, word: &[u8])
-        requires { length self.old + length word.now ≤ 128 }
+        requires { length self.old + length word.now ≤ 160 }
         ensures { self.new ≡ word.now ++ self.old }
     {
         let end = self.start;

@@ -1,0 +1,7 @@
+-- Numbers in a line.
+use Rattle.std.specs.Prelude.{ℕ, List, ◌∷◌}
+use Rattle.std.specs.Fmt.{decimal}
+
+-- a number behind a space
+abbrev pub after_space : ℕ → List ℕ
+after_space n = 32 ∷ decimal n
