@@ -1,3 +1,4 @@
+pub mod LimitLaws
 pub mod NextLaws
 pub mod RestLaws
 pub mod Servings

@@ -124,7 +124,7 @@ abbrev pub IsAllServed : Problem → List ℕ → Type 0
 IsAllServed p counts = (k : ℕ) → get_or counts k 0 ≡ length (list_at p.lists k)
 
 -- then nothing is left to wait
-no-rest : (p : Problem) (counts : List ℕ) (t : ℕ) → IsAllServed p counts → rest_of p counts t ≡ 0
+pub no-rest : (p : Problem) (counts : List ℕ) (t : ℕ) → IsAllServed p counts → rest_of p counts t ≡ 0
 no-rest p counts t all = none-summed (left_cost p counts t) (λ k. ap (sum_by (wait_until t)) (ap (λ i. drop i (list_at p.lists k)) (all k) ∙ drop-length (list_at p.lists k))) 0 (length p.lists)
 
 -- a step: the rest behind it with its cost is no less than the rest before it
@@ -161,7 +161,7 @@ rest-whole : (n : ℕ) (cs : List Cluster) → take (length cs - n) (drop n cs) 
 rest-whole n cs = take_all (length cs - n) (drop n cs) (omega (arith, length-drop n cs))
 
 -- a cluster in a spaced list arrives no earlier than those before it
-arrives-later : (cs : List Cluster) → IsSpaced cs → (i j : ℕ) → i ≤ j → j < length cs → (cluster_at cs i).arr ≤ (cluster_at cs j).arr
+pub arrives-later : (cs : List Cluster) → IsSpaced cs → (i j : ℕ) → i ≤ j → j < length cs → (cluster_at cs i).arr ≤ (cluster_at cs j).arr
 arrives-later cs spaced i zero h inside = omega (arith, ap (λ k. (cluster_at cs k).arr) (let e : i ≡ 0 = omega arith in e))
 arrives-later cs spaced i (suc j) h inside = elim (cases_eq i (suc j)) [
   | inl same ↦ omega (arith, ap (λ k. (cluster_at cs k).arr) same)

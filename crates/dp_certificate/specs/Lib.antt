@@ -1,5 +1,6 @@
 pub mod Certificates
 pub mod Faults
+pub mod Limits
 pub mod Nexts
 pub mod Numbers
 pub mod Prefixes

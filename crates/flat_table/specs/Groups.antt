@@ -8,6 +8,7 @@ use Rattle.schedule_meaning.specs.Instances.{Problem, IsInstance, list_at}
 use Rattle.dp_certificate.specs.Prefixes.{stage_after}
 use Rattle.dp_certificate.specs.Certificates.{IsEntry, head_of, no_entry}
 use Rattle.dp_certificate.specs.Nexts.{stage_behind}
+use Rattle.dp_certificate.specs.Limits.{IsWithin}
 use Rattle.dp_certificate.specs.Proves.{stage_of_entry}
 use Rattle.flat_table.specs.Greens.{IsNewGreen}
 use Rattle.flat_table.specs.Rows.{AreBestOf, AreLater, IsNoWorse, IsPlaced, row_in, time_of}
@@ -33,8 +34,8 @@ pub record IsSource (p : Problem) (k : ℕ) (cluster : Cluster) (source : List R
   pub fresh : AllPairs (λ a b. (stage_of_entry p a.entry).head.fresh ≡ (stage_of_entry p b.entry).head.fresh) source
 
 -- a row is reached from one of the first n rows when this cluster of phase k is served next, in the green that stands or
--- in a new one
-pub record IsArrival (p : Problem) (k : ℕ) (cluster : Cluster) (source : List Row) (n : ℕ) (kept : Bool) (c : Row) : Type 0 where
+-- in a new one, and is within the limit
+pub record IsArrival (p : Problem) (limit : Option ℕ) (k : ℕ) (cluster : Cluster) (source : List Row) (n : ℕ) (kept : Bool) (c : Row) : Type 0 where
   pub place : ℕ
   pub first : place < n
   pub inside : place < length source
@@ -44,6 +45,7 @@ pub record IsArrival (p : Problem) (k : ℕ) (cluster : Cluster) (source : List 
   pub leads : stage_after p (stage_of_entry p (row_at source place).entry) k ≡ Some (stage_behind c.entry)
   pub order : c.order ≡ (row_at source place).order * 4 + k
   pub reach : c.entry.at ≤ 104000
+  pub within : IsWithin p limit (stage_behind c.entry)
 
 -- a row in one of the places has this time, and is no worse
 pub record HasPlaced (places : List (Option Row)) (time delay order : ℕ) : Type 0 where
@@ -54,11 +56,11 @@ pub record HasPlaced (places : List (Option Row)) (time delay order : ℕ) : Typ
   pub no_worse : IsNoWorse row delay order
 
 -- the best of what the first n rows reach: in greens that go on, and in new greens by how long the cluster waits
-pub record AreReachedBy (p : Problem) (k : ℕ) (cluster : Cluster) (source : List Row) (n : ℕ) (reached : Reached) : Type 0 where
+pub record AreReachedBy (p : Problem) (limit : Option ℕ) (k : ℕ) (cluster : Cluster) (source : List Row) (n : ℕ) (reached : Reached) : Type 0 where
   pub kept_later : AreLater reached.kept.items
-  pub kept_best : AreBestOf (IsArrival p k cluster source n true) reached.kept.items
-  pub new_from : (w : ℕ) (r : Row) → row_in reached.greens w ≡ Some r → IsArrival p k cluster source n false r × IsNewGreen (phase_at p.plan k) cluster w (head_of r.entry false)
-  pub new_all : (c : Row) → IsArrival p k cluster source n false c → HasPlaced reached.greens (time_of c) c.entry.delay c.order
+  pub kept_best : AreBestOf (IsArrival p limit k cluster source n true) reached.kept.items
+  pub new_from : (w : ℕ) (r : Row) → row_in reached.greens w ≡ Some r → IsArrival p limit k cluster source n false r × IsNewGreen (phase_at p.plan k) cluster w (head_of r.entry false)
+  pub new_all : (c : Row) → IsArrival p limit k cluster source n false c → HasPlaced reached.greens (time_of c) c.entry.delay c.order
   pub fresh : reached.fresh.items ≡ []
 
 -- nothing is reached
@@ -75,8 +77,8 @@ pub record AreJoined (reached : Reached) (old new : List Row) : Type 0 where
   pub best : AreBestOf (λ c. IsPlaced reached.greens c ⊎ Contains reached.kept.items c) made
 
 -- behind the rows stand, in the order of their times, the best of what is reached from the source
-pub record AreMade (p : Problem) (k : ℕ) (cluster : Cluster) (source old new : List Row) : Type 0 where
+pub record AreMade (p : Problem) (limit : Option ℕ) (k : ℕ) (cluster : Cluster) (source old new : List Row) : Type 0 where
   pub made : List Row
   pub is : new ≡ old ++ made
   pub later : AreLater made
-  pub best : AreBestOf (λ c. (kept : Bool) × IsArrival p k cluster source (length source) kept c) made
+  pub best : AreBestOf (λ c. (kept : Bool) × IsArrival p limit k cluster source (length source) kept c) made

@@ -1,8 +1,17 @@
 //! One step of a table: what is reached from rows with the same counts by the next cluster of one phase.
 
+ghost use Rattle.std.specs.Prelude.{◌≡◌, ◌+◌, ◌<◌, ◌≤◌, IfNone, IfSome, Ok, Some, false, length, slice_get, slice_index};
+ghost use Rattle.switch_rules.specs.Serving.{serving};
+ghost use Rattle.schedule_meaning.specs.Instances.{list_at};
+ghost use Rattle.dp_certificate.specs.Certificates.{IsEntry, head_of};
+ghost use Rattle.dp_certificate.specs.Limits.{IsWithin};
+ghost use Rattle.dp_certificate.specs.Nexts.{IsNext, stage_behind};
+ghost use Rattle.dp_certificate.specs.Prefixes.{stage_after};
+ghost use Rattle.dp_certificate.specs.Proves.{stage_of_entry};
+
 use crate::greens::Greens;
 use crate::rows::{Row, merge, push_row};
-use dp_certificate::serve_next;
+use dp_certificate::{Entry, is_within, serve_next};
 use foundation::steps::Steps;
 use schedule_meaning::Instance;
 use std::alloc::{AllocError, Global};
@@ -38,8 +47,9 @@ impl Reached {
         })
     }
 
-    /// Takes in all that is reached from rows by a cluster of a phase, which is the next one behind each of them. It is
-    /// one step for each row. An `Err` comes where memory runs out.
+    /// Takes in all that is reached from rows by a cluster of a phase, which is the next one behind each of them, and is
+    /// within the limit, where there is one: its delay with the rest is not above it. It is one step for each row. An `Err`
+    /// comes where memory runs out.
     ///
     /// docs/RULES.md, "Table".
     pub fn reach<L: Ledger>(
@@ -48,16 +58,19 @@ impl Reached {
         source: &[Row],
         phase: u8,
         cluster: &Cluster,
+        limit: Option<u64>,
         steps: &mut Steps<L>,
     ) -> Result<(), AllocError>
         requires phase { phase < length i.now.plan }
         requires source { IsSource i.now phase cluster.now source.now }
         requires empty { IsEmpty self.old }
-        ensures reached { OnOk result (AreReachedBy i.now phase cluster.now source.now (length source.now) self.new) }
+        ensures reached { OnOk result (AreReachedBy i.now limit phase cluster.now source.now (length source.now) self.new) }
         ensures cost { steps.new ≤ steps.old + length source.now }
     {
         for row in source {
-            if let Some((served, entry)) = serve_next(i, &row.entry, phase, cluster, steps) {
+            if let Some((served, entry)) = serve_within(
+                i, &row.entry, phase, cluster, limit, steps,
+            ) {
                 let order = row.order * 4 + u128::from(phase);
                 self.take_in(&served, cluster, Row { entry, order })?;
             }
@@ -97,5 +110,33 @@ impl Reached {
         self.fresh.clear();
         self.kept.clear();
         Ok(())
+    }
+}
+
+/// What is next behind an entry when the next cluster of a phase is served, as `serve_next` gives it, where it is within
+/// the limit.
+fn serve_within<L: Ledger>(
+    i: &Instance,
+    entry: &Entry,
+    phase: u8,
+    cluster: &Cluster,
+    limit: Option<u64>,
+    steps: &mut Steps<L>,
+) -> Option<(Served, Entry)>
+    requires phase { phase < length i.now.plan }
+    requires entry { IsEntry i.now entry.now }
+    requires cluster { slice_get (list_at i.now.lists phase) (slice_index entry.now.counts phase) ≡ Some cluster.now }
+    ensures leads { IfSome result (λ x. Some (stage_behind x.1) ≡ stage_after i.now (stage_of_entry i.now entry.now) phase) }
+    ensures served { IfSome result (λ x. serving i.now.plan (stage_of_entry i.now entry.now).head phase cluster.now ≡ Ok (x.0, head_of x.1 false)) }
+    ensures bounds { IfSome result (λ x. IsNext i.now x.1) }
+    ensures within { IfSome result (λ x. IsWithin i.now limit (stage_behind x.1)) }
+    ensures left { IfNone result (IfSome (stage_after i.now (stage_of_entry i.now entry.now) phase) (λ s. ¬ IsWithin i.now limit s)) }
+    ensures cost { steps.new ≤ steps.old + 1 }
+{
+    let (served, next) = serve_next(i, entry, phase, cluster, steps)?;
+    if is_within(i, &next, limit) {
+        Some((served, next))
+    } else {
+        None
     }
 }

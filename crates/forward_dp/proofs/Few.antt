@@ -11,12 +11,13 @@ use Rattle.std.proofs.lemmas.List.Elements.{Contains-append_left, Contains-appen
 use Rattle.std.proofs.lemmas.Map.Made.{length-le_from_is_member}
 use Rattle.switch_rules.specs.Orders.{orders}
 use Rattle.schedule_meaning.specs.Instances.{Problem, IsInstance, counts_of}
-use Rattle.dp_certificate.specs.Prefixes.{HasAllKeys, Key, Stage, first_stage, key_of, stage_of}
+use Rattle.dp_certificate.specs.Limits.{HasKeysWithin, IsWithin}
+use Rattle.dp_certificate.specs.Prefixes.{Key, Stage, first_stage, key_of, stage_of}
 use Rattle.dp_certificate.specs.Proves.{stage_of_entry}
 use Rattle.dp_certificate.proofs.Stages.{split-start}
 use Rattle.flat_table.specs.declared.rows.Row.{Row}
 use Rattle.forward_dp.specs.Numbers.{counts_number}
-use Rattle.forward_dp.specs.Tables.{AreRows, row_number}
+use Rattle.forward_dp.specs.Tables.{AreRows, AreWithin, row_number}
 use Rattle.forward_dp.proofs.Beginnings.{prefix-among}
 use Rattle.forward_dp.proofs.Bounds.{stage-bounds, stage-few}
 
@@ -66,14 +67,14 @@ number_of key = (counts_number key.counts * 4 + key.phase) * 1844674407370955161
 mapped : {X : Type 0} (f : X → ℕ) (xs : List X) (x : X) → Contains xs x → Contains (map f xs) (f x)
 mapped f xs x has = (has.0, omega (arith, length-map xs f, has.1), get_or-map f xs has.0 x (f x) has.1 ∙ ap f has.2)
 
-pub rows-keys : (p : Problem) (rows : List Row) (keys : List Key) → AreRows p rows → HasAllKeys p keys → length rows ≤ length keys
-rows-keys p rows keys are all =
+pub rows-keys : (p : Problem) (limit : Option ℕ) (rows : List Row) (keys : List Key) → AreRows p rows → AreWithin p limit rows → HasKeysWithin p limit keys → length rows ≤ length keys
+rows-keys p limit rows keys are within all =
     omega (
       arith,
       length-map keys number_of,
       few-by rows (map number_of keys) are.rising (λ i d inside.
           let r = are.each i d inside in
-          mapped number_of keys (key_of (stage_of_entry p (get_or rows i d).entry)) (if-some (λ s. Contains keys (key_of s)) (stage_of p r.prefix) (stage_of_entry p (get_or rows i d).entry) r.leads (all r.prefix))),
+          mapped number_of keys (key_of (stage_of_entry p (get_or rows i d).entry)) (if-some (λ s. IsWithin p limit s → Contains keys (key_of s)) (stage_of p r.prefix) (stage_of_entry p (get_or rows i d).entry) r.leads (all r.prefix) (within i d inside))),
     )
 
 -- the number of the key that so many servings of an order reach

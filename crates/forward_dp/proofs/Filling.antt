@@ -1,6 +1,6 @@
 -- A group is filled from the rows with one cluster less, and a cell from its groups.
 use Rattle.std.specs.Prelude.{slice_get}
-use Rattle.std.proofs.Common.{◌≡◌, ℕ, zero, suc, ◌+◌, ◌-◌, ◌*◌, ◌<◌, ◌≤◌, List, [], ◌∷◌, ◌++◌, length, sum, get_or, set, take, drop, Some, refl, sym, ap, subst, ◌∙◌, inl, inr, length-append, length-set, suc-mul, arith}
+use Rattle.std.proofs.Common.{◌≡◌, ℕ, zero, suc, ◌+◌, ◌-◌, ◌*◌, ◌<◌, ◌≤◌, List, [], ◌∷◌, ◌++◌, length, sum, get_or, set, take, drop, Option, Some, refl, sym, ap, subst, ◌∙◌, inl, inr, length-append, length-set, suc-mul, arith}
 use Rattle.std.proofs.Math.Nat.{mul-le-mul_left}
 use Rattle.std.proofs.lemmas.Bool.{cases_eq, cases_lt}
 use Rattle.std.proofs.lemmas.List.{get_or_append_left, get_or-set_other, get_or-set_same}
@@ -33,7 +33,7 @@ pub record IsFound (p : Problem) (counts : List ℕ) (k : ℕ) (rows source : Li
 small-digits : (p : Problem) (counts : List ℕ) → IsInstance p → ((j : ℕ) → get_or counts j 0 ≤ length (list_at p.lists j)) → (j : ℕ) → get_or counts j 0 < 64
 small-digits p counts lawful within j = omega (arith, within j, few-listed p lawful j)
 
-module _ (p : Problem) (counts : List ℕ) (k from start end : ℕ) (rows : List Row) (can : CanFill p counts k from rows) (first : IsFrom rows from (counts_number (before_of counts k)) start) (second : IsFrom rows start (counts_number (before_of counts k) + 1) end) where
+module _ (p : Problem) (limit : Option ℕ) (counts : List ℕ) (k from start end : ℕ) (rows : List Row) (can : CanFill p limit counts k from rows) (first : IsFrom rows from (counts_number (before_of counts k)) start) (second : IsFrom rows start (counts_number (before_of counts k) + 1) end) where
   small : k < 4
   small = omega (arith, can.phase, can.lawful.plan.count.1)
 
@@ -82,23 +82,23 @@ module _ (p : Problem) (counts : List ℕ) (k from start end : ℕ) (rows : List
       the-long = (slice-is rows start end second.rise second.within).1
 
 -- the same over what the calls give
-pub found : (p : Problem) (counts : List ℕ) (k from start end : ℕ) (rows slice other : List Row) (list : List Cluster) (d : Cluster) → CanFill p counts k from rows → slice ≡ rows → other ≡ rows → list ≡ list_at p.lists k
+pub found : (p : Problem) (limit : Option ℕ) (counts : List ℕ) (k from start end : ℕ) (rows slice other : List Row) (list : List Cluster) (d : Cluster) → CanFill p limit counts k from rows → slice ≡ rows → other ≡ rows → list ≡ list_at p.lists k
     → IsFrom slice from (counts_number (set counts k (get_or counts k 0 - 1))) start → IsFrom slice start (counts_number (set counts k (get_or counts k 0 - 1)) + 1) end
     → IsFound p counts k rows (take (end - start) (drop start other)) start end (get_or list (get_or (set counts k (get_or counts k 0 - 1)) k 0) d)
-found p counts k from start end rows slice other list d can is_rows is_other is_list first second =
+found p limit counts k from start end rows slice other list d can is_rows is_other is_list first second =
     let b = sym (before-is counts k) in
     let one : IsFrom rows from (counts_number (before_of counts k)) start = subst (λ xs. IsFrom rows from (counts_number xs) start) b (subst (λ rs. IsFrom rs from (counts_number (set counts k (get_or counts k 0 - 1))) start) is_rows first) in
     let two : IsFrom rows start (counts_number (before_of counts k) + 1) end = subst (λ xs. IsFrom rows start (counts_number xs + 1) end) b (subst (λ rs. IsFrom rs start (counts_number (set counts k (get_or counts k 0 - 1)) + 1) end) is_rows second) in
-    let here = found-here p counts k from start end rows can one two d in
+    let here = found-here p limit counts k from start end rows can one two d in
     subst (λ rs. IsFound p counts k rows (take (end - start) (drop start rs)) start end (get_or list (get_or (set counts k (get_or counts k 0 - 1)) k 0) d)) (sym is_other)
     (subst (λ cs. IsFound p counts k rows (take (end - start) (drop start rows)) start end (get_or cs (get_or (set counts k (get_or counts k 0 - 1)) k 0) d)) (sym is_list)
     (subst (λ xs. IsFound p counts k rows (take (end - start) (drop start rows)) start end (get_or (list_at p.lists k) (get_or xs k 0) d)) (sym b) here))
 
-pub filled : (p : Problem) (counts : List ℕ) (k from start end : ℕ) (rows source new : List Row) (cluster : Cluster) (reached : Reached) → CanFill p counts k from rows → IsFound p counts k rows source start end cluster → AreReachedBy p k cluster source (length source) reached → AreJoined reached rows new → IsFilled p counts k rows new end
-filled p counts k from start end rows source new cluster reached can f by joined =
-    let made = joined-made p k cluster source reached rows new by joined in
+pub filled : (p : Problem) (limit : Option ℕ) (counts : List ℕ) (k from start end : ℕ) (rows source new : List Row) (cluster : Cluster) (reached : Reached) → CanFill p limit counts k from rows → IsFound p counts k rows source start end cluster → AreReachedBy p limit k cluster source (length source) reached → AreJoined reached rows new → IsFilled p limit counts k rows new end
+filled p limit counts k from start end rows source new cluster reached can f by joined =
+    let made = joined-made p limit k cluster source reached rows new by joined in
     record {
-      table = grown p can.lawful counts k can.places (small-digits p counts can.lawful can.within) (omega (arith, can.phase, can.lawful.plan.count.1)) can.some rows source new start cluster can.table f.cell f.is made;
+      table = grown p limit can.lawful counts k can.places (small-digits p counts can.lawful can.within) (omega (arith, can.phase, can.lawful.plan.count.1)) can.some rows source new start cluster can.table f.cell f.is made;
       made = made.made;
       longer = made.is;
       known = f.known;
@@ -115,8 +115,8 @@ below-longer : (rows new made : List Row) (k number end : ℕ) → new ≡ rows 
 below-longer rows new made k number end is within h place less = omega (arith, h place less, ap (λ rs. counts_number_at rs place) is, at-front rows made place (omega (arith, less, within)))
 
 -- a group can be filled
-pub can-fill : (p : Problem) (counts : List ℕ) (k : ℕ) (first rows : List Row) (initial ends : List ℕ) → CanFillCell p counts first initial → k < length p.plan → 0 < get_or counts k 0 → IsTable p (counts_number counts * 4 + k) rows → AreEnds (length p.plan) rows (counts_number counts + 1) k ends → CanFill p counts k (get_or ends k 0) rows
-can-fill p counts k first rows initial ends can phase some table e = record {
+pub can-fill : (p : Problem) (limit : Option ℕ) (counts : List ℕ) (k : ℕ) (first rows : List Row) (initial ends : List ℕ) → CanFillCell p limit counts first initial → k < length p.plan → 0 < get_or counts k 0 → IsTable p limit (counts_number counts * 4 + k) rows → AreEnds (length p.plan) rows (counts_number counts + 1) k ends → CanFill p limit counts k (get_or ends k 0) rows
+can-fill p limit counts k first rows initial ends can phase some table e = record {
   lawful = can.lawful;
   places = can.places;
   within = can.within;
@@ -128,8 +128,8 @@ can-fill p counts k first rows initial ends can phase some table e = record {
 }
 
 -- the ends behind a group that is filled
-pub ends-filled : (p : Problem) (counts : List ℕ) (k end : ℕ) (rows new : List Row) (ends : List ℕ) → k < length p.plan → length p.plan ≤ 4 → AreEnds (length p.plan) rows (counts_number counts + 1) k ends → IsFilled p counts k rows new end → AreEnds (length p.plan) new (counts_number counts + 1) (k + 1) (set ends k end)
-ends-filled p counts k end rows new ends phase few e f =
+pub ends-filled : (p : Problem) (limit : Option ℕ) (counts : List ℕ) (k end : ℕ) (rows new : List Row) (ends : List ℕ) → k < length p.plan → length p.plan ≤ 4 → AreEnds (length p.plan) rows (counts_number counts + 1) k ends → IsFilled p limit counts k rows new end → AreEnds (length p.plan) new (counts_number counts + 1) (k + 1) (set ends k end)
+ends-filled p limit counts k end rows new ends phase few e f =
     let longer : length new ≡ length rows + length f.made = ap length f.longer ∙ length-append rows f.made in
     let here : get_or (set ends k end) k 0 ≡ end = get_or-set_same ends k end 0 (omega (arith, e.places, phase, few)) in
     let there : (j : ℕ) → (j ≡ k → ⊥) → get_or (set ends k end) j 0 ≡ get_or ends j 0 = λ j other. get_or-set_other ends k j end 0 other in
@@ -156,21 +156,21 @@ ends-filled p counts k end rows new ends phase few e f =
 pub ends-passed : (phases : ℕ) (rows : List Row) (number k : ℕ) (ends : List ℕ) → AreEnds phases rows number k ends → AreEnds phases rows number (k + 1) ends
 ends-passed phases rows number k ends e = record { places = e.places; within = e.within; none = e.none; behind = e.behind; ahead = λ j past. e.ahead j (omega (arith, past)) }
 
-pub table-passed : (p : Problem) (counts : List ℕ) (k : ℕ) (first rows : List Row) (initial : List ℕ) → CanFillCell p counts first initial → k < length p.plan → get_or counts k 0 ≤ 0 → IsTable p (counts_number counts * 4 + k) rows → IsTable p (counts_number counts * 4 + (k + 1)) rows
-table-passed p counts k first rows initial can phase none table =
-    subst (λ n. IsTable p n rows) (let e : counts_number counts * 4 + k + 1 ≡ counts_number counts * 4 + (k + 1) = omega arith in e)
-    (table-on p (counts_number counts * 4 + k) (counts_number counts * 4 + k + 1) rows (omega arith)
+pub table-passed : (p : Problem) (limit : Option ℕ) (counts : List ℕ) (k : ℕ) (first rows : List Row) (initial : List ℕ) → CanFillCell p limit counts first initial → k < length p.plan → get_or counts k 0 ≤ 0 → IsTable p limit (counts_number counts * 4 + k) rows → IsTable p limit (counts_number counts * 4 + (k + 1)) rows
+table-passed p limit counts k first rows initial can phase none table =
+    subst (λ n. IsTable p limit n rows) (let e : counts_number counts * 4 + k + 1 ≡ counts_number counts * 4 + (k + 1) = omega arith in e)
+    (table-on p limit (counts_number counts * 4 + k) (counts_number counts * 4 + k + 1) rows (omega arith)
     (none-of-phase p can.lawful counts k can.places (small-digits p counts can.lawful can.within) (omega (arith, phase, can.lawful.plan.count.1)) (omega (arith, none)) can.some) table)
 
-pub table-filled : (p : Problem) (counts : List ℕ) (k end : ℕ) (rows new : List Row) → IsFilled p counts k rows new end → IsTable p (counts_number counts * 4 + (k + 1)) new
-table-filled p counts k end rows new f = subst (λ n. IsTable p n new) (let e : counts_number counts * 4 + k + 1 ≡ counts_number counts * 4 + (k + 1) = omega arith in e) f.table
+pub table-filled : (p : Problem) (limit : Option ℕ) (counts : List ℕ) (k end : ℕ) (rows new : List Row) → IsFilled p limit counts k rows new end → IsTable p limit (counts_number counts * 4 + (k + 1)) new
+table-filled p limit counts k end rows new f = subst (λ n. IsTable p limit n new) (let e : counts_number counts * 4 + k + 1 ≡ counts_number counts * 4 + (k + 1) = omega arith in e) f.table
 
 -- all phases are passed
-pub cell-filled : (p : Problem) (counts : List ℕ) (n : ℕ) (first rows : List Row) (initial ends : List ℕ) → CanFillCell p counts first initial → n ≡ length p.plan → IsTable p (counts_number counts * 4 + n) rows → AreEnds (length p.plan) rows (counts_number counts + 1) n ends → IsCellFilled p counts rows ends
-cell-filled p counts n first rows initial ends can all table e =
+pub cell-filled : (p : Problem) (limit : Option ℕ) (counts : List ℕ) (n : ℕ) (first rows : List Row) (initial ends : List ℕ) → CanFillCell p limit counts first initial → n ≡ length p.plan → IsTable p limit (counts_number counts * 4 + n) rows → AreEnds (length p.plan) rows (counts_number counts + 1) n ends → IsCellFilled p limit counts rows ends
+cell-filled p limit counts n first rows initial ends can all table e =
     let few : length p.plan ≤ 4 = can.lawful.plan.count.1 in
     record {
-      table = table-on p (counts_number counts * 4 + length p.plan) (counts_number counts * 4 + 4) rows (omega arith) (none-past p can.lawful (counts_number counts)) (subst (λ m. IsTable p (counts_number counts * 4 + m) rows) all table);
+      table = table-on p limit (counts_number counts * 4 + length p.plan) (counts_number counts * 4 + 4) rows (omega arith) (none-past p can.lawful (counts_number counts)) (subst (λ m. IsTable p limit (counts_number counts * 4 + m) rows) all table);
       known = record { places = e.places; within = e.within; none = e.none; behind = e.behind; ahead = λ j past. e.ahead j (omega (arith, past, all, few)) };
     }
 
@@ -210,8 +210,8 @@ ends-cost ends k end start before after first inside a b = omega (arith, a, b, s
 -- ---- the table
 
 -- the next cell can be filled
-pub cell-ready : (p : Problem) → IsInstance p → (last counts next : List ℕ) (rows : List Row) (ends : List ℕ) → AreLengths p.lists last → IsNextCounts last counts next → IsTable p (counts_number counts * 4 + 4) rows → AreEnds (length p.plan) rows (counts_number counts + 1) 4 ends → CanFillCell p next rows ends
-cell-ready p lawful last counts next rows ends lengths is table e =
+pub cell-ready : (p : Problem) (limit : Option ℕ) → IsInstance p → (last counts next : List ℕ) (rows : List Row) (ends : List ℕ) → AreLengths p.lists last → IsNextCounts last counts next → IsTable p limit (counts_number counts * 4 + 4) rows → AreEnds (length p.plan) rows (counts_number counts + 1) 4 ends → CanFillCell p limit next rows ends
+cell-ready p limit lawful last counts next rows ends lengths is table e =
     let above = is.above in
     let few : length p.plan ≤ 4 = lawful.plan.count.1 in
     record {
@@ -219,7 +219,7 @@ cell-ready p lawful last counts next rows ends lengths is table e =
       places = is.places;
       within = λ j. omega (arith, is.within j, lengths.each j);
       some = omega (arith, above);
-      table = table-on p (counts_number counts * 4 + 4) (counts_number next * 4) rows (omega (arith, above)) (none-between p lawful last counts next lengths.each is.least) table;
+      table = table-on p limit (counts_number counts * 4 + 4) (counts_number next * 4) rows (omega (arith, above)) (none-between p lawful last counts next lengths.each is.least) table;
       known = record {
         places = e.places;
         within = e.within;

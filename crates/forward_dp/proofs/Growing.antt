@@ -6,9 +6,11 @@ use Rattle.std.proofs.lemmas.List.{get_or-append_right, get_or_append_left, get_
 use Rattle.std.proofs.lemmas.List.Elements.{All-append, All-cons, All-nil, Contains-append_left, Contains-append_right}
 use Rattle.switch_rules.specs.declared.Cluster.{Cluster}
 use Rattle.schedule_meaning.specs.Instances.{Problem, IsInstance, list_at}
+use Rattle.dp_certificate.specs.Limits.{IsSomeDelay, IsWithin}
 use Rattle.dp_certificate.specs.Nexts.{stage_behind}
 use Rattle.dp_certificate.specs.Prefixes.{Key, Stage, first_stage, key_of, one_more, stage_after, stage_of}
 use Rattle.dp_certificate.specs.Proves.{key_of_entry, stage_of_entry}
+use Rattle.dp_certificate.proofs.LimitLaws.{first-within, step-within, within-less}
 use Rattle.dp_certificate.proofs.RestLaws.{step-stale}
 use Rattle.dp_certificate.proofs.Stages.{more-other, more-same, none-counted, some-same, stage-alike, stage-push}
 use Rattle.switch_rules.proofs.Counting.{count-le-sum}
@@ -17,7 +19,7 @@ use Rattle.flat_table.specs.Rows.{IsNoWorse, time_of}
 use Rattle.flat_table.specs.declared.rows.Row.{Row}
 use Rattle.flat_table.proofs.Reaching.{arrival-of, arrival-phase}
 use Rattle.forward_dp.specs.Numbers.{counts_number, order_number}
-use Rattle.forward_dp.specs.Tables.{HasRowFor, IsReached, IsTable, IsWholeTable, row_group, row_number, stage_group}
+use Rattle.forward_dp.specs.Tables.{AreWithin, HasRowFor, IsReached, IsTable, IsWholeTable, row_group, row_number, stage_group}
 use Rattle.forward_dp.proofs.Cells.{IsCell, time-small}
 use Rattle.forward_dp.proofs.Orders.{order-push}
 use Rattle.forward_dp.proofs.Rows.{EndsBy, IsLed, before-four, before_of, back, counts-same, ends-by, entry-stage, forth, group-parts, led, reached-led, step-counts, step-phase}
@@ -42,6 +44,11 @@ no-worse-next r y d o c k (inl x) (inr z) = inl (omega arith)
 no-worse-next r y d o c k (inr x) (inl z) = inl (omega arith)
 no-worse-next r y d o c k (inr x) (inr z) = inr (z.0 ∙ ap (λ n. n + c) x.0, omega arith)
 
+-- a row that is no worse has no more delay
+pub no-more : (r : Row) (d o : ℕ) → IsNoWorse r d o → r.entry.delay ≤ d
+no-more r d o (inl x) = omega arith
+no-more r d o (inr x) = omega (arith, x.0)
+
 worse-by : (r y : Row) (d o c k e m : ℕ) → IsNoWorse r d o → IsNoWorse y (r.entry.delay + c) (r.order * 4 + k) → e ≡ d + c → m ≡ o * 4 + k → IsNoWorse y e m
 worse-by r y d o c k e m a b ed em = subst (λ i. IsNoWorse y e i) (sym em) (subst (λ i. IsNoWorse y i (o * 4 + k)) (sym ed) (no-worse-next r y d o c k a b))
 
@@ -63,15 +70,16 @@ number-below b t (suc (suc (suc (suc k)))) h all less = absurd (omega arith)
 
 -- ---- what is made in one group
 
-module _ (p : Problem) (lawful : IsInstance p) (t : List ℕ) (k : ℕ) (places : length t ≡ 4) (digits : (j : ℕ) → get_or t j 0 < 64) (small : k < 4) (some : 0 < get_or t k 0)
-    (rows source new : List Row) (start : ℕ) (cluster : Cluster) (table : IsTable p (counts_number t * 4 + k) rows) (cell : IsCell rows source start (before_of t k)) (is : IsSource p k cluster source) (made : AreMade p k cluster source rows new) where
+module _ (p : Problem) (limit : Option ℕ) (lawful : IsInstance p) (t : List ℕ) (k : ℕ) (places : length t ≡ 4) (digits : (j : ℕ) → get_or t j 0 < 64) (small : k < 4) (some : 0 < get_or t k 0)
+    (rows source new : List Row) (start : ℕ) (cluster : Cluster) (table : IsTable p limit (counts_number t * 4 + k) rows) (cell : IsCell rows source start (before_of t k)) (is : IsSource p k cluster source) (made : AreMade p limit k cluster source rows new) where
   -- each row that is made is that of a fit prefix, with these counts and this phase
   record IsNew (c : Row) : Type 0 where
     reached : IsReached p c
     counts : c.entry.counts ≡ t
     phase : c.entry.phase ≡ k
+    within : IsWithin p limit (stage_of_entry p c.entry)
 
-  arrived-new : (c : Row) (kept : Bool) → IsArrival p k cluster source (length source) kept c → IsNew c
+  arrived-new : (c : Row) (kept : Bool) → IsArrival p limit k cluster source (length source) kept c → IsNew c
   arrived-new c kept a =
       let r = row_at source a.place in
       let h : IsReached p r = subst (IsReached p) (sym (cell.slice.at a.place a.inside)) (table.made.each (start + a.place) no_row (omega (arith, a.inside, cell.slice.inside))) in
@@ -84,7 +92,8 @@ module _ (p : Problem) (lawful : IsInstance p) (t : List ℕ) (k : ℕ) (places 
           order = a.order ∙ ap (λ n. n * 4 + k) h.order ∙ sym (order-push h.prefix k);
         };
         counts = sym (step-counts p (stage_of_entry p r.entry) (stage_behind c.entry) k a.leads) ∙ ap (λ xs. one_more xs k) (cell.each a.place a.inside) ∙ back t k places small some;
-        phase = arrival-phase p k cluster source (length source) kept c a;
+        phase = arrival-phase p limit k cluster source (length source) kept c a;
+        within = a.within;
       }
 
   made-new : (i : ℕ) (d : Row) → i < length made.made → IsNew (get_or made.made i d)
@@ -95,6 +104,9 @@ module _ (p : Problem) (lawful : IsInstance p) (t : List ℕ) (k : ℕ) (places 
 
   new-each : All (IsReached p) (rows ++ made.made)
   new-each = All-append (IsReached p) rows made.made table.made.each (λ i d h. (made-new i d h).reached)
+
+  new-within : AreWithin p limit (rows ++ made.made)
+  new-within = All-append (λ r. IsWithin p limit (stage_of_entry p r.entry)) rows made.made table.within (λ i d h. (made-new i d h).within)
 
   new-rising : AllPairs (λ a b. row_number a < row_number b) (rows ++ made.made)
   new-rising = pairs-append (λ a b. row_number a < row_number b) rows made.made table.made.rising
@@ -136,9 +148,11 @@ module _ (p : Problem) (lawful : IsInstance p) (t : List ℕ) (k : ℕ) (places 
     phase : s.head.phase ≡ k
     at : s.head.at < 131072
     reach : s.head.at ≤ 104000
+    within : IsWithin p limit s
+    before_within : IsWithin p limit before
 
-  step-from : (w : List ℕ) (s : Stage) (l : IsLed p w s) → s.counts ≡ t → s.head.phase ≡ k → EndsBy p w s → LastStep w s
-  step-from w s l counts phase by =
+  step-from : (w : List ℕ) (s : Stage) (l : IsLed p w s) → s.counts ≡ t → s.head.phase ≡ k → IsWithin p limit s → EndsBy p w s → LastStep w s
+  step-from w s l counts phase within by =
       let last : by.last ≡ k = sym (step-phase p by.before s by.last by.step) ∙ phase in
       let step : stage_after p by.before k ≡ Some s = ap (stage_after p by.before) (sym last) ∙ by.step in
       let lu = led p lawful by.front by.before by.leads in
@@ -155,6 +169,8 @@ module _ (p : Problem) (lawful : IsInstance p) (t : List ℕ) (k : ℕ) (places 
         phase = phase;
         at = l.at;
         reach = l.stage.reach;
+        within = within;
+        before_within = step-within p limit lawful by.before s k lu.stage.places step within;
       }
 
   some-served : (w : List ℕ) (s : Stage) (l : IsLed p w s) → s.counts ≡ t → 0 < length w
@@ -163,12 +179,12 @@ module _ (p : Problem) (lawful : IsInstance p) (t : List ℕ) (k : ℕ) (places 
     | inr more ↦ omega arith
   ]
 
-  last-step : (w : List ℕ) (s : Stage) → stage_of p w ≡ Some s → stage_group s ≡ counts_number t * 4 + k → LastStep w s
-  last-step w s e group =
+  last-step : (w : List ℕ) (s : Stage) → stage_of p w ≡ Some s → stage_group s ≡ counts_number t * 4 + k → IsWithin p limit s → LastStep w s
+  last-step w s e group within =
       let l = led p lawful w s e in
       let parts = group-parts (counts_number s.counts) (counts_number t) s.head.phase k l.phase small group in
       let counts : s.counts ≡ t = counts-same s.counts t l.stage.places places l.digits digits parts.0 in
-      step-from w s l counts parts.1 (ends-by p w s (length w - 1) e (let more = some-served w s l counts in omega (arith, more)))
+      step-from w s l counts parts.1 within (ends-by p w s (length w - 1) e (let more = some-served w s l counts in omega (arith, more)))
 
   -- the row of the source from which the step is made
   record FromRow (u : Stage) (order : ℕ) : Type 0 where
@@ -208,11 +224,12 @@ module _ (p : Problem) (lawful : IsInstance p) (t : List ℕ) (k : ℕ) (places 
       let times = same-times y.entry.since y.entry.at s.head.since s.head.at (small-at y.entry.at at_y) (small-at s.head.at at) time in
       same-keys y.entry.counts s.counts y.entry.phase y.entry.since y.entry.at s.head.phase s.head.since s.head.at (new_y.counts ∙ sym counts) (new_y.phase ∙ sym phase) times.0 times.1
 
-  made-row : (s : Stage) (c n : ℕ) → n < length source → s.counts ≡ t → s.head.phase ≡ k → s.head.at < 131072 → s.head.at ≤ 104000 → s.head.fresh ≡ false → stage_after p (stage_of_entry p (row_at source n).entry) k ≡ Some (record { counts = s.counts; head = s.head; delay = (row_at source n).entry.delay + c })
+  made-row : (s : Stage) (c n : ℕ) → n < length source → s.counts ≡ t → s.head.phase ≡ k → s.head.at < 131072 → s.head.at ≤ 104000 → s.head.fresh ≡ false → IsWithin p limit (record { counts = s.counts; head = s.head; delay = (row_at source n).entry.delay + c })
+      → stage_after p (stage_of_entry p (row_at source n).entry) k ≡ Some (record { counts = s.counts; head = s.head; delay = (row_at source n).entry.delay + c })
       → (y : Row) × Contains made.made y × (key_of_entry y.entry ≡ key_of s) × IsNoWorse y ((row_at source n).entry.delay + c) ((row_at source n).order * 4 + k)
-  made-row s c n inside counts phase at reach stale leads =
+  made-row s c n inside counts phase at reach stale within leads =
       let d = (row_at source n).entry.delay + c in
-      let arrival = arrival-of p k cluster source n (record { counts = s.counts; head = s.head; delay = d }) is inside leads stale reach in
+      let arrival = arrival-of p limit k cluster source n (record { counts = s.counts; head = s.head; delay = d }) is inside leads stale reach within in
       let y = made.best.all (record { entry = record { counts = s.counts; phase = s.head.phase; since = s.head.since; at = s.head.at; delay = d }; order = (row_at source n).order * 4 + k }) arrival in
       (y.row, y.among, made-key s y.row y.among counts phase at y.time_is, y.no_worse)
 
@@ -220,7 +237,8 @@ module _ (p : Problem) (lawful : IsInstance p) (t : List ℕ) (k : ℕ) (places 
   row-from w s l f =
       let r = row_at source f.place in
       let next = next-of l.front l.before s r l.leads l.step f.key in
-      let y = made-row s next.0 f.place f.inside l.counts l.phase l.at l.reach (step-stale p l.before s k l.step) next.2 in
+      let y = made-row s next.0 f.place f.inside l.counts l.phase l.at l.reach (step-stale p l.before s k l.step)
+      (within-less p limit s (r.entry.delay + next.0) (omega (arith, no-more r l.before.delay (order_number l.front) f.no_worse, next.1)) l.within) next.2 in
       record {
         row = y.0;
         among = Contains-append_right rows made.made y.0 y.1;
@@ -229,28 +247,30 @@ module _ (p : Problem) (lawful : IsInstance p) (t : List ℕ) (k : ℕ) (places 
       }
 
   -- a stage of the new group has a row
-  new-row : (w : List ℕ) (s : Stage) → stage_of p w ≡ Some s → stage_group s ≡ counts_number t * 4 + k → HasRowFor (rows ++ made.made) s (order_number w)
-  new-row w s e group =
-      let l = last-step w s e group in
-      row-from w s l (from-row l.before (order_number l.front) l.less (table.all l.front l.before l.leads l.group))
+  new-row : (w : List ℕ) (s : Stage) → stage_of p w ≡ Some s → stage_group s ≡ counts_number t * 4 + k → IsWithin p limit s → HasRowFor (rows ++ made.made) s (order_number w)
+  new-row w s e group within =
+      let l = last-step w s e group within in
+      row-from w s l (from-row l.before (order_number l.front) l.less (table.all l.front l.before l.leads l.group l.before_within))
 
   -- so the table has grown by the group
-  pub grown : IsTable p (counts_number t * 4 + k + 1) new
-  grown = subst (IsTable p (counts_number t * 4 + k + 1)) (sym made.is) (record {
+  pub grown : IsTable p limit (counts_number t * 4 + k + 1) new
+  grown = subst (IsTable p limit (counts_number t * 4 + k + 1)) (sym made.is) (record {
     made = record { each = new-each; rising = new-rising };
+    within = new-within;
     below = new-below;
-    all = λ w s e less. elim (cases_lt (stage_group s) (counts_number t * 4 + k)) [
-      | inl old ↦ (let h = table.all w s e old in record { row = h.row; among = Contains-append_left rows made.made h.row h.among; key = h.key; no_worse = h.no_worse })
-      | inr last ↦ new-row w s e (omega arith)
+    all = λ w s e less within. elim (cases_lt (stage_group s) (counts_number t * 4 + k)) [
+      | inl old ↦ (let h = table.all w s e old within in record { row = h.row; among = Contains-append_left rows made.made h.row h.among; key = h.key; no_worse = h.no_worse })
+      | inr last ↦ new-row w s e (omega arith) within
     ];
   })
 
 -- ---- groups that are empty
 
 -- where no stage is of these groups, the table is as far already
-pub table-on : (p : Problem) (low high : ℕ) (rows : List Row) → low ≤ high → ((w : List ℕ) (s : Stage) → stage_of p w ≡ Some s → stage_group s < high → stage_group s < low) → IsTable p low rows → IsTable p high rows
-table-on p low high rows rise none table = record {
+pub table-on : (p : Problem) (limit : Option ℕ) (low high : ℕ) (rows : List Row) → low ≤ high → ((w : List ℕ) (s : Stage) → stage_of p w ≡ Some s → stage_group s < high → stage_group s < low) → IsTable p limit low rows → IsTable p limit high rows
+table-on p limit low high rows rise none table = record {
   made = table.made;
+  within = table.within;
   below = λ i d h. omega (arith, table.below i d h);
   all = λ w s e less. table.all w s e (none w s e less);
 }
@@ -311,28 +331,30 @@ root-row p lawful w s e less =
     let same : first_stage p ≡ s = some-same (first_stage p) s (ap (stage_of p) (sym empty) ∙ e) in
     subst (λ (x : Stage). HasRowFor (root p ∷ []) x (order_number w)) same (subst (λ v. HasRowFor (root p ∷ []) (first_stage p) (order_number v)) (sym empty) (record { row = root p; among = (0, omega arith, refl); key = refl; no_worse = inr (refl, omega arith) }))
 
-root-table : (p : Problem) → IsInstance p → IsTable p 4 (root p ∷ [])
+root-table : (p : Problem) (limit : Option ℕ) → IsInstance p → IsSomeDelay p limit → IsTable p limit 4 (root p ∷ [])
 unfolding root
-root-table p lawful = record {
+root-table p limit lawful delay = record {
   made = record {
     each = All-cons (IsReached p) (root p) [] (record { prefix = []; leads = ap (λ (s : Stage). let o : Option Stage = Some s in o) (sym (entry-stage p lawful [] (first_stage p) (root p).entry refl refl)); order = refl }) (All-nil (IsReached p));
     rising = λ i j d less h. absurd (omega arith);
   };
+  within = All-cons (λ r. IsWithin p limit (stage_of_entry p r.entry)) (root p) [] (first-within p limit lawful delay) (All-nil (λ r. IsWithin p limit (stage_of_entry p r.entry)));
   below = All-cons (λ r. row_group r < 4) (root p) [] (let phase = lawful.head.phase in omega (arith, phase, lawful.plan.count.1)) (All-nil (λ r. row_group r < 4));
-  all = root-row p lawful;
+  all = λ w s e less within. root-row p lawful w s e less;
 }
 
-pub table-first : (p : Problem) → IsInstance p → (r : Row) → r ≡ record { entry = record { counts = 0 ∷ 0 ∷ 0 ∷ 0 ∷ []; phase = p.head.phase; since = p.head.since; at = p.head.at; delay = 0 }; order = 0 } → IsTable p 4 (r ∷ [])
+pub table-first : (p : Problem) (limit : Option ℕ) → IsInstance p → IsSomeDelay p limit → (r : Row) → r ≡ record { entry = record { counts = 0 ∷ 0 ∷ 0 ∷ 0 ∷ []; phase = p.head.phase; since = p.head.since; at = p.head.at; delay = 0 }; order = 0 } → IsTable p limit 4 (r ∷ [])
 unfolding root
-table-first p lawful r is = subst (λ x. IsTable p 4 (x ∷ [])) (sym is) (root-table p lawful)
+table-first p limit lawful delay r is = subst (λ x. IsTable p limit 4 (x ∷ [])) (sym is) (root-table p limit lawful delay)
 
 -- the last counts
-pub table-whole : (p : Problem) → IsInstance p → (last old : List ℕ) (rows : List Row) → ((k : ℕ) → get_or last k 0 ≡ length (list_at p.lists k)) → ((c : List ℕ) → ((k : ℕ) → get_or c k 0 ≤ get_or last k 0) → counts_number c ≤ counts_number old) → IsTable p (counts_number old * 4 + 4) rows → IsWholeTable p rows
-table-whole p lawful last old rows lengths least table = record {
+pub table-whole : (p : Problem) (limit : Option ℕ) → IsInstance p → (last old : List ℕ) (rows : List Row) → ((k : ℕ) → get_or last k 0 ≡ length (list_at p.lists k)) → ((c : List ℕ) → ((k : ℕ) → get_or c k 0 ≤ get_or last k 0) → counts_number c ≤ counts_number old) → IsTable p limit (counts_number old * 4 + 4) rows → IsWholeTable p limit rows
+table-whole p limit lawful last old rows lengths least table = record {
   made = table.made;
-  all = λ w s e.
+  within = table.within;
+  all = λ w s e within.
       let l = led p lawful w s e in
       let phase = l.phase in
       let below = least s.counts (λ k. omega (arith, l.stage.counts k, lengths k)) in
-      table.all w s e (omega (arith, below, phase));
+      table.all w s e (omega (arith, below, phase)) within;
 }

@@ -1,5 +1,5 @@
 mod Beginnings
-mod Bounds
+pub mod Bounds
 mod Cells
 mod Digits
 mod Few

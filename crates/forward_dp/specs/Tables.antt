@@ -1,6 +1,7 @@
 -- The table: its rows, and how far it is made.
-use Rattle.std.specs.Prelude.{◌≡◌, ℕ, zero, suc, ◌+◌, ◌-◌, ◌*◌, ◌<◌, ◌≤◌, ◌++◌, List, length, slice_index, AllPairs, All, Contains, Some}
+use Rattle.std.specs.Prelude.{◌≡◌, ℕ, zero, suc, ◌+◌, ◌-◌, ◌*◌, ◌<◌, ◌≤◌, ◌++◌, List, length, slice_index, AllPairs, All, Contains, Option, Some}
 use Rattle.schedule_meaning.specs.Instances.{Problem, IsInstance, list_at}
+use Rattle.dp_certificate.specs.Limits.{IsSomeDelay, IsWithin}
 use Rattle.dp_certificate.specs.Prefixes.{Stage, key_of, stage_of}
 use Rattle.dp_certificate.specs.Proves.{key_of_entry, stage_of_entry}
 use Rattle.flat_table.specs.Groups.{row_at}
@@ -42,16 +43,29 @@ pub record AreRows (p : Problem) (rows : List Row) : Type 0 where
   pub each : All (IsReached p) rows
   pub rising : AllPairs (λ a b. row_number a < row_number b) rows
 
--- the table as far as the groups below this one: each stage of these has a row that is no worse
-pub record IsTable (p : Problem) (group : ℕ) (rows : List Row) : Type 0 where
-  pub made : AreRows p rows
-  pub below : All (λ r. row_group r < group) rows
-  pub all : (prefix : List ℕ) (s : Stage) → stage_of p prefix ≡ Some s → stage_group s < group → HasRowFor rows s (order_number prefix)
+-- each row is within the limit, where there is one
+abbrev pub AreWithin : Problem → Option ℕ → List Row → Type 0
+AreWithin p limit rows = All (λ r. IsWithin p limit (stage_of_entry p r.entry)) rows
 
--- the whole table
-pub record IsWholeTable (p : Problem) (rows : List Row) : Type 0 where
+-- the table with a limit, as far as the groups below this one: each stage of these that is within the limit has a row that is
+-- no worse
+pub record IsTable (p : Problem) (limit : Option ℕ) (group : ℕ) (rows : List Row) : Type 0 where
   pub made : AreRows p rows
-  pub all : (prefix : List ℕ) (s : Stage) → stage_of p prefix ≡ Some s → HasRowFor rows s (order_number prefix)
+  pub within : AreWithin p limit rows
+  pub below : All (λ r. row_group r < group) rows
+  pub all : (prefix : List ℕ) (s : Stage) → stage_of p prefix ≡ Some s → stage_group s < group → IsWithin p limit s → HasRowFor rows s (order_number prefix)
+
+-- the whole table with a limit
+pub record IsWholeTable (p : Problem) (limit : Option ℕ) (rows : List Row) : Type 0 where
+  pub made : AreRows p rows
+  pub within : AreWithin p limit rows
+  pub all : (prefix : List ℕ) (s : Stage) → stage_of p prefix ≡ Some s → IsWithin p limit s → HasRowFor rows s (order_number prefix)
+
+-- a table that has a row of each least sequence: one with no limit, or with one that a feasible sequence keeps
+pub record HasAnswers (p : Problem) (rows : List Row) : Type 0 where
+  pub limit : Option ℕ
+  pub delay : IsSomeDelay p limit
+  pub table : IsWholeTable p limit rows
 
 -- the first place, from one on, of a row whose counts have at least this number: what stands before it has less
 pub record IsFrom (rows : List Row) (from least place : ℕ) : Type 0 where
@@ -79,19 +93,19 @@ abbrev pub AreBelow : List Row → ℕ → ℕ → ℕ → Type 0
 AreBelow rows k number end = (place : ℕ) → place < end → counts_number_at rows place + unit_of k < number
 
 -- these counts can be reached by phase k from rows that stand from a place on
-pub record CanFill (p : Problem) (counts : List ℕ) (k from : ℕ) (rows : List Row) : Type 0 where
+pub record CanFill (p : Problem) (limit : Option ℕ) (counts : List ℕ) (k from : ℕ) (rows : List Row) : Type 0 where
   pub lawful : IsInstance p
   pub places : length counts ≡ 4
   pub within : (j : ℕ) → slice_index counts j ≤ length (list_at p.lists j)
   pub phase : k < length p.plan
   pub some : 0 < slice_index counts k
-  pub table : IsTable p (counts_number counts * 4 + k) rows
+  pub table : IsTable p limit (counts_number counts * 4 + k) rows
   pub known : from ≤ length rows
   pub behind : AreBelow rows k (counts_number counts) from
 
 -- and are reached, by rows behind the others, from rows that end at a place
-pub record IsFilled (p : Problem) (counts : List ℕ) (k : ℕ) (old new : List Row) (end : ℕ) : Type 0 where
-  pub table : IsTable p (counts_number counts * 4 + k + 1) new
+pub record IsFilled (p : Problem) (limit : Option ℕ) (counts : List ℕ) (k : ℕ) (old new : List Row) (end : ℕ) : Type 0 where
+  pub table : IsTable p limit (counts_number counts * 4 + k + 1) new
   pub made : List Row
   pub longer : new ≡ old ++ made
   pub known : end ≤ length old
@@ -107,15 +121,15 @@ pub record AreEnds (phases : ℕ) (rows : List Row) (number phase : ℕ) (ends :
   pub ahead : (k : ℕ) → phase ≤ k → (place : ℕ) → place < slice_index ends k → counts_number_at rows place + unit_of k + 1 < number
 
 -- the cell with these counts can be made, of which some are not zero
-pub record CanFillCell (p : Problem) (counts : List ℕ) (rows : List Row) (ends : List ℕ) : Type 0 where
+pub record CanFillCell (p : Problem) (limit : Option ℕ) (counts : List ℕ) (rows : List Row) (ends : List ℕ) : Type 0 where
   pub lawful : IsInstance p
   pub places : length counts ≡ 4
   pub within : (j : ℕ) → slice_index counts j ≤ length (list_at p.lists j)
   pub some : 0 < counts_number counts
-  pub table : IsTable p (counts_number counts * 4) rows
+  pub table : IsTable p limit (counts_number counts * 4) rows
   pub known : AreEnds (length p.plan) rows (counts_number counts + 1) 0 ends
 
 -- the cell is made
-pub record IsCellFilled (p : Problem) (counts : List ℕ) (new : List Row) (ends : List ℕ) : Type 0 where
-  pub table : IsTable p (counts_number counts * 4 + 4) new
+pub record IsCellFilled (p : Problem) (limit : Option ℕ) (counts : List ℕ) (new : List Row) (ends : List ℕ) : Type 0 where
+  pub table : IsTable p limit (counts_number counts * 4 + 4) new
   pub known : AreEnds (length p.plan) new (counts_number counts + 1) 4 ends

@@ -2,6 +2,7 @@
 
 ghost use Rattle.std.specs.Prelude.{◌≡◌, ◌+◌, ◌*◌, ◌≤◌, List, length, map, IfOk};
 ghost use Rattle.schedule_meaning.specs.Best.{IsBest};
+ghost use Rattle.dp_certificate.specs.Limits.{HasKeysWithin, IsLimited, IsSomeDelay};
 ghost use Rattle.dp_certificate.specs.Numbers.{sequence_of};
 ghost use Rattle.dp_certificate.specs.Prefixes.{HasAllKeys, Key};
 ghost use Rattle.dp_certificate.specs.Proves.{Proves};
@@ -34,7 +35,31 @@ pub fn certify<L: Ledger>(
     ensures few { IfOk result (λ c. (length c.entries ≤ 2000001) × (length (sequence_of c.answer) ≤ 40)) }
     ensures servings { (keys : List Key) → HasAllKeys i.now keys → steps.new ≤ steps.old + length i.now.plan * length keys }
 {
-    let rows = table(alloc, i, steps)?;
+    certify_within(alloc, i, None, steps)
+}
+
+/// The table with a limit, with the best answer: a certificate with an entry for each key that a fit prefix within the limit
+/// reaches, with the least delay of the prefixes that reach it. It proves its answer. The limit is the delay of a feasible
+/// sequence, in thousandths of a vehicle times seconds; with none the table is the whole one.
+///
+/// There are at most as many servings as phases for each such key. An `Err` comes where memory runs out.
+///
+/// docs/RULES.md, "Bounded table".
+pub fn certify_within<L: Ledger>(
+    alloc: Global,
+    i: &Instance,
+    limit: Option<u64>,
+    steps: &mut Steps<L>,
+) -> Result<Certificate, AllocError>
+    requires { IsSomeDelay i.now limit }
+    ensures instance { IfOk result (λ c. c.problem ≡ i.now) }
+    ensures table { IfOk result (λ c. IsLimited i.now limit c.entries) }
+    ensures best { IfOk result (λ c. IsBest i.now c.answer) }
+    ensures proves { IfOk result Proves }
+    ensures few { IfOk result (λ c. (length c.entries ≤ 2000001) × (length (sequence_of c.answer) ≤ 40)) }
+    ensures servings { (keys : List Key) → HasKeysWithin i.now limit keys → steps.new ≤ steps.old + length i.now.plan * length keys }
+{
+    let rows = table(alloc, i, limit, steps)?;
     let answer = answer_of(alloc, i, rows.as_slice())?;
     let entries = entries_of(alloc, rows.as_slice())?;
     let instance = i.copy(alloc)?;

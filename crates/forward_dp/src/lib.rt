@@ -6,16 +6,17 @@ ghost use Rattle.std.specs.Prelude.{◌≡◌, ◌⊎◌, ◌+◌, ◌*◌, ◌�
 ghost use Rattle.schedule_meaning.specs.Best.{IsBest, IsLeast};
 ghost use Rattle.schedule_meaning.specs.Instances.{IsInstance, counts_of};
 ghost use Rattle.dp_certificate.specs.Numbers.{AreLengths};
+ghost use Rattle.dp_certificate.specs.Limits.{HasKeysWithin, IsSomeDelay};
 ghost use Rattle.dp_certificate.specs.Prefixes.{HasAllKeys, Key};
 ghost use Rattle.flat_table.specs.Rows.{IsNoWorse};
-ghost use Rattle.forward_dp.specs.Tables.{IsWholeTable};
+ghost use Rattle.forward_dp.specs.Tables.{HasAnswers};
 
 mod answers;
 mod certifying;
 mod table;
 
 use answers::sequence_of;
-pub use certifying::certify;
+pub use certifying::{certify, certify_within};
 use dp_certificate::list_lengths;
 use flat_table::{Row, better_of};
 use foundation::items::Items;
@@ -26,8 +27,8 @@ use std::alloc::{AllocError, Global};
 use std::sync::ledger::Ledger;
 use table::{cell, table};
 
-/// The best answer of an instance by a table with a row for each key that fit prefixes reach. A key is how many clusters of each phase are served, the green phase, since when, and up to
-/// which second its time is spent.
+/// The best answer of an instance by a table with a row for each key that fit prefixes reach. A key is how many clusters of
+/// each phase are served, the green phase, since when, and up to which second its time is spent.
 ///
 /// It takes at most as many steps, for each key that fit prefixes reach at all, as the instance has phases; also where
 /// it fails. An `Err` comes where memory runs out.
@@ -42,13 +43,35 @@ pub fn layered<L: Ledger>(
     ensures least { IfOk result (IsLeast i.now) }
     ensures servings { (keys : List Key) → HasAllKeys i.now keys → steps.new ≤ steps.old + length i.now.plan * length keys }
 {
-    let rows = table(alloc, i, steps)?;
+    layered_within(alloc, i, None, steps)
+}
+
+/// The best answer of an instance, as `layered` gives it, by a table with a limit: no row is kept whose delay, with what the
+/// clusters that are left cost at the least, is above it. The limit is the delay of a feasible sequence, in thousandths of a
+/// vehicle times seconds; with none the table is the whole one.
+///
+/// It takes at most as many steps, for each key that fit prefixes within the limit reach, as the instance has phases; also
+/// where it fails. An `Err` comes where memory runs out.
+///
+/// docs/RULES.md, "Bounded table".
+pub fn layered_within<L: Ledger>(
+    alloc: Global,
+    i: &Instance,
+    limit: Option<u64>,
+    steps: &mut Steps<L>,
+) -> Result<Answer, AllocError>
+    requires { IsSomeDelay i.now limit }
+    ensures best { IfOk result (IsBest i.now) }
+    ensures least { IfOk result (IsLeast i.now) }
+    ensures servings { (keys : List Key) → HasKeysWithin i.now limit keys → steps.new ≤ steps.old + length i.now.plan * length keys }
+{
+    let rows = table(alloc, i, limit, steps)?;
     answer_of(alloc, i, rows.as_slice())
 }
 
 /// The answer of the best of the rows of whole sequences.
 fn answer_of(alloc: Global, i: &Instance, rows: &[Row]) -> Result<Answer, AllocError>
-    requires { IsWholeTable i.now rows.now }
+    requires { HasAnswers i.now rows.now }
     ensures best { IfOk result (IsBest i.now) }
     ensures instance { IsInstance i.now }
 {

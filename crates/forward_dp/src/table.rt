@@ -2,7 +2,8 @@
 
 ghost use Rattle.std.specs.Prelude.{◌≡◌, ℕ, ◌+◌, ◌*◌, ◌<◌, ◌≤◌, [], ◌∷◌, List, length, slice_index, sum, IfNone, IfOk, IfSome, OnOk};
 ghost use Rattle.schedule_meaning.specs.Instances.{IsInstance};
-ghost use Rattle.dp_certificate.specs.Prefixes.{HasAllKeys, Key};
+ghost use Rattle.dp_certificate.specs.Limits.{HasKeysWithin, IsSomeDelay};
+ghost use Rattle.dp_certificate.specs.Prefixes.{Key};
 ghost use Rattle.flat_table.specs.Groups.{IsEmpty};
 ghost use Rattle.forward_dp.specs.Numbers.{counts_number};
 ghost use Rattle.forward_dp.specs.Tables.{CanFill, CanFillCell, IsCellFilled, IsFilled, IsFrom, IsNextCounts, IsWholeTable};
@@ -14,14 +15,17 @@ use schedule_meaning::Instance;
 use std::alloc::{AllocError, Global};
 use std::sync::ledger::Ledger;
 
-/// The whole table: a row for each key that a fit prefix reaches.
+/// The whole table: a row for each key that a fit prefix reaches. Where there is a limit, which is the delay of a feasible
+/// sequence, only with what is within it.
 pub(crate) fn table<L: Ledger>(
     alloc: Global,
     i: &Instance,
+    limit: Option<u64>,
     steps: &mut Steps<L>,
 ) -> Result<Vec<Row>, AllocError>
-    ensures whole { IfOk result (λ rows. IsWholeTable i.now rows.items) }
-    ensures servings { (keys : List Key) → HasAllKeys i.now keys → steps.new ≤ steps.old + length i.now.plan * length keys }
+    requires { IsSomeDelay i.now limit }
+    ensures whole { IfOk result (λ rows. IsWholeTable i.now limit rows.items) }
+    ensures servings { (keys : List Key) → HasKeysWithin i.now limit keys → steps.new ≤ steps.old + length i.now.plan * length keys }
 {
     let last = list_lengths(i);
     let mut reached = Reached::new(alloc)?;
@@ -30,7 +34,7 @@ pub(crate) fn table<L: Ledger>(
     let mut counts = [0; 4];
     let mut ends = [0; 4];
     while let Some(next) = next_counts(&counts, &last) {
-        fill_cell(i, &next, &mut ends, &mut reached, &mut rows, steps)?;
+        fill_cell(i, limit, &next, &mut ends, &mut reached, &mut rows, steps)?;
         counts = next;
     }
     Ok(rows)
@@ -81,23 +85,25 @@ fn next_counts(counts: &[u8; 4], last: &[u8; 4]) -> Option<[u8; 4]>
 /// phase was served.
 fn fill_cell<L: Ledger>(
     i: &Instance,
+    limit: Option<u64>,
     counts: &[u8; 4],
     ends: &mut [usize; 4],
     reached: &mut Reached,
     rows: &mut Vec<Row>,
     steps: &mut Steps<L>,
 ) -> Result<(), AllocError>
-    requires cell { CanFillCell i.now counts.now rows.old.items ends.old }
+    requires cell { CanFillCell i.now limit counts.now rows.old.items ends.old }
     requires empty { IsEmpty reached.old }
-    ensures filled { OnOk result (IsCellFilled i.now counts.now rows.new.items ends.new) }
+    ensures filled { OnOk result (IsCellFilled i.now limit counts.now rows.new.items ends.new) }
     ensures empty { OnOk result (IsEmpty reached.new) }
     ensures cost { OnOk result (steps.new + sum ends.old ≤ steps.old + sum ends.new) }
-    ensures most { (keys : List Key) → HasAllKeys i.now keys → steps.new + sum ends.old ≤ steps.old + length i.now.plan * length keys }
+    ensures most { (keys : List Key) → HasKeysWithin i.now limit keys → steps.new + sum ends.old ≤ steps.old + length i.now.plan * length keys }
 {
     for phase in 0..i.plan().count() {
         if counts[phase as usize] > 0 {
             ends[phase as usize] = fill_group(
                 i,
+                limit,
                 counts,
                 phase,
                 ends[phase as usize],
@@ -114,6 +120,7 @@ fn fill_cell<L: Ledger>(
 /// reached; these stand from a place on.
 fn fill_group<L: Ledger>(
     i: &Instance,
+    limit: Option<u64>,
     counts: &[u8; 4],
     phase: u8,
     from: usize,
@@ -121,9 +128,9 @@ fn fill_group<L: Ledger>(
     rows: &mut Vec<Row>,
     steps: &mut Steps<L>,
 ) -> Result<usize, AllocError>
-    requires group { CanFill i.now counts.now phase from rows.old.items }
+    requires group { CanFill i.now limit counts.now phase from rows.old.items }
     requires empty { IsEmpty reached.old }
-    ensures filled { IfOk result (λ end. IsFilled i.now counts.now phase rows.old.items rows.new.items end) }
+    ensures filled { IfOk result (λ end. IsFilled i.now limit counts.now phase rows.old.items rows.new.items end) }
     ensures empty { OnOk result (IsEmpty reached.new) }
     ensures cost { IfOk result (λ end. steps.new + from ≤ steps.old + end) }
     ensures most { steps.new + from ≤ steps.old + length rows.old.items }
@@ -132,7 +139,8 @@ fn fill_group<L: Ledger>(
     before[phase as usize] -= 1;
     let cluster = &i.list(phase)[before[phase as usize] as usize];
     let (start, end) = cell(rows.as_slice(), from, &before);
-    reached.reach(i, &rows.as_slice()[start..end], phase, cluster, steps)?;
+    let source = &rows.as_slice()[start..end];
+    reached.reach(i, source, phase, cluster, limit, steps)?;
     reached.put_behind(rows)?;
     Ok(end)
 }

@@ -1,7 +1,7 @@
 -- Words are those of one command at most.
 use Rattle.std.proofs.Common.{rules, ◌≡◌, ℕ, List, [], ◌∷◌, true, sym, ap, ◌∙◌}
 use Rattle.std.specs.Str.{bytes_eq}
-use Rattle.signal_cli.specs.Commands.{Call, IsCall, Certify, Check, Plan, words_of}
+use Rattle.signal_cli.specs.Commands.{Call, IsCall, Certify, CertifyBound, Check, Plan, words_of}
 
 -- the first word
 first : List (List ℕ) → List ℕ
@@ -22,5 +22,6 @@ same_word words a b is other =
 pub one_call : (words : List (List ℕ)) (a b : Call) → IsCall words a → IsCall words b → a ≡ b
 one_call words (Plan f) (Plan g) is other = let e = is.spelled in let d = other.spelled in cc
 one_call words (Certify f) (Certify g) is other = let e = is.spelled in let d = other.spelled in cc
+one_call words (CertifyBound f) (CertifyBound g) is other = let e = is.spelled in let d = other.spelled in cc
 one_call words (Check f) (Check g) is other = let e = is.spelled in let d = other.spelled in cc
 one_call words a b is other = let e = same_word words a b is other in absurd (cc)

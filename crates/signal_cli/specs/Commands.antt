@@ -5,6 +5,7 @@ use Rattle.schedule_meaning.specs.declared.planners.Answer.{Answer}
 use Rattle.dp_certificate.specs.Certificates.{Claim}
 use Rattle.dp_certificate.specs.Proves.{Proves}
 use Rattle.dp_certificate.specs.Whole.{IsWhole}
+use Rattle.pruned_dp.specs.Bounded.{IsBounded}
 use Rattle.certificate_form.specs.CertificateText.{certificate_text}
 use Rattle.cert_checker.specs.Verdicts.{IsWhy}
 use Rattle.cert_checker.specs.declared.Why.{Why}
@@ -20,12 +21,14 @@ use Rattle.signal_cli.specs.declared.refusals.Named.{Named}
 pub data Call : Type 0 where
   Plan : (file : List ℕ) → Call
   Certify : (file : List ℕ) → Call
+  CertifyBound : (file : List ℕ) → Call
   Check : (file : List ℕ) → Call
 
 -- the words of a command; a number stands in its one form, in decimal
 abbrev pub words_of : Call → List (List ℕ)
 words_of (Plan file) = codes "plan" ∷ file ∷ []
 words_of (Certify file) = codes "certify" ∷ file ∷ []
+words_of (CertifyBound file) = codes "certify_bound" ∷ file ∷ []
 words_of (Check file) = codes "check" ∷ file ∷ []
 
 -- the numbers of a command are within their bounds; none has a number yet
@@ -41,6 +44,7 @@ pub record IsCall (words : List (List ℕ)) (call : Call) : Type 0 where
 abbrev pub texts_of : Call → Texts
 texts_of (Plan file) = Next InstanceText file (λ said. NoMore)
 texts_of (Certify file) = Next InstanceText file (λ said. NoMore)
+texts_of (CertifyBound file) = Next InstanceText file (λ said. NoMore)
 texts_of (Check file) = Next CertificateText file (λ said. NoMore)
 
 -- These bytes are a certificate's text that `check` accepts: the text is within the limit, and spells this certificate and no
@@ -55,6 +59,7 @@ pub record IsAcceptedText (bytes : List ℕ) (c : Claim) : Type 0 where
 abbrev pub IsTextOf : (call : Call) → AllSaid (texts_of call) → List ℕ → Type 0
 IsTextOf (Plan file) said bytes = (answer : Answer) × IsBest said.0 answer × IsLeast said.0 answer × (bytes ≡ answer_text answer)
 IsTextOf (Certify file) said bytes = (c : Claim) × (c.problem ≡ said.0) × IsWhole c.problem c.entries × IsBest c.problem c.answer × (bytes ≡ certificate_text c) × IsAcceptedText bytes c
+IsTextOf (CertifyBound file) said bytes = (c : Claim) × (c.problem ≡ said.0) × IsBounded c.problem c.entries × IsBest c.problem c.answer × (bytes ≡ certificate_text c) × IsAcceptedText bytes c
 IsTextOf (Check file) said bytes = Proves said.0 × IsLeast said.0.problem said.0.answer × (bytes ≡ accepted_line)
 
 -- the verdict of a command goes against its texts; only `check` judges
@@ -79,4 +84,5 @@ MissesNothing call said = (what : Named) → ¬ IsMissing call said what
 abbrev pub seen : Told → Call
 seen (told.Plan file) = Plan file.now
 seen (told.Certify file) = Certify file.now
+seen (told.CertifyBound file) = CertifyBound file.now
 seen (told.Check file) = Check file.now

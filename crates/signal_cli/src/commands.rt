@@ -13,6 +13,8 @@ pub enum Command<'a> {
     Plan { file: &'a str },
     /// Writes the certificate of an instance.
     Certify { file: &'a str },
+    /// Writes the certificate of an instance by its bounded table.
+    CertifyBound { file: &'a str },
     /// Writes the verdict on a certificate.
     Check { file: &'a str },
 }
@@ -26,6 +28,7 @@ pub fn command_of(words: &[Text]) -> Option<Command<'_>>
     match word.as_str() {
         "plan" => Some(Command::Plan { file: one(rest)? }),
         "certify" => Some(Command::Certify { file: one(rest)? }),
+        "certify_bound" => Some(Command::CertifyBound { file: one(rest)? }),
         "check" => Some(Command::Check { file: one(rest)? }),
         _ => None,
     }

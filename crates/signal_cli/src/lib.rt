@@ -4,6 +4,7 @@
 mod answers;
 mod bad_texts;
 mod certify;
+mod certify_bound;
 mod check;
 mod commands;
 mod ending;
@@ -16,6 +17,7 @@ mod verdicts;
 mod words;
 
 pub use certify::certify_job;
+pub use certify_bound::certify_bound_job;
 pub use check::check_job;
 pub use plan::plan_job;
 pub use status::Status;

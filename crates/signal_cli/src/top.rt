@@ -6,6 +6,7 @@ ghost use Rattle.signal_cli.specs.Refusals.{Says};
 ghost use Rattle.signal_cli.specs.declared.refusals.Refusal.TheVariants as refusal;
 
 use super::certify::certify_job;
+use super::certify_bound::certify_bound_job;
 use super::check::check_job;
 use super::commands::{Command, command_of};
 use super::plan::plan_job;
@@ -58,6 +59,7 @@ fn run<S: Shelf, O: Sink, E: Sink>(
     match command {
         Command::Plan { file } => plan_job(alloc, file, shelf, out, err),
         Command::Certify { file } => certify_job(alloc, file, shelf, out, err),
+        Command::CertifyBound { file } => certify_bound_job(alloc, file, shelf, out, err),
         Command::Check { file } => check_job(alloc, file, shelf, out, err),
     }
 }

@@ -1,36 +1,12 @@
-use Rattle.std.proofs.Common.{arith}
-use Rattle.forward_dp.proofs.Wholes.{AreParts, accepted, best-short, certified, parts}
+use Rattle.std.specs.Prelude.{None}
+use Rattle.std.proofs.lemmas.Result.{IfOk-weaker}
+use Rattle.dp_certificate.specs.Limits.{IsLimited}
+use Rattle.dp_certificate.specs.Whole.{IsWhole}
+use Rattle.forward_dp.proofs.Wholes.{keys-within, limited-whole}
 use Rattle.forward_dp.proofs.certifying.certify.Goals as goal
 
-pub new-requires-clause-few : goal.new-requires-clause-few
-new-requires-clause-few g c =
-    let made : AreParts c.args.i.now c.in_ok-entries.entries.items c.in_ok-answer.answer =
-    parts c.args.i.now c.in_ok-rows.rows.items c.as_slice-2.result.now c.in_ok-entries.entries.items c.in_ok-answer.answer c.in_ok-answer.ensures.instance c.in_ok-rows.ensures.whole c.as_slice-2.ensures.value c.in_ok-entries.ensures c.in_ok-answer.ensures.best in
-    omega (arith, made.few)
-
-pub new-requires-clause-short : goal.new-requires-clause-short
-new-requires-clause-short g c = best-short c.args.i.now c.in_ok-answer.answer c.in_ok-answer.ensures.instance c.in_ok-answer.ensures.best
-
-pub unwrap-requires : goal.unwrap-requires
-unwrap-requires g c =
-    accepted c.args.i.now c.in_ok-instance.instance c.in_ok-entries.entries.items c.in_ok-answer.answer c.new.result
-    (parts c.args.i.now c.in_ok-rows.rows.items c.as_slice-2.result.now c.in_ok-entries.entries.items c.in_ok-answer.answer c.in_ok-answer.ensures.instance c.in_ok-rows.ensures.whole c.as_slice-2.ensures.value c.in_ok-entries.ensures c.in_ok-answer.ensures.best)
-    c.in_ok-instance.ensures c.new.ensures.err
-
 pub returns-clause-whole : goal.returns-clause-whole
-returns-clause-whole g c =
-    (certified c.args.i.now c.in_ok-instance.instance c.in_ok-entries.entries.items c.in_ok-answer.answer c.new.result c.unwrap.result
-    (parts c.args.i.now c.in_ok-rows.rows.items c.as_slice-2.result.now c.in_ok-entries.entries.items c.in_ok-answer.answer c.in_ok-answer.ensures.instance c.in_ok-rows.ensures.whole c.as_slice-2.ensures.value c.in_ok-entries.ensures c.in_ok-answer.ensures.best)
-    c.in_ok-instance.ensures c.new.ensures.ok c.unwrap.ensures).whole
+returns-clause-whole g c = IfOk-weaker c.certify_within.result (λ c2. IsLimited c.args.i.now None c2.entries) (λ c2. IsWhole c.args.i.now c2.entries) (λ c2. limited-whole c.args.i.now c2.entries) c.certify_within.ensures.table
 
-pub returns-clause-proves : goal.returns-clause-proves
-returns-clause-proves g c =
-    (certified c.args.i.now c.in_ok-instance.instance c.in_ok-entries.entries.items c.in_ok-answer.answer c.new.result c.unwrap.result
-    (parts c.args.i.now c.in_ok-rows.rows.items c.as_slice-2.result.now c.in_ok-entries.entries.items c.in_ok-answer.answer c.in_ok-answer.ensures.instance c.in_ok-rows.ensures.whole c.as_slice-2.ensures.value c.in_ok-entries.ensures c.in_ok-answer.ensures.best)
-    c.in_ok-instance.ensures c.new.ensures.ok c.unwrap.ensures).proves
-
-pub returns-clause-few : goal.returns-clause-few
-returns-clause-few g c =
-    (certified c.args.i.now c.in_ok-instance.instance c.in_ok-entries.entries.items c.in_ok-answer.answer c.new.result c.unwrap.result
-    (parts c.args.i.now c.in_ok-rows.rows.items c.as_slice-2.result.now c.in_ok-entries.entries.items c.in_ok-answer.answer c.in_ok-answer.ensures.instance c.in_ok-rows.ensures.whole c.as_slice-2.ensures.value c.in_ok-entries.ensures c.in_ok-answer.ensures.best)
-    c.in_ok-instance.ensures c.new.ensures.ok c.unwrap.ensures).few
+pub returns-clause-servings : goal.returns-clause-servings
+returns-clause-servings g c keys all = c.certify_within.ensures.servings keys (keys-within c.args.i.now keys all)

@@ -17,14 +17,14 @@ loop-phase-preserved g c =
     let inside : k < length p.plan = omega (arith, c.loop-phase-test.true, c.count-phase-end.ensures.count, ap (length {A = Phase}) c.plan.ensures.value) in
     record {
       table = elim c.if-counts-phase-gt0.branch [
-        | then-counts-phase-gt0+in_ok-ends w ↦ subst (λ rows. IsTable p (counts_number counts * 4 + (k + 1)) rows.items) (sym w.rows-is) (table-filled p counts k w.in_ok-ends.field-0 c.loop-phase.rows.items w.fill_group.new.rows.items w.in_ok-ends.ensures.filled)
-        | else-counts-phase-gt0 w ↦ subst (λ rows. IsTable p (counts_number counts * 4 + (k + 1)) rows.items) (sym w.rows-is) (table-passed p counts k c.args.rows.now.items c.loop-phase.rows.items c.args.ends.now c.requires.cell inside w.if-counts-phase-gt0.false c.loop-phase.invariant.table)
+        | then-counts-phase-gt0+in_ok-ends w ↦ subst (λ rows. IsTable p c.args.limit (counts_number counts * 4 + (k + 1)) rows.items) (sym w.rows-is) (table-filled p c.args.limit counts k w.in_ok-ends.field-0 c.loop-phase.rows.items w.fill_group.new.rows.items w.in_ok-ends.ensures.filled)
+        | else-counts-phase-gt0 w ↦ subst (λ rows. IsTable p c.args.limit (counts_number counts * 4 + (k + 1)) rows.items) (sym w.rows-is) (table-passed p c.args.limit counts k c.args.rows.now.items c.loop-phase.rows.items c.args.ends.now c.requires.cell inside w.if-counts-phase-gt0.false c.loop-phase.invariant.table)
       ];
       ends = elim c.if-counts-phase-gt0.branch [
         | then-counts-phase-gt0+in_ok-ends w ↦
             subst (λ rows. AreEnds (length p.plan) rows.items (counts_number counts + 1) (k + 1) c.if-counts-phase-gt0.ends) (sym w.rows-is)
             (subst (AreEnds (length p.plan) w.fill_group.new.rows.items (counts_number counts + 1) (k + 1)) (sym w.ends-is)
-            (ends-filled p counts k w.in_ok-ends.field-0 c.loop-phase.rows.items w.fill_group.new.rows.items c.loop-phase.ends inside few c.loop-phase.invariant.ends w.in_ok-ends.ensures.filled))
+            (ends-filled p c.args.limit counts k w.in_ok-ends.field-0 c.loop-phase.rows.items w.fill_group.new.rows.items c.loop-phase.ends inside few c.loop-phase.invariant.ends w.in_ok-ends.ensures.filled))
         | else-counts-phase-gt0 w ↦
             subst (λ rows. AreEnds (length p.plan) rows.items (counts_number counts + 1) (k + 1) c.if-counts-phase-gt0.ends) (sym w.rows-is)
             (subst (AreEnds (length p.plan) c.loop-phase.rows.items (counts_number counts + 1) (k + 1)) (sym w.ends-is) (ends-passed (length p.plan) c.loop-phase.rows.items (counts_number counts + 1) k c.loop-phase.ends c.loop-phase.invariant.ends))
@@ -51,14 +51,14 @@ returns-in_err-ends-clause-most g c keys all =
     let inside : c.loop-phase.phase < length p.plan = omega (arith, c.loop-phase-test.true, c.count-phase-end.ensures.count, ap (length {A = Phase}) c.plan.ensures.value) in
     most-one (length p.plan) c.args.steps.now c.loop-phase.steps c.fill_group.new.steps (sum c.args.ends.now) (sum c.loop-phase.ends) (length c.loop-phase.rows.items) (length keys) (get_or c.loop-phase.ends c.loop-phase.phase 0)
     c.loop-phase.invariant.cost c.fill_group.ensures.most (ends-one (length p.plan) c.loop-phase.rows.items (counts_number c.args.counts.now + 1) c.loop-phase.phase c.loop-phase.phase c.loop-phase.ends c.loop-phase.invariant.ends inside few)
-    (rows-keys p c.loop-phase.rows.items keys c.loop-phase.invariant.table.made all)
+    (rows-keys p c.args.limit c.loop-phase.rows.items keys c.loop-phase.invariant.table.made c.loop-phase.invariant.table.within all)
 
 pub returns-clause-filled : goal.returns-clause-filled
 returns-clause-filled g c =
-    cell-filled c.args.i.now c.args.counts.now c.loop-phase.phase c.args.rows.now.items c.loop-phase.rows.items c.args.ends.now c.loop-phase.ends c.requires.cell
+    cell-filled c.args.i.now c.args.limit c.args.counts.now c.loop-phase.phase c.args.rows.now.items c.loop-phase.rows.items c.args.ends.now c.loop-phase.ends c.requires.cell
     (omega (arith, c.loop-phase-test.false, c.count-phase-end.ensures.count, ap (length {A = Phase}) c.plan.ensures.value)) c.loop-phase.invariant.table c.loop-phase.invariant.ends
 
 pub returns-clause-most : goal.returns-clause-most
 returns-clause-most g c keys all =
     most-steps (length c.args.i.now.plan) c.args.steps.now c.loop-phase.steps c.loop-phase.steps (sum c.args.ends.now) (sum c.loop-phase.ends) (length c.loop-phase.rows.items) (length keys) c.loop-phase.invariant.cost (omega arith)
-    (ends-sum (length c.args.i.now.plan) c.loop-phase.rows.items (counts_number c.args.counts.now + 1) c.loop-phase.phase c.loop-phase.ends c.loop-phase.invariant.ends) (rows-keys c.args.i.now c.loop-phase.rows.items keys c.loop-phase.invariant.table.made all)
+    (ends-sum (length c.args.i.now.plan) c.loop-phase.rows.items (counts_number c.args.counts.now + 1) c.loop-phase.phase c.loop-phase.ends c.loop-phase.invariant.ends) (rows-keys c.args.i.now c.args.limit c.loop-phase.rows.items keys c.loop-phase.invariant.table.made c.loop-phase.invariant.table.within all)

@@ -7,7 +7,7 @@ use Rattle.forward_dp.proofs.table.table.Given as goal
 -- the cells up to these counts are made
 abbrev pub invariant-loop-next : goal.invariant-loop-next
 invariant-loop-next g l = record {
-  table : IsTable l.i (counts_number l.counts * 4 + 4) l.rows.items;
+  table : IsTable l.i l.limit (counts_number l.counts * 4 + 4) l.rows.items;
   ends : AreEnds (length l.i.plan) l.rows.items (counts_number l.counts + 1) 4 l.ends;
   within : (k : ℕ) → get_or l.counts k 0 ≤ get_or l.last k 0;
   empty : IsEmpty l.reached;

@@ -6,24 +6,24 @@ use Rattle.flat_table.proofs.groups.Reached.reach.Goals as goal
 use Rattle.flat_table.proofs.groups.Reached.reach.Goals.{in-Some+in_ok-take_in, in_default}
 
 pub loop-row-init : goal.loop-row-init
-loop-row-init g c = record { reached = reached-start c.args.i.now c.args.phase c.args.cluster.now c.args.source.now c.args.self.now c.requires.empty; cost = omega arith }
+loop-row-init g c = record { reached = reached-start c.args.i.now c.args.limit c.args.phase c.args.cluster.now c.args.source.now c.args.self.now c.requires.empty; cost = omega arith }
 
 pub take_in-requires-clause-kept : goal.take_in-requires-clause-kept
 take_in-requires-clause-kept g c =
     let source = c.args.source.now in
     let n = c.loop-row.row-index in
-    kept-may c.args.i.now c.args.phase c.args.cluster.now source n c.loop-row.self c.in-Some.served _
-    (arrives c.args.i.now c.args.phase c.args.cluster.now source n _ c.in-Some.served c.in-Some.entry c.from.result (get_or_default source n no_row _ c.loop-row-test.true) c.loop-row-test.true c.in-Some.ensures.served c.in-Some.ensures.value
-    c.from.ensures c.in-Some.ensures.bounds.reach)
+    kept-may c.args.i.now c.args.limit c.args.phase c.args.cluster.now source n c.loop-row.self c.in-Some.served _
+    (arrives c.args.i.now c.args.limit c.args.phase c.args.cluster.now source n _ c.in-Some.served c.in-Some.entry c.from.result (get_or_default source n no_row _ c.loop-row-test.true) c.loop-row-test.true c.in-Some.ensures.served c.in-Some.ensures.leads
+    c.from.ensures c.in-Some.ensures.bounds.reach c.in-Some.ensures.within)
     c.requires.source c.loop-row.invariant.reached
 
 pub take_in-requires-clause-wait : goal.take_in-requires-clause-wait
 take_in-requires-clause-wait g c =
     let source = c.args.source.now in
     let n = c.loop-row.row-index in
-    waits-may c.args.i.now c.args.phase c.args.cluster.now source n c.in-Some.served _
-    (arrives c.args.i.now c.args.phase c.args.cluster.now source n _ c.in-Some.served c.in-Some.entry c.from.result (get_or_default source n no_row _ c.loop-row-test.true) c.loop-row-test.true c.in-Some.ensures.served c.in-Some.ensures.value
-    c.from.ensures c.in-Some.ensures.bounds.reach)
+    waits-may c.args.i.now c.args.limit c.args.phase c.args.cluster.now source n c.in-Some.served _
+    (arrives c.args.i.now c.args.limit c.args.phase c.args.cluster.now source n _ c.in-Some.served c.in-Some.entry c.from.result (get_or_default source n no_row _ c.loop-row-test.true) c.loop-row-test.true c.in-Some.ensures.served c.in-Some.ensures.leads
+    c.from.ensures c.in-Some.ensures.bounds.reach c.in-Some.ensures.within)
     c.requires.source.lawful c.requires.phase
 
 pub loop-row-preserved : goal.loop-row-preserved
@@ -34,16 +34,16 @@ loop-row-preserved g c =
     let source = c.args.source.now in
     let n = c.loop-row.row-index in
     record {
-      reached = elim c.match-serve_next.branch [
+      reached = elim c.match-serve_within.branch [
         | in-Some+in_ok-take_in w ↦
-            subst (AreReachedBy p k cluster source (n + 1)) (sym w.self-is)
-            (reached-more p k cluster source n c.loop-row.self w.take_in.new.self w.in-Some.served _
-            (arrives p k cluster source n _ w.in-Some.served w.in-Some.entry w.from.result (get_or_default source n no_row _ c.loop-row-test.true) c.loop-row-test.true w.in-Some.ensures.served w.in-Some.ensures.value
-            w.from.ensures w.in-Some.ensures.bounds.reach)
+            subst (AreReachedBy p c.args.limit k cluster source (n + 1)) (sym w.self-is)
+            (reached-more p c.args.limit k cluster source n c.loop-row.self w.take_in.new.self w.in-Some.served _
+            (arrives p c.args.limit k cluster source n _ w.in-Some.served w.in-Some.entry w.from.result (get_or_default source n no_row _ c.loop-row-test.true) c.loop-row-test.true w.in-Some.ensures.served w.in-Some.ensures.leads
+            w.from.ensures w.in-Some.ensures.bounds.reach w.in-Some.ensures.within)
             c.loop-row.invariant.reached w.in_ok-take_in.ensures.kept w.in_ok-take_in.ensures.anew w.in_ok-take_in.ensures.fresh)
         | in_default w ↦
-            subst (AreReachedBy p k cluster source (n + 1)) (sym w.self-is)
-            (reached-none p k cluster source n c.loop-row.self _ (get_or_default source n no_row _ c.loop-row-test.true) w.in_default.ensures.value c.loop-row.invariant.reached)
+            subst (AreReachedBy p c.args.limit k cluster source (n + 1)) (sym w.self-is)
+            (reached-none p c.args.limit k cluster source n c.loop-row.self _ (get_or_default source n no_row _ c.loop-row-test.true) w.in_default.ensures.left c.loop-row.invariant.reached)
       ];
-      cost = omega (arith, c.loop-row.invariant.cost, c.serve_next.ensures.cost);
+      cost = omega (arith, c.loop-row.invariant.cost, c.serve_within.ensures.cost);
     }

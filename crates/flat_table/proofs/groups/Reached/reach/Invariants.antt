@@ -5,6 +5,6 @@ use Rattle.flat_table.proofs.groups.Reached.reach.Given as goal
 -- what the rows so far reach is taken in, in at most one step for each
 abbrev pub invariant-loop-row : goal.invariant-loop-row
 invariant-loop-row g l = record {
-  reached : AreReachedBy l.i l.phase l.cluster l.source l.row-index l.self;
+  reached : AreReachedBy l.i l.limit l.phase l.cluster l.source l.row-index l.self;
   cost : l.steps ≤ l.initial.steps + l.row-index;
 }

@@ -1,0 +1,8 @@
+pub mod Arrivals
+pub mod Bounded
+pub mod Firsts
+pub use Rattle.schedule_meaning.specs.Best
+pub use Rattle.schedule_meaning.specs.Instances
+pub use Rattle.dp_certificate.specs.Limits
+pub use Rattle.dp_certificate.specs.Prefixes
+pub use Rattle.dp_certificate.specs.Proves

@@ -1,0 +1,91 @@
+//! The best answer of an instance by a smaller table: what is kept has less delay at the least than serving all as they arrive,
+//! or as much.
+#![tactic(auto)]
+
+ghost use Rattle.std.specs.Prelude.{◌≡◌, ◌+◌, ◌*◌, ◌≤◌, List, length, sum, IfOk};
+ghost use Rattle.schedule_meaning.specs.Best.{IsBest, IsLeast};
+ghost use Rattle.schedule_meaning.specs.Instances.{counts_of};
+ghost use Rattle.schedule_meaning.specs.declared.planners.Answer.{Answer};
+ghost use Rattle.dp_certificate.specs.Numbers.{sequence_of};
+ghost use Rattle.dp_certificate.specs.Proves.{Proves};
+ghost use Rattle.dp_certificate.specs.declared.Entry.{Entry};
+ghost use Rattle.pruned_dp.specs.Bounded.{IsBounded};
+
+mod arrivals;
+
+use arrivals::arrival_delay;
+use dp_certificate::Certificate;
+use forward_dp::{certify_within, layered_within};
+use foundation::steps::Steps;
+use foundation::threads::CrossesThreads;
+use schedule_meaning::{Answer, Instance, Planner};
+use std::alloc::{AllocError, Global};
+use std::sync::ledger::Ledger;
+
+/// The best answer of an instance, by its bounded table: the sequence in order of arrival is timed first, and where it is
+/// feasible nothing is kept whose delay, with what the clusters that are left cost at the least, is above that sequence's.
+///
+/// It takes at most as many steps, for each entry of the bounded table, as the instance has phases, and one for each cluster;
+/// also where it fails. An `Err` comes where memory runs out.
+///
+/// docs/RULES.md, "Bounded table".
+pub fn bounded<L: Ledger>(
+    alloc: Global,
+    i: &Instance,
+    steps: &mut Steps<L>,
+) -> Result<Answer, AllocError>
+    ensures best { IfOk result (IsBest i.now) }
+    ensures least { IfOk result (IsLeast i.now) }
+    ensures servings { (entries : List Entry) → IsBounded i.now entries → steps.new ≤ steps.old + length i.now.plan * length entries + sum (counts_of i.now.lists) }
+{
+    let limit = arrival_delay(alloc, i, steps)?;
+    layered_within(alloc, i, limit, steps)
+}
+
+/// The bounded table with the best answer: a certificate with those entries of the whole table whose delay, with what the
+/// clusters that are left cost at the least, is not above the delay of the sequence in order of arrival; with all entries
+/// where that sequence is not feasible. It proves its answer.
+///
+/// It takes at most as many steps, for each entry, as the instance has phases, and one for each cluster. An `Err` comes where
+/// memory runs out.
+///
+/// docs/RULES.md, "Bounded table".
+pub fn certify_bound<L: Ledger>(
+    alloc: Global,
+    i: &Instance,
+    steps: &mut Steps<L>,
+) -> Result<Certificate, AllocError>
+    ensures instance { IfOk result (λ c. c.problem ≡ i.now) }
+    ensures bounded { IfOk result (λ c. IsBounded i.now c.entries) }
+    ensures best { IfOk result (λ c. IsBest i.now c.answer) }
+    ensures proves { IfOk result Proves }
+    ensures few { IfOk result (λ c. (length c.entries ≤ 2000001) × (length (sequence_of c.answer) ≤ 40)) }
+    ensures servings { (entries : List Entry) → IsBounded i.now entries → steps.new ≤ steps.old + length i.now.plan * length entries + sum (counts_of i.now.lists) }
+{
+    let limit = arrival_delay(alloc, i, steps)?;
+    certify_within(alloc, i, limit, steps)
+}
+
+/// The planner that answers by `bounded`, in as few steps.
+///
+/// docs/RULES.md, "Bounded table".
+#[derive(Clone, Copy)]
+pub struct BoundPlanner;
+
+impl CrossesThreads for BoundPlanner {}
+
+impl Planner for BoundPlanner {
+    fn best<L: Ledger>(
+        &mut self,
+        alloc: Global,
+        i: &Instance,
+        steps: &mut Steps<L>,
+    ) -> Result<Answer, AllocError>
+        ensures best { IfOk result (IsBest i.now) }
+        ensures least { IfOk result (IsLeast i.now) }
+        ensures only { IfOk result (λ answer. (other : Answer) → IsBest i.now other → other ≡ answer) }
+        ensures servings { (entries : List Entry) → IsBounded i.now entries → steps.new ≤ steps.old + length i.now.plan * length entries + sum (counts_of i.now.lists) }
+    {
+        bounded(alloc, i, steps)
+    }
+}
