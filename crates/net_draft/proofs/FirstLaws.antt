@@ -1,5 +1,5 @@
 -- The first table at fault, from the readings of the tables within a table.
-use Rattle.std.proofs.Common.{◌≡◌, ℕ, ◌<◌, List, length, get_or, take, map, All, Option, Some, None, IsSome, Result, Err, IfErr, refl, subst, sym, ap, ◌∙◌}
+use Rattle.std.proofs.Common.{◌≡◌, ℕ, ◌<◌, List, length, get_or, take, map, Option, Some, None, IsSome, Result, Err, IfErr, refl, subst, sym, ap, ◌∙◌}
 use Rattle.std.proofs.lemmas.List.{take-map}
 use Rattle.std.proofs.lemmas.Option.{slice_get-map, slice_get_read, get_or_from_slice_get}
 use Rattle.toml.specs.Data.{Data, Members}
@@ -9,7 +9,7 @@ use Rattle.foundation.proofs.EachLaws.{each-map, each-good, each-none}
 use Rattle.foundation.proofs.FirstLaws.{IsFirstAt-weaker, IsFirstAt-within}
 use Rattle.foundation.proofs.OptionLaws.{and-some, some-and, bind-none}
 use Rattle.net_draft.specs.Faults.{Misses, Blames}
-use Rattle.net_draft.specs.FirstShape.{ordinal, FromOrdinal, IsAfterRead, IsFirstUnread, IsNodeFault, IsLinkFault, IsFaultWithin, IsShapeFault}
+use Rattle.net_draft.specs.FirstShape.{ordinal, IsAfterRead, IsFirstUnread, IsNodeFault, IsLinkFault, IsFaultWithin, IsShapeFault}
 use Rattle.net_draft.specs.Reading.{IsFaultAmong, IsNodeAtFault, IsPhaseAtFault, IsLinkAtFault, IsTurnAtFault, IsConflictAtFault}
 use Rattle.net_draft.specs.Table.{NodeForm, LinkForm, TopForm, top_form, run_of, node_form, node_of, phase_of, link_form, link_of, turn_of, conflict_of, draft_of}
 use Rattle.net_draft.specs.declared.drafts.Draft.{Draft}

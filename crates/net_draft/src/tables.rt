@@ -168,7 +168,12 @@ impl Element for DraftConflict {
 
     ghost at_fault = { IsConflictAtFault };
 
-    fn read(alloc: Global, value: &Value, item: u32, number: u32) -> Result<DraftConflict, NetFault> {
+    fn read(
+        alloc: Global,
+        value: &Value,
+        item: u32,
+        number: u32,
+    ) -> Result<DraftConflict, NetFault> {
         let Some((a, b)) = conflict_form(value) else {
             return Err(shape(Part::Conflict, number, 0));
         };

@@ -22,8 +22,8 @@ use Rattle.arrivals.specs.Amounts.{Amounts, AreArrivals, entering as entering_at
 use Rattle.net_simulator.specs.Arriving.{arriving_of}
 use Rattle.net_simulator.specs.Sums.{outward, arrived, gone, on_road, delay, link_totals, totals, AreFew}
 use Rattle.net_simulator.specs.Rows.{cell}
-use Rattle.net_simulator.specs.Counts.{counts_at, no_totals, counted, IsSmall}
-use Rattle.net_simulator.specs.Steps.{goes, waits_at, goes_out, all_of}
+use Rattle.net_simulator.specs.Counts.{counts_at, no_totals}
+use Rattle.net_simulator.specs.Steps.{goes, waits_at, goes_out, all_of, counted, IsSmall}
 use Rattle.net_simulator.specs.Worlds.{Kept, HasShape, Keeps, Stands, standing_by}
 use Rattle.road_net.proofs.TotalLaws.{total-same, total-add, total-le, total-zero}
 use Rattle.net_simulator.proofs.Sums.{total-most, total-of}

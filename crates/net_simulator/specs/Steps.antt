@@ -1,5 +1,5 @@
--- What the code does in one second, by what it keeps.
-use Rattle.std.specs.Prelude.{ℕ, ◌+◌, ◌-◌, ◌==◌, min, Bool, false, not, ◌&&◌, if◌then◌else◌, List, Option, Some, None, length, slice_index, slice_index_or}
+-- What the code does in one second, by what it keeps. No public clause names these words.
+use Rattle.std.specs.Prelude.{ℕ, ◌+◌, ◌-◌, ◌*◌, ◌≤◌, ◌==◌, min, Bool, false, not, ◌&&◌, if◌then◌else◌, List, Option, Some, None, length, slice_index, slice_index_or}
 use Rattle.phase_plan.specs.Phases.{phase_at}
 use Rattle.net_numbers.specs.Numbers.{Net}
 use Rattle.net_numbers.specs.Outline.{link_at, plan_at}
@@ -8,6 +8,7 @@ use Rattle.road_net.specs.Totals.{total}
 use Rattle.net_simulator.specs.Flow.{is_lost}
 use Rattle.net_simulator.specs.Sums.{outward}
 use Rattle.net_simulator.specs.Rows.{cell}
+use Rattle.net_simulator.specs.declared.totals.LinkTotals.{LinkTotals}
 
 -- whether link l of a node may discharge in second x in this green, where `waits` tells the queues behind so many seconds
 abbrev pub is_open : Net → List ℕ → ℕ → ℕ → ℕ → Option Green → Bool
@@ -30,3 +31,13 @@ goes_out net leaving = total (λ l. outward (link_at net l).to (slice_index leav
 -- the sum of a number for each link
 abbrev pub all_of : List ℕ → ℕ → ℕ
 all_of amounts links = total (λ l. slice_index amounts l) links
+
+-- what is counted of a link with one more second
+abbrev pub counted : LinkTotals → ℕ → ℕ → ℕ → LinkTotals
+counted t entering leaving queue = record { entered = t.entered + entering; left = t.left + leaving; delay = t.delay + queue }
+
+-- what so many seconds can count
+pub record IsSmall (n : ℕ) (t : LinkTotals) : Type 0 where
+  pub entered : t.entered ≤ n * 2000000000
+  pub left : t.left ≤ n * 2000000000
+  pub delay : t.delay ≤ n * 2000000000

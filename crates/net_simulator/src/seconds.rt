@@ -7,9 +7,9 @@ ghost use Rattle.road_net.specs.Joins.{split_of};
 ghost use Rattle.road_net.specs.Totals.{total};
 ghost use Rattle.net_simulator.specs.Rows.{cell};
 ghost use Rattle.net_simulator.specs.Sums.{outward};
-ghost use Rattle.net_simulator.specs.Counts.{counts_at, counted, IsSmall};
+ghost use Rattle.net_simulator.specs.Counts.{counts_at};
 ghost use Rattle.net_simulator.specs.Arriving.{arriving_of};
-ghost use Rattle.net_simulator.specs.Steps.{is_open, goes, waits_at, goes_out, all_of};
+ghost use Rattle.net_simulator.specs.Steps.{is_open, goes, waits_at, goes_out, all_of, counted, IsSmall};
 
 use super::lights::Lights;
 use super::rows;

@@ -1,4 +1,4 @@
-use Rattle.std.proofs.Common.{◌≡◌, Err, IfErr, IsSome, ap, ◌∙◌, map, refl}
+use Rattle.std.proofs.Common.{Err, ap, ◌∙◌, map, refl}
 use Rattle.std.proofs.lemmas.Result.{err_from_is_err_and}
 use Rattle.toml.specs.View.{view, table_view}
 use Rattle.net_draft.specs.Reading.{IsFaultAmong, IsNodeAtFault, IsLinkAtFault, IsConflictAtFault}

@@ -1,7 +1,7 @@
 use Rattle.std.proofs.Common.{◌≡◌, ℕ, ◌*◌, ◌<◌, ◌≤◌, slice_index}
 use Rattle.net_simulator.specs.Rows.{cell}
-use Rattle.net_simulator.specs.Steps.{all_of}
-use Rattle.net_simulator.specs.Counts.{counts_at, counted}
+use Rattle.net_simulator.specs.Counts.{counts_at}
+use Rattle.net_simulator.specs.Steps.{all_of, counted}
 use Rattle.net_simulator.proofs.seconds.count.Given as goal
 
 abbrev pub invariant-loop-l : goal.invariant-loop-l
