@@ -45,5 +45,5 @@ loop-row-preserved g c =
             subst (AreReachedBy p k cluster source (n + 1)) (sym w.self-is)
             (reached-none p k cluster source n c.loop-row.self _ (get_or_default source n no_row _ c.loop-row-test.true) w.in_default.ensures.value c.loop-row.invariant.reached)
       ];
-      cost = omega (arith, c.loop-row.invariant.cost, c.serve_next.ensures.cost);
+      cost = omega (arith, c.loop-row.invariant.cost, c.serve_next.ensures.steps);
     }
