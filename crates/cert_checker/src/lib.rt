@@ -24,7 +24,7 @@ use walk::{first_cheaper, first_open};
 /// Why a certificate does not prove its answer: the first that is so, in this order. Entries are numbered from 1.
 ///
 /// docs/RULES.md, "Certificate".
-#[derive(Clone, Copy)]
+#[derive(Debug, Clone, Copy, PartialEq, Eq)]
 pub enum Why {
     /// The claimed sequence is not feasible, with its first fault.
     Sequence(SeqFault),
@@ -44,7 +44,7 @@ impl CrossesThreads for Why {}
 /// Whether a certificate proves its answer.
 ///
 /// docs/RULES.md, "Certificate".
-#[derive(Clone, Copy)]
+#[derive(Debug, Clone, Copy, PartialEq, Eq)]
 pub enum Verdict {
     /// It does: the answer is the least.
     Accepted,
@@ -63,8 +63,8 @@ pub fn check<L: Ledger>(c: &Certificate, steps: &mut Steps<L>) -> Verdict
     ensures accepted { result ≡ Verdict.Accepted ↔ Proves c.now }
     ensures least { result ≡ Verdict.Accepted → IsLeast c.now.problem c.now.answer }
     ensures best { result ≡ Verdict.Accepted → (a : Answer) → IsBest c.now.problem a → answered_delay c.now.answer ≡ answered_delay a }
-    ensures why { IfRejected result (IsWhy c.now) }
-    ensures cost { steps.new ≤ steps.old + length c.now.problem.plan * length c.now.entries + length (sequence_of c.now.answer) }
+    ensures first { IfRejected result (IsWhy c.now) }
+    ensures steps { steps.new ≤ steps.old + length c.now.problem.plan * length c.now.entries + length (sequence_of c.now.answer) }
 {
     if let Some(why) = claim_fault(c, steps) {
         return Verdict::Rejected(why);
@@ -85,7 +85,7 @@ pub fn check<L: Ledger>(c: &Certificate, steps: &mut Steps<L>) -> Verdict
 fn claim_fault<L: Ledger>(c: &Certificate, steps: &mut Steps<L>) -> Option<Why>
     ensures none { IfNone result (IsPlanned c.now.problem c.now.answer) }
     ensures some { IfSome result (λ why. IsWhy c.now why × ¬ IsPlanned c.now.problem c.now.answer) }
-    ensures cost { steps.new ≤ steps.old + length (sequence_of c.now.answer) }
+    ensures steps { steps.new ≤ steps.old + length (sequence_of c.now.answer) }
 {
     let Answer::Plan { sequence, delay } = c.answer() else {
         return None;

@@ -23,7 +23,7 @@ pub(crate) fn first_open<L: Ledger>(c: &Certificate, steps: &mut Steps<L>) -> Op
     ensures none { IfNone result (All (IsClosed c.now) c.now.entries) }
     ensures some { IfSome result (λ found. IsFirstNot (IsClosed c.now) c.now.entries found.0) }
     ensures phase { IfSome result (λ found. IsOpenAt c.now (entry_at c.now.entries (found.0 - 1)) found.1) }
-    ensures cost { steps.new ≤ steps.old + length c.now.problem.plan * length c.now.entries }
+    ensures steps { steps.new ≤ steps.old + length c.now.problem.plan * length c.now.entries }
 {
     let mut hints = Hints::new();
     for (index, entry) in c.entries().iter().enumerate() {
@@ -46,7 +46,7 @@ fn open_phase<L: Ledger>(
     requires { IsEntry c.now.problem entry.now }
     ensures none { IfNone result (IsClosed c.now entry.now) }
     ensures some { IfSome result (λ k. IsOpenAt c.now entry.now k) }
-    ensures cost { steps.new ≤ steps.old + length c.now.problem.plan }
+    ensures steps { steps.new ≤ steps.old + length c.now.problem.plan }
 {
     let i = c.instance();
     for phase in 0..i.plan().count() {
@@ -70,7 +70,7 @@ fn next_behind<L: Ledger>(
     requires entry { IsEntry i.now entry.now }
     ensures value { option_map stage_behind result ≡ stage_after i.now (stage_of_entry i.now entry.now) phase }
     ensures bounds { IfSome result (IsNext i.now) }
-    ensures cost { steps.new ≤ steps.old + 1 }
+    ensures steps { steps.new ≤ steps.old + 1 }
 {
     let cluster = cluster_at(i, phase, entry.counts[phase as usize])?;
     let (_, next) = serve_next(i, entry, phase, cluster, steps)?;

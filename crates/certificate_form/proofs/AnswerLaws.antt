@@ -1,5 +1,5 @@
 -- An answer that is read is spelled so, and one that is spelled so is read.
-use Rattle.std.proofs.Common.{◌≡◌, ℕ, ◌^◌, ◌<◌, ◌≤◌, List, [], ◌∷◌, ◌++◌, length, map, get_or, All, Option, Some, None, Result, Ok, Err, refl, sym, ap, subst, ◌∙◌, append_assoc, length-append, arith}
+use Rattle.std.proofs.Common.{◌≡◌, ℕ, ◌^◌, ◌<◌, ◌≤◌, List, [], ◌∷◌, ◌++◌, length, map, get_or, All, Option, Some, None, Ok, refl, sym, ap, subst, ◌∙◌, append_assoc, length-append, arith}
 use Rattle.std.specs.Prelude.{codes}
 use Rattle.std.specs.Fmt.{decimal}
 use Rattle.std.specs.List.{flat_map, join_with_byte, AllByRecursion}
@@ -9,19 +9,14 @@ use Rattle.line_text.specs.Fields.{literal_at, field_at}
 use Rattle.line_text.proofs.Units.{literal_takes, literal_again, field_takes, field_again}
 use Rattle.instance_form.specs.InstanceText.{line}
 use Rattle.instance_form.specs.Reading.{◌>>=◌}
-use Rattle.foundation.proofs.ResultLaws.{same_Ok, some_from_ok}
+use Rattle.foundation.proofs.ResultLaws.{same_Ok, some_from_ok, then_ok}
 use Rattle.schedule_meaning.specs.declared.planners.Answer.{Answer}
 use Rattle.schedule_meaning.specs.declared.planners.Answer.TheVariants.{Plan, NoPlan}
 use Rattle.certificate_form.specs.CertificateText.{answer_line, IsWritableAnswer}
-use Rattle.certificate_form.specs.Lines.{many_at}
+use Rattle.line_text.specs.Many.{many_at}
 use Rattle.certificate_form.specs.Reading.{sequence_at, plan_at, answer_at}
 use Rattle.certificate_form.proofs.Apart.{space, line_feed, literal_apart, field_apart, first_digit}
-use Rattle.certificate_form.proofs.Many.{many_take, many_again, few_texts}
-
--- a step that did not fail
-pub then_ok : {A B P : Type 0} (r : Result A ℕ) {f : A → Result B ℕ} {y : B} → (r >>= f) ≡ Ok y → ((x : A) → r ≡ Ok x → f x ≡ Ok y → P) → P
-then_ok (Ok x) e go = go x refl e
-then_ok (Err n) e go = absurd cc
+use Rattle.line_text.proofs.ManyLaws.{many_take, many_again, few_texts}
 
 -- ---- numbers with a space behind each, and a last one
 

@@ -14,8 +14,10 @@ use Rattle.instance_form.specs.Faults.{BeginsText, BeginsFront}
 use Rattle.instance_form.specs.Faults as form_fault
 use Rattle.instance_form.specs.InstanceText.{instance_text, line_count, IsWritable, IsWritableCluster}
 use Rattle.instance_form.specs.InstanceText as form
-use Rattle.line_text.proofs.Feeds.{IsTextLine as IsLine, line_feeds-nil, line_feeds-append, line_feeds_once, fronts, next_line, spread}
+use Rattle.line_text.proofs.Feeds.{line_feeds-nil, line_feeds-append, line_feeds_once, fronts, next_line}
+use Rattle.line_text.proofs.FirstLine.{NextLine, faulty-here}
 use Rattle.instance_form.proofs.FaultLaws.{last_is_line}
+use Rattle.instance_form.proofs.FirstFault.{feeds_in_text}
 use Rattle.instance_form.proofs.FormLaws.{text_once}
 use Rattle.schedule_meaning.specs.Instances.{Problem}
 use Rattle.schedule_meaning.specs.declared.planners.Answer.{Answer}
@@ -27,7 +29,7 @@ use Rattle.certificate_form.specs.Reading.{tail_at}
 use Rattle.certificate_form.specs.TextFaults.{BeginsCertificate, IsFirstFault}
 use Rattle.dp_certificate.specs.declared.Entry.{Entry}
 use Rattle.certificate_form.proofs.EntryLaws.{entry_again}
-use Rattle.certificate_form.proofs.Feeds.{opening_is_line, answer_is_line, entry_is_line, feeds_in_entries, feeds_in_instance, whole_line}
+use Rattle.certificate_form.proofs.Feeds.{opening_is_line, answer_is_line, entry_is_line, feeds_in_entries}
 use Rattle.certificate_form.proofs.TailLaws.{tail_text, tail_once, answer_once, entries_begin, TailFault, no_answer, no_entry, trailing, tail_fails}
 
 -- ---- the parts of a text
@@ -82,31 +84,8 @@ behind c p w fits p_fits e =
 
 -- ---- a line with which no certificate goes on
 
--- the next line of a certificate's text, and the bytes don't begin with it
-pub record NextLine (mid R : List ℕ) : Type 0 where
-  pub text : List ℕ
-  pub after : List ℕ
-  pub more : List ℕ
-  pub is_line : IsLine text
-  pub parts : mid ++ more ≡ text ++ after
-  pub apart : (u : List ℕ) → R ≡ text ++ u → ⊥
-
-no_line : (R mid more : List ℕ) → NextLine mid R → R ≡ mid ++ more → line_feeds mid ≡ 1 → ⊥
-no_line R mid more n e one =
-    let w = whole_line n.text mid n.more n.after n.is_line n.parts one in
-    n.apart (w.0 ++ more) (e ∙ spread mid n.text w.0 more w.1)
-
 pub fault_here : (bytes F R : List ℕ) → bytes ≡ F ++ R → BeginsCertificate F → ((mid : List ℕ) → BeginsCertificate (F ++ mid) → NextLine mid R) → IsFirstFault (1 + line_feeds F) bytes
-fault_here bytes F R parts begins follows = record {
-  front = F;
-  rest = R;
-  parts = parts;
-  number = refl;
-  begins = begins;
-  ends = λ longer more e feeds g.
-      let p = next_line F R longer more (sym parts ∙ e) (omega (arith, feeds)) in
-      no_line R p.0 more (follows p.0 (subst BeginsCertificate p.1 g)) p.2 p.3;
-}
+fault_here bytes F R parts begins follows = faulty-here BeginsCertificate BeginsCertificate 1 bytes F R parts begins follows
 
 -- ---- the first line
 
@@ -200,7 +179,7 @@ instance_fault n bytes rest text fault =
 
 feeds_in_front : (p : Problem) → HasProblemText p → line_feeds (front_text p) ≡ 1 + line_count p.plan p.lists
 unfolding front_text
-feeds_in_front p fits = omega (arith, line_feeds-append (codes "certificate 1\n") (problem_text p), line_feeds_once (codes "certificate 1\n") opening_is_line, feeds_in_instance p.plan p.head p.lists fits)
+feeds_in_front p fits = omega (arith, line_feeds-append (codes "certificate 1\n") (problem_text p), line_feeds_once (codes "certificate 1\n") opening_is_line, feeds_in_text p.plan p.head p.lists fits)
 
 claim_text : (p : Problem) (a : Answer) (es : List Entry) → certificate_text (claim_of p a es) ≡ front_text p ++ tail_text (length p.plan) a es
 unfolding claim_of

@@ -17,7 +17,8 @@ use Rattle.dp_certificate.specs.Certificates.{Claim, IsCertificate, IsEntry}
 use Rattle.dp_certificate.specs.Numbers.{sequence_of}
 use Rattle.dp_certificate.specs.declared.Entry.{Entry}
 use Rattle.certificate_form.specs.CertificateText.{HasText, IsWritableAnswer, after_space, answer_line, certificate_text, entry_line}
-use Rattle.certificate_form.proofs.WritingLaws.{digits-byte, digits-long, entry_is, written_line, text_parts}
+use Rattle.number_text.proofs.LineLaws.{digits-byte, digits-long, written_line}
+use Rattle.certificate_form.proofs.WritingLaws.{entry_is, text_parts}
 
 -- numbers behind a space
 space-le : (n k : ℕ) → length (decimal n) ≤ k → length (after_space n) ≤ k + 1

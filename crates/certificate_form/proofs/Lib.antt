@@ -4,7 +4,6 @@ mod EntryLaws
 mod Feeds
 mod FirstFault
 mod LengthLaws
-mod Many
 mod TailLaws
 mod WholeLaws
 mod WritingLaws

@@ -10,16 +10,17 @@ use Rattle.std.proofs.lemmas.Option.{same_Some}
 use Rattle.line_text.specs.Fields.{literal_at, field_at}
 use Rattle.line_text.proofs.Units.{literal_takes, literal_again}
 use Rattle.instance_form.specs.Reading.{◌>>=◌}
-use Rattle.foundation.proofs.ResultLaws.{same_Ok, same_Err, no_Err, some_from_ok}
+use Rattle.foundation.proofs.ResultLaws.{same_Ok, same_Err, no_Err, none_from_err, on_err, some_from_ok, then_ok}
 use Rattle.schedule_meaning.specs.declared.planners.Answer.{Answer}
 use Rattle.schedule_meaning.specs.declared.planners.Answer.TheVariants.{Plan, NoPlan}
 use Rattle.certificate_form.specs.CertificateText.{answer_line, entry_line, IsWritableAnswer, IsWritableEntry}
-use Rattle.certificate_form.specs.Lines.{entry_line_at, many_at}
+use Rattle.certificate_form.specs.Lines.{entry_line_at}
+use Rattle.line_text.specs.Many.{many_at}
 use Rattle.certificate_form.specs.Reading.{sequence_at, plan_at, answer_at, end_at, tail_at}
 use Rattle.dp_certificate.specs.declared.Entry.{Entry}
-use Rattle.certificate_form.proofs.AnswerLaws.{then_ok, answer_takes, answer_again}
+use Rattle.certificate_form.proofs.AnswerLaws.{answer_takes, answer_again}
 use Rattle.certificate_form.proofs.EntryLaws.{entry_takes, entry_again, entry_end}
-use Rattle.certificate_form.proofs.Many.{many_take, many_again, many_rest, few_texts}
+use Rattle.line_text.proofs.ManyLaws.{many_take, many_again, many_rest, few_texts}
 
 -- the answer, the entries, and the last line
 abbrev pub tail_text : ℕ → Answer → List Entry → List ℕ
@@ -33,19 +34,11 @@ entry_some phases e = omega (arith, length-append {A = ℕ})
 
 -- ---- a step that failed
 
-on_err : {A B P : Type 0} (r : Result A ℕ) {f : A → Result B ℕ} {n : ℕ} → (r >>= f) ≡ Err n → (r ≡ Err n → P) → ((x : A) → r ≡ Ok x → f x ≡ Err n → P) → P
-on_err (Ok x) e failed go = go x refl e
-on_err {A} {B} (Err m) {n = n} e failed go = failed (ap (λ k. Err k) (same_Err {A = B} m n e))
-
-none_from_err : {A : Type 0} (o : Option A) (m n : ℕ) → ok_or o m ≡ Err n → (o ≡ None) × (n ≡ m)
-none_from_err {A} (Some x) m n e = absurd (no_Err {A = A} refl e)
-none_from_err {A} None m n e = (refl, sym (same_Err {A = A} m n e))
-
 -- each fault of the answer's line names that line
 sequence_fails : (line n : ℕ) (bytes : List ℕ) → sequence_at line bytes ≡ Err n → n ≡ line
 unfolding sequence_at
 sequence_fails line n bytes e =
-    on_err (ok_or (field_at (2 ^ 8) 10 (many_at (field_at (2 ^ 8) 32) (length bytes) bytes).1) line) e (λ h. (none_from_err (field_at (2 ^ 8) 10 (many_at (field_at (2 ^ 8) 32) (length bytes) bytes).1) line n h).1) (λ x h e1. absurd (no_Err {A = List ℕ × List ℕ} refl e1))
+    on_err (ok_or (field_at (2 ^ 8) 10 (many_at (field_at (2 ^ 8) 32) (length bytes) bytes).1) line) e (λ h. sym (none_from_err (field_at (2 ^ 8) 10 (many_at (field_at (2 ^ 8) 32) (length bytes) bytes).1) line n h).1) (λ x h e1. absurd (no_Err {A = List ℕ × List ℕ} refl e1))
 
 plan_fails : (line n : ℕ) (bytes : List ℕ) → plan_at line bytes ≡ Err n → n ≡ line
 unfolding plan_at
@@ -54,7 +47,7 @@ plan_fails line n bytes e = by_end (field_at (2 ^ 64) 10 bytes) e
     by_end : (o : Option (ℕ × List ℕ)) → ◌≡◌ {A = Result (Answer × List ℕ) ℕ} (option_map_or (λ delay. Ok (Plan [] delay.0, delay.1)) o (ok_or (field_at (2 ^ 64) 32 bytes) line >>= λ delay. sequence_at line delay.1 >>= λ sequence. Ok (Plan sequence.0 delay.0, sequence.1))) (Err n) → n ≡ line
     by_end (Some delay) e' = absurd (no_Err {A = Answer × List ℕ} refl e')
     by_end None e' =
-        on_err (ok_or (field_at (2 ^ 64) 32 bytes) line) e' (λ h. (none_from_err (field_at (2 ^ 64) 32 bytes) line n h).1) (λ delay h e1.
+        on_err (ok_or (field_at (2 ^ 64) 32 bytes) line) e' (λ h. sym (none_from_err (field_at (2 ^ 64) 32 bytes) line n h).1) (λ delay h e1.
         on_err (sequence_at line delay.1) e1 (λ k. sequence_fails line n delay.1 k) (λ sequence k e2. absurd (no_Err {A = Answer × List ℕ} refl e2)))
 
 answer_fails : (line n : ℕ) (bytes : List ℕ) → answer_at line bytes ≡ Err n → n ≡ line
@@ -64,7 +57,7 @@ answer_fails line n bytes e = by_none (literal_at (codes "answer none\n") bytes)
     by_none : (o : Option (List ℕ)) → ◌≡◌ {A = Result (Answer × List ℕ) ℕ} (option_map_or (λ rest. Ok (NoPlan, rest)) o (ok_or (literal_at (codes "answer ") bytes) line >>= λ rest. plan_at line rest)) (Err n) → n ≡ line
     by_none (Some rest) e' = absurd (no_Err {A = Answer × List ℕ} refl e')
     by_none None e' =
-        on_err (ok_or (literal_at (codes "answer ") bytes) line) e' (λ h. (none_from_err (literal_at (codes "answer ") bytes) line n h).1) (λ rest h e1. plan_fails line n rest e1)
+        on_err (ok_or (literal_at (codes "answer ") bytes) line) e' (λ h. sym (none_from_err (literal_at (codes "answer ") bytes) line n h).1) (λ rest h e1. plan_fails line n rest e1)
 
 -- ---- the last line
 
@@ -97,7 +90,7 @@ end_fails : (line n : ℕ) (bytes : List ℕ) → end_at line bytes ≡ Err n �
 unfolding end_at
 end_fails line n bytes e =
     on_err (ok_or (literal_at (codes "end\n") bytes) line) e
-    (λ h. let none = none_from_err (literal_at (codes "end\n") bytes) line n h in missing none.1 none.0)
+    (λ h. let none = none_from_err (literal_at (codes "end\n") bytes) line n h in missing (sym none.1) none.0)
     (λ rest h e1. by_length_err (eqb (length rest) 0) rest e1 (literal_takes (codes "end\n") bytes rest (some_from_ok (literal_at (codes "end\n") bytes) line rest h)))
   where
     by_length_err : (b : Bool) (rest : List ℕ) → cond b (Ok rest) (Err (line + 1)) ≡ Err n → bytes ≡ codes "end\n" ++ rest → EndFault line n bytes

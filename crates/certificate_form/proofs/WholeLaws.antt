@@ -16,7 +16,8 @@ use Rattle.dp_certificate.specs.Certificates.{Claim}
 use Rattle.certificate_form.specs.Reading.{tail_at}
 use Rattle.certificate_form.specs.TextFaults.{IsLineFault}
 use Rattle.dp_certificate.specs.declared.Entry.{Entry}
-use Rattle.certificate_form.proofs.Feeds.{feeds_in_instance, line_feeds-le}
+use Rattle.line_text.proofs.Feeds.{line_feeds-le}
+use Rattle.instance_form.proofs.FirstFault.{feeds_in_text}
 use Rattle.certificate_form.proofs.FirstFault.{problem_text, HasProblemText, front_text, front-append, certificate_is, behind, instance_fault, tail_fault}
 use Rattle.certificate_form.proofs.TailLaws.{tail_text, tail_takes, tail_again}
 
@@ -42,7 +43,7 @@ whole p bytes rest after a b = a ∙ ap (λ (y : List ℕ). codes "certificate 1
 
 pub room : (p : Problem) (bytes rest after : List ℕ) (line most : ℕ) → HasProblemText p → bytes ≡ codes "certificate 1\n" ++ rest → rest ≡ problem_text p ++ after → line ≡ 2 + line_count p.plan p.lists → length bytes < most → line + length after ≤ most
 room p bytes rest after line most fits opening text is few =
-    omega (arith, feeds_in_instance p.plan p.head p.lists fits, line_feeds-le (problem_text p), ap length opening, length-append (codes "certificate 1\n") rest, ap length text, length-append (problem_text p) after, is)
+    omega (arith, feeds_in_text p.plan p.head p.lists fits, line_feeds-le (problem_text p), ap length opening, length-append (codes "certificate 1\n") rest, ap length text, length-append (problem_text p) after, is)
 
 module _ (p : Problem) (fits : HasProblemText p) (bytes after : List ℕ) (line : ℕ) (text : bytes ≡ front_text p ++ after) (is : line ≡ 2 + line_count p.plan p.lists) where
   pub read_fits : (a : Answer) (es : List Entry) → tail_at (length p.plan) line after ≡ Ok (a, es) → (let c : Claim = record { problem = p; entries = es; answer = a } in HasText c)

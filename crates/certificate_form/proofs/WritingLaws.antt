@@ -1,10 +1,9 @@
 -- What is written line by line is the one spelling.
-use Rattle.std.proofs.Common.{◌≡◌, ℕ, ◌+◌, ◌^◌, ◌<◌, ◌≤◌, List, [], ◌∷◌, ◌++◌, length, map, sum, take, drop, get_or, All, Option, Some, None, IfSome, IsSomeAnd, zero, suc, refl, sym, ap, ◌∙◌, append_assoc, length-append, arith}
+use Rattle.std.proofs.Common.{◌≡◌, ℕ, ◌^◌, ◌<◌, ◌≤◌, List, [], ◌∷◌, ◌++◌, length, map, sum, take, get_or, All, Option, Some, None, IfSome, IsSomeAnd, zero, suc, refl, sym, ap, ◌∙◌, append_assoc, arith}
 use Rattle.std.specs.Prelude.{codes}
 use Rattle.std.specs.Fmt.{decimal}
-use Rattle.std.specs.List.{flat_map, join_with_byte}
-use Rattle.std.proofs.lemmas.Fmt.{length-decimal-le}
-use Rattle.std.proofs.lemmas.List.{append-nil, drop_more, get_or_past}
+use Rattle.std.specs.List.{flat_map}
+use Rattle.std.proofs.lemmas.List.{append-nil, get_or_past}
 use Rattle.std.proofs.lemmas.List.Elements.{All-from_get_or}
 use Rattle.std.proofs.lemmas.List.Sums.{sum-map, sum_by-cons}
 use Rattle.std.proofs.lemmas.List.Concat.{flat_map-append}
@@ -13,20 +12,12 @@ use Rattle.instance_form.specs.InstanceText as form
 use Rattle.switch_rules.specs.declared.Cluster.{Cluster}
 use Rattle.schedule_meaning.specs.Instances.{Problem, IsInstance, counts_of, list_at}
 use Rattle.dp_certificate.specs.Certificates.{Claim, IsCertificate, IsEntry}
+use Rattle.number_text.proofs.LineLaws.{written_line}
 use Rattle.certificate_form.proofs.FirstFault.{certificate_is, problem_text}
 use Rattle.certificate_form.proofs.TailLaws.{tail_text}
 use Rattle.dp_certificate.specs.declared.Entry.{Entry}
 use Rattle.schedule_meaning.specs.declared.planners.Answer.TheVariants.{Plan}
 use Rattle.certificate_form.specs.CertificateText.{HasText, IsWritableAnswer, IsWritableEntry, after_space, answer_line, entry_back, entry_front, entry_line, certificate_text}
-
--- words joined by spaces are the first with the others behind a space each
-spaced-join : (word : List ℕ) (ns : List ℕ) → join_with_byte 32 (word ∷ map decimal ns) ≡ word ++ flat_map after_space ns
-spaced-join word [] = sym (append-nil word)
-spaced-join word (n ∷ ns) = ap (λ (y : List ℕ). word ++ 32 ∷ y) (spaced-join (decimal n) ns)
-
--- a line of a word and numbers
-pub written_line : (word : List ℕ) (ns : List ℕ) → line (word ∷ map decimal ns) ≡ word ++ (flat_map after_space ns ++ 10 ∷ [])
-written_line word ns = ap (λ (y : List ℕ). y ++ 10 ∷ []) (spaced-join word ns) ∙ append_assoc word (flat_map after_space ns) (10 ∷ [])
 
 -- a line of a word and numbers behind a text, as it is written
 line_behind : (t word front back : List ℕ) (ns : List ℕ) → word ++ flat_map after_space ns ≡ front ++ back → t ++ line (word ∷ map decimal ns) ≡ (t ++ front) ++ (back ++ 10 ∷ [])
@@ -81,27 +72,6 @@ back_filled e a b c d at since ea eb ec is_at ed is_since =
 pub entry_behind : (phases : ℕ) (e : Entry) (text now front back : List ℕ) → front ≡ entry_front phases e → back ≡ entry_back e → now ≡ (text ++ front) ++ back → now ≡ text ++ entry_line phases e
 entry_behind phases e text now front back is_front is_back is =
     is ∙ append_assoc text front back ∙ ap (λ (y : List ℕ). text ++ y) (ap (λ (y : List ℕ). y ++ back) is_front ∙ ap (λ (y : List ℕ). entry_front phases e ++ y) is_back ∙ sym (entry_parts phases e))
-
--- one more count in front of those behind it
-pub counts-more : (counts : List ℕ) (i : ℕ) (line now initial : List ℕ) → i < length counts → now ≡ 32 ∷ (decimal (get_or counts i 0) ++ line) → line ≡ flat_map after_space (drop (i + 1) counts) ++ initial → now ≡ flat_map after_space (drop i counts) ++ initial
-counts-more counts i line now initial h a b =
-    a ∙ ap (λ (y : List ℕ). 32 ∷ (decimal (get_or counts i 0) ++ y)) b
-    ∙ sym (append_assoc (after_space (get_or counts i 0)) (flat_map after_space (drop (i + 1) counts)) initial)
-    ∙ ap (λ (ys : List ℕ). flat_map after_space ys ++ initial) (sym (drop_more counts i 0 h))
-
--- how long numbers are
-pub digits-byte : (n : ℕ) → n < 2 ^ 8 → length (decimal n) ≤ 3
-digits-byte n h = length-decimal-le 3 n (omega arith) (omega arith) (omega arith)
-
-pub digits-word : (n : ℕ) → n < 2 ^ 32 → length (decimal n) ≤ 10
-digits-word n h = length-decimal-le 10 n (omega arith) (omega arith) (omega arith)
-
-pub digits-long : (n : ℕ) → n < 2 ^ 64 → length (decimal n) ≤ 20
-digits-long n h = length-decimal-le 20 n (omega arith) (omega arith) (omega arith)
-
--- a line with one more number
-pub spaced-length : (line now : List ℕ) (n k : ℕ) → now ≡ 32 ∷ (decimal n ++ line) → length (decimal n) ≤ k → length now ≤ length line + k + 1
-spaced-length line now n k e h = omega (arith, ap length e, length-append (decimal n) line)
 
 -- the front and the tail of a text
 pub text_parts : (c : Claim) → certificate_text c ≡ (codes "certificate 1\n" ++ instance_text c.problem.plan c.problem.head c.problem.lists)

@@ -2,16 +2,13 @@
 use Rattle.std.specs.Prelude.{◌≡◌, ℕ, ◌^◌, ◌<◌, ◌≤◌, List, [], ◌∷◌, ◌++◌, length, map, take, slice_index, All, codes}
 use Rattle.std.specs.List.{flat_map, concat}
 use Rattle.std.specs.Fmt.{decimal}
+pub use Rattle.number_text.specs.Numbers.{after_space}
 use Rattle.instance_form.specs.InstanceText.{line, instance_text}
 use Rattle.instance_form.specs.InstanceText as form
 use Rattle.schedule_meaning.specs.declared.planners.Answer.{Answer}
 use Rattle.schedule_meaning.specs.declared.planners.Answer.TheVariants.{Plan, NoPlan}
 use Rattle.dp_certificate.specs.Certificates.{Claim}
 use Rattle.dp_certificate.specs.declared.Entry.{Entry}
-
--- a number behind a space
-abbrev pub after_space : ℕ → List ℕ
-after_space n = 32 ∷ decimal n
 
 -- the delay and the sequence, or that there is no plan
 abbrev pub answer_line : Answer → List ℕ

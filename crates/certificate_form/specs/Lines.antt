@@ -1,6 +1,5 @@
--- Reading an entry, and as many things as follow one another, from the front of the bytes.
-use Rattle.std.specs.Prelude.{◌≡◌, ℕ, zero, suc, ◌^◌, Bool, nat_lt, if◌then◌else◌, List, [], ◌∷◌, ◌++◌, Option, Some, codes}
-use Rattle.std.specs.Option.{option_map_or}
+-- Reading an entry from the front of the bytes.
+use Rattle.std.specs.Prelude.{◌≡◌, ℕ, ◌^◌, Bool, nat_lt, if◌then◌else◌, List, [], ◌∷◌, ◌++◌, Option, Some, codes}
 use Rattle.line_text.specs.Fields.{literal_at, field_at}
 use Rattle.foundation.specs.Options.{◌>>=◌}
 use Rattle.dp_certificate.specs.declared.Entry.{Entry}
@@ -38,9 +37,3 @@ entry_line_at phases bytes = do
 -- bytes that are read as this front, whatever follows them
 abbrev pub IsFrontText : ℕ → Front → List ℕ → Type 0
 IsFrontText phases front text = (rest : List ℕ) → front_at phases (text ++ rest) ≡ Some (front, rest)
-
--- as many as follow one another, up to so many, and the bytes after them
-unfoldable pub many_at : {A : Type 0} → (List ℕ → Option (A × List ℕ)) → ℕ → List ℕ → List A × List ℕ
-many_at read zero bytes = ([], bytes)
-many_at read (suc most) bytes =
-    option_map_or (λ first. let others = many_at read most first.1 in (first.0 ∷ others.0, others.1)) (read bytes) ([], bytes)

@@ -5,7 +5,8 @@ use Rattle.line_text.specs.Fields.{literal_at, field_at}
 use Rattle.instance_form.specs.Reading.{◌>>=◌}
 use Rattle.schedule_meaning.specs.declared.planners.Answer.{Answer}
 use Rattle.schedule_meaning.specs.declared.planners.Answer.TheVariants.{Plan, NoPlan}
-use Rattle.certificate_form.specs.Lines.{entry_line_at, many_at}
+use Rattle.certificate_form.specs.Lines.{entry_line_at}
+use Rattle.line_text.specs.Many.{many_at}
 use Rattle.dp_certificate.specs.declared.Entry.{Entry}
 
 -- one number at least, up to the end of its line

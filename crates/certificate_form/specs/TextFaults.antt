@@ -1,6 +1,6 @@
 -- Why bytes are no certificate's text: the first fault, in a fixed order.
-use Rattle.std.specs.Prelude.{◌≡◌, ℕ, ◌+◌, List, ◌++◌}
-use Rattle.instance_form.specs.Faults.{line_feeds}
+use Rattle.std.specs.Prelude.{◌≡◌, ℕ, List, ◌++◌}
+use Rattle.line_text.specs.Lines.{IsFirstFaultyLine}
 use Rattle.instance_form.specs.declared.form.FormFault.{FormFault}
 use Rattle.instance_form.specs.declared.form.FormFault.TheVariants as form
 use Rattle.certificate_form.specs.CertificateText.{HasText, certificate_text}
@@ -15,13 +15,8 @@ pub record BeginsCertificate (front : List ℕ) : Type 0 where
 
 -- line n is the first that has not the form of its place: the lines before it begin some certificate's text, and with
 -- line n they begin none
-pub record IsFirstFault (n : ℕ) (bytes : List ℕ) : Type 0 where
-  pub front : List ℕ
-  pub rest : List ℕ
-  pub parts : bytes ≡ front ++ rest
-  pub number : 1 + line_feeds front ≡ n
-  pub begins : BeginsCertificate front
-  pub ends : (longer more : List ℕ) → bytes ≡ longer ++ more → 1 + line_feeds longer ≡ n + 1 → ¬ BeginsCertificate longer
+abbrev pub IsFirstFault : ℕ → List ℕ → Type 0
+IsFirstFault n bytes = IsFirstFaultyLine BeginsCertificate BeginsCertificate 1 n bytes
 
 -- a fault of the lines that names one names the first
 abbrev pub IsLineFault : List ℕ → FormFault → Type 0

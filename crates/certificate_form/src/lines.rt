@@ -4,7 +4,8 @@ ghost use Rattle.std.specs.Prelude.{◌≡◌, ◌+◌, ◌^◌, ◌<◌, ◌≤
 ghost use Rattle.std.specs.Option.{option_map};
 ghost use Rattle.line_text.specs.Fields.{field_at};
 ghost use Rattle.instance_form.specs.Lines.{seen};
-ghost use Rattle.certificate_form.specs.Lines.{IsFrontText, behind_at, count_at, entry_line_at, front_at, many_at};
+ghost use Rattle.certificate_form.specs.Lines.{IsFrontText, behind_at, count_at, entry_line_at, front_at};
+ghost use Rattle.line_text.specs.Many.{many_at};
 
 use dp_certificate::Entry;
 use line_text::{field_u8, field_u32, field_u64, literal};

@@ -23,7 +23,7 @@ use std::alloc::Global;
 /// Why a text is no certificate's.
 ///
 /// docs/FORMATS.md, "Certificate text".
-#[derive(Clone, Copy)]
+#[derive(Debug, Clone, Copy, PartialEq, Eq)]
 pub enum CertText {
     /// The first line, from 1, that has not the form of its place.
     Line(u32),
@@ -107,7 +107,7 @@ fn read_lines(alloc: Global, bytes: &[u8]) -> Result<Lines, FormFault>
     ensures found { IfOk result (λ x. bytes.now ≡ certificate_text (said_by x)) }
     ensures only { (c : Claim) → HasText c → bytes.now ≡ certificate_text c
         → MatchResult result (λ x. said_by x ≡ c) form.IsWant }
-    ensures line { IfErr result (IsLineFault bytes.now) }
+    ensures first { IfErr result (IsLineFault bytes.now) }
     ensures short { IfOk result (λ x. IsShort x.answer) }
     ensures few { IfOk result (λ x. length x.entries.items < 2 ^ 32) }
 {

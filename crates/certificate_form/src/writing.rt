@@ -10,7 +10,7 @@ ghost use Rattle.certificate_form.specs.Answers.{Spells};
 ghost use Rattle.certificate_form.specs.CertificateText.{IsWritableAnswer, after_space, answer_line, certificate_text, entry_back, entry_front, entry_line};
 
 use dp_certificate::{Certificate, Entry};
-use number_text::{Line, push_number};
+use number_text::{Line, push_number, push_numbers};
 use schedule_meaning::{Answer, Instance, write_instance};
 use std::alloc::{AllocError, Global};
 
@@ -82,20 +82,8 @@ fn write_plan(text: &mut Vec<u8>, sequence: &[u8], delay: u64) -> Result<(), All
 {
     text.extend_from_slice(b"answer ")?;
     push_number(text, delay)?;
-    write_numbers(text, sequence)?;
+    push_numbers(text, sequence)?;
     text.extend_from_slice(b"\n")
-}
-
-/// Writes numbers behind a text, each after one space.
-fn write_numbers(text: &mut Vec<u8>, numbers: &[u8]) -> Result<(), AllocError>
-    ensures text { OnOk result (text.new.items ≡ text.old.items ++ flat_map after_space numbers.now) }
-    ensures bytes { All (λ n. n < 2 ^ 8) numbers.now }
-{
-    for number in numbers {
-        text.extend_from_slice(b" ")?;
-        push_number(text, u64::from(*number))?;
-    }
-    Ok(())
 }
 
 /// Writes the lines of entries with so many counts behind a text. Lines that follow one another with the same counts and

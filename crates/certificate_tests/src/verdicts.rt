@@ -19,65 +19,68 @@ const INSTANCE: &str =
 const WHOLE: &str =
     "entry 0 0 0 0 0 0\nentry 0 1 1 10 16 18000\nentry 1 0 0 0 8 0\nentry 1 1 0 21 31 110000\nentry 1 1 1 13 19 24000\n";
 
-// What the certificate shows, its answer, its entries, and the verdict with its numbers.
-const VERDICTS: &[(&str, &str, &str, &str, [u64; 2])] = &[
+// What the certificate shows, its answer, its entries, and the verdict.
+const VERDICTS: &[(&str, &str, &str, Verdict)] = &[
     (
         "the whole table",
         "answer 24000 0 1\n",
         WHOLE,
-        "accepted",
-        [0, 0],
+        Verdict::Accepted,
     ),
     (
         "entries too dear to matter left out",
         "answer 24000 0 1\n",
         "entry 0 0 0 0 0 0\nentry 1 0 0 0 8 0\nentry 1 1 1 13 19 24000\n",
-        "accepted",
-        [0, 0],
+        Verdict::Accepted,
     ),
     (
         "an entry that is missing",
         "answer 24000 0 1\n",
         "entry 0 0 0 0 0 0\nentry 0 1 1 10 16 18000\nentry 1 1 0 21 31 110000\nentry 1 1 1 13 19 24000\n",
-        "open",
-        [1, 0],
+        Verdict::Rejected(Why::Open { entry: 1, phase: 0 }),
     ),
     (
         "another delay",
         "answer 23999 0 1\n",
         WHOLE,
-        "delay",
-        [23999, 24000],
+        Verdict::Rejected(Why::Delay { said: 23999, is: 24000 }),
     ),
     (
         "an answer that is not the least",
         "answer 110000 1 0\n",
         WHOLE,
-        "cheaper",
-        [5, 0],
+        Verdict::Rejected(Why::Cheaper { entry: 5 }),
     ),
     (
         "no plan where there is one",
         "answer none\n",
         WHOLE,
-        "cheaper",
-        [4, 0],
+        Verdict::Rejected(Why::Cheaper { entry: 4 }),
     ),
-    ("no sequence", "answer 24000 0 0\n", WHOLE, "count", [0, 0]),
-    ("no entries", "answer 24000 0 1\n", "", "root", [0, 0]),
+    (
+        "no sequence",
+        "answer 24000 0 0\n",
+        WHOLE,
+        Verdict::Rejected(Why::Sequence(SeqFault::WrongCount(0))),
+    ),
+    (
+        "no entries",
+        "answer 24000 0 1\n",
+        "",
+        Verdict::Rejected(Why::NoRoot),
+    ),
 ];
 
 #[test]
 fn verdicts(rt: HostRuntime) -> Result<(), Fail> {
     let alloc = rt.alloc();
-    for &(shows, answer, entries, told, numbers) in VERDICTS {
+    for &(shows, answer, entries, wanted) in VERDICTS {
         let text = ["certificate 1\n", INSTANCE, answer, entries, "end\n"].concat(alloc)?;
         assert!(rt; text.len() < 10_000);
         let certificate = read_certificate(alloc, text.as_bytes())
             .ok()
             .ok_or("no certificate")?;
-        let found = verdict(&certificate);
-        assert!(rt; found.0 == told && found.1 == numbers, "{shows}");
+        assert!(rt; verdict(&certificate) == wanted, "{shows}");
         let written = write_certificate(alloc, &certificate)?;
         assert!(rt; written.as_slice() == text.as_bytes(), "{shows}");
     }
@@ -121,30 +124,16 @@ fn certified_counted<L: Ledger>(
     certify(alloc, i, &mut steps)
 }
 
-// The verdict on a certificate, in a word and numbers.
-fn verdict(c: &Certificate) -> (&'static str, [u64; 2]) {
+// The verdict on a certificate.
+fn verdict(c: &Certificate) -> Verdict {
     verdict_counted::<Brand>(c, Blank::new(1))
 }
 
-fn verdict_counted<L: Ledger>(c: &Certificate, blank: Blank) -> (&'static str, [u64; 2])
+fn verdict_counted<L: Ledger>(c: &Certificate, blank: Blank) -> Verdict
     requires name { blank.name ≡ L.name }
     requires parts { blank.parts ≡ L.parts }
     requires some { 0 < L.parts }
 {
     let mut steps = Steps::<L>::new(blank);
-    match check(c, &mut steps) {
-        Verdict::Accepted => ("accepted", [0, 0]),
-        Verdict::Rejected(Why::Sequence(SeqFault::WrongCount(phase))) => (
-            "count",
-            [u64::from(phase), 0],
-        ),
-        Verdict::Rejected(Why::Sequence(_)) => ("sequence", [0, 0]),
-        Verdict::Rejected(Why::Delay { said, is }) => ("delay", [said, is]),
-        Verdict::Rejected(Why::NoRoot) => ("root", [0, 0]),
-        Verdict::Rejected(Why::Open { entry, phase }) => (
-            "open",
-            [u64::from(entry), u64::from(phase)],
-        ),
-        Verdict::Rejected(Why::Cheaper { entry }) => ("cheaper", [u64::from(entry), 0]),
-    }
+    check(c, &mut steps)
 }

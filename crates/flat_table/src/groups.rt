@@ -65,7 +65,7 @@ impl Reached {
         requires source { IsSource i.now phase cluster.now source.now }
         requires empty { IsEmpty self.old }
         ensures reached { OnOk result (AreReachedBy i.now limit phase cluster.now source.now (length source.now) self.new) }
-        ensures cost { steps.new ≤ steps.old + length source.now }
+        ensures steps { steps.new ≤ steps.old + length source.now }
     {
         for row in source {
             if let Some((served, entry)) = serve_within(
@@ -131,7 +131,7 @@ fn serve_within<L: Ledger>(
     ensures bounds { IfSome result (λ x. IsNext i.now x.1) }
     ensures within { IfSome result (λ x. IsWithin i.now limit (stage_behind x.1)) }
     ensures left { IfNone result (IfSome (stage_after i.now (stage_of_entry i.now entry.now) phase) (λ s. ¬ IsWithin i.now limit s)) }
-    ensures cost { steps.new ≤ steps.old + 1 }
+    ensures steps { steps.new ≤ steps.old + 1 }
 {
     let (served, next) = serve_next(i, entry, phase, cluster, steps)?;
     if is_within(i, &next, limit) {

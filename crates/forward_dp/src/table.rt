@@ -96,7 +96,7 @@ fn fill_cell<L: Ledger>(
     requires empty { IsEmpty reached.old }
     ensures filled { OnOk result (IsCellFilled i.now limit counts.now rows.new.items ends.new) }
     ensures empty { OnOk result (IsEmpty reached.new) }
-    ensures cost { OnOk result (steps.new + sum ends.old ≤ steps.old + sum ends.new) }
+    ensures steps { OnOk result (steps.new + sum ends.old ≤ steps.old + sum ends.new) }
     ensures most { (keys : List Key) → HasKeysWithin i.now limit keys → steps.new + sum ends.old ≤ steps.old + length i.now.plan * length keys }
 {
     for phase in 0..i.plan().count() {
@@ -132,7 +132,7 @@ fn fill_group<L: Ledger>(
     requires empty { IsEmpty reached.old }
     ensures filled { IfOk result (λ end. IsFilled i.now limit counts.now phase rows.old.items rows.new.items end) }
     ensures empty { OnOk result (IsEmpty reached.new) }
-    ensures cost { IfOk result (λ end. steps.new + from ≤ steps.old + end) }
+    ensures steps { IfOk result (λ end. steps.new + from ≤ steps.old + end) }
     ensures most { steps.new + from ≤ steps.old + length rows.old.items }
 {
     let mut before = *counts;

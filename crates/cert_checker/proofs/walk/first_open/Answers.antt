@@ -9,7 +9,7 @@ loop-index-preserved g c = record {
   closed =
       holds-more (IsClosed c.args.c.now) c.args.c.now.entries c.entries-entry-items.result.now c.loop-index.index _ c.entries-entry-items.ensures.value c.loop-index-test.true c.loop-index.invariant.closed
       c.in_default.ensures.none;
-  cost = omega (arith, c.loop-index.invariant.cost, c.open_phase.ensures.cost);
+  cost = omega (arith, c.loop-index.invariant.cost, c.open_phase.ensures.steps);
 }
 
 pub returns-clause-none : goal.returns-clause-none

@@ -15,7 +15,7 @@ loop-phase-preserved g c = record {
       (closed-at c.args.c.now c.args.entry.now c.loop-phase.phase c.next_behind-next.result
       (subst (λ p. option_map stage_behind c.next_behind-next.result ≡ stage_after p (stage_of_entry p c.args.entry.now) c.loop-phase.phase) c.instance-i.ensures c.next_behind-next.ensures.value)
       (c.if-not-is_closed_by.ensures.0 refl));
-  cost = omega (arith, c.loop-phase.invariant.cost, c.next_behind-next.ensures.cost);
+  cost = omega (arith, c.loop-phase.invariant.cost, c.next_behind-next.ensures.steps);
 }
 
 pub returns-clause-none : goal.returns-clause-none

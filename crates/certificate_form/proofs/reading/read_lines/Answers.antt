@@ -18,12 +18,12 @@ no_first c rest e =
 pub returns-in_err-rest-clause-only : goal.returns-in_err-rest-clause-only
 returns-in_err-rest-clause-only c = λ claim fits e. absurd (no_opening c.args.bytes.now claim (no_first (goal.at.returns-in_err-rest-clause-only c).In_err-rest) e)
 
-pub returns-in_err-rest-clause-line : goal.returns-in_err-rest-clause-line
-returns-in_err-rest-clause-line c =
+pub returns-in_err-rest-clause-first : goal.returns-in_err-rest-clause-first
+returns-in_err-rest-clause-first c =
     let none : c.literal.result ≡ None = c.in_err-rest.ensures.ok_part in
     let fault : c.in_err-rest.field-0.0 ≡ Line 1 = fault_is c.literal.result _ _ none c.in_err-rest.ensures.value in
     let p = err_from_is_err_and c.from_residual.result c.from_residual.ensures.1 in
-    rw (p.1, p.2, fault) (first_fault c.args.bytes.now (no_first (goal.at.returns-in_err-rest-clause-line c).In_err-rest))
+    rw (p.1, p.2, fault) (first_fault c.args.bytes.now (no_first (goal.at.returns-in_err-rest-clause-first c).In_err-rest))
 
 -- the first line is there
 opened : (c : In_ok-rest) → c.args.bytes.now ≡ codes "certificate 1\n" ++ c.in_ok-rest.rest.now
@@ -38,10 +38,10 @@ returns-in_err-form-clause-only c = λ claim fits e.
     rw (p.1, p.2) (c.in_err-form.ensures.only a.plan a.head a.lists (tail_text (length a.plan) claim.answer claim.entries) fits.instance
     (behind_opening c.args.bytes.now c.in_ok-rest.rest.now claim (opened (goal.at.returns-in_err-form-clause-only c).In_ok-rest) e))
 
-pub returns-in_err-form-clause-line : goal.returns-in_err-form-clause-line
-returns-in_err-form-clause-line c =
+pub returns-in_err-form-clause-first : goal.returns-in_err-form-clause-first
+returns-in_err-form-clause-first c =
     let p = err_from_is_err_and c.from_residual-in_err-form.result c.from_residual-in_err-form.ensures.1 in
-    rw (p.1, p.2) (front_line c.args.bytes.now c.in_ok-rest.rest.now c.in_err-form.field-0.0 (opened (goal.at.returns-in_err-form-clause-line c).In_ok-rest) c.in_err-form.ensures.line)
+    rw (p.1, p.2) (front_line c.args.bytes.now c.in_ok-rest.rest.now c.in_err-form.field-0.0 (opened (goal.at.returns-in_err-form-clause-first c).In_ok-rest) c.in_err-form.ensures.first)
 
 -- what the instance's lines say
 problem_of : In_ok-form → Problem
@@ -66,10 +66,10 @@ returns-in_err-answer-clause-only c = λ claim fits e.
     let phases : c.len-phases.result ≡ length c.in_ok-form.form.phases.items = omega (arith, c.len-phases.ensures, c.in_ok-form.form.phases.ok.0) in
     rw (p.1, p.2) (fails_only (problem_of d) c.in_ok-form.ensures.fits c.args.bytes.now c.in_ok-form.rest.now c.in_ok-form.line (spelled d) c.in_ok-form.ensures.next c.in_err-answer.field-0.0 (rw phases at c.in_err-answer.ensures.exact) claim fits e)
 
-pub returns-in_err-answer-clause-line : goal.returns-in_err-answer-clause-line
+pub returns-in_err-answer-clause-first : goal.returns-in_err-answer-clause-first
 unfolding problem_of
-returns-in_err-answer-clause-line c =
-    let d = (goal.at.returns-in_err-answer-clause-line c).In_ok-form in
+returns-in_err-answer-clause-first c =
+    let d = (goal.at.returns-in_err-answer-clause-first c).In_ok-form in
     let p = err_from_is_err_and c.from_residual-in_err-answer.result c.from_residual-in_err-answer.ensures.1 in
     let phases : c.len-phases.result ≡ length c.in_ok-form.form.phases.items = omega (arith, c.len-phases.ensures, c.in_ok-form.form.phases.ok.0) in
     rw (p.1, p.2) (fails_line (problem_of d) c.in_ok-form.ensures.fits c.args.bytes.now c.in_ok-form.rest.now c.in_ok-form.line (spelled d) c.in_ok-form.ensures.next c.in_err-answer.field-0.0 (rw phases at c.in_err-answer.ensures.exact))

@@ -2,7 +2,7 @@ use Rattle.std.proofs.Common.{◌≡◌, ◌+◌, ◌-◌, ◌<◌, ◌≤◌, �
 use Rattle.std.specs.Fmt.{decimal}
 use Rattle.std.specs.List.{flat_map}
 use Rattle.certificate_form.specs.CertificateText.{after_space}
-use Rattle.certificate_form.proofs.WritingLaws.{counts-more, digits-byte, spaced-length}
+use Rattle.number_text.proofs.LineLaws.{digits-byte, numbers-more, spaced-length}
 use Rattle.certificate_form.proofs.writing.put_counts.Goals as goal
 
 pub put_spaced-requires : goal.put_spaced-requires
@@ -18,7 +18,7 @@ loop-place-preserved c =
     let inside : i < length counts = omega arith in
     let same : i + 1 ≡ c.loop-place.place = omega arith in
     record {
-      text = counts-more counts i c.loop-place.line c.put_spaced.new.self c.args.line.now inside (c.put_spaced.ensures ∙ ap (λ n. 32 ∷ (decimal n ++ c.loop-place.line)) c.from.ensures)
+      text = numbers-more counts i c.loop-place.line c.put_spaced.new.self c.args.line.now inside (c.put_spaced.ensures ∙ ap (λ n. 32 ∷ (decimal n ++ c.loop-place.line)) c.from.ensures)
           (c.loop-place.invariant.text ∙ ap (λ n. flat_map after_space (drop n counts) ++ c.args.line.now) (sym same));
       room = omega (arith, spaced-length c.loop-place.line c.put_spaced.new.self c.from.result 3 c.put_spaced.ensures short, c.loop-place.invariant.room);
     }

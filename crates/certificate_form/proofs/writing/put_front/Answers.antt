@@ -1,5 +1,6 @@
 use Rattle.std.proofs.Common.{length, ap, arith}
-use Rattle.certificate_form.proofs.WritingLaws.{digits-long, front_filled, spaced-length}
+use Rattle.number_text.proofs.LineLaws.{digits-long, spaced-length}
+use Rattle.certificate_form.proofs.WritingLaws.{front_filled}
 use Rattle.certificate_form.proofs.writing.put_front.Goals as goal
 
 pub put_spaced-requires : goal.put_spaced-requires

@@ -12,6 +12,6 @@ returns-clause-text c =
     let before = c.args.text.now.items in
     let a : c.extend_from_slice.new.self.items ≡ before ++ codes "answer " = c.in_ok-extend_from_slice.ensures.items in
     let b : c.push_number.new.text.items ≡ c.extend_from_slice.new.self.items ++ decimal c.args.delay = c.in_ok-push_number.ensures in
-    let d : c.write_numbers.new.text.items ≡ c.push_number.new.text.items ++ flat_map after_space c.args.sequence.now = c.in_ok-write_numbers.ensures.text in
-    let whole : before ++ answer_line (Plan c.args.sequence.now c.args.delay) ≡ c.write_numbers.new.text.items ++ 10 ∷ [] = cc (plan_behind before c.args.sequence.now c.args.delay) in
+    let d : c.push_numbers.new.text.items ≡ c.push_number.new.text.items ++ flat_map after_space c.args.sequence.now = c.in_ok-push_numbers.ensures.text in
+    let whole : before ++ answer_line (Plan c.args.sequence.now c.args.delay) ≡ c.push_numbers.new.text.items ++ 10 ∷ [] = cc (plan_behind before c.args.sequence.now c.args.delay) in
     rw whole (search rules)

@@ -19,7 +19,7 @@ pub unwrap-requires : goal.unwrap-requires
 unwrap-requires g c =
     accepted c.args.i.now c.in_ok-instance.instance c.args.limit c.in_ok-entries.entries.items c.in_ok-answer.answer c.new.result
     (parts c.args.i.now c.args.limit c.in_ok-rows.rows.items c.as_slice-2.result.now c.in_ok-entries.entries.items c.in_ok-answer.answer c.in_ok-answer.ensures.instance c.requires c.in_ok-rows.ensures.whole c.as_slice-2.ensures.value c.in_ok-entries.ensures c.in_ok-answer.ensures.best)
-    c.in_ok-instance.ensures c.new.ensures.err
+    c.in_ok-instance.ensures c.new.ensures.refused
 
 pub returns-clause-table : goal.returns-clause-table
 returns-clause-table g c =

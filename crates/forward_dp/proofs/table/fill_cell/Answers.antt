@@ -37,7 +37,7 @@ loop-phase-preserved g c =
         | then-counts-phase-gt0+in_ok-ends w ↦
             subst (λ ends. c.if-counts-phase-gt0.steps + sum c.args.ends.now ≤ c.args.steps.now + sum ends) (sym w.ends-is)
             (subst (λ steps. steps + sum c.args.ends.now ≤ c.args.steps.now + sum (set c.loop-phase.ends k w.in_ok-ends.field-0)) (sym w.steps-is)
-            (ends-cost c.loop-phase.ends k w.in_ok-ends.field-0 c.args.steps.now c.loop-phase.steps w.fill_group.new.steps (sum c.args.ends.now) (omega (arith, c.loop-phase.invariant.ends.places, inside, few)) c.loop-phase.invariant.cost w.in_ok-ends.ensures.cost))
+            (ends-cost c.loop-phase.ends k w.in_ok-ends.field-0 c.args.steps.now c.loop-phase.steps w.fill_group.new.steps (sum c.args.ends.now) (omega (arith, c.loop-phase.invariant.ends.places, inside, few)) c.loop-phase.invariant.cost w.in_ok-ends.ensures.steps))
         | else-counts-phase-gt0 w ↦
             subst (λ ends. c.if-counts-phase-gt0.steps + sum c.args.ends.now ≤ c.args.steps.now + sum ends) (sym w.ends-is)
             (subst (λ steps. steps + sum c.args.ends.now ≤ c.args.steps.now + sum c.loop-phase.ends) (sym w.steps-is) c.loop-phase.invariant.cost)

@@ -45,5 +45,5 @@ loop-row-preserved g c =
             subst (AreReachedBy p c.args.limit k cluster source (n + 1)) (sym w.self-is)
             (reached-none p c.args.limit k cluster source n c.loop-row.self _ (get_or_default source n no_row _ c.loop-row-test.true) w.in_default.ensures.left c.loop-row.invariant.reached)
       ];
-      cost = omega (arith, c.loop-row.invariant.cost, c.serve_within.ensures.cost);
+      cost = omega (arith, c.loop-row.invariant.cost, c.serve_within.ensures.steps);
     }
