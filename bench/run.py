@@ -1,8 +1,8 @@
 #!/usr/bin/env python3
 """Compares the built program with a plain-Rust program for the same job.
 
-PEER is a folder with a Cargo package whose one binary understands the words `plan FILE`, `certify FILE` and
-`check FILE`. It is built into a folder of its own. Both programs then run by turns on each instance of this folder,
+PEER is a folder with a Cargo package whose one binary understands the words `plan FILE`, `certify FILE`,
+`certify_bound FILE` and `check FILE`. It is built into a folder of its own. Both programs then run by turns on each instance of this folder,
 and what is printed is, for each command and instance, the best time of many runs and its ratio, and, where valgrind is
 there, the instructions that callgrind counts and their ratio. The answers must be equal. The exit status is 0 where
 they are, and 1 where any differs.
@@ -20,7 +20,7 @@ from pathlib import Path
 
 HERE = Path(__file__).resolve().parent
 INSTANCES = ("nine_and_nine.txt", "four_phases.txt", "two_clusters.txt")
-COMMANDS = ("plan", "certify", "check")
+COMMANDS = ("plan", "certify", "certify_bound", "check")
 
 
 def peer_built(folder, target):
@@ -66,7 +66,7 @@ def compare(name, words, programs, runs, work):
     """Prints one line of figures. Whether both answer alike."""
     alike = answer(programs[0], words) == answer(programs[1], words)
     ours, theirs = best_seconds(programs, words, runs)
-    line = f"{words[0]:8} {name:18} {ours * 1e3:8.2f} ms {theirs * 1e3:8.2f} ms  {ours / theirs:5.2f}"
+    line = f"{words[0]:13} {name:18} {ours * 1e3:8.2f} ms {theirs * 1e3:8.2f} ms  {ours / theirs:5.2f}"
     if shutil.which("valgrind"):
         counts = [instructions(program, words, work) for program in programs]
         if all(counts):
@@ -84,7 +84,7 @@ def main():
     with tempfile.TemporaryDirectory() as place:
         work = Path(place)
         programs = (options.program.resolve(), peer_built(options.peer, work / "target"))
-        print(f"{'':27} {'ours':>11} {'peer':>11}  ratio   {'ours':>10} {'peer':>10}  ratio")
+        print(f"{'':32} {'ours':>11} {'peer':>11}  ratio   {'ours':>10} {'peer':>10}  ratio")
         alike = True
         for name in INSTANCES:
             instance = str(HERE / name)

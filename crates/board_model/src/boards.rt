@@ -167,7 +167,7 @@ impl BoardLog {
         ensures ok { OnOk result (1 ≤ self.new.spare) }
         ensures kept { self.old.spare ≤ self.new.spare }
         ensures enough { 1 ≤ self.old.spare → IsOk result }
-        ensures err { OnErr result (self.new ≡ self.old) }
+        ensures refused { OnErr result (self.new ≡ self.old) }
     {
         self.events.reserve(1)
     }
@@ -227,7 +227,7 @@ impl BoardLog {
           forecast = newest self.old.events;
         }) }
         ensures events { OnOk result (self.new.events ≡ after_read self.old.events stamp node) }
-        ensures err { OnErr result (self.new ≡ self.old) }
+        ensures refused { OnErr result (self.new ≡ self.old) }
     {
         let forecast = self.newest(*self.events.allocator())?;
         self.reserve()?;
@@ -259,7 +259,7 @@ impl BoardLog {
         }) }
         ensures events { OnOk result (self.new.events ≡ after_publish self.old.events stamp node f) }
         ensures back { IfErr result (λ refused. refused.0 ≡ f) }
-        ensures err { OnErr result (self.new ≡ self.old) }
+        ensures refused { OnErr result (self.new ≡ self.old) }
     {
         match self.reserve() {
             Ok(()) => Ok(Sent {

@@ -1,5 +1,5 @@
 //! Tests of certificates: each public call once with ample memory, worked examples with their
-//! verdicts, and that both planners answer alike where many orders cost the same.
+//! verdicts, and that all planners answer alike where many orders cost the same.
 #![tactic(auto)]
 
 #[cfg(test)]

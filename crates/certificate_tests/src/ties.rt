@@ -1,9 +1,10 @@
-// Both planners answer alike where many orders cost the same.
+// All planners answer alike where many orders cost the same.
 
 ghost use Rattle.std.specs.Prelude.{◌≡◌, ◌<◌};
 
 use forward_dp::LayerPlanner;
 use foundation::steps::Steps;
+use pruned_dp::BoundPlanner;
 use schedule_meaning::{Answer, Instance, PlainPlanner, Planner, read_instance};
 use std::alloc::{AllocError, Global};
 use std::marker::Brand;
@@ -49,6 +50,14 @@ const TIES: &[(&str, &str)] = &[
         SLOW,
         "cluster 0 1 0 20\ncluster 0 1 20 20\ncluster 1 1 0 20\ncluster 1 1 20 20\n",
     ),
+    (
+        SLOW,
+        "cluster 0 1 0 10\ncluster 0 1 10 10\ncluster 0 1 20 10\ncluster 1 1 0 5\n",
+    ),
+    (
+        TWO,
+        "cluster 0 1000 0 10\ncluster 0 1000 30 8\ncluster 0 1000 41 12\ncluster 1 6000 0 4\n",
+    ),
     (TWO, ""),
 ];
 
@@ -66,11 +75,12 @@ fn planners_agree(rt: HostRuntime) -> Result<(), Fail> {
     Ok(())
 }
 
-// Whether both planners answer alike.
+// Whether all planners answer alike.
 fn agree(alloc: Global, i: &Instance) -> Result<bool, AllocError> {
     let plain = best_of::<PlainPlanner, Brand>(alloc, &mut PlainPlanner, i, Blank::new(1))?;
     let layered = best_of::<LayerPlanner, Brand>(alloc, &mut LayerPlanner, i, Blank::new(1))?;
-    Ok(is_same(&plain, &layered))
+    let bounded = best_of::<BoundPlanner, Brand>(alloc, &mut BoundPlanner, i, Blank::new(1))?;
+    Ok(is_same(&plain, &layered) && is_same(&plain, &bounded))
 }
 
 fn best_of<P: Planner, L: Ledger>(

@@ -1,4 +1,4 @@
-// What the checker says of worked certificates, and the certificate that the table makes.
+// What the checker says of worked certificates, and the certificates that the tables make.
 
 ghost use Rattle.std.specs.Prelude.{◌≡◌, ◌<◌};
 
@@ -7,6 +7,7 @@ use certificate_form::{read_certificate, write_certificate};
 use dp_certificate::Certificate;
 use forward_dp::certify;
 use foundation::steps::Steps;
+use pruned_dp::certify_bound;
 use schedule_meaning::{Instance, SeqFault, read_instance};
 use std::alloc::{AllocError, Global};
 use std::marker::Brand;
@@ -19,6 +20,8 @@ const INSTANCE: &str =
 const WHOLE: &str =
     "entry 0 0 0 0 0 0\nentry 0 1 1 10 16 18000\nentry 1 0 0 0 8 0\nentry 1 1 0 21 31 110000\nentry 1 1 1 13 19 24000\n";
 
+const BOUNDED: &str = "entry 0 0 0 0 0 0\nentry 1 0 0 0 8 0\nentry 1 1 1 13 19 24000\n";
+
 // What the certificate shows, its answer, its entries, and the verdict.
 const VERDICTS: &[(&str, &str, &str, Verdict)] = &[
     (
@@ -30,7 +33,7 @@ const VERDICTS: &[(&str, &str, &str, Verdict)] = &[
     (
         "entries too dear to matter left out",
         "answer 24000 0 1\n",
-        "entry 0 0 0 0 0 0\nentry 1 0 0 0 8 0\nentry 1 1 1 13 19 24000\n",
+        BOUNDED,
         Verdict::Accepted,
     ),
     (
@@ -88,22 +91,30 @@ fn verdicts(rt: HostRuntime) -> Result<(), Fail> {
 }
 
 #[test]
-fn whole_table(rt: HostRuntime) -> Result<(), Fail> {
+fn tables(rt: HostRuntime) -> Result<(), Fail> {
     let alloc = rt.alloc();
     let instance = read_instance(alloc, INSTANCE.as_bytes())
         .ok()
         .ok_or("no instance")?;
-    let written = write_certificate(alloc, &certified(alloc, &instance)?)?;
+    let whole = certified(alloc, &instance)?;
+    assert!(rt; is_written(alloc, &whole, WHOLE)?, "the whole table");
+    let bounded = bound_certified(alloc, &instance)?;
+    assert!(rt; is_written(alloc, &bounded, BOUNDED)?, "the bounded table");
+    Ok(())
+}
+
+// Whether the text of a certificate of the instance has these entries.
+fn is_written(alloc: Global, c: &Certificate, entries: &str) -> Result<bool, AllocError> {
+    let written = write_certificate(alloc, c)?;
     let text = [
         "certificate 1\n",
         INSTANCE,
         "answer 24000 0 1\n",
-        WHOLE,
+        entries,
         "end\n",
     ]
     .concat(alloc)?;
-    assert!(rt; written.as_slice() == text.as_bytes());
-    Ok(())
+    Ok(written.as_slice() == text.as_bytes())
 }
 
 // The certificate of an instance.
@@ -122,6 +133,24 @@ fn certified_counted<L: Ledger>(
 {
     let mut steps = Steps::<L>::new(blank);
     certify(alloc, i, &mut steps)
+}
+
+// The certificate of an instance by its bounded table.
+fn bound_certified(alloc: Global, i: &Instance) -> Result<Certificate, AllocError> {
+    bound_certified_counted::<Brand>(alloc, i, Blank::new(1))
+}
+
+fn bound_certified_counted<L: Ledger>(
+    alloc: Global,
+    i: &Instance,
+    blank: Blank,
+) -> Result<Certificate, AllocError>
+    requires name { blank.name ≡ L.name }
+    requires parts { blank.parts ≡ L.parts }
+    requires some { 0 < L.parts }
+{
+    let mut steps = Steps::<L>::new(blank);
+    certify_bound(alloc, i, &mut steps)
 }
 
 // The verdict on a certificate.

@@ -72,6 +72,12 @@ const REFUSED: &[(&[&str], &str, Status, &str)] = &[
     ),
     (&["certify"], TWO_CLUSTERS, Status::Usage, "signal: usage\n"),
     (
+        &["certify_bound"],
+        TWO_CLUSTERS,
+        Status::Usage,
+        "signal: usage\n",
+    ),
+    (
         &["check", "file", "file"],
         TWO_CLUSTERS,
         Status::Usage,
@@ -91,6 +97,18 @@ const REFUSED: &[(&[&str], &str, Status, &str)] = &[
     ),
     (
         &["certify", "file"],
+        NO_END,
+        Status::BadInput,
+        "signal: bad 1 line 8\n",
+    ),
+    (
+        &["certify_bound", "absent"],
+        TWO_CLUSTERS,
+        Status::ReadFault,
+        "signal: cannot read 1\n",
+    ),
+    (
+        &["certify_bound", "file"],
         NO_END,
         Status::BadInput,
         "signal: bad 1 line 8\n",

@@ -1,4 +1,5 @@
 pub mod LimitLaws
+mod LineLaws
 pub mod NextLaws
 pub mod RestLaws
 pub mod Servings

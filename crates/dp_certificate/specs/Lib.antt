@@ -1,6 +1,7 @@
 pub mod Certificates
 pub mod Faults
 pub mod Limits
+pub mod Lines
 pub mod Nexts
 pub mod Numbers
 pub mod Prefixes

@@ -2,13 +2,15 @@
 #![tactic(auto)]
 
 mod certificates;
+mod lines;
 mod nexts;
 mod rests;
 
 pub use certificates::{CertFault, Certificate, list_lengths};
 use foundation::threads::CrossesThreads;
+pub use lines::Rests;
 pub use nexts::serve_next;
-pub use rests::{is_within, rest_of};
+pub use rests::rest_of;
 
 /// One entry of a table of least delays: a key, which is what decides how a plan can go on, with a delay.
 ///

@@ -1,13 +1,10 @@
 //! What clusters cost at the least that are not yet served.
 
-ghost use Rattle.std.specs.Prelude.{◌≡◌, ◌↔◌, ℕ, ◌≤◌, All, IsTrue, length, slice_index, sum_by};
+ghost use Rattle.std.specs.Prelude.{◌≡◌, ℕ, ◌≤◌, All, length, slice_index, sum_by};
 ghost use Rattle.switch_rules.specs.Serving.{IsCluster};
 ghost use Rattle.schedule_meaning.specs.Instances.{IsSpaced, list_at};
-ghost use Rattle.dp_certificate.specs.Limits.{IsWithin};
-ghost use Rattle.dp_certificate.specs.Nexts.{stage_behind};
 ghost use Rattle.dp_certificate.specs.Proves.{rest_of, wait_until};
 
-use super::Entry;
 use schedule_meaning::Instance;
 use switch_rules::Cluster;
 
@@ -27,23 +24,6 @@ pub fn rest_of(i: &Instance, counts: &[u8; 4], at: u32) -> u64
         rest += waiting(&i.list(phase)[served..], at);
     }
     rest
-}
-
-/// Whether the delay of an entry, with what is left at the least, is not above a limit, where there is one.
-///
-/// docs/RULES.md, "Bounded table".
-#[inline]
-pub fn is_within(i: &Instance, entry: &Entry, limit: Option<u64>) -> bool
-    requires counts { (k : ℕ) → slice_index entry.now.counts k ≤ length (list_at i.now.lists k) }
-    requires at { entry.now.at ≤ 104000 }
-    ensures { IsTrue result ↔ IsWithin i.now limit (stage_behind entry.now) }
-{
-    match limit {
-        Some(most) => {
-            entry.delay <= most && rest_of(i, &entry.counts, entry.at) <= most - entry.delay
-        }
-        None => true,
-    }
 }
 
 /// What clusters cost at the least that wait until this second; the first that arrives later ends the walk.

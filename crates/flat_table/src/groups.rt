@@ -5,13 +5,14 @@ ghost use Rattle.switch_rules.specs.Serving.{serving};
 ghost use Rattle.schedule_meaning.specs.Instances.{list_at};
 ghost use Rattle.dp_certificate.specs.Certificates.{IsEntry, head_of};
 ghost use Rattle.dp_certificate.specs.Limits.{IsWithin};
+ghost use Rattle.dp_certificate.specs.Lines.{AreRests};
 ghost use Rattle.dp_certificate.specs.Nexts.{IsNext, stage_behind};
 ghost use Rattle.dp_certificate.specs.Prefixes.{stage_after};
 ghost use Rattle.dp_certificate.specs.Proves.{stage_of_entry};
 
 use crate::greens::Greens;
 use crate::rows::{Row, merge, push_row};
-use dp_certificate::{Entry, is_within, serve_next};
+use dp_certificate::{Entry, Rests, serve_next};
 use foundation::steps::Steps;
 use schedule_meaning::Instance;
 use std::alloc::{AllocError, Global};
@@ -67,9 +68,10 @@ impl Reached {
         ensures reached { OnOk result (AreReachedBy i.now limit phase cluster.now source.now (length source.now) self.new) }
         ensures steps { steps.new ≤ steps.old + length source.now }
     {
+        let mut rests = Rests::new();
         for row in source {
             if let Some((served, entry)) = serve_within(
-                i, &row.entry, phase, cluster, limit, steps,
+                i, &row.entry, phase, cluster, limit, &mut rests, steps,
             ) {
                 let order = row.order * 4 + u128::from(phase);
                 self.take_in(&served, cluster, Row { entry, order })?;
@@ -121,20 +123,23 @@ fn serve_within<L: Ledger>(
     phase: u8,
     cluster: &Cluster,
     limit: Option<u64>,
+    rests: &mut Rests,
     steps: &mut Steps<L>,
 ) -> Option<(Served, Entry)>
     requires phase { phase < length i.now.plan }
     requires entry { IsEntry i.now entry.now }
     requires cluster { slice_get (list_at i.now.lists phase) (slice_index entry.now.counts phase) ≡ Some cluster.now }
+    requires rests { AreRests i.now rests.old }
     ensures leads { IfSome result (λ x. Some (stage_behind x.1) ≡ stage_after i.now (stage_of_entry i.now entry.now) phase) }
     ensures served { IfSome result (λ x. serving i.now.plan (stage_of_entry i.now entry.now).head phase cluster.now ≡ Ok (x.0, head_of x.1 false)) }
     ensures bounds { IfSome result (λ x. IsNext i.now x.1) }
     ensures within { IfSome result (λ x. IsWithin i.now limit (stage_behind x.1)) }
     ensures left { IfNone result (IfSome (stage_after i.now (stage_of_entry i.now entry.now) phase) (λ s. ¬ IsWithin i.now limit s)) }
+    ensures rests { AreRests i.now rests.new }
     ensures steps { steps.new ≤ steps.old + 1 }
 {
     let (served, next) = serve_next(i, entry, phase, cluster, steps)?;
-    if is_within(i, &next, limit) {
+    if rests.is_within(i, &next, limit) {
         Some((served, next))
     } else {
         None

@@ -80,7 +80,7 @@ fn read_file<F: Files>(
 // The first `most` bytes that are left to read, or all where there are fewer.
 fn read_front<R: Read>(alloc: Global, source: &mut R, most: usize) -> Result<Vec<u8>, ShelfFault>
     ensures bound { IfOk result (λ bytes. length bytes.items ≤ most) }
-    ensures told { IfOk result (λ bytes. IfSome (R.remaining source.old) (λ left. bytes.items ≡ take most left)) }
+    ensures text { IfOk result (λ bytes. IfSome (R.remaining source.old) (λ left. bytes.items ≡ take most left)) }
 {
     let mut bytes = Vec::new(alloc);
     let mut buffer = [0; READ_SIZE];

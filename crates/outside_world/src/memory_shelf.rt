@@ -71,7 +71,7 @@ impl Shelf for MemoryShelf {
         ensures calls { self.new.calls ≡ one_more self.old.calls }
 
         ensures bound { IfOk result (λ bytes. length bytes.items ≤ most) }
-        ensures told { IfOk result (λ bytes. front_of self.old.files name.now most ≡ Some bytes.items) }
+        ensures text { IfOk result (λ bytes. front_of self.old.files name.now most ≡ Some bytes.items) }
 
         ensures failed { IsErrOf result ShelfFault.Failed → FailsAt self.old self.new.calls name.now }
         ensures not_failed { OnOk result (¬ FailsAt self.old self.new.calls name.now) }
@@ -95,7 +95,7 @@ impl Shelf for MemoryShelf {
 // Adds a name to a list of names.
 fn add_name(alloc: Global, names: &mut Vec<Text>, name: &str) -> Result<(), AllocError>
     ensures ok { OnOk result (names.new.items ≡ names.old.items ++ name.now ∷ []) }
-    ensures err { OnErr result (names.new.items ≡ names.old.items) }
+    ensures refused { OnErr result (names.new.items ≡ names.old.items) }
 {
     names.push(Text::from_string(String::from_str(alloc, name)?))?;
     Ok(())

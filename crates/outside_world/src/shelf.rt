@@ -34,7 +34,7 @@ pub trait Shelf {
     /// `NoMemory` comes where memory runs out. The files stay as they are.
     fn fetch(&mut self, alloc: Global, name: &str, most: usize) -> Result<Vec<u8>, ShelfFault>
         ensures bound { IfOk result (λ bytes. length bytes.items ≤ most) }
-        ensures told { IfOk result (λ bytes.
+        ensures text { IfOk result (λ bytes.
             IfSome (state self.old).files (λ known. front_of known name.now most ≡ Some bytes.items)) }
 
         ensures ok { OnOk result (state self.new ≡ state self.old) }

@@ -78,7 +78,7 @@ impl Boards {
     ) -> Result<Vec<BoardLog>, (Boards, Vec<Pass>, AllocError)>
         requires { AreAllPasses self passes.items }
         ensures ok { IfOk result (λ logs. AreLogsOfPasses self.links passes.items logs.items) }
-        ensures err { IfErr result (λ refused. (refused.0 ≡ self) × (refused.1.items ≡ passes.items)) }
+        ensures refused { IfErr result (λ refused. (refused.0 ≡ self) × (refused.1.items ≡ passes.items)) }
     {
         match Vec::with_capacity(alloc, self.links as usize) {
             Ok(logs) => Ok(self.close_into(logs, passes)),

@@ -61,7 +61,7 @@ impl Boards {
         ensures holding { Holding link seat.new.me }
         ensures ok { IfOk result (λ sent. SentHeld seat.old.me f sent seat.new.me) }
         ensures back { IfErr result (λ refused. refused.0 ≡ f) }
-        ensures err { OnErr result (seat.new.me.0 ≡ seat.old.me.0) }
+        ensures refused { OnErr result (seat.new.me.0 ≡ seat.old.me.0) }
     {
         match self.reserve_at(seat, link) {
             Ok(()) => {
@@ -87,7 +87,7 @@ impl Boards {
         ensures table { (seat.new.table_id ≡ seat.old.table_id) × (seat.new.id ≡ seat.old.id) }
         ensures ok { IfOk result (λ sent. SentAt seat.old.me f sent seat.new.me) }
         ensures back { IfErr result (λ refused. refused.0 ≡ f) }
-        ensures err { OnErr result (Undrawn seat.old.me seat.new.me) }
+        ensures refused { OnErr result (Undrawn seat.old.me seat.new.me) }
     {
         let sent = self.publish_held(seat, link, number, f);
         self.give(seat, link);
@@ -115,7 +115,7 @@ impl Boards {
         requires left { 0 < pass.old.left }
         ensures ok { IfOk result (λ sent. HasSent pass.old pass.new link f sent) }
         ensures back { IfErr result (λ refused. refused.0 ≡ f) }
-        ensures err { OnErr result (pass.new ≡ pass.old) }
+        ensures refused { OnErr result (pass.new ≡ pass.old) }
     {
         let number = pass.number;
         self.take(rt, &mut pass.seat, number, link);

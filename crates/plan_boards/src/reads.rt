@@ -69,7 +69,7 @@ impl Boards {
         ensures table { (seat.new.table_id ≡ seat.old.table_id) × (seat.new.id ≡ seat.old.id) }
         ensures holding { Holding link seat.new.me }
         ensures ok { IfOk result (λ seen. ReadHeld seat.old.me seen seat.new.me) }
-        ensures err { OnErr result (seat.new.me.0 ≡ seat.old.me.0) }
+        ensures refused { OnErr result (seat.new.me.0 ≡ seat.old.me.0) }
     {
         let forecast = self.prepare_read(alloc, seat, link)?;
         let stamp = self.draw_read(seat, link, number);
@@ -94,7 +94,7 @@ impl Boards {
         requires drawing { CanDraw link number seat.old.me }
         ensures table { (seat.new.table_id ≡ seat.old.table_id) × (seat.new.id ≡ seat.old.id) }
         ensures ok { IfOk result (λ seen. ReadAt seat.old.me seen seat.new.me) }
-        ensures err { OnErr result (Undrawn seat.old.me seat.new.me) }
+        ensures refused { OnErr result (Undrawn seat.old.me seat.new.me) }
     {
         let seen = self.read_held(alloc, seat, link, number);
         self.give(seat, link);
@@ -120,7 +120,7 @@ impl Boards {
         requires link { link < self.now.links }
         requires left { 0 < pass.old.left }
         ensures ok { IfOk result (λ seen. HasRead pass.old pass.new link seen) }
-        ensures err { OnErr result (pass.new ≡ pass.old) }
+        ensures refused { OnErr result (pass.new ≡ pass.old) }
     {
         let number = pass.number;
         self.take(rt, &mut pass.seat, number, link);

@@ -19,7 +19,7 @@ pub(crate) fn arrival_delay<L: Ledger>(
     steps: &mut Steps<L>,
 ) -> Result<Option<u64>, AllocError>
     ensures delay { IfOk result (IsArrivalDelay i.now) }
-    ensures cost { steps.new ≤ steps.old + sum (counts_of i.now.lists) }
+    ensures steps { steps.new ≤ steps.old + sum (counts_of i.now.lists) }
 {
     let sequence = by_arrival(alloc, i)?;
     match replay(i, sequence.as_slice(), steps) {

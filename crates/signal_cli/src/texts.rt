@@ -25,9 +25,9 @@ fn fetch_text<S: Shelf>(
     file: &str,
 ) -> Result<Vec<u8>, Refusal>
     ensures limit { IfOk result (λ text. length text.items ≤ most_bytes) }
-    ensures told { IfOk result (λ text. IsSome (S.state shelf.old).files → text_of (S.state shelf.old).files file.now ≡ Some text.items) }
+    ensures text { IfOk result (λ text. IsSome (S.state shelf.old).files → text_of (S.state shelf.old).files file.now ≡ Some text.items) }
     ensures ok { OnOk result (S.state shelf.new ≡ S.state shelf.old) }
-    ensures err { IfErr result (λ why. (kind : Kind) → StopsAt why place kind file.now (S.state shelf.old) (S.state shelf.new)) }
+    ensures refused { IfErr result (λ why. (kind : Kind) → StopsAt why place kind file.now (S.state shelf.old) (S.state shelf.new)) }
 {
     match shelf.fetch(alloc, file, MOST_BYTES + 1) {
         Ok(text) if text.len() > MOST_BYTES => Err(Refusal::Bad {
@@ -47,9 +47,9 @@ pub fn fetch_instance<S: Shelf>(
     place: Place,
     file: &str,
 ) -> Result<Instance, Refusal>
-    ensures told { IfOk result (IsIn (S.state shelf.old).files file.now InstanceText) }
+    ensures text { IfOk result (IsIn (S.state shelf.old).files file.now InstanceText) }
     ensures ok { OnOk result (S.state shelf.new ≡ S.state shelf.old) }
-    ensures err { IfErr result (λ why. StopsAt why place InstanceText file.now (S.state shelf.old) (S.state shelf.new)) }
+    ensures refused { IfErr result (λ why. StopsAt why place InstanceText file.now (S.state shelf.old) (S.state shelf.new)) }
 {
     let text = fetch_text(alloc, shelf, place, file)?;
     match read_instance(alloc, &text) {
@@ -69,9 +69,9 @@ pub fn fetch_certificate<S: Shelf>(
     place: Place,
     file: &str,
 ) -> Result<Certificate, Refusal>
-    ensures told { IfOk result (IsIn (S.state shelf.old).files file.now CertificateText) }
+    ensures text { IfOk result (IsIn (S.state shelf.old).files file.now CertificateText) }
     ensures ok { OnOk result (S.state shelf.new ≡ S.state shelf.old) }
-    ensures err { IfErr result (λ why. StopsAt why place CertificateText file.now (S.state shelf.old) (S.state shelf.new)) }
+    ensures refused { IfErr result (λ why. StopsAt why place CertificateText file.now (S.state shelf.old) (S.state shelf.new)) }
 {
     let text = fetch_text(alloc, shelf, place, file)?;
     match read_certificate(alloc, &text) {

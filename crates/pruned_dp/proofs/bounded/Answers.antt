@@ -1,14 +1,11 @@
 use Rattle.std.proofs.Common.{map, length}
 use Rattle.std.proofs.lemmas.List.{length-map}
 use Rattle.dp_certificate.specs.Proves.{key_of_entry}
-use Rattle.pruned_dp.proofs.Orders.{all-steps, arrival-limit, bounded-keys}
+use Rattle.pruned_dp.proofs.Orders.{all-steps, bounded-keys}
 use Rattle.pruned_dp.proofs.bounded.Goals as goal
-
-pub layered_within-requires : goal.layered_within-requires
-layered_within-requires g c = arrival-limit c.args.i.now c.in_ok-limit.limit c.in_ok-limit.ensures.delay
 
 pub returns-clause-servings : goal.returns-clause-servings
 returns-clause-servings g c entries bounded =
-    all-steps _ _ _ _ _ (length (map key_of_entry entries)) (length entries) c.arrival_delay.ensures.cost
+    all-steps _ _ _ _ _ (length (map key_of_entry entries)) (length entries) c.arrival_delay.ensures.steps
     (c.layered_within.ensures.servings (map key_of_entry entries) (bounded-keys c.args.i.now c.in_ok-limit.limit entries c.in_ok-limit.ensures.delay bounded))
     (length-map entries key_of_entry)

@@ -5,3 +5,6 @@ ghosts-best_of a = record { name = a.blank.name; parts = a.blank.parts }
 
 abbrev pub ghosts-best_of-2 : goal.ghosts-best_of-2
 ghosts-best_of-2 a = record { name = a.blank.name; parts = a.blank.parts }
+
+abbrev pub ghosts-best_of-3 : goal.ghosts-best_of-3
+ghosts-best_of-3 a = record { name = a.blank.name; parts = a.blank.parts }

@@ -13,7 +13,7 @@ returns g c =
       said.ensures.ok,
       (
         (said.instance, tt),
-        (said.ensures.told, tt),
+        (said.ensures.text, tt),
         (
           (
             (

@@ -3,4 +3,4 @@ use Rattle.signal_cli.proofs.check.judged.Goals as goal
 pub returns : goal.returns
 returns g c =
     let said = c.in_ok-certificate in
-    (said.ensures.ok, ((said.certificate, tt), (said.ensures.told, tt), (c.in_ok-made.ensures c.args.file.now, λ what missing. missing)))
+    (said.ensures.ok, ((said.certificate, tt), (said.ensures.text, tt), (c.in_ok-made.ensures c.args.file.now, λ what missing. missing)))

@@ -7,7 +7,7 @@ returns g c =
       said.ensures.ok,
       (
         (said.instance, tt),
-        (said.ensures.told, tt),
+        (said.ensures.text, tt),
         (((best.answer, best.ensures.best, best.ensures.least, rw c.into_bytes.ensures.value c.in_ok-text.ensures), λ against. against), λ what missing. missing),
       ),
     )

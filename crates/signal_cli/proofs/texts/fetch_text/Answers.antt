@@ -4,8 +4,8 @@ use Rattle.signal_cli.proofs.texts.fetch_text.Goals as goal
 
 pub returns-in-Ok-clause-err : goal.returns-in-Ok-clause-err
 returns-in-Ok-clause-err g c kind =
-    (refl, c.in-Ok.ensures.ok, fetched-long (g.S.Shelf.state c.args.shelf.now).files kind c.args.file.now c.in-Ok.text.items c.in-Ok.ensures.told (omega arith))
+    (refl, c.in-Ok.ensures.ok, fetched-long (g.S.Shelf.state c.args.shelf.now).files kind c.args.file.now c.in-Ok.text.items c.in-Ok.ensures.text (omega arith))
 
-pub returns-in-Ok-2-clause-told : goal.returns-in-Ok-2-clause-told
-returns-in-Ok-2-clause-told g c =
-    fetched-whole (g.S.Shelf.state c.args.shelf.now).files c.args.file.now c.in-Ok.text.items c.in-Ok.ensures.told (omega arith)
+pub returns-in-Ok-2-clause-text : goal.returns-in-Ok-2-clause-text
+returns-in-Ok-2-clause-text g c =
+    fetched-whole (g.S.Shelf.state c.args.shelf.now).files c.args.file.now c.in-Ok.text.items c.in-Ok.ensures.text (omega arith)

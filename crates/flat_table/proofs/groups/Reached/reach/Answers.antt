@@ -1,4 +1,4 @@
-use Rattle.std.proofs.Common.{◌+◌, sym, subst, arith}
+use Rattle.std.proofs.Common.{◌≡◌, ◌+◌, length, sym, subst, arith}
 use Rattle.std.proofs.lemmas.List.{get_or_default}
 use Rattle.flat_table.specs.Groups.{AreReachedBy, no_row}
 use Rattle.flat_table.proofs.Reaching.{arrives, kept-may, reached-more, reached-none, reached-start, waits-may}
@@ -6,7 +6,7 @@ use Rattle.flat_table.proofs.groups.Reached.reach.Goals as goal
 use Rattle.flat_table.proofs.groups.Reached.reach.Goals.{in-Some+in_ok-take_in, in_default}
 
 pub loop-row-init : goal.loop-row-init
-loop-row-init g c = record { reached = reached-start c.args.i.now c.args.limit c.args.phase c.args.cluster.now c.args.source.now c.args.self.now c.requires.empty; cost = omega arith }
+loop-row-init g c = record { reached = reached-start c.args.i.now c.args.limit c.args.phase c.args.cluster.now c.args.source.now c.args.self.now c.requires.empty; rests = c.new-rests.ensures c.args.i.now; cost = omega arith }
 
 pub take_in-requires-clause-kept : goal.take_in-requires-clause-kept
 take_in-requires-clause-kept g c =
@@ -45,5 +45,11 @@ loop-row-preserved g c =
             subst (AreReachedBy p c.args.limit k cluster source (n + 1)) (sym w.self-is)
             (reached-none p c.args.limit k cluster source n c.loop-row.self _ (get_or_default source n no_row _ c.loop-row-test.true) w.in_default.ensures.left c.loop-row.invariant.reached)
       ];
+      rests = c.serve_within.ensures.rests;
       cost = omega (arith, c.loop-row.invariant.cost, c.serve_within.ensures.steps);
     }
+
+pub returns-clause-reached : goal.returns-clause-reached
+returns-clause-reached g c =
+    let all : c.loop-row.row-index ≡ length c.args.source.now = omega arith in
+    subst (λ n. AreReachedBy c.args.i.now c.args.limit c.args.phase c.args.cluster.now c.args.source.now n c.loop-row.self) all c.loop-row.invariant.reached
