@@ -78,7 +78,7 @@ impl Sink for MemorySink {
         ensures fails { self.new.fails ≡ self.old.fails }
 
         ensures ok { OnOk result (Gains (sink_seen self.old) (sink_seen self.new) piece.now) }
-        ensures refused { OnErr result (Breaks (sink_seen self.old) (sink_seen self.new) piece.now) }
+        ensures breaks { OnErr result (Breaks (sink_seen self.old) (sink_seen self.new) piece.now) }
         ensures later { self.old.faults ≤ self.new.faults }
         ensures faults { self.new.faults ≡ (if is_ok result then self.old.faults else one_more self.old.faults) }
     {

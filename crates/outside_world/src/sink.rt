@@ -18,6 +18,6 @@ pub trait Sink {
     /// the piece was then appended.
     fn put(&mut self, piece: &[u8]) -> Result<(), Failed>
         ensures ok { OnOk result (Gains (state self.old) (state self.new) piece.now) }
-        ensures refused { OnErr result (Breaks (state self.old) (state self.new) piece.now) }
+        ensures breaks { OnErr result (Breaks (state self.old) (state self.new) piece.now) }
         ensures later { (state self.old).faults ≤ (state self.new).faults };
 }

@@ -38,7 +38,7 @@ impl<W: Write> Sink for StreamSink<W> {
     /// it tells what it holds, and the count rises by one at `Failed`.
     fn put(&mut self, piece: &[u8]) -> Result<(), Failed>
         ensures ok { OnOk result (Appends (W.contents self.old.stream) (W.contents self.new.stream) piece.now) }
-        ensures refused { OnErr result (AppendsFront (W.contents self.old.stream) (W.contents self.new.stream) piece.now) }
+        ensures breaks { OnErr result (AppendsFront (W.contents self.old.stream) (W.contents self.new.stream) piece.now) }
         ensures later { self.old.faults ≤ self.new.faults }
         ensures faults { self.new.faults ≡ (if is_ok result then self.old.faults else one_more self.old.faults) }
     {
@@ -54,7 +54,7 @@ impl<W: Write> Sink for StreamSink<W> {
 // the piece written.
 fn write_whole<W: Write>(stream: &mut W, piece: &[u8]) -> Result<(), Failed>
     ensures ok { OnOk result (Appends (W.contents stream.old) (W.contents stream.new) piece.now) }
-    ensures refused { OnErr result (AppendsFront (W.contents stream.old) (W.contents stream.new) piece.now) }
+    ensures breaks { OnErr result (AppendsFront (W.contents stream.old) (W.contents stream.new) piece.now) }
 {
     let mut done = 0;
     for _ in 0..u64::MAX {

@@ -2,8 +2,8 @@ use Rattle.std.proofs.Common.{refl, arith}
 use Rattle.signal_cli.proofs.Fetching.{fetched-whole, fetched-long}
 use Rattle.signal_cli.proofs.texts.fetch_text.Goals as goal
 
-pub returns-in-Ok-clause-err : goal.returns-in-Ok-clause-err
-returns-in-Ok-clause-err g c kind =
+pub returns-in-Ok-clause-refused : goal.returns-in-Ok-clause-err
+returns-in-Ok-clause-refused g c kind =
     (refl, c.in-Ok.ensures.ok, fetched-long (g.S.Shelf.state c.args.shelf.now).files kind c.args.file.now c.in-Ok.text.items c.in-Ok.ensures.text (omega arith))
 
 pub returns-in-Ok-2-clause-text : goal.returns-in-Ok-2-clause-text
