@@ -1,5 +1,5 @@
 -- When the clusters of a node's window arrive.
-use Rattle.std.proofs.Common.{◌≡◌, ℕ, ◌+◌, ◌-◌, ◌<◌, ◌≤◌, nat_lt, List, [], ◌∷◌, ◌++◌, All, length, get_or, map, take, sym, ap, subst, ◌∙◌, arith, length-append}
+use Rattle.std.proofs.Common.{◌≡◌, ℕ, ◌+◌, ◌<◌, ◌≤◌, nat_lt, List, [], ◌∷◌, ◌++◌, All, length, get_or, sym, subst, ◌∙◌, arith, length-append}
 use Rattle.std.specs.List.{concat, range_with_len}
 use Rattle.std.proofs.lemmas.List.{get_or_append_left, get_or-append-add, length-map}
 use Rattle.std.proofs.lemmas.List.Elements.{All-cons, All-filter, All-from_get_or, All-get_or, All-map, All-nil, All-take}
@@ -7,9 +7,9 @@ use Rattle.std.proofs.lemmas.List.FromFn.{get_or-range_with_len, length-range_wi
 use Rattle.board_model.specs.declared.boards.Heard.{Heard}
 use Rattle.switch_rules.specs.declared.Cluster.{Cluster}
 use Rattle.net_numbers.specs.Numbers.{Net}
-use Rattle.net_numbers.specs.Outline.{phase_links_at, plan_at}
+use Rattle.net_numbers.specs.Outline.{phase_links_at}
 use Rattle.road_net.specs.declared.senses.Sensed.{Sensed}
-use Rattle.clusters.specs.Cuts.{IsRun, filled, filled_from, first_of}
+use Rattle.clusters.specs.Cuts.{IsRun, filled, filled_from}
 use Rattle.clusters.specs.Platoons.{ArePlatoons, ArePlatoonsOf, most_of, platoon_of, platoons_at, streams_of, together}
 use Rattle.clusters.specs.Sound.{cluster_lists, clusters_of}
 use Rattle.clusters.specs.Windows.{IsWindow, counts_of}

@@ -1,5 +1,5 @@
 -- What is planned from a window and a head: the servings, and the timeline.
-use Rattle.std.proofs.Common.{◌≡◌, ℕ, ◌+◌, ◌<◌, ◌≤◌, List, [], ◌∷◌, All, Some, length, get_or, map, sum, refl, sym, ap, subst, ◌∙◌, arith}
+use Rattle.std.proofs.Common.{◌≡◌, ℕ, ◌+◌, ◌<◌, ◌≤◌, List, [], All, Some, length, sum, refl, sym, ap, subst, ◌∙◌, arith}
 use Rattle.std.proofs.lemmas.List.{length-map, get_or-map}
 use Rattle.std.proofs.lemmas.List.Elements.{All-from_get_or}
 use Rattle.board_model.specs.declared.boards.Heard.{Heard}
@@ -22,7 +22,7 @@ use Rattle.road_net.specs.declared.senses.Sensed.{Sensed}
 use Rattle.clusters.specs.Sound.{cluster_lists, clusters_of}
 use Rattle.clusters.specs.declared.shapes.Window.{Window}
 use Rattle.intersection_actor.specs.Commits.{line_for, used_of}
-use Rattle.intersection_actor.specs.Steps.{IsExpected, IsNextLine, IsPlanned, IsScheduled, commitment}
+use Rattle.intersection_actor.specs.Steps.{IsExpected, IsNextLine, IsPlanned, IsScheduled}
 use Rattle.intersection_actor.specs.declared.planning.Schedule.{Schedule}
 use Rattle.intersection_actor.specs.declared.planning.RoundPlan.{RoundPlan}
 use Rattle.intersection_actor.proofs.ServedLaws.{greens-by}

@@ -1,4 +1,4 @@
-use Rattle.std.proofs.Common.{◌≡◌, ◌+◌, ◌≤◌, ◌∙◌, ap, arith, subst, sym}
+use Rattle.std.proofs.Common.{◌+◌, ◌∙◌, ap, arith, subst, sym}
 use Rattle.net_draft.specs.declared.drafts.Run.{Run}
 use Rattle.schedule_meaning.specs.Instances.{Problem}
 use Rattle.intersection_actor.specs.Steps.{IsPlanned}
