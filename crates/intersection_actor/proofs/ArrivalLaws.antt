@@ -61,12 +61,12 @@ list-soon gap most now look streams list h =
     let runs : All (Below n) h.runs = runs-below n h.runs inside in
     subst (All (ComesBy (now + look))) (sym h.each)
     (All-map (ComesBy (now + look)) (platoon_of now streams) h.runs
-      (All-from_get_or (λ run. ComesBy (now + look) (platoon_of now streams run)) h.runs [] (λ i lt.
-          let run : List ℕ = get_or h.runs i [] in
-          let is : IsRun gap most run = All-get_or (IsRun gap most) h.runs i [] lt h.cut.each in
-          let below : Below n run = All-get_or (Below n) h.runs i [] lt runs in
-          let first : get_or run 0 0 < n = All-get_or (λ x. x < n) run 0 0 (omega (arith, is.some)) below in
-          omega (arith, first, together-length streams look))))
+    (All-from_get_or (λ run. ComesBy (now + look) (platoon_of now streams run)) h.runs [] (λ i lt.
+    let run : List ℕ = get_or h.runs i [] in
+    let is : IsRun gap most run = All-get_or (IsRun gap most) h.runs i [] lt h.cut.each in
+    let below : Below n run = All-get_or (Below n) h.runs i [] lt runs in
+    let first : get_or run 0 0 < n = All-get_or (λ x. x < n) run 0 0 (omega (arith, is.some)) below in
+    omega (arith, first, together-length streams look))))
 
 -- and so do the clusters of a window
 pub window-soon : (net : Net) (node : ℕ) (sensed : Sensed) (heard : List Heard) (lists : List (List Platoon)) (window : Window)
@@ -75,9 +75,9 @@ window-soon net node sensed heard lists window are h =
     let second : ℕ = sensed.now + net.run.look in
     All-map (All (λ (c : Cluster). c.arr ≤ second)) clusters_of window.lists
     (All-from_get_or (λ list. All (λ (c : Cluster). c.arr ≤ second) (clusters_of list)) window.lists [] (λ k lt.
-        let there : k < length lists = omega (arith, h.longest.front.phases, length-map window.lists (λ (list : List Platoon). length list)) in
-        let all : All (ComesBy second) (platoons_at lists k) =
-          list-soon net.run.gap (most_of net node k) sensed.now net.run.look (streams_of net sensed heard (phase_links_at net node k)) (platoons_at lists k) (are.each k there) in
-        let taken : All (ComesBy second) (platoons_at window.lists k) =
-          subst (All (ComesBy second)) (sym (h.taken k)) (All-take (ComesBy second) (get_or (counts_of window.lists) k 0) (platoons_at lists k) all) in
-        All-map (λ (c : Cluster). c.arr ≤ second) (λ (p : Platoon). p.cluster) (platoons_at window.lists k) taken))
+    let there : k < length lists = omega (arith, h.longest.front.phases, length-map window.lists (λ (list : List Platoon). length list)) in
+    let all : All (ComesBy second) (platoons_at lists k) =
+    list-soon net.run.gap (most_of net node k) sensed.now net.run.look (streams_of net sensed heard (phase_links_at net node k)) (platoons_at lists k) (are.each k there) in
+    let taken : All (ComesBy second) (platoons_at window.lists k) =
+    subst (All (ComesBy second)) (sym (h.taken k)) (All-take (ComesBy second) (get_or (counts_of window.lists) k 0) (platoons_at lists k) all) in
+    All-map (λ (c : Cluster). c.arr ≤ second) (λ (p : Platoon). p.cluster) (platoons_at window.lists k) taken))

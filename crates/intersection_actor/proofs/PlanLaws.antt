@@ -33,7 +33,7 @@ lists-short lists few = All-from_get_or (λ list. length list < 4294967296) list
     omega (arith, few, count-le-sum (counts_of lists) k, get_or-map (λ (list : List Cluster). length list) lists k [] 0 lt))
 
 module _ (net : Net) (node : ℕ) (sensed : Sensed) (heard : List Heard) (plan : List Phase) (head : Head) (window : Window) (i : Problem) (schedule : Schedule) (p : IsPlan plan) (same : plan ≡ plan_at net node)
-  (expected : IsExpected net node sensed heard window) (is : i ≡ record { plan = plan; head = head; lists = cluster_lists window.lists }) (scheduled : IsScheduled i schedule) where
+    (expected : IsExpected net node sensed heard window) (is : i ≡ record { plan = plan; head = head; lists = cluster_lists window.lists }) (scheduled : IsScheduled i schedule) where
   plan-next : AreNextServings plan (cluster_lists window.lists) (counts_of (cluster_lists window.lists)) head schedule.phases schedule.served
   plan-next = subst (λ (q : Problem). AreNextServings q.plan q.lists (counts_of q.lists) q.head schedule.phases schedule.served) is scheduled.next
 

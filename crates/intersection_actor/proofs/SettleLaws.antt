@@ -87,8 +87,8 @@ settled a p line records want = record a { line = line; records = records; want 
 
 -- what is left of an actor that settles this plan, where `a` is seen as `b`
 module _ (net : Net) (a b : Acting) (p : RoundPlan) (line : List Green) (records : List PlanRecord) (want : Want) (same : a ≡ b) (of_b : IsOf net b) (wants_b : b.want ≡ Commit) (planned_b : IsPlanned net b.node b.line b.sensed b.heard p)
-  (network : IsNetwork net) (law : (head : Head) → IsLawful (plan_at net a.node) a.line → head_at (plan_at net a.node) a.line a.sensed.now ≡ Some head → IsLawful (plan_at net a.node) p.next → GoesOn head p.next
-  → IsContinued (plan_at net a.node) a.line a.sensed.now p.next line) where
+    (network : IsNetwork net) (law : (head : Head) → IsLawful (plan_at net a.node) a.line → head_at (plan_at net a.node) a.line a.sensed.now ≡ Some head → IsLawful (plan_at net a.node) p.next → GoesOn head p.next
+    → IsContinued (plan_at net a.node) a.line a.sensed.now p.next line) where
   is : IsOf net a
   is = subst (IsOf net) (sym same) of_b
 
@@ -106,12 +106,12 @@ module _ (net : Net) (a b : Acting) (p : RoundPlan) (line : List Green) (records
 
   pub keeps : KeepsPast net b (settled a p line records want)
   keeps = subst (λ (x : Acting). KeepsPast net x (settled a p line records want)) same
-    (record {
-      past = continued.past;
-      colours = continued.colours;
-      later = omega (arith, hears.now, continued.end, planned.line.later, network.outline.run.within);
-      used = used-links a.heard ∙ all-heard net a is wants;
-    })
+      (record {
+        past = continued.past;
+        colours = continued.colours;
+        later = omega (arith, hears.now, continued.end, planned.line.later, network.outline.run.within);
+        used = used-links a.heard ∙ all-heard net a is wants;
+      })
 
   tells : (l : ℕ) → Contains (told_links net a.node) l → IsTelling net (settled a p line records want) l
   tells l there = record {
