@@ -1,5 +1,5 @@
 -- Answers of the calls below, put together.
-use Rattle.std.proofs.Common.{◌≡◌, ℕ, ◌+◌, ◌<◌, ◌≤◌, List, All, Result, Ok, Err, IfOk, length}
+use Rattle.std.proofs.Common.{ℕ, ◌<◌, List, Result, Ok, Err, IfOk}
 use Rattle.board_model.specs.declared.boards.Heard.{Heard}
 use Rattle.phase_plan.specs.declared.Phase.{Phase}
 use Rattle.switch_rules.specs.declared.Head.{Head}

@@ -1,5 +1,5 @@
 -- What is planned from a window and a head: the servings, and the timeline.
-use Rattle.std.proofs.Common.{◌≡◌, ℕ, ◌+◌, ◌<◌, ◌≤◌, List, [], ◌∷◌, All, Some, length, get_or, map, sum, refl, sym, ap, subst, ◌∙◌, arith}
+use Rattle.std.proofs.Common.{◌≡◌, ℕ, ◌+◌, ◌<◌, ◌≤◌, List, [], All, Some, length, sum, refl, sym, ap, subst, ◌∙◌, arith}
 use Rattle.std.proofs.lemmas.List.{length-map, get_or-map}
 use Rattle.std.proofs.lemmas.List.Elements.{All-from_get_or}
 use Rattle.board_model.specs.declared.boards.Heard.{Heard}
@@ -22,7 +22,7 @@ use Rattle.road_net.specs.declared.senses.Sensed.{Sensed}
 use Rattle.clusters.specs.Sound.{cluster_lists, clusters_of}
 use Rattle.clusters.specs.declared.shapes.Window.{Window}
 use Rattle.intersection_actor.specs.Commits.{line_for, used_of}
-use Rattle.intersection_actor.specs.Steps.{IsExpected, IsNextLine, IsPlanned, IsScheduled, commitment}
+use Rattle.intersection_actor.specs.Steps.{IsExpected, IsNextLine, IsPlanned, IsScheduled}
 use Rattle.intersection_actor.specs.declared.planning.Schedule.{Schedule}
 use Rattle.intersection_actor.specs.declared.planning.RoundPlan.{RoundPlan}
 use Rattle.intersection_actor.proofs.ServedLaws.{greens-by}
@@ -33,7 +33,7 @@ lists-short lists few = All-from_get_or (λ list. length list < 4294967296) list
     omega (arith, few, count-le-sum (counts_of lists) k, get_or-map (λ (list : List Cluster). length list) lists k [] 0 lt))
 
 module _ (net : Net) (node : ℕ) (sensed : Sensed) (heard : List Heard) (plan : List Phase) (head : Head) (window : Window) (i : Problem) (schedule : Schedule) (p : IsPlan plan) (same : plan ≡ plan_at net node)
-  (expected : IsExpected net node sensed heard window) (is : i ≡ record { plan = plan; head = head; lists = cluster_lists window.lists }) (scheduled : IsScheduled i schedule) where
+    (expected : IsExpected net node sensed heard window) (is : i ≡ record { plan = plan; head = head; lists = cluster_lists window.lists }) (scheduled : IsScheduled i schedule) where
   plan-next : AreNextServings plan (cluster_lists window.lists) (counts_of (cluster_lists window.lists)) head schedule.phases schedule.served
   plan-next = subst (λ (q : Problem). AreNextServings q.plan q.lists (counts_of q.lists) q.head schedule.phases schedule.served) is scheduled.next
 

@@ -1,12 +1,12 @@
 -- What a commit makes of an actor, and what the actor tells then.
-use Rattle.std.proofs.Common.{◌≡◌, ℕ, ◌+◌, ◌*◌, ◌<◌, ◌≤◌, Bool, nat_le, List, [], ◌∷◌, ◌++◌, Option, None, Some, All, Contains, filter, find, is_some, length, map, refl, sym, ap, subst, ◌∙◌, arith}
+use Rattle.std.proofs.Common.{◌≡◌, ℕ, Bool, nat_le, List, [], ◌∷◌, ◌++◌, Option, None, Some, Contains, find, is_some, length, map, refl, sym, ap, subst, ◌∙◌, arith}
 use Rattle.std.proofs.lemmas.Bool.{cond_both}
-use Rattle.std.proofs.lemmas.List.{append-nil}
+use Rattle.std.proofs.lemmas.List.{append-nil, length-map}
 use Rattle.std.proofs.lemmas.List.Elements.{All-contains, All-contains_itself, All-filter, Contains-append_left, Contains-append_right, Contains-push}
 use Rattle.board_model.specs.declared.boards.Heard.{Heard}
 use Rattle.switch_rules.specs.Sequences.{AreNextServings, counts_of}
-use Rattle.switch_rules.specs.declared.Cluster.{Cluster}
-use Rattle.control_flow.specs.Greens.{IsContinued, spliced}
+use Rattle.switch_rules.specs.declared.Head.{Head}
+use Rattle.control_flow.specs.Greens.{GoesOn, IsContinued, IsLawful, head_at}
 use Rattle.control_flow.specs.declared.greens.Green.{Green}
 use Rattle.net_numbers.specs.Numbers.{Net}
 use Rattle.net_numbers.specs.Outline.{link_at, plan_at}
@@ -16,13 +16,13 @@ use Rattle.clusters.specs.Windows as windows
 use Rattle.clusters.specs.declared.shapes.Platoon.{Platoon}
 use Rattle.intersection_actor.specs.Acting.{Acting, reading, telling, tells_from, wanting}
 use Rattle.intersection_actor.specs.Commits.{used_of}
-use Rattle.intersection_actor.specs.Rounds.{IsCommitted, IsHearing, IsInRound, IsOf, IsTelling, KeepsPast}
-use Rattle.intersection_actor.specs.Steps.{IsPlanned, commitment}
+use Rattle.intersection_actor.specs.Rounds.{IsHearing, IsInRound, IsOf, IsTelling, KeepsPast}
+use Rattle.intersection_actor.specs.Steps.{IsPlanned}
 use Rattle.intersection_actor.specs.declared.planning.RoundPlan.{RoundPlan}
 use Rattle.intersection_actor.specs.declared.records.PlanRecord.{PlanRecord}
 use Rattle.intersection_actor.specs.declared.records.Used.{Used}
 use Rattle.intersection_actor.specs.declared.records.Want.{Want}
-use Rattle.intersection_actor.specs.declared.records.Want.TheVariants.{Read, Commit, Publish, Done}
+use Rattle.intersection_actor.specs.declared.records.Want.TheVariants.{Commit, Publish}
 
 pub hearing-of : (net : Net) (a : Acting) → IsOf net a → a.want ≡ Commit → IsHearing net a
 hearing-of net a is wants = subst (IsInRound net a) wants is.round
@@ -44,12 +44,7 @@ used-links (h ∷ hs) = ap (λ ls. h.link ∷ ls) (used-links hs)
 
 counts-same : (lists : List (List Platoon)) → counts_of (cluster_lists lists) ≡ windows.counts_of lists
 counts-same [] = refl
-counts-same (list ∷ lists) =
-    ap (λ n. n ∷ counts_of (cluster_lists lists)) (clusters-length list) ∙ ap (λ ns. length list ∷ ns) (counts-same lists)
-  where
-  clusters-length : (xs : List Platoon) → length (map (λ (p : Platoon). p.cluster) xs) ≡ length xs
-  clusters-length [] = refl
-  clusters-length (x ∷ xs) = ap (λ n. n + 1) (clusters-length xs)
+counts-same (list ∷ lists) = ap (λ n. n ∷ counts_of (cluster_lists lists)) (length-map list (λ (p : Platoon). p.cluster)) ∙ ap (λ ns. length list ∷ ns) (counts-same lists)
 
 find-in : (p : ℕ → Bool) (xs : List ℕ) (x : ℕ) → find p xs ≡ Some x → Contains xs x
 find-in p [] x e = let impossible : Contains [] x = cc in impossible
@@ -90,43 +85,47 @@ sent-of net a link first is wants =
 abbrev pub settled : Acting → RoundPlan → List Green → List PlanRecord → Want → Acting
 settled a p line records want = record a { line = line; records = records; want = want; window = p.window; phases = p.schedule.phases; served = p.schedule.served }
 
-module _ (net : Net) (a : Acting) (p : RoundPlan) (line : List Green) (records : List PlanRecord) (want : Want) (is : IsOf net a) (wants : a.want ≡ Commit) (planned : IsPlanned net a.node a.line a.sensed a.heard p)
-  (on : line ≡ spliced a.line p.next) (more : records ≡ a.records ++ record { node = a.node; round = a.round; used = p.used; instance = p.instance; answer = p.schedule.answer } ∷ []) (next : want ≡ tells_from net a.node 0) where
+-- what is left of an actor that settles this plan, where `a` is seen as `b`
+module _ (net : Net) (a b : Acting) (p : RoundPlan) (line : List Green) (records : List PlanRecord) (want : Want) (same : a ≡ b) (of_b : IsOf net b) (wants_b : b.want ≡ Commit) (planned_b : IsPlanned net b.node b.line b.sensed b.heard p)
+    (network : IsNetwork net) (law : (head : Head) → IsLawful (plan_at net a.node) a.line → head_at (plan_at net a.node) a.line a.sensed.now ≡ Some head → IsLawful (plan_at net a.node) p.next → GoesOn head p.next
+    → IsContinued (plan_at net a.node) a.line a.sensed.now p.next line) where
+  is : IsOf net a
+  is = subst (IsOf net) (sym same) of_b
+
+  wants : a.want ≡ Commit
+  wants = ap (λ (x : Acting). x.want) same ∙ wants_b
+
+  planned : IsPlanned net a.node a.line a.sensed a.heard p
+  planned = subst (λ (x : Acting). IsPlanned net x.node x.line x.sensed x.heard p) (sym same) planned_b
+
   hears : IsHearing net a
   hears = hearing-of net a is wants
 
-  more-used : records ≡ a.records ++ record { node = a.node; round = a.round; used = used_of a.heard; instance = p.instance; answer = p.schedule.answer } ∷ []
-  more-used = more ∙ ap (λ us. a.records ++ record { node = a.node; round = a.round; used = us; instance = p.instance; answer = p.schedule.answer } ∷ []) planned.used
+  continued : IsContinued (plan_at net a.node) a.line a.sensed.now p.next line
+  continued = law planned.head is.lawful planned.stands planned.line.lawful planned.line.goes_on
 
-  pub committed : IsCommitted net a (settled a p line records want)
-  committed = record {
-    made = commitment a.line planned.head planned.platoons p;
-    is = planned.is a.round hears.now;
-    all = λ i. record a { line = on i; records = more-used i; want = next i; window = p.window; phases = planned.phases i; served = p.schedule.served };
+  pub keeps : KeepsPast net b (settled a p line records want)
+  keeps = subst (λ (x : Acting). KeepsPast net x (settled a p line records want)) same
+      (record {
+        past = continued.past;
+        colours = continued.colours;
+        later = omega (arith, hears.now, continued.end, planned.line.later, network.outline.run.within);
+        used = used-links a.heard ∙ all-heard net a is wants;
+      })
+
+  tells : (l : ℕ) → Contains (told_links net a.node) l → IsTelling net (settled a p line records want) l
+  tells l there = record {
+    link = there;
+    now = hears.sensed.now;
+    platoons = planned.of_node;
+    head = planned.head;
+    served = subst (λ ns. AreNextServings (plan_at net a.node) (cluster_lists p.window.lists) ns planned.head p.schedule.phases p.schedule.served) (counts-same p.window.lists) planned.served;
   }
 
-  module _ (network : IsNetwork net) (continued : IsContinued (plan_at net a.node) a.line a.sensed.now p.next line) where
-    pub keeps : KeepsPast net a (settled a p line records want)
-    keeps = record {
-      past = continued.past;
-      colours = continued.colours;
-      later = omega (arith, hears.now, continued.end, planned.line.later, network.outline.run.within);
-      used = used-links a.heard ∙ all-heard net a is wants;
-    }
-
-    tells : (l : ℕ) → Contains (told_links net a.node) l → IsTelling net (settled a p line records want) l
-    tells l there = record {
-      link = there;
-      now = hears.sensed.now;
-      platoons = planned.of_node;
-      head = planned.head;
-      served = subst (λ ns. AreNextServings (plan_at net a.node) (cluster_lists p.window.lists) ns planned.head p.schedule.phases p.schedule.served) (counts-same p.window.lists) planned.served;
-    }
-
-    pub still : IsOf net (settled a p line records want)
-    still = record {
-      node = is.node;
-      lawful = continued.lawful;
-      begins = continued.begins_by 100000 is.begins planned.line.begins;
-      round = subst (IsInRound net (settled a p line records want)) (sym next) (tells-in net (settled a p line records want) 0 tells);
-    }
+  pub still : want ≡ tells_from net a.node 0 → IsOf net (settled a p line records want)
+  still next = record {
+    node = is.node;
+    lawful = continued.lawful;
+    begins = continued.begins_by 100000 is.begins planned.line.begins;
+    round = subst (IsInRound net (settled a p line records want)) (sym next) (tells-in net (settled a p line records want) 0 tells);
+  }

@@ -1,5 +1,5 @@
 -- What the steps of a commit make.
-use Rattle.std.specs.Prelude.{◌≡◌, ℕ, ◌+◌, ◌*◌, ◌<◌, ◌≤◌, List, All, Some, map}
+use Rattle.std.specs.Prelude.{◌≡◌, ℕ, ◌+◌, ◌*◌, ◌<◌, ◌≤◌, List, All, Some}
 use Rattle.board_model.specs.declared.boards.Heard.{Heard}
 use Rattle.phase_plan.specs.declared.Phase.{Phase}
 use Rattle.switch_rules.specs.Sequences.{AreNextServings}
@@ -17,7 +17,7 @@ use Rattle.clusters.specs.Sound.{AreOfNode, ArePlannable, cluster_lists}
 use Rattle.clusters.specs.Windows.{IsWindow}
 use Rattle.clusters.specs.declared.shapes.Platoon.{Platoon}
 use Rattle.clusters.specs.declared.shapes.Window.{Window}
-use Rattle.intersection_actor.specs.Commits.{AreServedBy, Commitment, IsCommit, line_for, phases_of, used_of}
+use Rattle.intersection_actor.specs.Commits.{AreServedBy, Commitment, IsCommit, phases_of, used_of}
 use Rattle.intersection_actor.specs.declared.planning.Schedule.{Schedule}
 use Rattle.intersection_actor.specs.declared.planning.RoundPlan.{RoundPlan}
 

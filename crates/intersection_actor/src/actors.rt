@@ -239,8 +239,18 @@ impl Actor {
         // What it says of the plan is wanted here, and not the count.
         let _ = net.plan(self.node).count();
         let want = next_told(net, self.node, 0);
-        let RoundPlan { window, instance, schedule, next, used } = plan;
-        let Schedule { answer, phases, served } = schedule;
+        let RoundPlan {
+            window,
+            instance,
+            schedule,
+            next,
+            used,
+        } = plan;
+        let Schedule {
+            answer,
+            phases,
+            served,
+        } = schedule;
         self.records.reserve(1)?;
         self.line.splice(next)?;
         self.records.push_reserved(PlanRecord {

@@ -120,10 +120,7 @@ fn problem(
 }
 
 /// The clusters of lists of platoons.
-fn cluster_lists(
-    alloc: Global,
-    lists: &[Items<Platoon>],
-) -> Result<Vec<Items<Cluster>>, AllocError>
+fn cluster_lists(alloc: Global, lists: &[Items<Platoon>]) -> Result<Vec<Items<Cluster>>, AllocError>
     ensures { IfOk result (λ clusters. clusters.items ≡ cluster_lists lists.now) }
 {
     let mut clusters = Vec::with_capacity(alloc, lists.len())?;

@@ -1,4 +1,4 @@
-use Rattle.std.proofs.Common.{◌≡◌, ◌+◌, ◌≤◌, ◌∙◌, ap, arith, subst, sym}
+use Rattle.std.proofs.Common.{◌+◌, ◌∙◌, ap, arith, subst, sym}
 use Rattle.net_draft.specs.declared.drafts.Run.{Run}
 use Rattle.schedule_meaning.specs.Instances.{Problem}
 use Rattle.intersection_actor.specs.Steps.{IsPlanned}
@@ -19,9 +19,9 @@ next_line-requires-clause-greens g c =
 pub returns : goal.returns
 returns g c =
     subst (λ (i : Problem). IsPlanned c.args.net.now c.args.node c.args.line.now c.args.sensed.now c.args.heard.now
-      (record { window = c.in_ok-window.window; instance = i; schedule = c.in_ok-schedule.schedule; next = c.in_ok-next.next; used = c.from_vec.result })) (sym c.instance.view_is)
+    (record { window = c.in_ok-window.window; instance = i; schedule = c.in_ok-schedule.schedule; next = c.in_ok-next.next; used = c.from_vec.result })) (sym c.instance.view_is)
     (planned-made c.args.net.now c.args.node c.args.line.now c.args.sensed.now c.args.heard.now c.plan-plan.result.now (c.args.sensed.now.now + c.run.result.look) c.head_at-head.result
-      (record { window = c.in_ok-window.window; instance = c.in_ok-instance.instance; schedule = c.in_ok-schedule.schedule; next = c.in_ok-next.next; used = c.from_vec.result })
-      c.plan-plan.ensures.value (ap (λ (r : Run). c.args.sensed.now.now + r.look) c.run.ensures.value)
-      c.head_at-head.ensures.value (c.head_at-head.ensures.joins c.in_ok-next.next c.in_ok-next.ensures.next.goes_on) c.in_ok-window.ensures c.in_ok-instance.ensures c.in_ok-schedule.ensures
-      c.in_ok-next.ensures.value c.in_ok-next.ensures.next (c.from_vec.ensures ∙ c.in_ok-used_versions.ensures))
+    (record { window = c.in_ok-window.window; instance = c.in_ok-instance.instance; schedule = c.in_ok-schedule.schedule; next = c.in_ok-next.next; used = c.from_vec.result })
+    c.plan-plan.ensures.value (ap (λ (r : Run). c.args.sensed.now.now + r.look) c.run.ensures.value)
+    c.head_at-head.ensures.value (c.head_at-head.ensures.joins c.in_ok-next.next c.in_ok-next.ensures.next.goes_on) c.in_ok-window.ensures c.in_ok-instance.ensures c.in_ok-schedule.ensures
+    c.in_ok-next.ensures.value c.in_ok-next.ensures.next (c.from_vec.ensures ∙ c.in_ok-used_versions.ensures))

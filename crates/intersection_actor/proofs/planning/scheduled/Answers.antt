@@ -1,4 +1,4 @@
-use Rattle.std.proofs.Common.{◌≡◌, ◌∙◌}
+use Rattle.std.proofs.Common.{◌∙◌}
 use Rattle.intersection_actor.specs.Commits.{AreServedBy}
 use Rattle.intersection_actor.proofs.ServedLaws.{schedule-made}
 use Rattle.intersection_actor.proofs.planning.scheduled.Goals as goal
