@@ -1,14 +1,16 @@
 //! The records of a text, one after another.
 ghost use Rattle.std.specs.Prelude.{◌≡◌, IfOk};
 ghost use Rattle.csv.specs.Records.{fields_of};
-ghost use Rattle.arrivals.specs.Records.{records_of};
-ghost use Rattle.arrivals.specs.Reading.{IsReading, left_of, Takes};
+ghost use Rattle.record_text.specs.Records.{records_of};
+ghost use Rattle.record_text.specs.Reading.{IsReading, left_of, Takes};
 
 use csv::{ByteRecord, Reader, ReaderBuilder};
 use std::alloc::{AllocError, Global};
 
 /// A reader of the records of a text, all of which are left. It takes records of any length.
-pub(crate) fn open<'a>(alloc: Global, bytes: &'a [u8]) -> Reader<&'a [u8]>
+///
+/// docs/FORMATS.md, "Records".
+pub fn open<'a>(alloc: Global, bytes: &'a [u8]) -> Reader<&'a [u8]>
     ensures reading { IsReading result }
     ensures left { left_of result ≡ records_of bytes.now }
 {
@@ -19,7 +21,9 @@ pub(crate) fn open<'a>(alloc: Global, bytes: &'a [u8]) -> Reader<&'a [u8]>
 }
 
 /// Reads the first record that is left, if there is one. Of a text in memory it fails for want of memory alone.
-pub(crate) fn next_record(
+///
+/// docs/FORMATS.md, "Records".
+pub fn next_record(
     reader: &mut Reader<&[u8]>,
     row: &mut ByteRecord,
 ) -> Result<bool, AllocError>

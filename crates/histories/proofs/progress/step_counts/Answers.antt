@@ -2,7 +2,7 @@ use Rattle.std.proofs.Common.{arith}
 use Rattle.histories.specs.Steps.{board_steps}
 use Rattle.histories.proofs.Progress.{counts-none, counts-more, counts-all}
 use Rattle.histories.proofs.StepLaws.{steps-beyond}
-use Rattle.histories.proofs.history.step_counts.Goals as goal
+use Rattle.histories.proofs.progress.step_counts.Goals as goal
 
 pub loop-node-init : goal.loop-node-init
 loop-node-init c = counts-none (board_steps c.args.net.now)

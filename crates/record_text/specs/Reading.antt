@@ -1,4 +1,4 @@
--- The course of a reader of records. No public clause names these words.
+-- The course of a reader of records.
 use Rattle.std.specs.Prelude.{◌≡◌, ◌+◌, ℕ, Bool, false, List, [], ◌∷◌, Option, Some, None, IsSome, length}
 use Rattle.std.specs.Bool.{MatchBool}
 use Rattle.std.specs.Borrow.{Bor}

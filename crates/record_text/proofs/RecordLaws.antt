@@ -12,7 +12,7 @@ use Rattle.csv.specs.declared.reader.Reader.{Reader}
 use Rattle.csv.proofs.ReadFacts.{rows-more, rows-end}
 use Rattle.std.specs.Result.{result_ok}
 use Rattle.csv.specs.declared.reader.Trim.TheVariants as trim
-use Rattle.arrivals.specs.Reading.{source, records_in, left_of, IsReading, Takes}
+use Rattle.record_text.specs.Reading.{source, records_in, left_of, IsReading, Takes}
 
 -- where a record ends, the machine stands between two
 abbrev Between : State × Action → Type 0
