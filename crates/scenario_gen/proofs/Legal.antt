@@ -1,6 +1,6 @@
 -- A test that tells of a draft whether it stands for a network.
-use Rattle.std.proofs.Common.{◌≡◌, ◌≢◌, ℕ, zero, suc, ◌+◌, ◌<◌, ◌≤◌, Bool, true, false, not, ◌&&◌, ◌||◌, ◌==◌, List, [], ◌∷◌, length, get_or, map, Option, Some, None, IsSome, MatchOption, All, refl, sym, ap, ◌∙◌, subst, inl, inr, arith}
-use Rattle.std.specs.Prelude.{AllPairs, EachIndex, position, slice_index_or, sum_by, is_some, nat_le, nat_lt, IsUtf8}
+use Rattle.std.proofs.Common.{◌≡◌, ◌≢◌, ℕ, zero, suc, ◌<◌, ◌≤◌, Bool, true, false, not, ◌&&◌, ◌||◌, ◌==◌, List, [], ◌∷◌, length, get_or, Option, Some, None, All, refl, sym, ap, ◌∙◌, subst, inl, inr, arith, rules}
+use Rattle.std.specs.Prelude.{position, slice_index_or, sum_by, is_some, nat_le, nat_lt}
 use Rattle.std.specs.List.{list_all, list_any}
 use Rattle.std.specs.Str.{bytes_eq}
 use Rattle.std.proofs.lemmas.Bool.{and_parts, or_cases, or_parts, leb-true, ltb-true, eqb-true, eqb-false, not-true, false≢true, true≢false, cases_lt}
@@ -16,11 +16,10 @@ use Rattle.net_draft.specs.declared.drafts.DraftLink.{DraftLink}
 use Rattle.net_draft.specs.declared.drafts.DraftTurn.{DraftTurn}
 use Rattle.net_numbers.specs.declared.roads.Link.{Link}
 use Rattle.net_numbers.specs.declared.roads.Turn.{Turn}
-use Rattle.net_numbers.specs.Bounds.{IsNameByte, IsName, IsRun, IsBoundedPhase, HasNodeBounds, IsBoundedNode, IsBoundedTurn, HasLinkBounds, IsBoundedLink, HasCounts, IsBounded}
+use Rattle.net_numbers.specs.Bounds.{IsNameByte, IsName, IsRun, IsBoundedPhase, IsBoundedNode, IsBoundedTurn, IsBoundedLink, IsBounded}
 use Rattle.net_numbers.specs.Numbers.{Net, AreDistinct, has_link, node_names, link_names, numbered}
-use Rattle.road_net.specs.declared.joins.Side.TheVariants.{To}
-use Rattle.road_net.specs.Joins.{HasEnds, IsRoomy, AreRoomy, IsShareTable, HasShares, HasSharesAt, AreShared, IsPhased, IsPhasedAt, ArePhased, IsConflict, is_node, link_at, links_of_node, share_of, times_named}
-use Rattle.road_net.specs.Network.{IsJoined, IsNetworkOf}
+use Rattle.road_net.specs.Joins.{HasEnds, IsRoomy, IsShareTable, HasShares, HasSharesAt, IsPhased, IsPhasedAt, IsConflict, is_node, link_at, share_of, times_named}
+use Rattle.road_net.specs.Network.{IsJoined, IsNetworkOf, entry_links}
 
 -- all elements, and all numbers below a bound
 
@@ -238,8 +237,8 @@ conflict-by links c e =
       phases = eqb-false (link_at links c.0).phase (link_at links c.1).phase (not-true ((link_at links c.0).phase == (link_at links c.1).phase) node.1);
     }
 
-abbrev has_room : List Link → ℕ → Bool
-has_room links node = nat_le (length (links_of_node To links node)) 16
+abbrev has_room : Net → ℕ → Bool
+has_room net node = nat_le (length (entry_links net node)) 16
 
 abbrev has_shares_at : List Link → List (List Turn) → ℕ → Bool
 has_shares_at links turns l = has_shares links (slice_index_or turns l []) (link_at links l).to
@@ -250,7 +249,7 @@ is_phased_at links phase_links l = is_phased phase_links l (link_at links l).to
 abbrev is_joined : Net → Bool
 is_joined net =
     list_all (λ (l : Link). not (same_end l.from l.to)) net.links
-    && (all_below (has_room net.links) (length net.node_names)
+    && (all_below (has_room net) (length net.node_names)
     && (all_below (has_shares_at net.links net.turns) (length net.links)
     && (all_below (is_phased_at net.links net.phase_links) (length net.links)
     && list_all (is_conflict net.links) net.conflicts)))
@@ -258,12 +257,12 @@ is_joined net =
 joined-by : (net : Net) → is_joined net ≡ true → IsJoined net
 joined-by net e =
     let ends = and_parts (list_all (λ (l : Link). not (same_end l.from l.to)) net.links) _ e in
-    let room = and_parts (all_below (has_room net.links) (length net.node_names)) _ ends.1 in
+    let room = and_parts (all_below (has_room net) (length net.node_names)) _ ends.1 in
     let shares = and_parts (all_below (has_shares_at net.links net.turns) (length net.links)) _ room.1 in
     let phases = and_parts (all_below (is_phased_at net.links net.phase_links) (length net.links)) (list_all (is_conflict net.links) net.conflicts) shares.1 in
     record {
       ends = all-by (λ (l : Link). not (same_end l.from l.to)) HasEnds ends-by net.links ends.0;
-      room = below-by (has_room net.links) (IsRoomy net.links) (λ n h. leb-true (length (links_of_node To net.links n)) 16 h) (length net.node_names) room.0;
+      room = below-by (has_room net) (IsRoomy net.links) (λ n h. leb-true (length (entry_links net n)) 16 h) (length net.node_names) room.0;
       shares = below-by (has_shares_at net.links net.turns) (HasSharesAt net.links net.turns) (λ l h. shares-by net.links (slice_index_or net.turns l []) (link_at net.links l).to h) (length net.links) shares.0;
       phases = below-by (is_phased_at net.links net.phase_links) (IsPhasedAt net.links net.phase_links) (λ l h. phased-by net.phase_links l (link_at net.links l).to h) (length net.links) phases.0;
       conflicts = all-by (is_conflict net.links) (IsConflict net.links) (conflict-by net.links) net.conflicts phases.1;
@@ -271,16 +270,17 @@ joined-by net e =
 
 abbrev is_joined_if : Option Net → Bool
 is_joined_if None = false
-is_joined_if (Some net) = is_joined net
+is_joined_if (Some net) = is_joined net && nat_le (length net.link_names) 320
 
 -- the draft stands for a network, if its run is within its bounds
 abbrev pub is_legal : Draft → Bool
 is_legal d = is_bounded d && (distinct_by bytes_eq (node_names d) && (distinct_by bytes_eq (link_names d) && is_joined_if (numbered d)))
 
--- and there it is
+-- and there it is; it has few links
 pub record HasNetwork (d : Draft) : Type 0 where
   pub net : Net
   pub network : IsNetworkOf d net
+  pub few : length net.link_names ≤ 320
 
 pub legal-by : (d : Draft) → IsRun d.run → is_legal d ≡ true → HasNetwork d
 legal-by d run e =
@@ -291,4 +291,6 @@ legal-by d run e =
   where
     there : (o : Option Net) → numbered d ≡ o → is_joined_if o ≡ true → IsBounded d → AreDistinct (node_names d) → AreDistinct (link_names d) → HasNetwork d
     there None is none bounds nodes links = absurd (false≢true none)
-    there (Some net) is joined bounds nodes links = record { net = net; network = record { bounds = bounds; node_names = nodes; link_names = links; numbers = is; joins = joined-by net joined } }
+    there (Some net) is joined bounds nodes links =
+        let p = and_parts (is_joined net) (nat_le (length net.link_names) 320) joined in
+        record { net = net; network = record { bounds = bounds; node_names = nodes; link_names = links; numbers = is; joins = joined-by net p.0 }; few = leb-true (length net.link_names) 320 p.1 }

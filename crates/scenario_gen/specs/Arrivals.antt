@@ -1,5 +1,5 @@
 -- What enters a square grid: the rows that words drawn one after another decide.
-use Rattle.std.specs.Prelude.{ℕ, ◌+◌, ◌*◌, ◌%◌, ◌==◌, if◌then◌else◌, List, [], ◌∷◌, length, filter, is_none, slice_index}
+use Rattle.std.specs.Prelude.{ℕ, ◌*◌, ◌%◌, ◌==◌, if◌then◌else◌, List, [], ◌∷◌, length, filter, is_none, slice_index}
 use Rattle.std.specs.List.{flat_map, range_with_len}
 use Rattle.rand_pcg.specs.Lcg.{Lcg, advance, increment_of, started}
 use Rattle.rand_pcg.specs.Pcg.{multiplier_64, pcg32}

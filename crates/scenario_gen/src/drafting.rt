@@ -1,11 +1,11 @@
 //! The network of a square grid, by names.
-ghost use Rattle.std.specs.Prelude.{◌≡◌, ◌*◌, ◌<◌, ◌++◌, ◌∷◌, [], All, IfOk, OnOk, map};
+ghost use Rattle.std.specs.Prelude.{◌≡◌, ◌*◌, ◌<◌, ◌++◌, IfOk, OnOk, map};
 ghost use Rattle.std.specs.List.{flat_map};
 ghost use Rattle.std.specs.Option.{option_map};
 ghost use Rattle.scenario_gen.specs.Drafts as drafts;
-ghost use Rattle.scenario_gen.specs.Drafts.{conflict, conflicts_of, grid_draft, road_name, turns_from};
+ghost use Rattle.scenario_gen.specs.Drafts.{conflict, conflicts_of, grid_draft, road_name};
 ghost use Rattle.scenario_gen.specs.Layout as layout;
-ghost use Rattle.scenario_gen.specs.Layout.{leaving_by, IsSide};
+ghost use Rattle.scenario_gen.specs.Layout.{IsSide};
 
 use crate::layout::{Direction, Kind, Road, phase_roads, roads};
 use foundation::items::Items;
@@ -26,6 +26,7 @@ const USUAL: Phase = Phase {
 
 /// The shares of those who go straight on, and of those who turn to each side, in thousandths.
 const STRAIGHT: u32 = 700;
+
 const ASIDE: u32 = 150;
 
 /// The network of a grid with so many nodes a side, for so many rounds.
@@ -120,7 +121,7 @@ fn road_names(alloc: Global, roads: &[Road]) -> Result<Items<Text>, AllocError>
 /// The links, in the order of the roads.
 fn links(alloc: Global, side: u32, roads: &[Road]) -> Result<Items<DraftLink>, AllocError>
     requires side { IsSide side }
-    requires roads { All (λ r. r.node < side * side) roads.now }
+    requires roads { roads.now ≡ layout.roads side }
     ensures { IfOk result (λ links. links ≡ map (drafts.link side) roads.now) }
 {
     let mut links = Vec::new(alloc);
@@ -180,12 +181,7 @@ fn turns_from(
 }
 
 /// The turn into the road that leaves a node in a direction.
-fn turn(
-    alloc: Global,
-    node: u32,
-    direction: Direction,
-    share: u32,
-) -> Result<DraftTurn, AllocError>
+fn turn(alloc: Global, node: u32, direction: Direction, share: u32) -> Result<DraftTurn, AllocError>
     ensures { IfOk result (λ made. made ≡ drafts.turn node direction share) }
 {
     let road = Road {

@@ -1,5 +1,8 @@
 //! What enters a square grid: words are drawn one after another, and decide.
-ghost use Rattle.std.specs.Prelude.{◌≡◌, ◌+◌, ◌*◌, ◌++◌, IfOk, OnOk, length};
+ghost use Rattle.std.specs.Prelude.{◌≡◌, ◌<◌, ◌++◌, ◌∷◌, [], IfOk, OnOk, if◌then◌else◌, is_none, length};
+ghost use Rattle.net_numbers.specs.Outline.{link_at};
+ghost use Rattle.road_net.specs.Network.{IsNetwork};
+ghost use Rattle.arrivals.specs.Rows.{AreRows};
 ghost use Rattle.scenario_gen.specs.Arrivals as words;
 ghost use Rattle.scenario_gen.specs.Arrivals.{behind, row_by, rows_of_second};
 ghost use Rattle.scenario_gen.specs.Grids.{AreRounds};
@@ -24,7 +27,8 @@ pub(crate) fn rows(
     net: &Network,
 ) -> Result<Vec<ArrivalRow>, AllocError>
     requires { AreRounds rounds }
-    ensures { IfOk result (λ rows. rows.items ≡ words.rows number rounds net.now) }
+    ensures value { IfOk result (λ rows. rows.items ≡ words.rows number rounds net.now) }
+    ensures lawful { IfOk result (λ rows. AreRows net.now (words.rows number rounds net.now)) }
 {
     let entered = sources(alloc, net)?;
     let mut generator = Lcg64Xsh32::new(number, STREAM);
@@ -72,13 +76,23 @@ fn push_drawn(
 
 /// The links that are entered from outside, in their order.
 fn sources(alloc: Global, net: &Network) -> Result<Vec<u32>, AllocError>
-    ensures { IfOk result (λ links. links.items ≡ words.sources net.now) }
+    ensures value { IfOk result (λ links. links.items ≡ words.sources net.now) }
+    ensures network { IfOk result (λ links. IsNetwork net.now) }
 {
     let mut entered = Vec::new(alloc);
     for link in 0..net.links() {
-        if net.link(link).from.is_none() {
-            entered.push(link)?;
-        }
+        push_source(net, link, &mut entered)?;
     }
     Ok(entered)
+}
+
+/// Puts a link behind a list, if it is entered from outside.
+fn push_source(net: &Network, link: u32, entered: &mut Vec<u32>) -> Result<(), AllocError>
+    requires { link < length net.now.link_names }
+    ensures { OnOk result (entered.new.items ≡ entered.old.items ++ (if is_none (link_at net.now link).from then link ∷ [] else [])) }
+{
+    if net.link(link).from.is_none() {
+        entered.push(link)?;
+    }
+    Ok(())
 }

@@ -44,8 +44,17 @@ fn network(alloc: Global, side: u32, rounds: u32) -> Result<Network, AllocError>
     let draft = draft(alloc, side, rounds)?;
     match build(alloc, draft) {
         Ok(network) => Ok(network),
-        Err(NetFault::NoMemory) => Err(AllocError),
-        Err(_) => unreachable!(),
+        Err(fault) => Err(only_want(fault)),
+    }
+}
+
+/// A grid is refused for want of memory alone.
+fn only_want(fault: NetFault) -> AllocError
+    requires { fault ≡ NetFault.NoMemory }
+{
+    match fault {
+        NetFault::NoMemory => AllocError,
+        _ => unreachable!(),
     }
 }
 
@@ -58,7 +67,16 @@ fn arrivals(alloc: Global, number: u64, rounds: u32, net: &Network) -> Result<Ar
     let rows = rows(alloc, number, rounds, net)?;
     match Arrivals::new(alloc, net, rows) {
         Ok(arrivals) => Ok(arrivals),
-        Err(RowFault::NoMemory) => Err(AllocError),
-        Err(_) => unreachable!(),
+        Err(fault) => Err(only_want_of_rows(fault)),
+    }
+}
+
+/// The rows of a grid are refused for want of memory alone.
+fn only_want_of_rows(fault: RowFault) -> AllocError
+    requires { fault ≡ RowFault.NoMemory }
+{
+    match fault {
+        RowFault::NoMemory => AllocError,
+        _ => unreachable!(),
     }
 }

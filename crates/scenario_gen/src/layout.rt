@@ -1,8 +1,8 @@
 //! The layout of a square grid: its roads, and where each begins and ends.
-ghost use Rattle.std.specs.Prelude.{◌≡◌, ◌*◌, ◌<◌, ◌++◌, IfOk, All, OnOk, filter, is_none, map};
+ghost use Rattle.std.specs.Prelude.{◌≡◌, ◌*◌, ◌<◌, ◌++◌, IfOk, OnOk, filter, is_none, map};
 ghost use Rattle.std.specs.List.{flat_map};
 ghost use Rattle.scenario_gen.specs.Layout as layout;
-ghost use Rattle.scenario_gen.specs.Layout.{directions, entering, leaving, node_if, nodes, serves, IsSide};
+ghost use Rattle.scenario_gen.specs.Layout.{entering, leaving, node_if, nodes, IsSide};
 
 use std::alloc::{AllocError, Global};
 
@@ -243,8 +243,8 @@ pub(crate) fn phase_roads(
     phase: u32,
 ) -> Result<Vec<Road>, AllocError>
     requires side { IsSide side }
-    requires roads { All (λ r. r.node < side * side) roads.now }
-    ensures { IfOk result (λ served. served.items ≡ filter (serves side node phase) roads.now) }
+    requires roads { roads.now ≡ layout.roads side }
+    ensures { IfOk result (λ served. served.items ≡ layout.phase_roads side node phase) }
 {
     let mut served = Vec::new(alloc);
     for road in roads {
