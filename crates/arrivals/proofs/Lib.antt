@@ -1,6 +1,5 @@
 pub mod FaultLaws
 pub mod FieldLaws
-pub mod RecordLaws
 pub mod SumLaws
 pub mod TallyLaws
 pub mod TextLaws

@@ -1,6 +1,5 @@
 pub mod Amounts
 pub mod Faults
-pub mod Reading
 pub mod Records
 pub mod Rows
 pub mod Stored

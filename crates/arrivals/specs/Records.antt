@@ -1,15 +1,10 @@
--- The records of a text, and the row that a record tells.
+-- The header, and the row that a record tells.
 use Rattle.std.specs.Prelude.{codes, ℕ, ◌+◌, ◌-◌, ◌*◌, ◌^◌, min, nat_le, ◌&&◌, Bool, if◌then◌else◌, List, [], ◌∷◌, Option, Some, None, length, fold}
 use Rattle.std.specs.List.{list_all}
 use Rattle.std.specs.Char.{is_ascii_digit}
-use Rattle.csv.specs.Reading.{default_config, records, strip_bom}
 use Rattle.foundation.specs.Options.{◌>>=◌}
 use Rattle.net_numbers.specs.Numbers.{Net, number_of}
 use Rattle.arrivals.specs.declared.rows.ArrivalRow.{ArrivalRow}
-
--- the records of a text, behind a byte order mark if it has one: each is the list of its fields
-abbrev pub records_of : List ℕ → List (List (List ℕ))
-records_of bytes = records default_config (strip_bom bytes)
 
 -- the header
 abbrev pub header : List (List ℕ)

@@ -7,8 +7,9 @@ use Rattle.arrivals.specs.declared.rows.RowFault.{RowFault}
 use Rattle.arrivals.specs.declared.rows.RowFault.TheVariants.{NoMemory, Header, Row, Link, Bound, Sum}
 use Rattle.arrivals.specs.Amounts.{Amounts, AreArrivalsOf}
 use Rattle.arrivals.specs.Faults.{IsFirst, IsAtBound, IsAtSum}
-use Rattle.arrivals.specs.Records.{records_of, header, told_of, row_of}
+use Rattle.arrivals.specs.Records.{header, told_of, row_of}
 use Rattle.arrivals.specs.Rows.{IsSource}
+use Rattle.record_text.specs.Records.{records_of}
 
 -- The first of all records is the header, and the rows that the others tell bring these arrivals.
 pub record AreArrivalRecords (net : Net) (all : List (List (List ℕ))) (a : Amounts) : Type 0 where

@@ -1,7 +1,6 @@
 //! The row that a record tells.
 ghost use Rattle.std.specs.Prelude.{◌≡◌, ◌≢◌, ◌↔◌, [], ◌∷◌, min, None, Some, IsTrue, MatchOption, length};
 ghost use Rattle.csv.specs.Records.{fields_of};
-ghost use Rattle.net_numbers.specs.Numbers.{number_of};
 ghost use Rattle.std.specs.List.{list_all};
 ghost use Rattle.std.specs.Char.{is_ascii_digit};
 ghost use Rattle.road_net.specs.Network.{IsNetwork};
@@ -10,6 +9,7 @@ ghost use Rattle.arrivals.specs.Stored.{Reads};
 
 use crate::rows::{ArrivalRow, RowFault};
 use csv::ByteRecord;
+use record_text::link_named;
 use road_net::Network;
 
 /// Whether the record is the header.
@@ -64,17 +64,6 @@ fn three(row: &ByteRecord) -> Option<(&[u8], &[u8], &[u8])>
         return None;
     }
     Some((row.get(0)?, row.get(1)?, row.get(2)?))
-}
-
-/// The number of the link with this name, whatever its bytes are.
-fn link_named(net: &Network, name: &[u8]) -> Option<u32>
-    requires { IsNetwork net.now }
-    ensures { result ≡ number_of net.now.link_names name.now }
-{
-    match str::from_utf8(name) {
-        Ok(name) => net.find_link(name),
-        Err(_) => None,
-    }
 }
 
 /// The number that 1 to 10 digits spell. One past the greatest u32 stands as that one, which is out of every bound.

@@ -3,7 +3,6 @@
 
 mod amounts;
 mod fields;
-mod records;
 mod rows;
 mod texts;
 

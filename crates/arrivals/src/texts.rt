@@ -2,14 +2,14 @@
 ghost use Rattle.std.specs.Prelude.{IfOk, IfErr};
 ghost use Rattle.arrivals.specs.Amounts.{Amounts, AreArrivals};
 ghost use Rattle.arrivals.specs.Faults.{Refuses};
-ghost use Rattle.arrivals.specs.Reading.{IsReading, left_of};
 ghost use Rattle.arrivals.specs.Texts.{IsArrivalText, IsTextFault, AreArrivalRecords, AreFaulty};
+ghost use Rattle.record_text.specs.Reading.{IsReading, left_of};
 
 use crate::amounts::Arrivals;
 use crate::fields::{is_header, read_row};
-use crate::records::{next_record, open};
 use crate::rows::RowFault;
 use csv::{ByteRecord, Reader};
+use record_text::{next_record, open};
 use road_net::Network;
 use std::alloc::Global;
 

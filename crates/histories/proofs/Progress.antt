@@ -1,17 +1,17 @@
 -- How far a history has come, as counts of the steps that are left in a round.
-use Rattle.std.proofs.Common.{◌≡◌, Bool, ℕ, zero, suc, ◌+◌, ◌-◌, ◌*◌, ◌<◌, ◌≤◌, List, [], ◌∷◌, ◌++◌, length, take, drop, get_or, set, All, refl, sym, ap, ◌∙◌, subst, inl, inr, arith, append_assoc, eqb, eq-eqb}
+use Rattle.std.proofs.Common.{◌≡◌, Bool, ℕ, zero, suc, ◌+◌, ◌-◌, ◌*◌, ◌<◌, ◌≤◌, List, [], ◌∷◌, ◌++◌, length, take, drop, get_or, set, All, refl, sym, ap, ◌∙◌, subst, inl, inr, arith, append_assoc, eqb, eq-eqb, ◌==◌, if◌then◌else◌}
 use Rattle.std.specs.Prelude.{◌⊎◌, IsTrue, sum_by, replicate}
 use Rattle.std.proofs.lemmas.List.Elements.{All-replicate, All-set}
-use Rattle.std.proofs.lemmas.Bool.{cases_eq, cases_lt, eqb-true}
+use Rattle.std.proofs.lemmas.Bool.{cases_eq, cases_lt, cond_both, eqb-true, eqb-false}
 use Rattle.std.proofs.lemmas.List.{take_more, take-append-drop, length-replicate, get_or-set_same, get_or-set_other, length-set}
 use Rattle.std.proofs.lemmas.List.Sums.{sum_by-cons, sum_by-set}
 use Rattle.histories.specs.declared.steps.BoardStep.{BoardStep}
 use Rattle.histories.specs.Histories.{count, HasRounds, IsUnderWay, IsLawful}
+use Rattle.histories.specs.Progress.{Course, HasCome, IsDoneInRound, IsStuck}
 use Rattle.histories.specs.Steps.{board_steps}
-use Rattle.net_draft.specs.declared.drafts.Run.{Run}
 use Rattle.net_numbers.specs.Numbers.{Net}
 use Rattle.histories.proofs.Counts.{count-append, count-else, count-one}
-use Rattle.histories.proofs.Rounds.{begun, next, all-done, has-all, step-more, round-more, over-at-once, rounds-count}
+use Rattle.histories.proofs.Rounds.{begun, next, all-done, has-all, step-more, round-more, over-at-once}
 
 abbrev pub all_of : List ℕ → ℕ
 all_of counts = sum_by (λ c. c) counts
@@ -33,87 +33,6 @@ module _ (steps : ℕ → List BoardStep) where
     pub below : (n : ℕ) → n < nodes → get_or counts n 0 ≡ length (steps n)
     pub others : (n : ℕ) → nodes ≤ n → get_or counts n 0 ≡ 0
     pub few : All (λ c. c ≤ 320) counts
-
-  -- so many rounds are done, and these steps are left of the next
-  pub record IsAt (rounds done : ℕ) (taken left : List ℕ) (over : ℕ) : Type 0 where
-    pub way : IsUnderWay steps rounds done taken
-    pub counted : (n : ℕ) → count n way.part + get_or left n 0 ≡ length (steps n)
-    pub total : over ≡ all_of left
-    pub long : length left ≡ 64
-
-  module _ (counts : List ℕ) (are : (n : ℕ) → get_or counts n 0 ≡ length (steps n)) where
-    -- where no node has a step, a history is lawful where it is empty
-    pub empty-is : (rounds : ℕ) (h : List ℕ) → all_of counts ≡ 0 → h ≡ [] → HasRounds steps rounds h
-    empty-is rounds h none e = subst (HasRounds steps rounds) (sym e) (has-all steps rounds rounds [] (over-at-once steps rounds no-step) refl)
-      where
-        no-length : (s : List BoardStep) → length s ≡ 0 → s ≡ []
-        no-length [] e = refl
-        no-length (x ∷ xs) e = absurd (omega arith)
-
-        no-step : (n : ℕ) → steps n ≡ []
-        no-step n = no-length (steps n) (omega (arith, none-left counts none n, are n))
-
-    pub is-empty : (rounds : ℕ) (h : List ℕ) → all_of counts ≡ 0 → HasRounds steps rounds h → length h ≡ 0
-    is-empty rounds h none all = by h (λ n. rounds-count steps rounds h all n ∙ (let e : length (steps n) ≡ 0 = omega (arith, none-left counts none n, are n) in ap (λ k. rounds * k) e ∙ (let z : rounds * 0 ≡ 0 = omega arith in z)))
-      where
-        by : (h : List ℕ) → ((n : ℕ) → count n h ≡ 0) → length h ≡ 0
-        by [] none = refl
-        by (x ∷ xs) none = absurd (omega (arith, none x, count-append x (x ∷ []) xs, count-one x))
-
-  module _ (counts : List ℕ) (long : length counts ≡ 64) (are : (n : ℕ) → get_or counts n 0 ≡ length (steps n)) where
-    pub at-begin : (rounds : ℕ) → 0 < all_of counts → IsAt rounds 0 [] counts (all_of counts)
-    at-begin rounds some = let (n, h) = some-left counts some in record { way = begun steps rounds n (omega (arith, h, are n)); counted = λ m. (let z : 0 + get_or counts m 0 ≡ length (steps m) = omega (arith, are m) in z); total = refl; long = long }
-
-    module _ (rounds done : ℕ) (taken left : List ℕ) (over : ℕ) (at : IsAt rounds done taken left over) (n x : ℕ) (less : done < rounds) (here : n < 64) (own : x + 1 ≡ get_or left n 0) where
-      abbrev part : List ℕ
-      part = at.way.part
-
-      room : count n part < length (steps n)
-      room = omega (arith, at.counted n, own)
-
-      counted-more : (m : ℕ) → count m (part ++ n ∷ []) + get_or (set left n x) m 0 ≡ length (steps m)
-      counted-more m = elim (cases_eq n m) [
-        | inl e ↦ (
-            let a : count m (part ++ n ∷ []) ≡ count m part + 1 = count-append m part (n ∷ []) ∙ ap (λ k. count m part + count m (k ∷ [])) e ∙ ap (λ k. count m part + k) (count-one m) in
-            let b : get_or (set left n x) m 0 ≡ x = ap (λ k. get_or (set left n x) k 0) (sym e) ∙ get_or-set_same left n x 0 (let l = at.long in omega arith) in
-            let c : get_or left n 0 ≡ get_or left m 0 = ap (λ k. get_or left k 0) e in
-            omega (arith, at.counted m, own))
-        | inr other ↦ (
-            let a : count m (part ++ n ∷ []) ≡ count m part + 0 = count-append m part (n ∷ []) ∙ ap (λ k. count m part + k) (count-else n m [] other) in
-            let b : get_or (set left n x) m 0 ≡ get_or left m 0 = get_or-set_other left n m x 0 (λ f. other (sym f)) in
-            omega (arith, at.counted m))
-      ]
-
-      fewer : all_of (set left n x) + 1 ≡ over
-      fewer = omega (arith, sum_by-set (λ c. c) left n x 0 (let l = at.long in omega arith), own, at.total)
-
-      -- a step within the round
-      pub at-step : 0 < over - 1 → IsAt rounds done (taken ++ n ∷ []) (set left n x) (over - 1)
-      at-step some =
-          let (m, h) = some-left (set left n x) (omega (arith, fewer)) in
-          record {
-            way = step-more steps rounds done taken at.way n less room m (omega (arith, counted-more m, h));
-            counted = counted-more;
-            total = omega (arith, fewer);
-            long = length-set left n x ∙ at.long;
-          }
-
-      -- the step that ends it
-      pub at-round : over - 1 ≡ 0 → IsAt rounds (done + 1) (taken ++ n ∷ []) counts (all_of counts)
-      at-round none =
-          let e : suc done ≡ done + 1 = omega arith in
-          subst (λ d. IsAt rounds d (taken ++ n ∷ []) counts (all_of counts)) e
-          (record { way = round-more steps rounds done taken at.way n less room (λ m. let h = none-left (set left n x) (omega (arith, fewer)) m in omega (arith, counted-more m, h)); counted = λ m. (let z : 0 + get_or counts m 0 ≡ length (steps m) = omega (arith, are m) in z); total = refl; long = long })
-
-  module _ (rounds done : ℕ) (taken left : List ℕ) (over : ℕ) (at : IsAt rounds done taken left over) where
-    -- a next node that has no steps left, or comes once all rounds are done: the whole is not lawful
-    pub refused : (n : ℕ) (rest : List ℕ) → (done ≡ rounds) ⊎ (get_or left n 0 ≡ 0) → HasRounds steps rounds (taken ++ n ∷ rest) → ⊥
-    refused n rest why all =
-        let h = next steps rounds done taken at.way n rest all in
-        elim why [ inl over ↦ (let less = h.0 in omega arith) | inr none ↦ omega (arith, h.1, at.counted n, none) ]
-
-    pub at-end : (HasRounds steps rounds taken → done ≡ rounds) × (done ≡ rounds → HasRounds steps rounds taken)
-    at-end = (all-done steps rounds done taken at.way, has-all steps rounds done taken at.way)
 
   -- the counts, node by node
   pub counts-none : HaveCounts 0 (replicate 64 0)
@@ -141,6 +60,93 @@ module _ (steps : ℕ → List BoardStep) where
     | inr past ↦ have.others n past ∙ sym (ap length (beyond n past))
   ]
 
+-- a history at its begin: no round is done, or all, where no node has a step
+module _ (net : Net) (steps : List ℕ) (are : (n : ℕ) → get_or steps n 0 ≡ length (board_steps net n)) where
+  abbrev at : ℕ → Course
+  at done = record { rounds = net.run.rounds; done = done; steps = steps; left = steps }
+
+  none-yet : (n : ℕ) → 0 + get_or steps n 0 ≡ length (board_steps net n)
+  none-yet n = omega (arith, are n)
+
+  come-some : 0 < all_of steps → HasCome net [] (at 0)
+  come-some some = let (n, h) = some-left steps some in record { rounds = refl; steps = are; way = begun (board_steps net) net.run.rounds n (omega (arith, h, are n)); left = none-yet }
+
+  come-none : all_of steps ≡ 0 → HasCome net [] (at net.run.rounds)
+  come-none none = record { rounds = refl; steps = are; way = over-at-once (board_steps net) net.run.rounds (λ n. no-steps (board_steps net n) (omega (arith, none-left steps none n, are n))); left = none-yet }
+    where
+      no-steps : (s : List BoardStep) → length s ≡ 0 → s ≡ []
+      no-steps [] e = refl
+      no-steps (x ∷ xs) e = absurd (omega arith)
+
+  pub come-begin : (whole done : ℕ) → whole ≡ all_of steps → done ≡ (if whole == 0 then net.run.rounds else 0) → HasCome net [] (at done)
+  come-begin whole done is by =
+      subst (λ d. HasCome net [] (at d)) (sym by)
+      (cond_both (whole == 0) net.run.rounds 0 (λ d. HasCome net [] (at d))
+      (λ e. come-none (omega (arith, is, eqb-true whole 0 e)))
+      (λ e. come-some (elim (cases_lt 0 whole) [ inl some ↦ omega (arith, is, some) | inr none ↦ absurd (eqb-false whole 0 e (omega (arith, none))) ])))
+
+-- a history that has come so far
+module _ (net : Net) (h : List ℕ) (p : Course) (come : HasCome net h p) where
+  abbrev part : List ℕ
+  part = come.way.part
+
+  -- a next step of a node that has one left
+  module _ (n x : ℕ) (less : p.done < p.rounds) (inside : n < length p.left) (own : x + 1 ≡ get_or p.left n 0) where
+    room : count n part < length (board_steps net n)
+    room = omega (arith, come.left n, own)
+
+    left-more : (m : ℕ) → count m (part ++ n ∷ []) + get_or (set p.left n x) m 0 ≡ length (board_steps net m)
+    left-more m = elim (cases_eq n m) [
+      | inl e ↦ (
+          let a : count m (part ++ n ∷ []) ≡ count m part + 1 = count-append m part (n ∷ []) ∙ ap (λ k. count m part + count m (k ∷ [])) e ∙ ap (λ k. count m part + k) (count-one m) in
+          let b : get_or (set p.left n x) m 0 ≡ x = ap (λ k. get_or (set p.left n x) k 0) (sym e) ∙ get_or-set_same p.left n x 0 inside in
+          let c : get_or p.left n 0 ≡ get_or p.left m 0 = ap (λ k. get_or p.left k 0) e in
+          omega (arith, come.left m, own))
+      | inr other ↦ (
+          let a : count m (part ++ n ∷ []) ≡ count m part + 0 = count-append m part (n ∷ []) ∙ ap (λ k. count m part + k) (count-else n m [] other) in
+          let b : get_or (set p.left n x) m 0 ≡ get_or p.left m 0 = get_or-set_other p.left n m x 0 (λ f. other (sym f)) in
+          omega (arith, come.left m))
+    ]
+
+    -- within the round
+    pub come-step : 0 < all_of (set p.left n x) → HasCome net (h ++ n ∷ []) (record p { left = set p.left n x })
+    come-step some =
+        let (m, k) = some-left (set p.left n x) some in
+        record { rounds = come.rounds; steps = come.steps; way = step-more (board_steps net) p.rounds p.done h come.way n less room m (omega (arith, left-more m, k)); left = left-more }
+
+    -- the step that ends it
+    pub come-round : all_of (set p.left n x) ≡ 0 → HasCome net (h ++ n ∷ []) (record p { done = p.done + 1; left = p.steps })
+    come-round none =
+        let e : suc p.done ≡ p.done + 1 = omega arith in
+        subst (λ d. HasCome net (h ++ n ∷ []) (record p { done = d; left = p.steps })) e
+        (record {
+          rounds = come.rounds;
+          steps = come.steps;
+          way = round-more (board_steps net) p.rounds p.done h come.way n less room (λ m. let k = none-left (set p.left n x) none m in omega (arith, left-more m));
+          left = λ m. (let z : 0 + get_or p.steps m 0 ≡ length (board_steps net m) = omega (arith, come.steps m) in z);
+        })
+
+  -- all rounds are done
+  pub come-over : p.done ≡ p.rounds → IsLawful net h
+  come-over over = subst (λ r. HasRounds (board_steps net) r h) come.rounds (has-all (board_steps net) p.rounds p.done h come.way over)
+
+  -- a lawful history is over
+  pub come-all : IsLawful net h → p.done ≡ p.rounds
+  come-all all = all-done (board_steps net) p.rounds p.done h come.way (subst (λ r. HasRounds (board_steps net) r h) (sym come.rounds) all)
+
+  -- a node with no step left in the round
+  pub come-turn : (n : ℕ) → p.done < p.rounds → get_or p.left n 0 ≡ 0 → IsDoneInRound net h n
+  come-turn n less none =
+      let all : count n part ≡ length (board_steps net n) = omega (arith, come.left n, none) in
+      let (way, goes, is) = subst (λ r. (way : IsUnderWay (board_steps net) r p.done h) × (p.done < r) × (count n way.part ≡ length (board_steps net n))) come.rounds (come.way, less, all) in
+      record { done = p.done; way = way; goes_on = goes; all = is }
+
+  -- neither can go on with the node
+  pub come-stuck : (n : ℕ) → (p.done ≡ p.rounds) ⊎ (get_or p.left n 0 ≡ 0) → IsStuck net h n
+  come-stuck n why rest all =
+      let k = next (board_steps net) p.rounds p.done h come.way n rest (subst (λ r. HasRounds (board_steps net) r (h ++ n ∷ rest)) (sym come.rounds) all) in
+      elim why [ inl over ↦ (let less = k.0 in omega arith) | inr none ↦ omega (arith, k.1, come.left n, none) ]
+
 -- a list cut at a place
 pub cut-here : (xs : List ℕ) (i : ℕ) → i < length xs → xs ≡ take i xs ++ get_or xs i 0 ∷ drop (i + 1) xs
 cut-here xs i inside = sym (take-append-drop (i + 1) xs) ∙ ap (λ l. l ++ drop (i + 1) xs) (take_more xs i 0 inside) ∙ append_assoc (take i xs) (get_or xs i 0 ∷ []) (drop (i + 1) xs)
@@ -149,20 +155,6 @@ cut-here xs i inside = sym (take-append-drop (i + 1) xs) ∙ ap (λ l. l ++ drop
 pub tells : (a b : ℕ) (P : Type 0) → (P → a ≡ b) → (a ≡ b → P) → (IsTrue (eqb a b) → P) × (P → IsTrue (eqb a b))
 tells a b P to from = ((λ t. from (eqb-true a b t)), (λ p. eq-eqb a b (to p)))
 
--- the same, of equal things
-pub moved : (steps : ℕ → List BoardStep) (rounds done done' : ℕ) (taken taken' left left' : List ℕ) (over over' : ℕ) → done' ≡ done → taken' ≡ taken → left' ≡ left → over' ≡ over → IsAt steps rounds done taken left over → IsAt steps rounds done' taken' left' over'
-moved steps rounds done done' taken taken' left left' over over' d t l o at =
-    subst (λ k. IsAt steps rounds k taken' left' over') (sym d) (subst (λ k. IsAt steps rounds done k left' over') (sym t) (subst (λ k. IsAt steps rounds done taken k over') (sym l) (subst (IsAt steps rounds done taken left) (sym o) at)))
-
 -- a lawful history, cut at a place
-pub lawful-cut : (net : Net) (run : Run) (xs : List ℕ) (i : ℕ) → run ≡ net.run → i < length xs → IsLawful net xs → HasRounds (board_steps net) run.rounds (take i xs ++ get_or xs i 0 ∷ drop (i + 1) xs)
-lawful-cut net run xs i same inside all = subst (HasRounds (board_steps net) run.rounds) (cut-here xs i inside) (subst (λ (r : Run). HasRounds (board_steps net) r.rounds xs) (sym same) all)
-
--- where no node has a step, a history is lawful where it is empty
-pub empty-answer : (net : Net) (counts : List ℕ) → ((n : ℕ) → get_or counts n 0 ≡ length (board_steps net n)) → all_of counts ≡ 0 → (h : List ℕ) (answer : Bool) → answer ≡ eqb (length h) 0 → (IsTrue answer → IsLawful net h) × (IsLawful net h → IsTrue answer)
-empty-answer net counts are none h answer is =
-    ((λ t. empty-is (board_steps net) counts are net.run.rounds h none (no-length h (eqb-true (length h) 0 (sym is ∙ t)))), (λ all. is ∙ eq-eqb (length h) 0 (is-empty (board_steps net) counts are net.run.rounds h none all)))
-  where
-    no-length : (s : List ℕ) → length s ≡ 0 → s ≡ []
-    no-length [] e = refl
-    no-length (x ∷ xs) e = absurd (omega arith)
+pub lawful-cut : (net : Net) (xs : List ℕ) (i : ℕ) → i < length xs → IsLawful net xs → IsLawful net (take i xs ++ get_or xs i 0 ∷ drop (i + 1) xs)
+lawful-cut net xs i inside all = subst (IsLawful net) (cut-here xs i inside) all

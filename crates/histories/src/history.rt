@@ -1,10 +1,11 @@
 // Histories, and which are lawful.
-ghost use Rattle.std.specs.Prelude.{◌≡◌, ◌<◌, ◌≤◌, ◌*◌, ◌↔◌, ◌++◌, ℕ, List, All, IfOk, IsSome, IsTrue, OnOk, [], length, replicate, slice_index_or, sum_by, take};
+ghost use Rattle.std.specs.Prelude.{◌≡◌, ◌≤◌, ◌<◌, ◌↔◌, ◌++◌, ℕ, List, IfOk, IsSome, IsTrue, OnOk, [], length, replicate, take};
 ghost use Rattle.histories.specs.Steps.{board_steps};
 ghost use Rattle.histories.specs.Histories as histories;
 ghost use Rattle.histories.specs.Histories.{turns, version_at, CanGoOn, IsLawful, IsOfRound, IsUnderWay};
 ghost use Rattle.net_numbers.specs.Outline.{link_at};
 
+use crate::progress::Progress;
 use crate::steps::step_count;
 use foundation::threads::CrossesThreads;
 use road_net::Network;
@@ -58,63 +59,13 @@ impl History {
 pub fn lawful(net: &Network, h: &History) -> bool
     ensures { IsTrue result ↔ IsLawful net.now h.now }
 {
-    let counts = step_counts(net);
-    let whole = total(&counts);
-    if whole == 0 {
-        return h.steps().is_empty();
-    }
-    has_rounds(net, &counts, whole, h.steps())
-}
-
-/// Whether the nodes are those of all rounds, where each node has these steps in a round, and all have `whole` together.
-fn has_rounds(net: &Network, counts: &[u32; 64], whole: u32, nodes: &[u32]) -> bool
-    requires counts { (n : ℕ) → slice_index_or counts.now n 0 ≡ length (board_steps net.now n) }
-    requires whole { whole ≡ sum_by (λ c. c) counts.now }
-    requires some { 1 ≤ whole }
-    ensures { IsTrue result ↔ IsLawful net.now nodes.now }
-{
-    let rounds = net.run().rounds;
-    let mut left = *counts;
-    let mut open = whole;
-    let mut done = 0;
-    for node in nodes {
-        let node = *node as usize;
-        if done == rounds || node >= 64 || left[node] == 0 {
+    let mut progress = Progress::new(net);
+    for node in h.steps() {
+        if progress.take(*node).is_err() {
             return false;
         }
-        left[node] -= 1;
-        open -= 1;
-        if open == 0 {
-            left = *counts;
-            open = whole;
-            done += 1;
-        }
     }
-    done == rounds
-}
-
-/// How many board steps each node has in a round; 0 where there is no such node.
-fn step_counts(net: &Network) -> [u32; 64]
-    ensures counts { (n : ℕ) → slice_index_or result n 0 ≡ length (board_steps net.now n) }
-    ensures few { All (λ c. c ≤ 320) result }
-{
-    let mut counts = [0; 64];
-    for node in 0..net.nodes() {
-        counts[node as usize] = step_count(net, node);
-    }
-    counts
-}
-
-/// All these counts together.
-fn total(counts: &[u32; 64]) -> u32
-    requires { All (λ c. c ≤ 320) counts.now }
-    ensures { result ≡ sum_by (λ c. c) counts.now }
-{
-    let mut sum = 0;
-    for count in counts {
-        sum += *count;
-    }
-    sum
+    progress.is_over()
 }
 
 /// The turn order: round by round, the nodes do all their board steps in number order. It is lawful. An `Err` comes only

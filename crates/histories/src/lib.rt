@@ -4,8 +4,10 @@
 
 mod history;
 mod merging;
+mod progress;
 mod steps;
 
 pub use history::{History, law_of_histories, law_of_versions, lawful, turn_order};
 pub use merging::merge;
+pub use progress::{Progress, Stop};
 pub use steps::{BoardStep, law_of_steps, node_steps, step_count};

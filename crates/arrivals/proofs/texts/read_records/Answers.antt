@@ -1,8 +1,8 @@
 use Rattle.std.proofs.Common.{arith}
 use Rattle.std.proofs.lemmas.Result.{err_from_is_err_and, IfErr-weaker}
-use Rattle.arrivals.specs.Reading.{left_of}
+use Rattle.record_text.specs.Reading.{left_of}
 use Rattle.arrivals.specs.Texts.{AreFaulty}
-use Rattle.arrivals.proofs.RecordLaws.{found-one}
+use Rattle.record_text.proofs.RecordLaws.{found-one}
 use Rattle.arrivals.proofs.TallyLaws.{tally-arrivals}
 use Rattle.arrivals.proofs.TextLaws.{under-none, under-at, under-count, under-more, fault-read, fault-added, records-refuse}
 use Rattle.arrivals.proofs.texts.read_records.Goals as goal

@@ -1,5 +1,5 @@
 use Rattle.std.proofs.Common.{length}
-use Rattle.arrivals.specs.Reading.{IsReading, left_of}
+use Rattle.record_text.specs.Reading.{IsReading, left_of}
 use Rattle.arrivals.proofs.TextLaws.{IsUnder}
 use Rattle.arrivals.proofs.texts.read_records.Given as goal
 

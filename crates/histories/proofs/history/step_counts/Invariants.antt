@@ -1,6 +1,0 @@
-use Rattle.histories.specs.Steps.{board_steps}
-use Rattle.histories.proofs.Progress.{HaveCounts}
-use Rattle.histories.proofs.history.step_counts.Given as goal
-
-abbrev pub invariant-loop-node : goal.invariant-loop-node
-invariant-loop-node l = HaveCounts (board_steps l.net) l.node l.counts

@@ -1,6 +1,0 @@
-use Rattle.std.proofs.Common.{◌≡◌, ◌*◌, ◌≤◌, take}
-use Rattle.std.specs.Prelude.{sum_by}
-use Rattle.histories.proofs.history.total.Given as goal
-
-abbrev pub invariant-loop-count : goal.invariant-loop-count
-invariant-loop-count l = (l.sum ≡ sum_by (λ c. c) (take l.count-index l.counts)) × (l.sum ≤ 320 * l.count-index)

@@ -1,0 +1,8 @@
+//! Files of records: the records of a text, one after another, and the links and nodes that their fields name.
+#![tactic(auto)]
+
+mod names;
+mod records;
+
+pub use names::{link_named, node_named};
+pub use records::{next_record, open};

@@ -1,0 +1,4 @@
+pub mod Lawful
+pub mod Legal
+pub mod Loops
+pub mod Squares

@@ -1,0 +1,4 @@
+pub mod Arrivals
+pub mod Drafts
+pub mod Grids
+pub mod Layout
