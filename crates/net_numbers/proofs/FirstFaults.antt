@@ -1,5 +1,5 @@
 -- The first fault of a draft.
-use Rattle.std.proofs.Common.{◌≡◌, ℕ, ◌-◌, All, Some, Result, Err, IfErr}
+use Rattle.std.proofs.Common.{◌≡◌, ℕ, ◌-◌, All, Result, Err, IfErr}
 use Rattle.foundation.specs.Firsts.{IsFirstAt, FromOne}
 use Rattle.foundation.proofs.FirstLaws.{FromOne-not}
 use Rattle.net_draft.specs.declared.drafts.Draft.{Draft}
@@ -10,7 +10,7 @@ use Rattle.net_draft.specs.declared.faults.NetFault.{NetFault}
 use Rattle.net_draft.specs.declared.faults.NetFault.TheVariants.{NoMemory, NotToml, Shape, Bound, Twice, Unknown, Ends, Crowd, Shares, Phaseless, Clash}
 use Rattle.net_numbers.specs.declared.numbering.Parts.{Parts}
 use Rattle.net_numbers.specs.FirstFaults.{IsKnownPhase, IsKnownNode, IsKnownTurn, IsKnownLink, IsKnownConflict, IsUnknownInNode, IsUnknownInLink, IsTwiceFault, IsUnknownFault, FailsNumbers, Refuses}
-use Rattle.net_numbers.specs.Numbers.{Net, AreDistinct, node_names, link_names, numbered}
+use Rattle.net_numbers.specs.Numbers.{Net, AreDistinct, node_names, link_names}
 use Rattle.net_numbers.specs.Outcome.{IsBoundAt, IsTwiceAt, IsUnknownAt}
 use Rattle.net_numbers.specs.Parts.{IsNetOf}
 use Rattle.net_numbers.proofs.Distinct.{IsFirstTwice-not}

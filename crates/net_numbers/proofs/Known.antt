@@ -4,7 +4,6 @@ use Rattle.std.proofs.lemmas.List.{get_or-map, length-map}
 use Rattle.std.proofs.lemmas.List.Quantifiers.{position-Some}
 use Rattle.std.proofs.lemmas.Slice.Eq.{bytes_eq-Decides}
 use Rattle.std.specs.Str.{bytes_eq}
-use Rattle.foundation.specs.Options.{◌>>=◌}
 use Rattle.foundation.specs.Options.{each}
 use Rattle.foundation.proofs.EachLaws.{each-good}
 use Rattle.foundation.proofs.OptionLaws.{bind-some}

@@ -4,7 +4,7 @@ use Rattle.foundation.specs.Firsts.{FromOne}
 use Rattle.net_draft.specs.declared.faults.Part.{Part}
 use Rattle.net_draft.specs.declared.faults.Place.{Place}
 use Rattle.net_draft.specs.declared.faults.NetFault.{NetFault}
-use Rattle.net_draft.specs.declared.faults.NetFault.TheVariants.{NoMemory, NotToml, Shape, Bound, Twice, Unknown}
+use Rattle.net_draft.specs.declared.faults.NetFault.TheVariants.{NoMemory, Bound, Twice, Unknown}
 use Rattle.net_numbers.specs.FirstFaults.{IsFirstTwice}
 use Rattle.net_numbers.specs.Numbers.{AreDistinct}
 
