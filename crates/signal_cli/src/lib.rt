@@ -7,6 +7,7 @@ mod certify;
 mod check;
 mod commands;
 mod ending;
+mod pieces;
 mod plan;
 mod refusals;
 mod status;
