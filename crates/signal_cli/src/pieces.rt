@@ -14,12 +14,7 @@ pub fn push_one(text: &mut Vec<u8>, word: &[u8], number: u64) -> Result<(), Allo
 }
 
 /// Writes a word and two numbers, with a space between them, behind a text. An `Err` comes where memory runs out.
-pub fn push_two(
-    text: &mut Vec<u8>,
-    word: &[u8],
-    first: u64,
-    second: u64,
-) -> Result<(), AllocError>
+pub fn push_two(text: &mut Vec<u8>, word: &[u8], first: u64, second: u64) -> Result<(), AllocError>
     ensures { OnOk result (text.new.items ≡ text.old.items ++ (word.now ++ decimal first ++ 32 ∷ decimal second)) }
 {
     push_one(text, word, first)?;
