@@ -46,7 +46,10 @@ const VERDICTS: &[(&str, &str, &str, Verdict)] = &[
         "another delay",
         "answer 23999 0 1\n",
         WHOLE,
-        Verdict::Rejected(Why::Delay { said: 23999, is: 24000 }),
+        Verdict::Rejected(Why::Delay {
+            said: 23999,
+            is: 24000,
+        }),
     ),
     (
         "an answer that is not the least",

@@ -1,24 +1,25 @@
 //! The text that `plan` writes.
-ghost use Rattle.std.specs.Prelude.{◌≡◌, IfOk, string_bytes};
+ghost use Rattle.std.specs.Prelude.{◌≡◌, IfOk};
 ghost use Rattle.signal_cli.specs.Answers.{answer_text};
 
+use number_text::{push_number, push_numbers};
 use schedule_meaning::Answer;
 use std::alloc::{AllocError, Global};
 
 /// The text that `plan` writes for an answer. An `Err` comes where memory runs out.
 ///
 /// docs/FORMATS.md, "Answer text".
-pub fn answer_text(alloc: Global, answer: &Answer) -> Result<String, AllocError>
-    ensures { IfOk result (λ text. string_bytes text ≡ answer_text answer.now) }
+pub fn answer_text(alloc: Global, answer: &Answer) -> Result<Vec<u8>, AllocError>
+    ensures { IfOk result (λ text. text.items ≡ answer_text answer.now) }
 {
     match answer {
-        Answer::NoPlan => String::from_str(alloc, "none\n"),
+        Answer::NoPlan => Vec::from_slice(alloc, b"none\n"),
         Answer::Plan { sequence, delay } => {
-            let mut text = format!(in alloc; "delay {delay}\norder")?;
-            for phase in sequence.as_slice() {
-                write!(text, " {phase}")?;
-            }
-            text.push('\n')?;
+            let mut text = Vec::from_slice(alloc, b"delay ")?;
+            push_number(&mut text, *delay)?;
+            text.extend_from_slice(b"\norder")?;
+            push_numbers(&mut text, sequence.as_slice())?;
+            text.extend_from_slice(b"\n")?;
             Ok(text)
         }
     }

@@ -1,12 +1,13 @@
 //! What is wrong with a text, and its code.
-ghost use Rattle.std.specs.Prelude.{◌≡◌, IfOk, string_bytes};
+ghost use Rattle.std.specs.Prelude.{◌≡◌, ◌∷◌, ◌++◌, OnOk};
 ghost use Rattle.signal_cli.specs.Codes.{cert_code, code_of, field_name, instance_code, plan_code};
 
+use super::pieces::{push_one, push_two};
 use certificate_form::CertText;
 use dp_certificate::CertFault;
 use phase_plan::{Field, PlanFault};
 use schedule_meaning::{InstanceFault, TextFault};
-use std::alloc::{AllocError, Global};
+use std::alloc::AllocError;
 
 /// What is wrong with a text.
 ///
@@ -21,73 +22,77 @@ pub enum BadText {
     Certificate(CertText),
 }
 
-/// The code of what is wrong with a text. An `Err` comes where memory runs out.
-pub fn code_of(alloc: Global, why: BadText) -> Result<String, AllocError>
-    ensures { IfOk result (λ code. string_bytes code ≡ code_of why) }
+/// Writes the code of what is wrong with a text behind a line. An `Err` comes where memory runs out.
+pub fn push_code(line: &mut Vec<u8>, why: BadText) -> Result<(), AllocError>
+    ensures { OnOk result (line.new.items ≡ line.old.items ++ code_of why) }
 {
     match why {
-        BadText::Long => String::from_str(alloc, "long"),
-        BadText::Fault(TextFault::Line(line)) => format!(in alloc; "line {line}"),
-        BadText::Fault(TextFault::Plan(fault)) => plan_code(alloc, fault),
-        BadText::Fault(TextFault::Instance(fault)) => instance_code(alloc, fault),
+        BadText::Long => line.extend_from_slice(b"long"),
+        BadText::Fault(TextFault::Line(number)) => push_one(line, b"line ", u64::from(number)),
+        BadText::Fault(TextFault::Plan(fault)) => push_plan_code(line, fault),
+        BadText::Fault(TextFault::Instance(fault)) => push_instance_code(line, fault),
         BadText::Fault(TextFault::NoMemory) => Err(AllocError),
-        BadText::Certificate(fault) => cert_code(alloc, fault),
+        BadText::Certificate(fault) => push_cert_code(line, fault),
     }
 }
 
-// The code of a fault of a certificate's text.
-fn cert_code(alloc: Global, fault: CertText) -> Result<String, AllocError>
-    ensures { IfOk result (λ code. string_bytes code ≡ cert_code fault) }
+// Writes the code of a fault of a certificate's text.
+fn push_cert_code(line: &mut Vec<u8>, fault: CertText) -> Result<(), AllocError>
+    ensures { OnOk result (line.new.items ≡ line.old.items ++ cert_code fault) }
 {
     match fault {
-        CertText::Line(line) => format!(in alloc; "line {line}"),
-        CertText::Plan(fault) => plan_code(alloc, fault),
-        CertText::Instance(fault) => instance_code(alloc, fault),
-        CertText::Cert(CertFault::Entry(number)) => format!(in alloc; "entry {number}"),
-        CertText::Cert(CertFault::Order(number)) => format!(in alloc; "entry order {number}"),
+        CertText::Line(number) => push_one(line, b"line ", u64::from(number)),
+        CertText::Plan(fault) => push_plan_code(line, fault),
+        CertText::Instance(fault) => push_instance_code(line, fault),
+        CertText::Cert(CertFault::Entry(number)) => push_one(line, b"entry ", u64::from(number)),
+        CertText::Cert(CertFault::Order(number)) => {
+            push_one(line, b"entry order ", u64::from(number))
+        }
         CertText::NoMemory => Err(AllocError),
     }
 }
 
-// The code of a fault of the phases.
-fn plan_code(alloc: Global, fault: PlanFault) -> Result<String, AllocError>
-    ensures { IfOk result (λ code. string_bytes code ≡ plan_code fault) }
+// Writes the code of a fault of the phases.
+fn push_plan_code(line: &mut Vec<u8>, fault: PlanFault) -> Result<(), AllocError>
+    ensures { OnOk result (line.new.items ≡ line.old.items ++ plan_code fault) }
 {
     match fault {
-        PlanFault::Count(_) => String::from_str(alloc, "plan count"),
+        PlanFault::Count(_) => line.extend_from_slice(b"plan count"),
         PlanFault::Bound { phase, field } => {
-            let name = field_name(field);
-            format!(in alloc; "plan {phase} {name}")
+            push_one(line, b"plan ", u64::from(phase))?;
+            line.extend_from_slice(field_name(field))
         }
     }
 }
 
-// The name of a time of a phase.
-fn field_name(field: Field) -> &'static str
-    ensures { result.now ≡ field_name field }
+// The name of a time of a phase, behind a space.
+fn field_name(field: Field) -> &'static [u8]
+    ensures { result.now ≡ 32 ∷ field_name field }
 {
     match field {
-        Field::Least => "least",
-        Field::Greatest => "greatest",
-        Field::Yellow => "yellow",
-        Field::Clear => "clear",
-        Field::Loss => "loss",
-        Field::Wait => "wait",
+        Field::Least => b" least",
+        Field::Greatest => b" greatest",
+        Field::Yellow => b" yellow",
+        Field::Clear => b" clear",
+        Field::Loss => b" loss",
+        Field::Wait => b" wait",
     }
 }
 
-// The code of a fault of the instance.
-fn instance_code(alloc: Global, fault: InstanceFault) -> Result<String, AllocError>
-    ensures { IfOk result (λ code. string_bytes code ≡ instance_code fault) }
+// Writes the code of a fault of the instance.
+fn push_instance_code(line: &mut Vec<u8>, fault: InstanceFault) -> Result<(), AllocError>
+    ensures { OnOk result (line.new.items ≡ line.old.items ++ instance_code fault) }
 {
     match fault {
-        InstanceFault::HeadPhase => String::from_str(alloc, "head phase"),
-        InstanceFault::HeadTime => String::from_str(alloc, "head time"),
-        InstanceFault::ListCount => String::from_str(alloc, "lists"),
+        InstanceFault::HeadPhase => line.extend_from_slice(b"head phase"),
+        InstanceFault::HeadTime => line.extend_from_slice(b"head time"),
+        InstanceFault::ListCount => line.extend_from_slice(b"lists"),
         InstanceFault::ClusterBound { phase, place } => {
-            format!(in alloc; "cluster {phase} {place}")
+            push_two(line, b"cluster ", u64::from(phase), u64::from(place))
         }
-        InstanceFault::Order { phase, place } => format!(in alloc; "order {phase} {place}"),
-        InstanceFault::Many => String::from_str(alloc, "many"),
+        InstanceFault::Order { phase, place } => {
+            push_two(line, b"order ", u64::from(phase), u64::from(place))
+        }
+        InstanceFault::Many => line.extend_from_slice(b"many"),
     }
 }

@@ -24,7 +24,7 @@ use std::sync::ledger::{Blank, Ledger};
 fn verdict_of(c: &Certificate) -> Verdict
     ensures accepted { result ≡ Verdict.Accepted ↔ Proves c.now }
     ensures least { result ≡ Verdict.Accepted → IsLeast c.now.problem c.now.answer }
-    ensures why { IfRejected result (IsWhy c.now) }
+    ensures first { IfRejected result (IsWhy c.now) }
 {
     counted::<Brand>(c, Blank::new(1))
 }
@@ -36,7 +36,7 @@ fn counted<L: Ledger>(c: &Certificate, blank: Blank) -> Verdict
     requires some { 0 < L.parts }
     ensures accepted { result ≡ Verdict.Accepted ↔ Proves c.now }
     ensures least { result ≡ Verdict.Accepted → IsLeast c.now.problem c.now.answer }
-    ensures why { IfRejected result (IsWhy c.now) }
+    ensures first { IfRejected result (IsWhy c.now) }
 {
     let mut steps = Steps::<L>::new(blank);
     cert_checker::check(c, &mut steps)
@@ -48,12 +48,12 @@ fn verdict(alloc: Global, c: &Certificate) -> Result<Made, AllocError>
 {
     match verdict_of(c) {
         Verdict::Accepted => {
-            let line = String::from_str(alloc, "accepted\n")?;
-            Ok(Made::Done(line.into_bytes()))
+            let line = Vec::from_slice(alloc, b"accepted\n")?;
+            Ok(Made::Done(line))
         }
         Verdict::Rejected(why) => {
             let line = rejected_line(alloc, why)?;
-            Ok(Made::Rejected(line.into_bytes()))
+            Ok(Made::Rejected(line))
         }
     }
 }

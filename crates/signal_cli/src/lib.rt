@@ -8,6 +8,7 @@ mod certify_bound;
 mod check;
 mod commands;
 mod ending;
+mod pieces;
 mod plan;
 mod refusals;
 mod status;

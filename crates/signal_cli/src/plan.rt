@@ -20,7 +20,7 @@ fn planned<S: Shelf>(alloc: Global, shelf: &mut S, file: &str) -> Result<Made, R
     let instance = fetch_instance(alloc, shelf, Place::First, file)?;
     let answer = best_answer(alloc, &mut LayerPlanner, &instance)?;
     let text = answer_text(alloc, &answer)?;
-    Ok(Made::Done(text.into_bytes()))
+    Ok(Made::Done(text))
 }
 
 /// The command `plan FILE`: writes the best answer of the instance that the file's text spells.

@@ -1,12 +1,11 @@
 //! Why a command is refused, and the line that says so.
-ghost use Rattle.std.specs.Prelude.{◌≡◌, ◌⊎◌, ◌∷◌, ◌++◌, IfOk, string_bytes};
-ghost use Rattle.std.specs.Fmt.{decimal};
-ghost use Rattle.signal_cli.specs.Codes.{code_of};
+ghost use Rattle.std.specs.Prelude.{◌≡◌, IfOk};
 ghost use Rattle.signal_cli.specs.Ending.{Refuses};
 ghost use Rattle.signal_cli.specs.Refusals.{Writes, line_of, missing_line, number_of, unread_line};
 ghost use Rattle.signal_cli.specs.declared.refusals.Refusal.TheVariants as refusal;
 
-use super::bad_texts::{BadText, code_of};
+use super::bad_texts::{BadText, push_code};
+use super::pieces::push_one;
 use super::status::Status;
 use outside_world::Sink;
 use std::alloc::{AllocError, Global};
@@ -62,67 +61,62 @@ pub fn refuse<E: Sink>(alloc: Global, why: Refusal, err: &mut E) -> Status
     ensures { Refuses why (E.state err.old) (E.state err.new) result }
 {
     match why {
-        Refusal::Usage => say("signal: usage\n", Status::Usage, err),
+        Refusal::Usage => say(b"signal: usage\n", Status::Usage, err),
         Refusal::Missing { what } => say(missing_line(what), Status::BadInput, err),
         Refusal::Unread { text } => say(unread_line(text), Status::ReadFault, err),
-        Refusal::Unwritten => say("signal: cannot write\n", Status::WriteFault, err),
-        Refusal::NoMemory => say("signal: no memory\n", Status::NoMemory, err),
+        Refusal::Unwritten => say(b"signal: cannot write\n", Status::WriteFault, err),
+        Refusal::NoMemory => say(b"signal: no memory\n", Status::NoMemory, err),
         Refusal::Bad { text, why } => match bad_line(alloc, text, why) {
-            Ok(line) => say(line.as_str(), Status::BadInput, err),
-            Err(AllocError) => say("signal: no memory\n", Status::NoMemory, err),
+            Ok(line) => say(&line, Status::BadInput, err),
+            Err(AllocError) => say(b"signal: no memory\n", Status::NoMemory, err),
         },
     }
 }
 
 // Writes a line, or a front of it where the sink fails, and answers the status.
-fn say<E: Sink>(line: &str, status: Status, err: &mut E) -> Status
+fn say<E: Sink>(line: &[u8], status: Status, err: &mut E) -> Status
     ensures status { result ≡ status }
     ensures line { Writes line.now (E.state err.old) (E.state err.new) }
 {
-    let _ = err.put(line.as_bytes());
+    let _ = err.put(line);
     status
 }
 
 // The line for a text that can't be read. It takes no memory.
-fn unread_line(text: Place) -> &'static str
+fn unread_line(text: Place) -> &'static [u8]
     ensures { result.now ≡ unread_line text }
 {
     match text {
-        Place::First => "signal: cannot read 1\n",
-        Place::Second => "signal: cannot read 2\n",
-        Place::Third => "signal: cannot read 3\n",
+        Place::First => b"signal: cannot read 1\n",
+        Place::Second => b"signal: cannot read 2\n",
+        Place::Third => b"signal: cannot read 3\n",
     }
 }
 
 // The line for a word that names nothing.
-fn missing_line(what: Named) -> &'static str
+fn missing_line(what: Named) -> &'static [u8]
     ensures { result.now ≡ missing_line what }
 {
     match what {
-        Named::Node => "signal: bad node\n",
-        Named::Round => "signal: bad round\n",
+        Named::Node => b"signal: bad node\n",
+        Named::Round => b"signal: bad round\n",
     }
 }
 
 // The line for a text that is refused.
-fn bad_line(alloc: Global, text: Place, why: BadText) -> Result<String, AllocError>
-    ensures { IfOk result (λ line. string_bytes line ≡ line_of (refusal.Bad text why)) }
+fn bad_line(alloc: Global, text: Place, why: BadText) -> Result<Vec<u8>, AllocError>
+    ensures { IfOk result (λ line. line.items ≡ line_of (refusal.Bad text why)) }
 {
-    let code = numbered_code(alloc, text, why)?;
-    format!(in alloc; "signal: bad {code}\n")
-}
-
-// The number of a text, and the code of what is wrong with it.
-fn numbered_code(alloc: Global, text: Place, why: BadText) -> Result<String, AllocError>
-    ensures { IfOk result (λ code. string_bytes code ≡ decimal (number_of text) ++ 32 ∷ code_of why) }
-{
-    let code = code_of(alloc, why)?;
-    let number = number_of(text);
-    format!(in alloc; "{number} {code}")
+    let mut line = Vec::new(alloc);
+    push_one(&mut line, b"signal: bad ", number_of(text))?;
+    line.extend_from_slice(b" ")?;
+    push_code(&mut line, why)?;
+    line.extend_from_slice(b"\n")?;
+    Ok(line)
 }
 
 // The number of a text, from 1.
-fn number_of(text: Place) -> u32
+fn number_of(text: Place) -> u64
     ensures { result ≡ number_of text }
 {
     match text {

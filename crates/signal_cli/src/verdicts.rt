@@ -1,7 +1,8 @@
 //! The lines that `check` writes.
-ghost use Rattle.std.specs.Prelude.{◌≡◌, IfOk, string_bytes};
+ghost use Rattle.std.specs.Prelude.{◌≡◌, ◌∷◌, ◌++◌, IfOk, OnOk};
 ghost use Rattle.signal_cli.specs.Verdicts.{rejected_line, sequence_text, unfit_name, why_text};
 
+use super::pieces::{push_one, push_two};
 use cert_checker::Why;
 use schedule_meaning::SeqFault;
 use std::alloc::{AllocError, Global};
@@ -10,49 +11,53 @@ use switch_rules::Unfit;
 /// The line that `check` writes for a certificate that does not prove its answer. An `Err` comes where memory runs out.
 ///
 /// docs/FORMATS.md, "Verdict text".
-pub fn rejected_line(alloc: Global, why: Why) -> Result<String, AllocError>
-    ensures { IfOk result (λ line. string_bytes line ≡ rejected_line why) }
+pub fn rejected_line(alloc: Global, why: Why) -> Result<Vec<u8>, AllocError>
+    ensures { IfOk result (λ line. line.items ≡ rejected_line why) }
 {
-    let reason = why_text(alloc, why)?;
-    format!(in alloc; "rejected {reason}\n")
+    let mut line = Vec::from_slice(alloc, b"rejected ")?;
+    push_why(&mut line, why)?;
+    line.extend_from_slice(b"\n")?;
+    Ok(line)
 }
 
-// Why a certificate does not prove its answer.
-fn why_text(alloc: Global, why: Why) -> Result<String, AllocError>
-    ensures { IfOk result (λ text. string_bytes text ≡ why_text why) }
+// Writes why a certificate does not prove its answer.
+fn push_why(text: &mut Vec<u8>, why: Why) -> Result<(), AllocError>
+    ensures { OnOk result (text.new.items ≡ text.old.items ++ why_text why) }
 {
     match why {
         Why::Sequence(fault) => {
-            let fault = sequence_text(alloc, fault)?;
-            format!(in alloc; "sequence {fault}")
+            text.extend_from_slice(b"sequence ")?;
+            push_sequence(text, fault)
         }
-        Why::Delay { said, is } => format!(in alloc; "delay {said} {is}"),
-        Why::NoRoot => String::from_str(alloc, "root"),
-        Why::Open { entry, phase } => format!(in alloc; "open {entry} {phase}"),
-        Why::Cheaper { entry } => format!(in alloc; "cheaper {entry}"),
+        Why::Delay { said, is } => push_two(text, b"delay ", said, is),
+        Why::NoRoot => text.extend_from_slice(b"root"),
+        Why::Open { entry, phase } => {
+            push_two(text, b"open ", u64::from(entry), u64::from(phase))
+        }
+        Why::Cheaper { entry } => push_one(text, b"cheaper ", u64::from(entry)),
     }
 }
 
-// A fault of the claimed sequence.
-fn sequence_text(alloc: Global, fault: SeqFault) -> Result<String, AllocError>
-    ensures { IfOk result (λ text. string_bytes text ≡ sequence_text fault) }
+// Writes a fault of the claimed sequence.
+fn push_sequence(text: &mut Vec<u8>, fault: SeqFault) -> Result<(), AllocError>
+    ensures { OnOk result (text.new.items ≡ text.old.items ++ sequence_text fault) }
 {
     match fault {
-        SeqFault::Phase { place } => format!(in alloc; "phase {place}"),
-        SeqFault::WrongCount(phase) => format!(in alloc; "count {phase}"),
+        SeqFault::Phase { place } => push_one(text, b"phase ", u64::from(place)),
+        SeqFault::WrongCount(phase) => push_one(text, b"count ", u64::from(phase)),
         SeqFault::Unfit { place, why } => {
-            let name = unfit_name(why);
-            format!(in alloc; "unfit {place} {name}")
+            push_one(text, b"unfit ", u64::from(place))?;
+            text.extend_from_slice(unfit_name(why))
         }
     }
 }
 
-// Why a serving is unfit.
-fn unfit_name(why: Unfit) -> &'static str
-    ensures { result.now ≡ unfit_name why }
+// Why a serving is unfit, behind a space.
+fn unfit_name(why: Unfit) -> &'static [u8]
+    ensures { result.now ≡ 32 ∷ unfit_name why }
 {
     match why {
-        Unfit::TooLong => "long",
-        Unfit::TooLate => "late",
+        Unfit::TooLong => b" long",
+        Unfit::TooLate => b" late",
     }
 }

@@ -8,6 +8,6 @@ returns g c =
       (
         (said.instance, tt),
         (said.ensures.text, tt),
-        (((best.answer, best.ensures.best, best.ensures.least, rw c.into_bytes.ensures.value c.in_ok-text.ensures), λ against. against), λ what missing. missing),
+        (((best.answer, best.ensures.best, best.ensures.least, c.in_ok-text.ensures), λ against. against), λ what missing. missing),
       ),
     )

@@ -10,5 +10,5 @@ returns-in-Unwritten g c = rw c.in-Unwritten.is (inl (c.say-in-Unwritten.ensures
 
 pub returns-in-Ok : goal.returns-in-Ok
 returns-in-Ok g c =
-    let line = subst (λ (l : List ℕ). Writes l (g.E.Sink.state c.args.err.now) (g.E.Sink.state c.say-in-Ok.new.err)) (c.as_str.ensures.value ∙ c.in-Ok.ensures) c.say-in-Ok.ensures.line in
+    let line = subst (λ (l : List ℕ). Writes l (g.E.Sink.state c.args.err.now) (g.E.Sink.state c.say-in-Ok.new.err)) (c.deref.ensures.value ∙ c.in-Ok.ensures) c.say-in-Ok.ensures.line in
     rw c.in-Bad.is (inl (c.say-in-Ok.ensures.status, line))
