@@ -117,6 +117,7 @@ impl Reached {
 
 /// What is next behind an entry when the next cluster of a phase is served, as `serve_next` gives it, where it is within
 /// the limit.
+#[inline]
 fn serve_within<L: Ledger>(
     i: &Instance,
     entry: &Entry,
