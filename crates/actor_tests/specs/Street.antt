@@ -6,9 +6,9 @@ use Rattle.intersection_actor.specs.Rounds.{IsOf}
 use Rattle.actor_tests.specs.declared.rounds.Street.{Street}
 
 -- the actor of a node of the network
-pub record IsNode (net : Net) (node : ℕ) (a : Acting) : Type 0 where
+pub record IsNode (net : Net) (n : ℕ) (a : Acting) : Type 0 where
   pub of : IsOf net a
-  pub node : a.node ≡ node
+  pub node : a.node ≡ n
 
 -- the actors of the first two nodes
 pub record AreNodes (net : Net) (s : Street) : Type 0 where

@@ -50,7 +50,7 @@ pub(crate) fn seen(
 {
     let step = net.run().step;
     let mut world = World::new(alloc, net)?;
-    let mut street = street(alloc, net)?;
+    let mut street = before_rounds(alloc, net)?;
     for (round, order) in orders.split_ascii_whitespace().enumerate() {
         play(alloc, net, &world, &mut street, round, order)?;
         if step > 100 || world.now() > 10_000 {
@@ -62,7 +62,7 @@ pub(crate) fn seen(
 }
 
 /// Two nodes before their first round.
-fn street(alloc: Global, net: &Network) -> Result<Street, Fail>
+fn before_rounds(alloc: Global, net: &Network) -> Result<Street, Fail>
     ensures { IfOk result (AreNodes net.now) }
 {
     if net.nodes() < 2 {

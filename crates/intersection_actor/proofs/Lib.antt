@@ -4,3 +4,4 @@ pub mod PlanLaws
 pub mod RoundLaws
 pub mod ServedLaws
 pub mod SettleLaws
+pub mod TellLaws

@@ -1,5 +1,5 @@
 -- An actor, as contracts see it: what it keeps of its signal, and how far it is in its round.
-use Rattle.std.specs.Prelude.{ℕ, ◌++◌, List, [], ◌∷◌, Option, Some, None, drop, find, nat_le}
+use Rattle.std.specs.Prelude.{ℕ, ◌++◌, List, [], ◌∷◌, Option, Some, None, drop, find, nat_le, slice_get}
 use Rattle.board_model.specs.declared.boards.Heard.{Heard}
 use Rattle.control_flow.specs.declared.greens.Green.{Green}
 use Rattle.switch_rules.specs.declared.Served.{Served}
@@ -46,6 +46,10 @@ telling (Some link) = Publish link
 -- it tells the first, from this number on, of the links on which it tells a node; then it is done
 abbrev pub tells_from : Net → ℕ → ℕ → Want
 tells_from net node first = telling (find (λ l. nat_le first l) (told_links net node))
+
+-- it tells the link at this place, from 0, among those on which it tells a node; behind the last it is done
+abbrev pub told_at : Net → ℕ → ℕ → Want
+told_at net node place = telling (slice_get (told_links net node) place)
 
 -- the actor in a new round, in which it sensed this and heard nothing yet
 abbrev pub begun : Net → ℕ → Sensed → Acting → Acting

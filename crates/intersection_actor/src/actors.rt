@@ -62,7 +62,7 @@ impl Actor {
     ghost use Rattle.control_flow.specs.Greens.{end_of};
     ghost use Rattle.net_numbers.specs.Numbers.{Net};
     ghost use Rattle.road_net.specs.Senses.{IsSensedOf};
-    ghost use Rattle.intersection_actor.specs.Acting.{IsPublish, begun, tells_from, wanting, with_heard};
+    ghost use Rattle.intersection_actor.specs.Acting.{IsPublish, begun, tells_from, told_at, wanting, with_heard};
     ghost use Rattle.intersection_actor.specs.Rounds.{IsCommitted, IsNew, IsOf, KeepsPast};
     ghost use Rattle.intersection_actor.specs.Steps.{IsPlanned};
     ghost use Rattle.clusters.specs.Windows.{counts_of};
@@ -210,6 +210,7 @@ impl Actor {
         requires of { IsOf net.now self.old }
         requires want { self.old.want ≡ Want.Commit }
         ensures ok { OnOk result (IsCommitted net.now self.old self.new) }
+        ensures tells { OnOk result (self.new.want ≡ told_at net.now self.old.node 0) }
         ensures kept { OnOk result (KeepsPast net.now self.old self.new) }
         ensures err { OnErr result (self.new ≡ self.old) }
         ensures of { IsOf net.now self.new }
@@ -232,6 +233,7 @@ impl Actor {
         requires want { self.old.want ≡ Want.Commit }
         requires planned { IsPlanned net.now self.old.node self.old.line self.old.sensed self.old.heard plan }
         ensures ok { OnOk result (IsCommitted net.now self.old self.new) }
+        ensures tells { OnOk result (self.new.want ≡ told_at net.now self.old.node 0) }
         ensures kept { OnOk result (KeepsPast net.now self.old self.new) }
         ensures err { OnErr result (self.new ≡ self.old) }
         ensures of { IsOf net.now self.new }
@@ -301,6 +303,7 @@ impl Actor {
     pub fn sent(&mut self, net: &Network)
         requires of { IsOf net.now self.old }
         requires want { IsPublish self.old.want }
+        ensures tells { (place : ℕ) → self.old.want ≡ told_at net.now self.old.node place → self.new.want ≡ told_at net.now self.old.node (place + 1) }
         ensures next { (link : ℕ) → self.old.want ≡ Want.Publish link → self.new ≡ wanting (tells_from net.now self.old.node (link + 1)) self.old }
         ensures of { IsOf net.now self.new }
     {

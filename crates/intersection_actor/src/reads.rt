@@ -1,7 +1,8 @@
 //! The links on which a node hears and tells others, one after another.
 ghost use Rattle.std.specs.Prelude.{◌≡◌, ◌<◌, All, IfOk, drop, filter, is_some, length};
 ghost use Rattle.net_numbers.specs.Outline.{link_at};
-ghost use Rattle.road_net.specs.Network.{heard_links};
+ghost use Rattle.std.specs.List.Sorted.{IsStrictlyIncreasing};
+ghost use Rattle.road_net.specs.Network.{exit_links, heard_links};
 ghost use Rattle.intersection_actor.specs.Acting.{reading, tells_from};
 
 use crate::records::Want;
@@ -35,7 +36,8 @@ pub(crate) fn next_read(links: &[u32], count: usize) -> Want
 /// What a node wants that has told on its links below this one: to publish on the next link on which it tells another one.
 pub(crate) fn next_told(net: &Network, node: u32, first: u64) -> Want
     requires { node < length net.now.node_names }
-    ensures { result ≡ tells_from net.now node first }
+    ensures value { result ≡ tells_from net.now node first }
+    ensures rising { IsStrictlyIncreasing (exit_links net.now node) }
 {
     for link in net.exit_links(node) {
         if *link as u64 >= first && net.link(*link).to.is_some() {
