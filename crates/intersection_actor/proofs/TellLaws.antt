@@ -46,6 +46,6 @@ told-first net node = ap telling (from-low 0 (told_links net node) (λ k d lt. o
 pub told-next : (net : Net) (node k link : ℕ) → IsStrictlyIncreasing (exit_links net node) → Publish link ≡ told_at net node k → tells_from net node (link + 1) ≡ told_at net node (k + 1)
 told-next net node k link rising e =
     let told : AllPairs (λ x y. x < y) (told_links net node) =
-      AllPairs-filter (λ x y. x < y) (λ l. is_some (link_at net l).to) (exit_links net node) (AllPairs-from_increasing (exit_links net node) rising) in
+    AllPairs-filter (λ x y. x < y) (λ l. is_some (link_at net l).to) (exit_links net node) (AllPairs-from_increasing (exit_links net node) rising) in
     let same : suc k ≡ k + 1 = omega arith in
     ap telling (behind (told_links net node) k link told (told-some (slice_get (told_links net node) k) link (sym e))) ∙ ap (told_at net node) same

@@ -17,6 +17,6 @@ pub returns-clause-tells : goal.returns-clause-tells
 returns-clause-tells c =
     λ place at.
     let now : Publish c.in-Publish.link ≡ told_at c.args.net.now c.self.inside.node place =
-      sym c.in-Publish.is ∙ ap (λ (a : Acting). a.want) c.self.view_is ∙ at ∙ ap (λ (a : Acting). told_at c.args.net.now a.node place) (sym c.self.view_is) in
+    sym c.in-Publish.is ∙ ap (λ (a : Acting). a.want) c.self.view_is ∙ at ∙ ap (λ (a : Acting). told_at c.args.net.now a.node place) (sym c.self.view_is) in
     c.next_told-self-inside.ensures.value ∙ told-next c.args.net.now c.self.inside.node place c.in-Publish.link c.next_told-self-inside.ensures.rising now
     ∙ ap (λ (a : Acting). told_at c.args.net.now a.node (place + 1)) c.self.view_is
