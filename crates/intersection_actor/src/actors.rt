@@ -164,7 +164,7 @@ impl Actor {
         requires now { sensed.now ≡ round * net.now.run.step }
         requires ahead { sensed.now < end_of self.old.line }
         ensures ok { OnOk result (self.new ≡ begun net.now round sensed self.old) }
-        ensures err { OnErr result (self.new ≡ self.old) }
+        ensures refused { OnErr result (self.new ≡ self.old) }
         ensures of { IsOf net.now self.new }
     {
         let reads = heard_links(alloc, net, self.node)?;
@@ -184,7 +184,7 @@ impl Actor {
     pub fn take(&mut self, heard: Heard) -> Result<(), AllocError>
         requires { self.old.want ≡ Want.Read heard.link }
         ensures ok { OnOk result (self.new ≡ with_heard heard self.old) }
-        ensures err { OnErr result (self.new ≡ self.old) }
+        ensures refused { OnErr result (self.new ≡ self.old) }
         ensures of { (net : Net) → IsOf net self.old → IsOf net self.new }
     {
         self.heard.push(heard)?;
@@ -212,7 +212,7 @@ impl Actor {
         ensures ok { OnOk result (IsCommitted net.now self.old self.new) }
         ensures tells { OnOk result (self.new.want ≡ told_at net.now self.old.node 0) }
         ensures kept { OnOk result (KeepsPast net.now self.old self.new) }
-        ensures err { OnErr result (self.new ≡ self.old) }
+        ensures refused { OnErr result (self.new ≡ self.old) }
         ensures of { IsOf net.now self.new }
     {
         let plan = planned(
@@ -235,7 +235,7 @@ impl Actor {
         ensures ok { OnOk result (IsCommitted net.now self.old self.new) }
         ensures tells { OnOk result (self.new.want ≡ told_at net.now self.old.node 0) }
         ensures kept { OnOk result (KeepsPast net.now self.old self.new) }
-        ensures err { OnErr result (self.new ≡ self.old) }
+        ensures refused { OnErr result (self.new ≡ self.old) }
         ensures of { IsOf net.now self.new }
     {
         // What it says of the plan is wanted here, and not the count.
