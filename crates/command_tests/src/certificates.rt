@@ -132,10 +132,16 @@ fn certificates(rt: HostRuntime) -> Result<(), Fail> {
         let text = ["certificate 1\n", instance, answer, entries, "end\n"].concat(alloc)?;
         let words = [command, "file"];
         let ending = run(alloc, &words, instance.as_bytes(), SECOND_FETCH_FAILS)?;
-        assert!(rt; ending.is(Status::Done, text.as_str(), ""), "{command} {answer}");
+        assert!(rt;
+            ending.is(Status::Done, text.as_str(), ""),
+            "{command} {answer}"
+        );
         let words = ["check", "file"];
         let ending = run(alloc, &words, ending.out(), SECOND_FETCH_FAILS)?;
-        assert!(rt; ending.is(Status::Done, "accepted\n", ""), "{command} {answer}");
+        assert!(rt;
+            ending.is(Status::Done, "accepted\n", ""),
+            "{command} {answer}"
+        );
     }
     for &(instance, answer, entries, status, out, err) in CHECKED {
         let text = ["certificate 1\n", instance, answer, entries, "end\n"].concat(alloc)?;
