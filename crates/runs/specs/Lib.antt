@@ -1,0 +1,4 @@
+pub mod Kept
+pub mod Plans
+pub mod Runs
+pub mod Safe
