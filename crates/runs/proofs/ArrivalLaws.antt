@@ -1,5 +1,5 @@
 -- When the clusters of a node's window arrive.
-use Rattle.std.proofs.Common.{◌≡◌, ℕ, ◌+◌, ◌-◌, ◌<◌, ◌≤◌, nat_lt, List, [], ◌∷◌, ◌++◌, All, length, get_or, map, take, sym, ap, subst, ◌∙◌, arith, length-append}
+use Rattle.std.proofs.Common.{◌≡◌, ℕ, ◌+◌, ◌<◌, ◌≤◌, nat_lt, List, [], ◌∷◌, ◌++◌, All, length, get_or, sym, subst, ◌∙◌, arith, length-append}
 use Rattle.std.specs.List.{concat, range_with_len}
 use Rattle.std.proofs.lemmas.List.{get_or_append_left, get_or-append-add, length-map}
 use Rattle.std.proofs.lemmas.List.Elements.{All-cons, All-filter, All-from_get_or, All-get_or, All-map, All-nil, All-take}
@@ -7,9 +7,9 @@ use Rattle.std.proofs.lemmas.List.FromFn.{get_or-range_with_len, length-range_wi
 use Rattle.board_model.specs.declared.boards.Heard.{Heard}
 use Rattle.switch_rules.specs.declared.Cluster.{Cluster}
 use Rattle.net_numbers.specs.Numbers.{Net}
-use Rattle.net_numbers.specs.Outline.{phase_links_at, plan_at}
+use Rattle.net_numbers.specs.Outline.{phase_links_at}
 use Rattle.road_net.specs.declared.senses.Sensed.{Sensed}
-use Rattle.clusters.specs.Cuts.{IsRun, filled, filled_from, first_of}
+use Rattle.clusters.specs.Cuts.{IsRun, filled, filled_from}
 use Rattle.clusters.specs.Platoons.{ArePlatoons, ArePlatoonsOf, most_of, platoon_of, platoons_at, streams_of, together}
 use Rattle.clusters.specs.Sound.{cluster_lists, clusters_of}
 use Rattle.clusters.specs.Windows.{IsWindow, counts_of}
@@ -64,12 +64,12 @@ list-soon gap most now look streams list h =
     let runs : All (Below n) h.runs = runs-below n h.runs inside in
     subst (All (ComesBy (now + look))) (sym h.each)
     (All-map (ComesBy (now + look)) (platoon_of now streams) h.runs
-      (All-from_get_or (λ run. ComesBy (now + look) (platoon_of now streams run)) h.runs [] (λ i lt.
-          let run : List ℕ = get_or h.runs i [] in
-          let is : IsRun gap most run = All-get_or (IsRun gap most) h.runs i [] lt h.cut.each in
-          let below : Below n run = All-get_or (Below n) h.runs i [] lt runs in
-          let first : get_or run 0 0 < n = All-get_or (λ x. x < n) run 0 0 (omega (arith, is.some)) below in
-          omega (arith, first, together-length streams look))))
+    (All-from_get_or (λ run. ComesBy (now + look) (platoon_of now streams run)) h.runs [] (λ i lt.
+    let run : List ℕ = get_or h.runs i [] in
+    let is : IsRun gap most run = All-get_or (IsRun gap most) h.runs i [] lt h.cut.each in
+    let below : Below n run = All-get_or (Below n) h.runs i [] lt runs in
+    let first : get_or run 0 0 < n = All-get_or (λ x. x < n) run 0 0 (omega (arith, is.some)) below in
+    omega (arith, first, together-length streams look))))
 
 -- and so do the clusters of a window
 pub window-soon : (net : Net) (node : ℕ) (sensed : Sensed) (heard : List Heard) (lists : List (List Platoon)) (window : Window)
@@ -78,9 +78,9 @@ window-soon net node sensed heard lists window are h =
     let second : ℕ = sensed.now + net.run.look in
     All-map (All (λ (c : Cluster). c.arr ≤ second)) clusters_of window.lists
     (All-from_get_or (λ list. All (λ (c : Cluster). c.arr ≤ second) (clusters_of list)) window.lists [] (λ k lt.
-        let there : k < length lists = omega (arith, h.longest.front.phases, length-map window.lists (λ (list : List Platoon). length list)) in
-        let all : All (ComesBy second) (platoons_at lists k) =
-          list-soon net.run.gap (most_of net node k) sensed.now net.run.look (streams_of net sensed heard (phase_links_at net node k)) (platoons_at lists k) (are.each k there) in
-        let taken : All (ComesBy second) (platoons_at window.lists k) =
-          subst (All (ComesBy second)) (sym (h.taken k)) (All-take (ComesBy second) (get_or (counts_of window.lists) k 0) (platoons_at lists k) all) in
-        All-map (λ (c : Cluster). c.arr ≤ second) (λ (p : Platoon). p.cluster) (platoons_at window.lists k) taken))
+    let there : k < length lists = omega (arith, h.longest.front.phases, length-map window.lists (λ (list : List Platoon). length list)) in
+    let all : All (ComesBy second) (platoons_at lists k) =
+    list-soon net.run.gap (most_of net node k) sensed.now net.run.look (streams_of net sensed heard (phase_links_at net node k)) (platoons_at lists k) (are.each k there) in
+    let taken : All (ComesBy second) (platoons_at window.lists k) =
+    subst (All (ComesBy second)) (sym (h.taken k)) (All-take (ComesBy second) (get_or (counts_of window.lists) k 0) (platoons_at lists k) all) in
+    All-map (λ (c : Cluster). c.arr ≤ second) (λ (p : Platoon). p.cluster) (platoons_at window.lists k) taken))

@@ -1,6 +1,5 @@
 -- What a commit makes is one.
-use Rattle.std.proofs.Common.{◌≡◌, ℕ, ◌+◌, List, refl, sym, ap, subst, ◌∙◌}
-use Rattle.std.specs.Option.{option_map}
+use Rattle.std.proofs.Common.{◌≡◌, ℕ, ◌+◌, List, sym, ap, subst, ◌∙◌}
 use Rattle.std.proofs.lemmas.Option.{same_Some}
 use Rattle.board_model.specs.declared.boards.Heard.{Heard}
 use Rattle.clusters.specs.Sound.{cluster_lists}

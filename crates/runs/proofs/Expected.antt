@@ -2,7 +2,6 @@
 use Rattle.std.proofs.Common.{◌≡◌, ℕ, zero, suc, ◌+◌, ◌-◌, ◌<◌, ◌≤◌, nat_lt, List, [], ◌∷◌, ◌++◌, All, length, map, get_or, take, sum, refl, sym, ap, subst, ◌∙◌, inl, inr, arith, length-append, append-nil}
 use Rattle.std.specs.Prelude.{AllPairs, ◌⊎◌}
 use Rattle.std.specs.List.{concat, range_with_len}
-use Rattle.std.specs.List.Sorted.{IsStrictlyIncreasing}
 use Rattle.std.proofs.lemmas.Bool.{cases_lt}
 use Rattle.std.proofs.lemmas.List.{ext_get_or, get_or_append_left, get_or-append-add, get_or_at, length-map}
 use Rattle.std.proofs.lemmas.List.Elements.{All-head, All-tail}
@@ -10,9 +9,9 @@ use Rattle.std.proofs.lemmas.List.FromFn.{length-range_with_len, get_or-range_wi
 use Rattle.std.proofs.lemmas.List.Kept.{AllPairs-from_increasing, IsStrictlyIncreasing-filter}
 use Rattle.std.proofs.lemmas.List.Sums.{sum_by-cons}
 use Rattle.board_model.specs.declared.boards.Heard.{Heard}
-use Rattle.clusters.specs.Cuts.{CannotJoin, IsCut, IsRun, filled, filled_from, first_of, last_of, run_at}
+use Rattle.clusters.specs.Cuts.{CannotJoin, IsRun, filled, filled_from, first_of, last_of, run_at}
 use Rattle.clusters.specs.Platoons.{ArePlatoons, ArePlatoonsOf, platoon_of, platoons_at, together}
-use Rattle.clusters.specs.Windows.{IsFront, IsLongest, IsWindow, counts_of}
+use Rattle.clusters.specs.Windows.{IsLongest, IsWindow, counts_of}
 use Rattle.clusters.specs.declared.shapes.Part.{Part}
 use Rattle.clusters.specs.declared.shapes.Platoon.{Platoon}
 use Rattle.clusters.specs.declared.shapes.Window.{Window}
@@ -83,23 +82,23 @@ module _ (gap most : ℕ) where
   same-cut [] (q ∷ qs) e up x y = absurd (let some = (All-head (IsRun gap most) q qs y.0).some in omega (arith, ap length e, length-append q (concat qs)))
   same-cut (r ∷ rs) [] e up x y = absurd (let some = (All-head (IsRun gap most) r rs x.0).some in omega (arith, ap length e, length-append r (concat rs)))
   same-cut (r ∷ rs) (q ∷ qs) e up x y = elim (cuts r (concat rs) q (concat qs) e) [
-    | inl g ↦ first g.0 g.1 g.2
-    | inr g ↦ second g.0 g.1 g.2
+    | inl g ↦ first (same-cut rs qs) g.0 g.1 g.2
+    | inr g ↦ second (same-cut rs qs) g.0 g.1 g.2
   ]
     where
       right : Rise (q ++ concat qs)
       right = subst Rise e up
 
-      both : r ≡ q → concat rs ≡ concat qs → r ∷ rs ≡ q ∷ qs
-      both same rest = ap (λ l. l ∷ rs) same ∙ ap (λ l. q ∷ l) (same-cut rs qs rest (rise-right r (concat rs) up) (All-tail (IsRun gap most) r rs x.0, behind r rs x.1) (All-tail (IsRun gap most) q qs y.0, behind q qs y.1))
+      both : (concat rs ≡ concat qs → Rise (concat rs) → Runs rs → Runs qs → rs ≡ qs) → r ≡ q → concat rs ≡ concat qs → r ∷ rs ≡ q ∷ qs
+      both others same rest = ap (λ l. l ∷ rs) same ∙ ap (λ l. q ∷ l) (others rest (rise-right r (concat rs) up) (All-tail (IsRun gap most) r rs x.0, behind r rs x.1) (All-tail (IsRun gap most) q qs y.0, behind q qs y.1))
 
-      first : (zs : List ℕ) → q ≡ r ++ zs → concat rs ≡ zs ++ concat qs → r ∷ rs ≡ q ∷ qs
-      first [] s t = both (sym (s ∙ append-nil r)) t
-      first (z ∷ zs) s t = absurd (no-longer r rs z zs (concat qs) x t (subst (IsRun gap most) s (All-head (IsRun gap most) q qs y.0)) (subst Rise s (rise-left q (concat qs) right)))
+      first : (concat rs ≡ concat qs → Rise (concat rs) → Runs rs → Runs qs → rs ≡ qs) → (zs : List ℕ) → q ≡ r ++ zs → concat rs ≡ zs ++ concat qs → r ∷ rs ≡ q ∷ qs
+      first others [] s t = both others (sym (s ∙ append-nil r)) t
+      first others (z ∷ zs) s t = absurd (no-longer r rs z zs (concat qs) x t (subst (IsRun gap most) s (All-head (IsRun gap most) q qs y.0)) (subst Rise s (rise-left q (concat qs) right)))
 
-      second : (zs : List ℕ) → r ≡ q ++ zs → concat qs ≡ zs ++ concat rs → r ∷ rs ≡ q ∷ qs
-      second [] s t = both (s ∙ append-nil q) (sym t)
-      second (z ∷ zs) s t = absurd (no-longer q qs z zs (concat rs) y t (subst (IsRun gap most) s (All-head (IsRun gap most) r rs x.0)) (subst Rise s (rise-left r (concat rs) up)))
+      second : (concat rs ≡ concat qs → Rise (concat rs) → Runs rs → Runs qs → rs ≡ qs) → (zs : List ℕ) → r ≡ q ++ zs → concat qs ≡ zs ++ concat rs → r ∷ rs ≡ q ∷ qs
+      second others [] s t = both others (s ∙ append-nil q) (sym t)
+      second others (z ∷ zs) s t = absurd (no-longer q qs z zs (concat rs) y t (subst (IsRun gap most) s (All-head (IsRun gap most) r rs x.0)) (subst Rise s (rise-left r (concat rs) up)))
 
 same-platoons : (gap most now look : ℕ) (streams : List Part) (a b : List Platoon) → ArePlatoons gap most now look streams a → ArePlatoons gap most now look streams b → a ≡ b
 same-platoons gap most now look streams a b h g =
@@ -131,24 +130,24 @@ no-more-or-more (x ∷ a) [] = elim (no-more-or-more a []) [
   | inr more ↦ inr (suc more.0, more.1)
   | inl none ↦ elim (cases_lt 0 x) [
     | inl some ↦ inr (0, some)
-    | inr no ↦ inl (λ k. by none no k)
+    | inr least ↦ inl (λ k. by none least k)
   ]
 ]
   where
     by : ((k : ℕ) → get_or a k 0 ≤ get_or [] k 0) → x ≤ 0 → (k : ℕ) → get_or (x ∷ a) k 0 ≤ get_or [] k 0
-    by none no zero = no
-    by none no (suc k) = none k
+    by none least zero = least
+    by none least (suc k) = none k
 no-more-or-more (x ∷ a) (y ∷ b) = elim (no-more-or-more a b) [
   | inr more ↦ inr (suc more.0, more.1)
   | inl none ↦ elim (cases_lt y x) [
     | inl some ↦ inr (0, some)
-    | inr no ↦ inl (λ k. by none no k)
+    | inr least ↦ inl (λ k. by none least k)
   ]
 ]
   where
     by : ((k : ℕ) → get_or a k 0 ≤ get_or b k 0) → x ≤ y → (k : ℕ) → get_or (x ∷ a) k 0 ≤ get_or (y ∷ b) k 0
-    by none no zero = no
-    by none no (suc k) = none k
+    by none least zero = least
+    by none least (suc k) = none k
 
 one-longest : (lists : List (List Platoon)) (a b : List ℕ) → IsLongest lists a → IsLongest lists b → a ≡ b
 one-longest lists a b h g =

@@ -1,7 +1,6 @@
 -- The platoons that are expected can be planned, by what they are.
-use Rattle.std.proofs.Common.{◌≡◌, ℕ, zero, suc, ◌+◌, ◌-◌, ◌<◌, ◌≤◌, nat_lt, List, [], ◌∷◌, ◌++◌, All, length, map, get_or, true, refl, sym, ap, subst, ◌∙◌, inl, inr, arith, length-append}
+use Rattle.std.proofs.Common.{◌≡◌, ℕ, zero, suc, ◌+◌, ◌-◌, ◌<◌, ◌≤◌, nat_lt, List, [], ◌∷◌, ◌++◌, All, length, map, get_or, true, refl, sym, ap, subst, ◌∙◌, arith, length-append}
 use Rattle.std.specs.List.{concat, range_with_len}
-use Rattle.std.specs.List.Sorted.{IsStrictlyIncreasing}
 use Rattle.std.proofs.lemmas.Bool.{ltb-true}
 use Rattle.std.proofs.lemmas.List.{get_or_append_left, get_or-append-add, length-map}
 use Rattle.std.proofs.lemmas.List.Elements.{All-cons, All-filter, All-from_get_or, All-get_or, All-head, All-nil, All-tail, All-weaker, filter_passes}
@@ -62,8 +61,8 @@ filled-few : (series : List ℕ) → length (filled series) ≤ length series
 unfolding filled_from
 filled-few series = rising-few (filled series) (length series)
     (IsStrictlyIncreasing-filter (λ x. nat_lt 0 (get_or series x 0)) (range_with_len 0 (length series)) (λ k inside.
-      let long = length-range_with_len 0 (length series) in
-      omega (arith, get_or-range_with_len 0 (length series) k 0 (omega arith), get_or-range_with_len 0 (length series) (k + 1) 0 (omega arith))))
+    let long = length-range_with_len 0 (length series) in
+    omega (arith, get_or-range_with_len 0 (length series) k 0 (omega arith), get_or-range_with_len 0 (length series) (k + 1) 0 (omega arith))))
     (filled-within series)
 
 module _ (gap most : ℕ) (series : List ℕ) where

@@ -1,5 +1,5 @@
 -- What a node has heard in a round is what stands at the places of its readings.
-use Rattle.std.proofs.Common.{◌≡◌, ℕ, suc, ◌+◌, ◌<◌, ◌≤◌, true, false, List, Option, Some, None, All, length, map, filter, get_or, is_some, refl, sym, ap, subst, ◌∙◌, inl, inr, arith}
+use Rattle.std.proofs.Common.{◌≡◌, ℕ, ◌<◌, true, false, List, Option, Some, None, All, length, map, get_or, is_some, refl, sym, ap, subst, ◌∙◌, inl, inr, arith}
 use Rattle.std.specs.Prelude.{Contains, IfSome, unwrap_or}
 use Rattle.std.specs.List.Sorted.{IsStrictlyIncreasing}
 use Rattle.std.proofs.lemmas.Bool.{cases_lt}
@@ -8,21 +8,35 @@ use Rattle.std.proofs.lemmas.List.Elements.{All-filter, All-get_or, filter_passe
 use Rattle.std.proofs.lemmas.List.Kept.{AllPairs-from_increasing, IsStrictlyIncreasing-filter}
 use Rattle.arrivals.specs.Amounts.{Amounts}
 use Rattle.board_model.specs.declared.boards.Heard.{Heard}
-use Rattle.histories.specs.Histories.{IsLawful, version_at}
+use Rattle.histories.specs.Histories.{version_at}
 use Rattle.histories.specs.Steps.{board_steps, publisher}
-use Rattle.histories.specs.declared.steps.BoardStep.TheVariants.{Read}
 use Rattle.intersection_actor.specs.Commits.{Commitment}
 use Rattle.net_numbers.specs.Numbers.{Net, no_link}
 use Rattle.net_numbers.specs.Outline.{IsLink, link_at}
+use Rattle.net_numbers.specs.declared.roads.Link.{Link}
+use Rattle.road_net.specs.Joins as joins
+use Rattle.road_net.specs.Joins.{links_of_node, node_at}
 use Rattle.road_net.specs.Network.{IsNetwork, entry_links, heard_links}
-use Rattle.road_net.specs.declared.joins.Side.TheVariants.{To}
 use Rattle.road_net.proofs.AtSide.{links_of_node-are}
 use Rattle.runs.specs.Runs.{AllCommit, HearAlong, hearing}
 use Rattle.runs.proofs.Places.{StandsAt, read-step}
 
+-- the links at a side of a node rise, and have the node at that side
+rise-at : (side : _) (links : List Link) (n : ℕ) → IsStrictlyIncreasing (links_of_node side links n)
+rise-at side links n = (links_of_node-are side n links).rising
+
+have-at : (side : _) (links : List Link) (n : ℕ) → All (λ l. (l < length links) × (node_at side (joins.link_at links l) ≡ Some n)) (links_of_node side links n)
+have-at side links n = (links_of_node-are side n links).have
+
+entry-rise : (net : Net) (n : ℕ) → IsStrictlyIncreasing (entry_links net n)
+entry-rise net n = search (rise-at)
+
+entry-have : (net : Net) (n : ℕ) → All (λ l. (l < length net.links) × ((link_at net l).to ≡ Some n)) (entry_links net n)
+entry-have net n = search (have-at)
+
 -- the links on which a node hears another one rise
 heard-rise : (net : Net) (n : ℕ) → IsStrictlyIncreasing (heard_links net n)
-heard-rise net n = IsStrictlyIncreasing-filter (λ l. is_some (link_at net l).from) (entry_links net n) (links_of_node-are To n net.links).rising
+heard-rise net n = IsStrictlyIncreasing-filter (λ l. is_some (link_at net l).from) (entry_links net n) (entry-rise net n)
 
 -- so they differ
 pub heard-once : (net : Net) (n i j : ℕ) → i < length (heard_links net n) → j < length (heard_links net n) → get_or (heard_links net n) i 0 ≡ get_or (heard_links net n) j 0 → i ≡ j
@@ -49,7 +63,7 @@ pub heard-ends : (net : Net) (n q : ℕ) → IsNetwork net → q < length (heard
 heard-ends net n q network inside =
     let link : ℕ = get_or (heard_links net n) q 0 in
     let comes : is_some (link_at net link).from ≡ true = All-get_or (λ l. is_some (link_at net l).from ≡ true) (heard_links net n) q 0 inside (filter_passes (λ l. is_some (link_at net l).from) (entry_links net n)) in
-    let at : (link < length net.links) × ((link_at net link).to ≡ Some n) = All-get_or (λ l. (l < length net.links) × ((link_at net l).to ≡ Some n)) (heard_links net n) q 0 inside (All-filter (λ l. is_some (link_at net l).from) (λ l. (l < length net.links) × ((link_at net l).to ≡ Some n)) (entry_links net n) (links_of_node-are To n net.links).have) in
+    let at : (link < length net.links) × ((link_at net link).to ≡ Some n) = All-get_or (λ l. (l < length net.links) × ((link_at net l).to ≡ Some n)) (heard_links net n) q 0 inside (All-filter (λ l. is_some (link_at net l).from) (λ l. (l < length net.links) × ((link_at net l).to ≡ Some n)) (entry_links net n) (entry-have net n)) in
     let is : IsLink (length net.node_names) (link_at net link) = All-get_or (IsLink (length net.node_names)) net.links link no_link at.0 network.outline.links in
     by link (link_at net link).from refl comes is.from at
   where

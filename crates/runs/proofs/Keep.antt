@@ -1,15 +1,14 @@
 -- What each commit of a run keeps of its node's line.
-use Rattle.std.proofs.Common.{◌≡◌, ℕ, zero, suc, ◌+◌, ◌*◌, ◌<◌, ◌≤◌, List, Option, Some, None, All, length, map, true, false, refl, sym, ap, subst, ◌∙◌, inl, inr, arith, leb}
+use Rattle.std.proofs.Common.{◌≡◌, ℕ, zero, suc, ◌+◌, ◌*◌, ◌<◌, ◌≤◌, List, Option, Some, None, All, length, refl, sym, subst, ◌∙◌, arith, leb}
 use Rattle.std.specs.Option.{option_map}
-use Rattle.std.proofs.lemmas.Bool.{cases_lt, cond_both, leb-true}
+use Rattle.std.proofs.lemmas.Bool.{cond_both, leb-true}
 use Rattle.std.proofs.lemmas.List.{length-map}
 use Rattle.std.proofs.lemmas.Option.{none-some, same_Some}
 use Rattle.arrivals.specs.Amounts.{Amounts}
 use Rattle.board_model.specs.declared.boards.Heard.{Heard}
 use Rattle.clusters.specs.Sound.{ArePlannable, cluster_lists, clusters_of}
-use Rattle.clusters.specs.declared.shapes.Platoon.{Platoon}
-use Rattle.control_flow.specs.Greens.{BeginBy, GoesOn, IsContinued, IsGreen, IsLawful, head_at, head_in, row_after, spliced, standing}
-use Rattle.control_flow.specs.Timelines.{AreServings, line_of, rotation_of}
+use Rattle.control_flow.specs.Greens.{BeginBy, GoesOn, IsContinued, IsGreen, IsLawful, head_at, head_in, row_after, standing}
+use Rattle.control_flow.specs.Timelines.{AreServings, rotation_of}
 use Rattle.control_flow.specs.declared.greens.Green.{Green}
 use Rattle.control_flow.proofs.MakingLaws.{line_of-by, line_of-line, rotation_of-by, rotation_of-line}
 use Rattle.control_flow.proofs.RowLaws.{row_after-some}
@@ -19,7 +18,7 @@ use Rattle.intersection_actor.specs.Commits.{Commitment, IsCommit, line_for, pha
 use Rattle.intersection_actor.specs.Rounds.{first_head}
 use Rattle.net_numbers.specs.Numbers.{Net}
 use Rattle.net_numbers.specs.Outline.{plan_at}
-use Rattle.phase_plan.specs.Phases.{IsPlan, phase_at}
+use Rattle.phase_plan.specs.Phases.{IsPlan}
 use Rattle.phase_plan.specs.declared.Phase.{Phase}
 use Rattle.road_net.specs.Network.{IsNetwork}
 use Rattle.road_net.specs.declared.senses.Sensed.{Sensed}
@@ -33,7 +32,7 @@ use Rattle.switch_rules.specs.declared.Served.{Served}
 use Rattle.runs.specs.Runs.{AllCommit, line_before, sensed_in}
 use Rattle.runs.proofs.ArrivalLaws.{window-soon}
 use Rattle.runs.proofs.Gathered.{plannable, window-count}
-use Rattle.runs.proofs.Lines.{AllKeep, KeepsLine, plan-is}
+use Rattle.runs.proofs.Lines.{AllKeep, plan-is}
 use Rattle.runs.proofs.ServedLaws.{answer-next, greens-by}
 
 -- a line as the rounds leave it: lawful, and its rows begin by 100,000

@@ -1,5 +1,5 @@
 -- What every run keeps.
-use Rattle.std.proofs.Common.{◌≡◌, ℕ, ◌*◌, ◌/◌, ◌<◌, ◌≤◌, List, All, length, sym, ap, subst, ◌∙◌, arith}
+use Rattle.std.proofs.Common.{◌≡◌, ℕ, ◌<◌, List, All, length, sym, ap, subst, ◌∙◌, arith}
 use Rattle.std.proofs.lemmas.Nat.{div_below}
 use Rattle.arrivals.specs.Amounts.{Amounts}
 use Rattle.control_flow.specs.Greens.{IsLawful as IsLawfulLine, standing}
@@ -12,10 +12,10 @@ use Rattle.road_net.specs.Network.{IsNetwork}
 use Rattle.schedule_meaning.specs.Best.{IsLeast}
 use Rattle.runs.specs.Kept.{Kept, last_line}
 use Rattle.runs.specs.Plans.{IsPlannedFrom, NamesVersions, NeverOlder}
-use Rattle.runs.specs.Runs.{IsRun, end_of_run, line_before}
+use Rattle.runs.specs.Runs.{IsRun, line_before}
 use Rattle.runs.specs.declared.records.RunRecord.{RunRecord}
 use Rattle.runs.proofs.Lines.{AllKeep, last-is, lawful-after, safe, shows}
-use Rattle.runs.proofs.Records.{all-least, all-named, all-planned, never-older}
+use Rattle.runs.proofs.PlanLaws.{all-least, all-named, all-planned, never-older}
 
 module _ (net : Net) (network : IsNetwork net) (arrivals : Amounts) (h : List ℕ) (lawful : IsLawful net h) (run : RunRecord) (is : IsRun net arrivals h run) (keep : AllKeep net is.made net.run.rounds) where
   line-is : (node : ℕ) → node < length net.node_names → last_line run node ≡ line_before net is.made net.run.rounds node

@@ -10,5 +10,5 @@ pub mod Lines
 pub mod One
 pub mod Past
 pub mod Places
-pub mod Records
+pub mod PlanLaws
 pub mod ServedLaws

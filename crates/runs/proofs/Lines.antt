@@ -1,10 +1,9 @@
 -- What lawful lines and a past that stays give: the network is safe, and the last lines show what the world moved by.
-use Rattle.std.proofs.Common.{◌≡◌, ℕ, zero, suc, ◌+◌, ◌*◌, ◌/◌, ◌<◌, ◌≤◌, List, [], Option, Some, None, All, length, map, get_or, true, refl, sym, ap, subst, ◌∙◌, inl, inr, arith}
-use Rattle.std.specs.Prelude.{Contains, IfSome, IsTrue, MatchOption, unwrap_or}
-use Rattle.std.specs.List.{range_with_len}
+use Rattle.std.proofs.Common.{◌≡◌, ℕ, zero, suc, ◌+◌, ◌*◌, ◌/◌, ◌<◌, ◌≤◌, List, [], Option, Some, None, length, get_or, refl, sym, ap, subst, ◌∙◌, inl, inr, arith}
+use Rattle.std.specs.Prelude.{Contains, IfSome, IsSome, IsTrue, MatchOption, unwrap_or}
 use Rattle.std.proofs.lemmas.Bool.{cases_lt}
 use Rattle.std.proofs.lemmas.List.{get_or_default}
-use Rattle.std.proofs.lemmas.List.Elements.{All-get_or, All-weaker}
+use Rattle.std.proofs.lemmas.List.Elements.{All-get_or}
 use Rattle.std.proofs.lemmas.List.FromFn.{get_or-map-range_with_len}
 use Rattle.std.proofs.lemmas.Nat.{le-div}
 use Rattle.arrivals.specs.Amounts.{Amounts}
@@ -21,7 +20,7 @@ use Rattle.phase_plan.proofs.RingLaws.{phase-bounds}
 use Rattle.road_net.specs.Joins.{IsConflict}
 use Rattle.road_net.specs.Network.{IsNetwork}
 use Rattle.runs.specs.Kept.{last_line}
-use Rattle.runs.specs.Runs.{IsRunBy, end_of_run, line_before, shown_by}
+use Rattle.runs.specs.Runs.{IsRunBy, line_before, shown_by}
 use Rattle.runs.specs.Safe.{AreSafe, BeginsBehind, IsGreenOf, IsSafe, times_of}
 use Rattle.runs.specs.declared.records.RunRecord.{RunRecord}
 
@@ -94,8 +93,8 @@ module _ (net : Net) (network : IsNetwork net) (lines : ℕ → List Green) (law
   safe-pair : (c : ℕ × ℕ) → (c.0 < length net.link_names) → IsConflict net.links c → AreSafe net lines c
   safe-pair c inside is = by (link_at net c.0).to refl is.ends
     where
-      by : (o : Option ℕ) → (link_at net c.0).to ≡ o → MatchOption o ⊥ (λ n. Unit {0}) → AreSafe net lines c
-      by None e none = absurd none
+      by : (o : Option ℕ) → (link_at net c.0).to ≡ o → IsSome o → AreSafe net lines c
+      by None e none = absurd (cc)
       by (Some node) e some =
           let other : (link_at net c.1).to ≡ Some node = sym is.node ∙ e in
           let link : IsLink (length net.node_names) (link_at net c.0) = All-get_or (IsLink (length net.node_names)) net.links c.0 no_link (let f = network.outline.road_count in omega arith) network.outline.links in

@@ -1,5 +1,5 @@
 -- A lawful history has one run.
-use Rattle.std.proofs.Common.{◌≡◌, ℕ, zero, suc, ◌+◌, ◌*◌, ◌<◌, ◌≤◌, List, [], Option, Some, length, map, get_or, refl, sym, ap, subst, ◌∙◌, inl, inr, arith}
+use Rattle.std.proofs.Common.{◌≡◌, ℕ, zero, suc, ◌*◌, ◌<◌, ◌≤◌, List, length, map, get_or, refl, sym, ap, subst, ◌∙◌, inl, inr, arith}
 use Rattle.std.specs.Prelude.{IsSome}
 use Rattle.std.specs.List.{range_with_len}
 use Rattle.std.proofs.lemmas.Bool.{cases_lt}
@@ -8,11 +8,10 @@ use Rattle.arrivals.specs.Amounts.{Amounts}
 use Rattle.board_model.specs.declared.boards.Heard.{Heard}
 use Rattle.board_model.specs.declared.forecasts.Row.{Row}
 use Rattle.histories.specs.Histories.{IsLawful, version_at}
-use Rattle.histories.specs.Steps.{board_steps, publisher}
+use Rattle.histories.specs.Steps.{board_steps}
 use Rattle.histories.proofs.Versions.{version-law}
 use Rattle.intersection_actor.specs.Commits.{record_of}
 use Rattle.net_numbers.specs.Numbers.{Net}
-use Rattle.net_numbers.specs.Outline.{link_at}
 use Rattle.net_simulator.specs.Arriving.{arriving_of}
 use Rattle.net_simulator.specs.Flow.{Passed}
 use Rattle.net_simulator.specs.Sums.{link_totals, totals}
@@ -69,7 +68,7 @@ module _ (net : Net) (network : IsNetwork net) (arrivals : Amounts) (h : List �
       by l ends zero e = refl
       by l ends (suc k) e =
           let (p, w, earlier_place, in_rounds, told, at_p) = published net network h lawful l ends.teller n ends.from ends.to place k (let inside = at.inside in omega arith) e in
-          let bound = (version-law net network l h place lawful at.inside (subst IsSome (sym ends.from) tt) (subst IsSome (sym ends.to) tt)).1 in
+          let bound = (version-law net network l h place lawful at.inside (subst IsSome (sym ends.from) refl) (subst IsSome (sym ends.to) refl)).1 in
           let most : k ≤ r = omega (arith, bound, e, at.round_is) in
           let same : a.made k ends.teller ≡ b.made k ends.teller = elim (cases_lt k r) [
             | inl before_it ↦ before k ends.teller before_it ends.below

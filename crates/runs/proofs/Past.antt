@@ -1,5 +1,5 @@
 -- What passes the links depends only on what the nodes of the network show before.
-use Rattle.std.proofs.Common.{◌≡◌, ℕ, zero, suc, ◌+◌, ◌-◌, ◌*◌, ◌/◌, ◌<◌, ◌≤◌, List, [], ◌∷◌, ◌++◌, Option, Some, None, All, length, map, get_or, refl, sym, ap, subst, ◌∙◌, inl, inr, arith}
+use Rattle.std.proofs.Common.{◌≡◌, ℕ, zero, suc, ◌+◌, ◌<◌, ◌≤◌, List, [], ◌∷◌, ◌++◌, Option, Some, None, length, map, refl, sym, ap, subst, ◌∙◌, inl, inr, arith}
 use Rattle.std.specs.Prelude.{IfSome}
 use Rattle.std.specs.List.{flat_map, range_with_len}
 use Rattle.std.proofs.lemmas.Bool.{cases_lt}
@@ -10,7 +10,7 @@ use Rattle.net_numbers.specs.Outline.{IsLink, link_at, turns_at}
 use Rattle.road_net.specs.Joins.{split_of}
 use Rattle.road_net.specs.Network.{IsNetwork}
 use Rattle.road_net.specs.Totals.{total}
-use Rattle.net_simulator.specs.Flow.{Passed, discharged, discharged_to, history, longer, passed_in, passing, past_of}
+use Rattle.net_simulator.specs.Flow.{Passed, discharged, discharged_to, history, passed_in, past_of}
 
 -- the node at the end of a link is one of the network
 end-below : (net : Net) → IsNetwork net → (l : ℕ) → IfSome (link_at net l).to (λ n. n < length net.node_names)

@@ -1,6 +1,5 @@
 -- The places of a lawful history: each step of a node in a round has one, and a version was published before it is read.
-use Rattle.std.proofs.Common.{◌≡◌, ℕ, zero, suc, ◌+◌, ◌-◌, ◌*◌, ◌/◌, ◌%◌, ◌<◌, ◌≤◌, Bool, true, false, cond, List, [], ◌∷◌, ◌++◌, Option, Some, None, length, map, take, drop, get_or, filter, is_some, refl, sym, ap, subst, ◌∙◌, inl, inr, arith, length-append, eqb, ne_eqb, eq-eqb, eqb-true}
-use Rattle.std.specs.Prelude.{IsSome, ◌⊎◌}
+use Rattle.std.proofs.Common.{◌≡◌, ℕ, zero, suc, ◌+◌, ◌-◌, ◌*◌, ◌/◌, ◌%◌, ◌<◌, ◌≤◌, Bool, true, false, cond, List, [], ◌∷◌, Option, Some, length, map, take, drop, get_or, filter, is_some, refl, sym, ap, subst, ◌∙◌, inl, inr, arith, length-append, eqb, ne_eqb, eq-eqb}
 use Rattle.std.proofs.lemmas.Bool.{cases_eq, cases_lt, cases_Bool}
 use Rattle.std.proofs.lemmas.List.{take-take, take-append-drop, take_more, get_or_append_left, get_or-append_right, get_or-map, length-map}
 use Rattle.std.proofs.lemmas.Nat.{mod-mul-add, div-mul-add}
@@ -72,11 +71,11 @@ read-first net n k l inside is = elim (cases_lt k (length (heard_links net n))) 
       sym (get_or-append_right (map Read (heard_links net n)) (map Publish (told_links net n)) (length (map Read (heard_links net n))) k (Read 0) refl (omega arith)
       ∙ get_or-map Publish (told_links net n) j 0 (Read 0) (omega arith))
       ∙ is in
-      no (ap is_read e))
+      never (ap is_read e))
 ]
   where
-    no : false ≡ true → ⊥
-    no e = cc
+    never : false ≡ true → ⊥
+    never e = cc
 
 -- of two places of a node, that of the earlier step comes first
 count-part : (n i : ℕ) (xs : List ℕ) → count n (take i xs) ≤ count n xs
@@ -142,31 +141,31 @@ module _ (net : Net) (network : IsNetwork net) (h : List ℕ) (lawful : IsLawful
         let one : suc i ≡ i + 1 = omega arith in
         let more : version_at (board_steps net) h link i + cond (passes i) 1 0 ≡ suc k = sym (version-more (board_steps net) h link i) ∙ ap (version_at (board_steps net) h link) (sym one) ∙ e in
         elim (cases_Bool (passes i)) [
-          | inl yes ↦ (i, (omega arith), yes, (let z : version_at (board_steps net) h link i + 1 ≡ suc k = ap (λ b. version_at (board_steps net) h link i + cond b 1 0) (sym yes) ∙ more in omega arith))
-          | inr no ↦
-              let z : version_at (board_steps net) h link i + 0 ≡ suc k = ap (λ b. version_at (board_steps net) h link i + cond b 1 0) (sym no) ∙ more in
-              let (place, before, yes, v) = last-publish i k (omega arith) in
-              (place, (omega arith), yes, v)
+          | inl said ↦ (i, (omega arith), said, (let z : version_at (board_steps net) h link i + 1 ≡ suc k = ap (λ b. version_at (board_steps net) h link i + cond b 1 0) (sym said) ∙ more in omega arith))
+          | inr unsaid ↦
+              let z : version_at (board_steps net) h link i + 0 ≡ suc k = ap (λ b. version_at (board_steps net) h link i + cond b 1 0) (sym unsaid) ∙ more in
+              let (place, before, said, v) = last-publish i k (omega arith) in
+              (place, (omega arith), said, v)
         ]
 
     -- it is its publisher's
     by-publisher : (place : ℕ) → passes place ≡ true → get_or h place 0 ≡ f
-    by-publisher place yes = elim (cases_eq (get_or h place 0) f) [
+    by-publisher place said = elim (cases_eq (get_or h place 0) f) [
       | inl same ↦ same
       | inr other ↦ absurd (
           let n : ℕ = get_or h place 0 in
-          let no : passes place ≡ false = none-found (is_publish_of link) (board_steps net n) (count n (take place h) % length (board_steps net n)) (Read 0) (others n other) refl in
-          apart yes no)
+          let none : passes place ≡ false = none-found (is_publish_of link) (board_steps net n) (count n (take place h) % length (board_steps net n)) (Read 0) (others n other) refl in
+          apart said none)
     ]
       where
         apart : {b : Bool} → b ≡ true → b ≡ false → ⊥
-        apart yes no = (let e : true ≡ false = sym yes ∙ no in cc)
+        apart said none = (let e : true ≡ false = sym said ∙ none in cc)
 
     -- A version was published in the round before its number, by a step that stands before the place.
     pub published : (i k : ℕ) → i ≤ length h → version_at (board_steps net) h link i ≡ suc k → (place : ℕ) × (p : ℕ) × (place < i) × (k < net.run.rounds) × (length (heard_links net f) ≤ p) × StandsAt net h k f p place
     published i k inside e =
-        let (place, before, yes, v) = last-publish i k e in
-        let there : get_or h place 0 ≡ f = by-publisher place yes in
+        let (place, before, said, v) = last-publish i k e in
+        let there : get_or h place 0 ≡ f = by-publisher place said in
         let (round, p, below, at0) = step-of place (omega arith) in
         let at : StandsAt net h round f p place = subst (λ n. StandsAt net h round n p place) there at0 in
         let w : ℕ = length (board_steps net f) in
@@ -177,12 +176,12 @@ module _ (net : Net) (network : IsNetwork net) (h : List ℕ) (lawful : IsLawful
         let more : count f (take (place + 1) h) ≡ round * w + p + 1 = ap (count f) (take_more h place 0 (omega arith)) ∙ count-append f (take place h) (get_or h place 0 ∷ []) ∙ ap (λ n. count f (take place h) + count f (n ∷ [])) there ∙ ap (λ c. count f (take place h) + c) (count-one f) ∙ ap (λ c. c + 1) counted in
         let low = made-within (board_steps net) link f others once round (count f (take place h)) (omega arith) (omega arith) in
         let high = made-within (board_steps net) link f others once round (count f (take (place + 1) h)) (omega arith) (omega arith) in
-        let grown : version_at (board_steps net) h link (place + 1) ≡ k + 1 = version-more (board_steps net) h link place ∙ ap (λ b. version_at (board_steps net) h link place + cond b 1 0) yes ∙ ap (λ c. c + 1) v in
+        let grown : version_at (board_steps net) h link (place + 1) ≡ k + 1 = version-more (board_steps net) h link place ∙ ap (λ b. version_at (board_steps net) h link place + cond b 1 0) said ∙ ap (λ c. c + 1) v in
         let same : round ≡ k = omega (arith, low.0, high.1, version, next, grown, v) in
-        (place, p, before, (omega arith), told p place small at.step_is yes, subst (λ r. StandsAt net h r f p place) same at)
+        (place, p, before, (omega arith), told p place small at.step_is said, subst (λ r. StandsAt net h r f p place) same at)
       where
         told : (p place : ℕ) → p < length (board_steps net f) → step_at (board_steps net) h place ≡ get_or (board_steps net f) p (Read 0) → passes place ≡ true → length (heard_links net f) ≤ p
-        told p place small is yes = elim (cases_lt p (length (heard_links net f))) [
+        told p place small is said = elim (cases_lt p (length (heard_links net f))) [
           | inr past ↦ past
-          | inl first ↦ absurd (let e : false ≡ true = sym (ap (is_publish_of link) (is ∙ read-step net f p first)) ∙ yes in cc)
+          | inl first ↦ absurd (let e : false ≡ true = sym (ap (is_publish_of link) (is ∙ read-step net f p first)) ∙ said in cc)
         ]

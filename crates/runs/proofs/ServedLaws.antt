@@ -1,9 +1,9 @@
 -- What the best answer of an instance serves.
-use Rattle.std.proofs.Common.{◌≡◌, ℕ, ◌+◌, ◌<◌, ◌≤◌, List, [], ◌∷◌, All, length, get_or, sum, Option, None, Some, sym, ap, subst, ◌∙◌, arith}
+use Rattle.std.proofs.Common.{◌≡◌, ℕ, ◌+◌, ◌<◌, ◌≤◌, List, [], ◌∷◌, All, length, sum, Some, sym, ap, subst, arith}
 use Rattle.std.specs.Option.{option_map}
-use Rattle.std.proofs.lemmas.List.Elements.{All-cons, All-get_or, All-nil}
+use Rattle.std.proofs.lemmas.List.Elements.{All-cons, All-nil}
 use Rattle.foundation.proofs.OptionLaws.{option-cases}
-use Rattle.phase_plan.specs.Phases.{IsPhase, IsPlan, no_phase, phase_at}
+use Rattle.phase_plan.specs.Phases.{IsPlan}
 use Rattle.phase_plan.specs.declared.Phase.{Phase}
 use Rattle.phase_plan.proofs.RingLaws.{phase-bounds}
 use Rattle.switch_rules.specs.Orders.{one_less}

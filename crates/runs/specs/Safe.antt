@@ -1,5 +1,5 @@
 -- When the signals of a network are safe.
-use Rattle.std.specs.Prelude.{◌≡◌, ℕ, ◌+◌, ◌≤◌, IsTrue, List, All, Contains, Option, MatchOption, unwrap_or}
+use Rattle.std.specs.Prelude.{◌≡◌, ℕ, ◌+◌, ◌≤◌, IsTrue, List, All, Contains, MatchOption, unwrap_or}
 use Rattle.control_flow.specs.Greens.{covers}
 use Rattle.control_flow.specs.declared.greens.Green.{Green}
 use Rattle.net_numbers.specs.Numbers.{Net}

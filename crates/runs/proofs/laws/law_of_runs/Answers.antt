@@ -1,4 +1,4 @@
-use Rattle.std.proofs.Common.{◌≤◌, arith}
+use Rattle.std.proofs.Common.{arith}
 use Rattle.runs.proofs.Keep.{all-keep}
 use Rattle.runs.proofs.KeptLaws.{kept}
 use Rattle.runs.proofs.laws.law_of_runs.Goals as goal

@@ -1,15 +1,14 @@
 -- The plan records of a run.
-use Rattle.std.proofs.Common.{◌≡◌, ℕ, zero, suc, ◌+◌, ◌-◌, ◌*◌, ◌<◌, ◌≤◌, List, [], ◌∷◌, All, length, map, take, get_or, refl, sym, ap, subst, ◌∙◌, arith}
+use Rattle.std.proofs.Common.{◌≡◌, ℕ, zero, suc, ◌+◌, ◌-◌, ◌*◌, ◌<◌, ◌≤◌, List, [], ◌∷◌, All, length, map, get_or, refl, sym, ap, subst, ◌∙◌, arith}
 use Rattle.std.specs.Prelude.{Contains}
 use Rattle.std.specs.List.{flat_map, range_with_len}
-use Rattle.std.proofs.lemmas.List.{ext_get_or, get_or_default, get_or-map, length-map}
+use Rattle.std.proofs.lemmas.List.{ext_get_or, get_or-map, length-map}
 use Rattle.std.proofs.lemmas.List.Elements.{All-append, All-cons, All-contains, All-nil}
 use Rattle.arrivals.specs.Amounts.{Amounts}
 use Rattle.board_model.specs.declared.boards.Heard.{Heard}
 use Rattle.clusters.specs.Platoons.{ArePlatoonsOf}
-use Rattle.histories.specs.Histories.{count, IsLawful, round_at, step_at, version_at}
+use Rattle.histories.specs.Histories.{IsLawful, version_at}
 use Rattle.histories.specs.Steps.{board_steps}
-use Rattle.histories.specs.declared.steps.BoardStep.TheVariants.{Read}
 use Rattle.histories.proofs.Versions.{version-rises}
 use Rattle.intersection_actor.specs.Commits.{Commitment, record_of, used_of}
 use Rattle.intersection_actor.specs.declared.records.PlanRecord.{PlanRecord}
@@ -18,7 +17,7 @@ use Rattle.net_numbers.specs.Numbers.{Net}
 use Rattle.road_net.specs.Network.{IsNetwork, heard_links}
 use Rattle.schedule_meaning.specs.Best.{IsLeast}
 use Rattle.schedule_meaning.proofs.Choosing.{best-least}
-use Rattle.runs.specs.Plans.{IsOfPlace, IsPlannedFrom, NamesVersions, NeverOlder, heard_by}
+use Rattle.runs.specs.Plans.{IsPlannedFrom, NamesVersions, NeverOlder, heard_by}
 use Rattle.runs.specs.Runs.{AllCommit, HearAlong, hearing, plans_in, plans_of, sensed_in}
 use Rattle.runs.proofs.Heard.{heard-at, heard-count, heard-once}
 use Rattle.runs.proofs.Places.{StandsAt, comes-first, first-small, place-of}
@@ -38,7 +37,7 @@ contains-map f xs x (k, below, is) = (k, (omega (arith, length-map xs f)), get_o
 pub all-plans : (P : PlanRecord → Type 0) (net : Net) (heard : ℕ → ℕ → List Heard) (made : ℕ → ℕ → Commitment) (rounds : ℕ)
     → ((r n : ℕ) → r < rounds → n < length net.node_names → P (record_of n r (heard r n) (made r n))) → All P (plans_of net heard made rounds)
 all-plans P net heard made rounds each = all-flat P (plans_in net heard made) 0 rounds (λ r least less.
-  all-range P (λ n. record_of n r (heard r n) (made r n)) 0 (length net.node_names) (λ n least below. each r n (omega arith) (omega arith)))
+    all-range P (λ n. record_of n r (heard r n) (made r n)) 0 (length net.node_names) (λ n least below. each r n (omega arith) (omega arith)))
 
 -- the version that is used, of a link heard
 used : Heard → Used
@@ -49,7 +48,7 @@ used-links [] = refl
 used-links (x ∷ xs) = ap (λ l. x.link ∷ l) (used-links xs)
 
 module _ (net : Net) (network : IsNetwork net) (arrivals : Amounts) (h : List ℕ) (lawful : IsLawful net h) (heard : ℕ → ℕ → List Heard) (made : ℕ → ℕ → Commitment)
-  (commits : AllCommit net arrivals heard made net.run.rounds) (along : HearAlong net h heard made) where
+    (commits : AllCommit net arrivals heard made net.run.rounds) (along : HearAlong net h heard made) where
   names : (r n : ℕ) → r < net.run.rounds → n < length net.node_names → NamesVersions net h (record_of n r (heard r n) (made r n))
   unfolding used
   names r n less below = record {
@@ -133,14 +132,14 @@ module _ (net : Net) (network : IsNetwork net) (arrivals : Amounts) (h : List �
       let long : length (used_of (heard r n)) ≡ length (heard r n) = length-map (heard r n) used in
       let count : length (heard r n) ≡ length (heard_by net made (record_of n r (heard r n) (made r n))) = sym (length-map (used_of (heard r n)) (λ (u : Used). hearing net made u.link u.version) ∙ long) in
       ext_get_or none (heard r n) (heard_by net made (record_of n r (heard r n) (made r n))) count (λ q inside.
-        let first : q < length (heard_links net n) = omega (arith, heard-count net arrivals h heard made net.run.rounds commits along r n less below) in
-        let (place, at) = place-of net network h lawful r n q less (first-small net n q first) in
-        let l : ℕ = get_or (heard_links net n) q 0 in
-        let e : get_or (heard r n) q none ≡ hearing net made l (version_at (board_steps net) h l place) = heard-at net arrivals h heard made net.run.rounds commits along r n q place less below first at none in
-        e
-        ∙ sym (ap (λ (x : Heard). hearing net made x.link x.version) e)
-        ∙ sym (ap (λ (u : Used). hearing net made u.link u.version) (get_or-map used (heard r n) q none (used none) inside))
-        ∙ sym (get_or-map (λ (u : Used). hearing net made u.link u.version) (used_of (heard r n)) q (used none) none (omega arith)))
+      let first : q < length (heard_links net n) = omega (arith, heard-count net arrivals h heard made net.run.rounds commits along r n less below) in
+      let (place, at) = place-of net network h lawful r n q less (first-small net n q first) in
+      let l : ℕ = get_or (heard_links net n) q 0 in
+      let e : get_or (heard r n) q none ≡ hearing net made l (version_at (board_steps net) h l place) = heard-at net arrivals h heard made net.run.rounds commits along r n q place less below first at none in
+      e
+      ∙ sym (ap (λ (x : Heard). hearing net made x.link x.version) e)
+      ∙ sym (ap (λ (u : Used). hearing net made u.link u.version) (get_or-map used (heard r n) q none (used none) inside))
+      ∙ sym (get_or-map (λ (u : Used). hearing net made u.link u.version) (used_of (heard r n)) q (used none) none (omega arith)))
 
   planned : (r n : ℕ) → r < net.run.rounds → n < length net.node_names → IsPlannedFrom net arrivals made (record_of n r (heard r n) (made r n))
   planned r n less below =
