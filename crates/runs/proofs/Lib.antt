@@ -12,3 +12,4 @@ pub mod Past
 pub mod Places
 pub mod PlanLaws
 pub mod ServedLaws
+pub mod WholeLaws
