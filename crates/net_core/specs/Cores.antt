@@ -1,5 +1,5 @@
 -- A core, as contracts see it: a run under way.
-use Rattle.std.specs.Prelude.{◌≡◌, ◌≢◌, ℕ, ◌==◌, ◌≤◌, Bool, true, false, if◌then◌else◌, List, Option, Some, None, length, slice_get}
+use Rattle.std.specs.Prelude.{◌≡◌, ◌≢◌, ℕ, ◌+◌, ◌==◌, ◌≤◌, Bool, true, false, if◌then◌else◌, List, Option, Some, None, length, slice_get}
 use Rattle.arrivals.specs.Amounts.{Amounts}
 use Rattle.histories.specs.Histories.{count, IsLawful, IsUnderWay}
 use Rattle.histories.specs.Steps.{board_steps}

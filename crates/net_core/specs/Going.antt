@@ -1,5 +1,5 @@
 -- No public clause names these: what a core keeps between two steps.
-use Rattle.std.specs.Prelude.{◌≡◌, ℕ, ◌+◌, ◌-◌, ◌*◌, ◌<◌, ◌≤◌, ◌⊎◌, List, [], ◌∷◌, drop, length, map, slice_index_or}
+use Rattle.std.specs.Prelude.{◌≡◌, ℕ, ◌+◌, ◌-◌, ◌*◌, ◌<◌, ◌≤◌, ◌⊎◌, List, [], ◌∷◌, Some, drop, length, map, slice_index_or}
 use Rattle.std.specs.List.{range_with_len}
 use Rattle.arrivals.specs.Amounts.{Amounts}
 use Rattle.board_model.specs.declared.boards.Heard.{Heard}
@@ -13,6 +13,7 @@ use Rattle.intersection_actor.specs.declared.records.PlanRecord.{PlanRecord}
 use Rattle.intersection_actor.specs.declared.records.Want.{Want}
 use Rattle.intersection_actor.specs.declared.records.Want.TheVariants.{Publish, Done}
 use Rattle.net_numbers.specs.Numbers.{Net}
+use Rattle.net_numbers.specs.Outline.{link_at}
 use Rattle.net_simulator.specs.Arriving.{arriving_of}
 use Rattle.net_simulator.specs.Worlds.{Kept, Stands}
 use Rattle.road_net.specs.Network.{heard_links, told_links}
@@ -68,11 +69,11 @@ pub record Rests (net : Net) (heard : ℕ → ℕ → List Heard) (made : ℕ �
   pub ahead : round * net.run.step < end_of a.line
   pub records : a.records ≡ records_of heard made node round
 
--- The board of each link has its newest version, and the forecast of that version.
+-- There is a board for each link; that of a link between two nodes has its newest version, and the forecast of that version.
 pub record HasBoards (net : Net) (made : ℕ → ℕ → Commitment) (history : List ℕ) (boards : List Board) : Type 0 where
   pub all : length boards ≡ length net.link_names
-  pub versions : (link : ℕ) (d : Board) → link < length net.link_names → (slice_index_or boards link d).version ≡ version_at (board_steps net) history link (length history)
-  pub forecasts : (link : ℕ) (d : Board) → link < length net.link_names → (slice_index_or boards link d).forecast ≡ forecast_at net made link (version_at (board_steps net) history link (length history))
+  pub versions : (link from to : ℕ) (d : Board) → (link_at net link).from ≡ Some from → (link_at net link).to ≡ Some to → (slice_index_or boards link d).version ≡ version_at (board_steps net) history link (length history)
+  pub forecasts : (link from to : ℕ) (d : Board) → (link_at net link).from ≡ Some from → (link_at net link).to ≡ Some to → (slice_index_or boards link d).forecast ≡ forecast_at net made link (version_at (board_steps net) history link (length history))
 
 -- What holds of a run whose first rounds are done, whatever its nodes do in the next: their commits, what was heard along the
 -- history, the boards, and the world at the begin of the next round.

@@ -125,10 +125,10 @@ module _ (net : Net) (network : IsNetwork net) (h : List ℕ) (lawful : IsLawful
         ∙ ap (λ (o : Option ℕ). cond (is_some o) (step_if (link_at net link).from n (Publish link)) []) to
         ∙ ap (λ (o : Option ℕ). step_if o n (Publish link)) from
 
-    others : (n : ℕ) → (n ≡ f → ⊥) → filter (is_publish_of link) (board_steps net n) ≡ []
+    pub others : (n : ℕ) → (n ≡ f → ⊥) → filter (is_publish_of link) (board_steps net n) ≡ []
     others n other = publishes n ∙ ap (λ b. cond b (Publish link ∷ []) []) (ne_eqb f n (λ e. other (sym e)))
 
-    once : filter (is_publish_of link) (board_steps net f) ≡ Publish link ∷ []
+    pub once : filter (is_publish_of link) (board_steps net f) ≡ Publish link ∷ []
     once = publishes f ∙ ap (λ b. cond b (Publish link ∷ []) []) (eq-eqb f f refl)
 
     abbrev passes : ℕ → Bool
