@@ -1,1 +1,6 @@
+pub mod ArrivalLaws
+pub mod LineLaws
+pub mod PlanLaws
 pub mod RoundLaws
+pub mod ServedLaws
+pub mod SettleLaws

@@ -1,12 +1,12 @@
 -- How an actor goes on in its round.
-use Rattle.std.proofs.Common.{◌≡◌, ℕ, ◌+◌, length-append, List, [], ◌∷◌, ◌++◌, map, drop, length, refl, sym, ap, ◌∙◌, subst}
+use Rattle.std.proofs.Common.{◌≡◌, ℕ, length-append, List, [], ◌∷◌, ◌++◌, map, drop, length, refl, sym, ap, ◌∙◌, subst}
 use Rattle.std.proofs.lemmas.List.{drop-drop, append_assoc, map-append}
 use Rattle.board_model.specs.declared.boards.Heard.{Heard}
 use Rattle.net_numbers.specs.Numbers.{Net}
 use Rattle.intersection_actor.specs.Acting.{Acting, reading, with_heard}
 use Rattle.intersection_actor.specs.Rounds.{IsHearing, IsInRound, IsOf}
 use Rattle.intersection_actor.specs.declared.records.Want.{Want}
-use Rattle.intersection_actor.specs.declared.records.Want.TheVariants.{Read, Commit, Publish, Done}
+use Rattle.intersection_actor.specs.declared.records.Want.TheVariants.{Read}
 
 -- what is left to read begins with the link that is wanted
 left-is : (left : List ℕ) (link : ℕ) → reading left ≡ Read link → left ≡ link ∷ drop 1 left

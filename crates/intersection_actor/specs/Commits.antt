@@ -1,5 +1,5 @@
 -- A commit: what a node plans in a round, from its signal, what it senses and what it has heard.
-use Rattle.std.specs.Prelude.{◌≡◌, ℕ, ◌+◌, ◌*◌, List, [], Option, Some, map}
+use Rattle.std.specs.Prelude.{◌≡◌, ℕ, ◌+◌, ◌*◌, List, [], Some, map}
 use Rattle.std.specs.Option.{option_map}
 use Rattle.board_model.specs.declared.boards.Heard.{Heard}
 use Rattle.phase_plan.specs.declared.Phase.{Phase}

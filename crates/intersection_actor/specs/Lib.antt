@@ -1,3 +1,4 @@
 pub mod Acting
 pub mod Commits
 pub mod Rounds
+pub mod Steps

@@ -1,6 +1,5 @@
 -- Which actors are of a network, and what a commit makes of an actor.
-use Rattle.std.specs.Prelude.{◌≡◌, ℕ, ◌+◌, ◌*◌, ◌<◌, ◌≤◌, ◌++◌, List, [], ◌∷◌, Contains, true, length, map}
-use Rattle.phase_plan.specs.declared.Phase.{Phase}
+use Rattle.std.specs.Prelude.{◌≡◌, ℕ, ◌+◌, ◌*◌, ◌<◌, ◌≤◌, ◌++◌, [], ◌∷◌, Contains, true, length, map}
 use Rattle.switch_rules.specs.Sequences.{AreNextServings}
 use Rattle.switch_rules.specs.declared.Head.{Head}
 use Rattle.control_flow.specs.Greens.{BeginBy, IsLawful, colour_at, end_of, standing}

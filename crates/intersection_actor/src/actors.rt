@@ -1,19 +1,21 @@
 //! The actor of a node.
-use crate::reads::{heard_links, next_read};
+use crate::planning::{RoundPlan, Schedule, planned};
+use crate::reads::{heard_links, next_read, next_told};
 use crate::records::{PlanRecord, Want};
-use board_model::Heard;
+use board_model::{Forecast, Heard};
 use clusters::Window;
 use control_flow::greens::Timeline;
 use control_flow::rotation;
 use foundation::items::Items;
 use foundation::threads::CrossesThreads;
+use outflow::forecast;
 use road_net::{Network, Sensed};
+use schedule_meaning::Planner;
 use std::alloc::{AllocError, Global};
 use std::marker::Model;
 use switch_rules::{Head, Served};
 
-/// A node that runs its rounds. So far it senses, and reads what its neighbours tell; planning, and telling them what it will
-/// send, are not built yet.
+/// A node that runs its rounds: it senses, reads what its neighbours tell, plans, and tells them what it will send.
 ///
 /// docs/RULES.md, "A node's round".
 #[derive(Drop)]
@@ -60,8 +62,11 @@ impl Actor {
     ghost use Rattle.control_flow.specs.Greens.{end_of};
     ghost use Rattle.net_numbers.specs.Numbers.{Net};
     ghost use Rattle.road_net.specs.Senses.{IsSensedOf};
-    ghost use Rattle.intersection_actor.specs.Acting.{begun, with_heard};
-    ghost use Rattle.intersection_actor.specs.Rounds.{IsNew, IsOf};
+    ghost use Rattle.intersection_actor.specs.Acting.{IsPublish, begun, tells_from, wanting, with_heard};
+    ghost use Rattle.intersection_actor.specs.Rounds.{IsCommitted, IsNew, IsOf, KeepsPast};
+    ghost use Rattle.intersection_actor.specs.Steps.{IsPlanned};
+    ghost use Rattle.clusters.specs.Windows.{counts_of};
+    ghost use Rattle.outflow.specs.Outflow.{departures, forecast_of};
 
     /// The actor of a node before its first round: its signal's ring turns from second 0, and nothing is planned.
     ///
@@ -185,5 +190,123 @@ impl Actor {
         self.heard.push(heard)?;
         self.want = next_read(self.reads.as_slice(), self.heard.len());
         Ok(())
+    }
+
+    /// Plans, once it has read all: from the head that its timeline has when the round begins, and the window of the platoons
+    /// that it expects, it takes the planner's best answer. It adds the plan record, which names the versions that it heard, in
+    /// link order, and splices the timeline of the answer, for as long as the network looks ahead. It then wants to publish on
+    /// the first link on which it tells another node.
+    ///
+    /// The timeline stays lawful, what is green before the round stays, every row begins at or below 100,000, and some row ends
+    /// behind the begin of the next round. An `Err` comes only where memory runs out, and leaves all as it was.
+    ///
+    /// docs/RULES.md, "A node's round".
+    pub fn commit<P: Planner>(
+        &mut self,
+        alloc: Global,
+        net: &Network,
+        planner: &mut P,
+    ) -> Result<(), AllocError>
+        requires of { IsOf net.now self.old }
+        requires want { self.old.want ≡ Want.Commit }
+        ensures ok { OnOk result (IsCommitted net.now self.old self.new) }
+        ensures kept { OnOk result (KeepsPast net.now self.old self.new) }
+        ensures err { OnErr result (self.new ≡ self.old) }
+        ensures of { IsOf net.now self.new }
+    {
+        let plan = planned(
+            alloc,
+            net,
+            self.node,
+            &self.line,
+            &self.sensed,
+            self.heard.as_slice(),
+            planner,
+        )?;
+        self.settle(net, plan)
+    }
+
+    /// Keeps what was planned, and splices its timeline.
+    fn settle(&mut self, net: &Network, plan: RoundPlan) -> Result<(), AllocError>
+        requires of { IsOf net.now self.old }
+        requires want { self.old.want ≡ Want.Commit }
+        requires planned { IsPlanned net.now self.old.node self.old.line self.old.sensed self.old.heard plan }
+        ensures ok { OnOk result (IsCommitted net.now self.old self.new) }
+        ensures kept { OnOk result (KeepsPast net.now self.old self.new) }
+        ensures err { OnErr result (self.new ≡ self.old) }
+        ensures of { IsOf net.now self.new }
+    {
+        // What it says of the plan is wanted here, and not the count.
+        let _ = net.plan(self.node).count();
+        let want = next_told(net, self.node, 0);
+        let RoundPlan {
+            window,
+            instance,
+            schedule,
+            next,
+            used,
+        } = plan;
+        let Schedule {
+            answer,
+            phases,
+            served,
+        } = schedule;
+        self.records.reserve(1)?;
+        self.line.splice(next)?;
+        self.records.push_reserved(PlanRecord {
+            node: self.node,
+            round: self.round,
+            used,
+            instance,
+            answer,
+        });
+        self.want = want;
+        self.window = window;
+        self.phases = phases;
+        self.served = served;
+        Ok(())
+    }
+
+    /// What it tells on the link on which it wants to publish: when the vehicles that it has planned to serve will come to that
+    /// link's end.
+    ///
+    /// An `Err` comes only where memory runs out.
+    ///
+    /// docs/RULES.md, "A node's round".
+    pub fn outgoing(&self, alloc: Global, net: &Network) -> Result<Forecast, AllocError>
+        requires of { IsOf net.now self.now }
+        requires want { IsPublish self.now.want }
+        ensures value { (link : ℕ) → self.now.want ≡ Want.Publish link
+            → IfOk result (λ rows. rows ≡ forecast_of net.now link self.now.sensed.now (departures self.now.window.lists (counts_of self.now.window.lists) self.now.phases self.now.served)) }
+    {
+        let Want::Publish(link) = self.want else {
+            unreachable!()
+        };
+        forecast(
+            alloc,
+            net,
+            self.node,
+            &self.window,
+            self.phases.as_slice(),
+            self.served.as_slice(),
+            link,
+            self.sensed.now,
+        )
+    }
+
+    /// It has published on the link on which it wanted to: it wants to publish on the next one, or has done its round. It takes
+    /// no memory.
+    ///
+    /// docs/RULES.md, "A node's round".
+    pub fn sent(&mut self, net: &Network)
+        requires of { IsOf net.now self.old }
+        requires want { IsPublish self.old.want }
+        ensures next { (link : ℕ) → self.old.want ≡ Want.Publish link → self.new ≡ wanting (tells_from net.now self.old.node (link + 1)) self.old }
+        ensures of { IsOf net.now self.new }
+    {
+        let Want::Publish(link) = self.want else {
+            unreachable!()
+        };
+        self.want = next_told(net, self.node, link as u64 + 1);
     }
 }

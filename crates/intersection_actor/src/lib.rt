@@ -1,7 +1,8 @@
-//! One node's rounds: it senses and hears its neighbours.
+//! One node's rounds: it senses, hears its neighbours, plans, and tells them what it will send.
 #![tactic(auto)]
 
 mod actors;
+mod planning;
 mod reads;
 mod records;
 

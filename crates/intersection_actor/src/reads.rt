@@ -2,7 +2,7 @@
 ghost use Rattle.std.specs.Prelude.{◌≡◌, ◌<◌, All, IfOk, drop, filter, is_some, length};
 ghost use Rattle.net_numbers.specs.Outline.{link_at};
 ghost use Rattle.road_net.specs.Network.{heard_links};
-ghost use Rattle.intersection_actor.specs.Acting.{reading};
+ghost use Rattle.intersection_actor.specs.Acting.{reading, tells_from};
 
 use crate::records::Want;
 use road_net::Network;
@@ -30,4 +30,17 @@ pub(crate) fn next_read(links: &[u32], count: usize) -> Want
         Some(link) => Want::Read(*link),
         None => Want::Commit,
     }
+}
+
+/// What a node wants that has told on its links below this one: to publish on the next link on which it tells another one.
+pub(crate) fn next_told(net: &Network, node: u32, first: u64) -> Want
+    requires { node < length net.now.node_names }
+    ensures { result ≡ tells_from net.now node first }
+{
+    for link in net.exit_links(node) {
+        if *link as u64 >= first && net.link(*link).to.is_some() {
+            return Want::Publish(*link);
+        }
+    }
+    Want::Done
 }

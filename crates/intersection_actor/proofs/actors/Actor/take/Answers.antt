@@ -1,4 +1,4 @@
-use Rattle.std.proofs.Common.{rules, ◌≡◌, List, ℕ, drop, length, ap, sym, refl, ◌∙◌, subst}
+use Rattle.std.proofs.Common.{rules, ◌≡◌, drop, length, ap, sym, refl, ◌∙◌, subst}
 use Rattle.intersection_actor.specs.Acting.{reading, with_heard}
 use Rattle.intersection_actor.specs.Rounds.{IsOf}
 use Rattle.intersection_actor.specs.contracts.actors.Actor.{the_view}

@@ -1,0 +1,227 @@
+//! What a node plans in a round.
+ghost use Rattle.std.specs.Prelude.{◌≡◌, ◌+◌, ◌<◌, ◌≤◌, All, IfOk, length};
+ghost use Rattle.switch_rules.specs.Serving.{IsHead};
+ghost use Rattle.control_flow.specs.Greens.{BeginBy, IsLawful, end_of};
+ghost use Rattle.control_flow.specs.Timelines.{AreServings};
+ghost use Rattle.schedule_meaning.specs.Best.{IsBest};
+ghost use Rattle.net_numbers.specs.Outline.{plan_at};
+ghost use Rattle.road_net.specs.Senses.{IsSensedOf};
+ghost use Rattle.clusters.specs.Inflow.{IsHeardOf};
+ghost use Rattle.clusters.specs.Sound.{ArePlannable, cluster_lists, clusters_of};
+ghost use Rattle.intersection_actor.specs.Commits.{AreServedBy, line_for, phases_of, used_of};
+ghost use Rattle.switch_rules.specs.declared.Served.{Served};
+ghost use Rattle.intersection_actor.specs.Steps.{IsExpected, IsNextLine, IsPlanned, IsScheduled};
+
+use crate::records::Used;
+use board_model::Heard;
+use clusters::{Platoon, Window, platoons, window};
+use control_flow::greens::Timeline;
+use control_flow::{head_at, rotation, timeline};
+use foundation::items::Items;
+use phase_plan::PhasePlan;
+use road_net::{Network, Sensed};
+use schedule_meaning::{Answer, Instance, Planner, ServingsFault, best_answer, servings};
+use std::alloc::{AllocError, Global};
+use switch_rules::{Cluster, Head, Served};
+
+/// The best answer of an instance, its phases, and what it serves.
+#[derive(Drop)]
+pub(crate) struct Schedule {
+    pub(crate) answer: Answer,
+    pub(crate) phases: Items<u8>,
+    pub(crate) served: Items<Served>,
+}
+
+/// What a node plans in a round, and the versions that it used.
+#[derive(Drop)]
+pub(crate) struct RoundPlan {
+    pub(crate) window: Window,
+    pub(crate) instance: Instance,
+    pub(crate) schedule: Schedule,
+    pub(crate) next: Timeline,
+    pub(crate) used: Items<Used>,
+}
+
+/// What a node plans from its line, what it senses and what it has heard.
+pub(crate) fn planned<P: Planner>(
+    alloc: Global,
+    net: &Network,
+    node: u32,
+    line: &Timeline,
+    sensed: &Sensed,
+    heard: &[Heard],
+    planner: &mut P,
+) -> Result<RoundPlan, AllocError>
+    requires node { node < length net.now.node_names }
+    requires lawful { IsLawful (plan_at net.now node) line.now }
+    requires begins { BeginBy 100000 line.now }
+    requires sensed { IsSensedOf net.now node sensed.now }
+    requires ahead { sensed.now.now < end_of line.now }
+    requires heard { IsHeardOf net.now node heard.now }
+    ensures { IfOk result (IsPlanned net.now node line.now sensed.entry.now heard.now) }
+{
+    let plan = net.plan(node);
+    // What it says of the plan is wanted here, and not the count.
+    let _ = plan.count();
+    let until = sensed.now + net.run().look;
+    let head = head_at(plan, line, sensed.now);
+    let window = expected(alloc, net, node, sensed, heard)?;
+    let instance = problem(alloc, plan, &head, &window)?;
+    let schedule = scheduled(alloc, planner, &instance)?;
+    let next = next_line(alloc, plan, &head, &schedule, until)?;
+    Ok(RoundPlan {
+        window,
+        instance,
+        schedule,
+        next,
+        used: Items::from_vec(used_versions(alloc, heard)?),
+    })
+}
+
+/// The window of the platoons that a node expects.
+fn expected(
+    alloc: Global,
+    net: &Network,
+    node: u32,
+    sensed: &Sensed,
+    heard: &[Heard],
+) -> Result<Window, AllocError>
+    requires node { node < length net.now.node_names }
+    requires sensed { IsSensedOf net.now node sensed.now }
+    requires heard { IsHeardOf net.now node heard.now }
+    ensures { IfOk result (IsExpected net.now node sensed.entry.now heard.now) }
+{
+    // What it says of the plan is wanted here, and not the count.
+    let _ = net.plan(node).count();
+    let lists = platoons(alloc, net, node, sensed, heard)?;
+    window(alloc, lists)
+}
+
+/// The instance of a plan, a head and the clusters of a window.
+fn problem(
+    alloc: Global,
+    plan: &PhasePlan,
+    head: &Head,
+    window: &Window,
+) -> Result<Instance, AllocError>
+    requires head { IsHead plan.now head.now }
+    requires since { head.now.since ≤ 100000 }
+    requires lists { length window.now.lists ≡ length plan.now }
+    requires plannable { ArePlannable (cluster_lists window.now.lists) }
+    ensures { IfOk result (λ i. i ≡ record { plan = plan.now; head = head.now; lists = cluster_lists window.now.lists }) }
+{
+    let _ = plan.count();
+    let lists = cluster_lists(alloc, window.lists.as_slice())?;
+    let copy = plan.copy(alloc)?;
+    match Instance::new(copy, *head, lists) {
+        Ok(instance) => Ok(instance),
+        Err(_) => unreachable!(),
+    }
+}
+
+/// The clusters of lists of platoons.
+fn cluster_lists(alloc: Global, lists: &[Items<Platoon>]) -> Result<Vec<Items<Cluster>>, AllocError>
+    ensures { IfOk result (λ clusters. clusters.items ≡ cluster_lists lists.now) }
+{
+    let mut clusters = Vec::with_capacity(alloc, lists.len())?;
+    for list in lists {
+        clusters.push(Items::from_vec(clusters_of(alloc, list.as_slice())?))?;
+    }
+    Ok(clusters)
+}
+
+/// The clusters of platoons.
+fn clusters_of(alloc: Global, list: &[Platoon]) -> Result<Vec<Cluster>, AllocError>
+    ensures { IfOk result (λ clusters. clusters.items ≡ clusters_of list.now) }
+{
+    list.iter().map(|platoon| platoon.cluster).collect(alloc)
+}
+
+/// The best answer of an instance, and what it serves.
+fn scheduled<P: Planner>(
+    alloc: Global,
+    planner: &mut P,
+    i: &Instance,
+) -> Result<Schedule, AllocError>
+    ensures { IfOk result (IsScheduled i.now) }
+{
+    let _ = i.head();
+    let answer = best_answer(alloc, planner, i)?;
+    let served = served_by(alloc, i, &answer)?;
+    let phases = phases_of(alloc, &answer)?;
+    Ok(Schedule {
+        answer,
+        phases: Items::from_vec(phases),
+        served: Items::from_vec(served),
+    })
+}
+
+/// What the best answer of an instance serves.
+fn served_by(alloc: Global, i: &Instance, answer: &Answer) -> Result<Vec<Served>, AllocError>
+    requires { IsBest i.now answer.now }
+    ensures { IfOk result (λ served. AreServedBy i.now answer.now served.items) }
+{
+    let _ = i.head();
+    let Answer::Plan { sequence, .. } = answer else {
+        return Ok(Vec::new(alloc));
+    };
+    match servings(alloc, i, sequence.as_slice()) {
+        Ok(served) => Ok(served),
+        Err(ServingsFault::Seq(_)) => unreachable!(),
+        Err(ServingsFault::NoMemory) => Err(AllocError),
+    }
+}
+
+/// The phases of an answer, one after another.
+fn phases_of(alloc: Global, answer: &Answer) -> Result<Vec<u8>, AllocError>
+    ensures { IfOk result (λ phases. phases.items ≡ phases_of answer.now) }
+{
+    match answer {
+        Answer::Plan { sequence, .. } => sequence.as_slice().to_vec(alloc),
+        Answer::NoPlan => Ok(Vec::new(alloc)),
+    }
+}
+
+/// The timeline of a schedule from a head.
+fn next_line(
+    alloc: Global,
+    plan: &PhasePlan,
+    head: &Head,
+    schedule: &Schedule,
+    until: u32,
+) -> Result<Timeline, AllocError>
+    requires head { IsHead plan.now head.now }
+    requires reach { head.now.at ≤ 100000 }
+    requires until { until ≤ 99980 }
+    requires phases { schedule.now.phases ≡ phases_of schedule.now.answer }
+    requires served { AreServings plan.now head.now schedule.now.phases schedule.now.served }
+    requires greens { All (λ (s : Served). s.green ≤ 100000) schedule.now.served }
+    ensures value { IfOk result (λ line. line ≡ line_for plan.now head.now schedule.now.answer schedule.now.served until) }
+    ensures next { IfOk result (IsNextLine plan.now head.now until) }
+{
+    let phases = schedule.phases.as_slice();
+    match schedule.answer {
+        Answer::Plan { .. } => timeline(
+            alloc,
+            plan,
+            head,
+            phases,
+            schedule.served.as_slice(),
+            until,
+        ),
+        Answer::NoPlan => rotation(alloc, plan, head, until),
+    }
+}
+
+/// The versions that were heard, each with its link.
+fn used_versions(alloc: Global, heard: &[Heard]) -> Result<Vec<Used>, AllocError>
+    ensures { IfOk result (λ used. used.items ≡ used_of heard.now) }
+{
+    heard
+        .iter()
+        .map(|heard| Used {
+            link: heard.link,
+            version: heard.version,
+        })
+        .collect(alloc)
+}
