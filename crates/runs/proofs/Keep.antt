@@ -16,6 +16,8 @@ use Rattle.control_flow.proofs.SequenceLaws.{next-servings}
 use Rattle.control_flow.proofs.SpliceLaws.{continued, head_in-by, head_in-since}
 use Rattle.intersection_actor.specs.Commits.{Commitment, IsCommit, line_for, phases_of}
 use Rattle.intersection_actor.specs.Rounds.{first_head}
+use Rattle.intersection_actor.proofs.ArrivalLaws.{window-soon}
+use Rattle.intersection_actor.proofs.ServedLaws.{greens-by, schedule-made}
 use Rattle.net_numbers.specs.Numbers.{Net}
 use Rattle.net_numbers.specs.Outline.{plan_at}
 use Rattle.phase_plan.specs.Phases.{IsPlan}
@@ -30,10 +32,8 @@ use Rattle.switch_rules.specs.Serving.{IsHead}
 use Rattle.switch_rules.specs.declared.Head.{Head}
 use Rattle.switch_rules.specs.declared.Served.{Served}
 use Rattle.runs.specs.Runs.{AllCommit, line_before, sensed_in}
-use Rattle.runs.proofs.ArrivalLaws.{window-soon}
 use Rattle.runs.proofs.Gathered.{plannable, window-count}
 use Rattle.runs.proofs.Lines.{AllKeep, plan-is}
-use Rattle.runs.proofs.ServedLaws.{answer-next, greens-by}
 
 -- a line as the rounds leave it: lawful, and its rows begin by 100,000
 pub record IsLine (plan : List Phase) (rows : List Green) : Type 0 where
@@ -111,7 +111,7 @@ module _ (net : Net) (network : IsNetwork net) (node : ℕ) (below : node < leng
 
     served-next : AreNextServings (plan_at net node) (cluster_lists c.window.lists) (counts_of (cluster_lists c.window.lists)) c.head (phases_of c.answer) c.served
     served-next = subst (λ (p : Problem). AreNextServings p.plan p.lists (counts_of p.lists) p.head (phases_of c.answer) c.served) is.problem
-        (answer-next c.problem (subst IsInstance (sym is.problem) instance_is) c.answer c.served is.served)
+        (schedule-made c.problem c.answer (phases_of c.answer) c.served (subst IsInstance (sym is.problem) instance_is) is.answer refl is.served).next
 
     next : IsNext (plan_at net node) c.head c.next
     next =

@@ -1,5 +1,4 @@
 pub mod Agree
-pub mod ArrivalLaws
 pub mod Committed
 pub mod Expected
 pub mod Gathered
@@ -11,5 +10,4 @@ pub mod One
 pub mod Past
 pub mod Places
 pub mod PlanLaws
-pub mod ServedLaws
 pub mod WholeLaws
