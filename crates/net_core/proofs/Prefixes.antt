@@ -11,7 +11,7 @@ use Rattle.histories.specs.declared.steps.BoardStep.TheVariants.{Read, Publish}
 use Rattle.histories.proofs.Counts.{count-append, count-else, count-one}
 use Rattle.histories.proofs.Rounds.{rounds-count}
 use Rattle.histories.proofs.StepLaws.{steps-beyond}
-use Rattle.histories.proofs.TurnOrder.{goes-on}
+use Rattle.histories.proofs.TurnOrder.{IsBegun, begun-on}
 use Rattle.histories.proofs.Versions.{made, made-within, version-is, version-more}
 use Rattle.net_numbers.specs.Numbers.{Net}
 use Rattle.net_numbers.specs.Outline.{link_at}
@@ -70,20 +70,24 @@ module _ (steps : ℕ → List BoardStep) (p : List ℕ) (n : ℕ) where
   pub count-other : (m : ℕ) → (n ≡ m → ⊥) → count m (p ++ n ∷ []) ≡ count m p
   count-other m other = count-append m p (n ∷ []) ∙ (let e = count-else n m [] other in let z : count m p + count m (n ∷ []) ≡ count m p = omega arith in z)
 
+pub beyond-of : (net : Net) → IsNetwork net → (n : ℕ) → length net.node_names ≤ n → board_steps net n ≡ []
+beyond-of net network n past = steps-beyond net network n past
+
+-- the history of a network has so many rounds, and of the next one a part
+abbrev pub Begun : (net : Net) → IsNetwork net → ℕ → List ℕ → Type 0
+Begun net network round p = IsBegun (board_steps net) (length net.node_names) (beyond-of net network) net.run.rounds round p
+
 -- a beginning has no more of a node
 count-in : (n i : ℕ) (xs : List ℕ) → count n (take i xs) ≤ count n xs
 count-in n i xs = omega (arith, ap (count n) (take-append-drop i xs), count-append n (take i xs) (drop i xs))
 
-module _ (net : Net) (network : IsNetwork net) (p : List ℕ) (round : ℕ) (way : IsUnderWay (board_steps net) net.run.rounds round p) where
+module _ (net : Net) (network : IsNetwork net) (p : List ℕ) (round : ℕ) (way : Begun net network round p) where
   -- a node has done all steps of the rounds before, and those of the part
   pub count-way : (n : ℕ) → count n p ≡ round * length (board_steps net n) + count n way.part
   count-way n = ap (count n) way.whole ∙ count-append n way.early way.part ∙ ap (λ c. c + count n way.part) (rounds-count (board_steps net) round way.early way.rounds_done n)
 
-  beyond : (n : ℕ) → length net.node_names ≤ n → board_steps net n ≡ []
-  beyond n past = steps-beyond net network n past
-
   pub onward : CanGoOn (board_steps net) net.run.rounds p
-  onward = goes-on (board_steps net) (length net.node_names) beyond net.run.rounds round p way
+  onward = begun-on (board_steps net) (length net.node_names) (beyond-of net network) net.run.rounds round p way
 
   -- A node that has not read all yet has published no version of this round.
   pub not-yet : (link f t : ℕ) → (link_at net link).from ≡ Some f → (link_at net link).to ≡ Some t → count f way.part ≤ length (heard_links net f) → version_at (board_steps net) p link (length p) ≤ round

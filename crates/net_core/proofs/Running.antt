@@ -9,7 +9,7 @@ use Rattle.std.proofs.lemmas.List.Elements.{Contains-append_left, Contains-push}
 use Rattle.arrivals.specs.Amounts.{Amounts}
 use Rattle.board_model.specs.declared.boards.Heard.{Heard}
 use Rattle.board_model.specs.declared.forecasts.Row.{Row}
-use Rattle.histories.specs.Histories.{count, IsUnderWay, round_at, step_at, version_at}
+use Rattle.histories.specs.Histories.{count, round_at, step_at, version_at}
 use Rattle.histories.specs.Steps.{board_steps, is_publish_of, publisher}
 use Rattle.histories.specs.declared.steps.BoardStep.{BoardStep}
 use Rattle.histories.specs.declared.steps.BoardStep.TheVariants.{Read, Publish}
@@ -29,7 +29,7 @@ use Rattle.runs.proofs.Past.{past-at-nodes}
 use Rattle.runs.proofs.Places.{first-small, read-step}
 use Rattle.net_core.specs.Going.{HasBoards, IsRunning}
 use Rattle.net_core.specs.declared.parts.Board.{Board}
-use Rattle.net_core.proofs.Prefixes.{ends-at, last-node, last-version, not-yet, now-published, own-round, own-step, round-front, step-front, version-front}
+use Rattle.net_core.proofs.Prefixes.{Begun, ends-at, last-node, last-version, not-yet, now-published, own-round, own-step, round-front, step-front, version-front}
 use Rattle.net_core.proofs.Put.{put, put-here, put-node, put-round}
 
 -- a world counts what is shown only at the nodes of the network, and before its second
@@ -49,7 +49,7 @@ contains-moved : (heard : ℕ → ℕ → List Heard) (r s m n : ℕ) (x y : Hea
 contains-moved heard r s m n x y e f g c = subst (Contains (heard s n)) g (subst (λ k. Contains (heard s k) x) f (subst (λ k. Contains (heard k m) x) e c))
 
 module _ (net : Net) (network : IsNetwork net) (arrivals : Amounts) (heard : ℕ → ℕ → List Heard) (made : ℕ → ℕ → Commitment) (p : List ℕ) (round : ℕ) (boards : List Board) (world : Kept)
-    (way : IsUnderWay (board_steps net) net.run.rounds round p) (is : IsRunning net arrivals heard made p round boards world) (n : ℕ) where
+    (way : Begun net network round p) (is : IsRunning net arrivals heard made p round boards world) (n : ℕ) where
   -- what was heard at the places before stays, where each node has heard at least as much
   along-before : (seen : ℕ → ℕ → List Heard) → ((r m : ℕ) (x : Heard) → Contains (heard r m) x → Contains (seen r m) x) → (place link : ℕ) → place < length p
       → step_at (board_steps net) (p ++ n ∷ []) place ≡ Read link

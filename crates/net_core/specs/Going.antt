@@ -1,10 +1,11 @@
 -- No public clause names these: what a core keeps between two steps.
-use Rattle.std.specs.Prelude.{◌≡◌, ℕ, ◌+◌, ◌-◌, ◌*◌, ◌<◌, ◌≤◌, ◌⊎◌, List, [], ◌∷◌, Some, drop, length, map, slice_index_or}
+use Rattle.std.specs.Prelude.{◌≡◌, ◌≢◌, ℕ, ◌+◌, ◌-◌, ◌*◌, ◌<◌, ◌≤◌, ◌⊎◌, List, [], ◌∷◌, ◌++◌, Some, drop, length, map, slice_index_or}
 use Rattle.std.specs.List.{range_with_len}
 use Rattle.arrivals.specs.Amounts.{Amounts}
 use Rattle.board_model.specs.declared.boards.Heard.{Heard}
 use Rattle.control_flow.specs.Greens.{end_of}
-use Rattle.histories.specs.Histories.{count, version_at, IsUnderWay}
+use Rattle.control_flow.specs.declared.greens.Green.{Green}
+use Rattle.histories.specs.Histories.{count, version_at, HasRounds}
 use Rattle.histories.specs.Steps.{board_steps}
 use Rattle.intersection_actor.specs.Acting.{Acting, reading}
 use Rattle.intersection_actor.specs.Commits.{Commitment, phases_of, record_of}
@@ -84,16 +85,59 @@ pub record IsRunning (net : Net) (arrivals : Amounts) (heard : ℕ → ℕ → L
   pub second : world.second ≡ done * net.run.step
   pub stands : Stands net (arriving_of arrivals) (shown_by net made) world
 
--- how often a node stands in the part of a history that is its last round
-abbrev pub steps_done : Net → List ℕ → ℕ → ℕ → ℕ
-steps_done net history done node = count node history - done * length (board_steps net node)
-
--- A core that is not spent: its history is under way; where rounds are left each node plays in the next, and else each rests.
-pub record Goes (net : Net) (arrivals : Amounts) (history : List ℕ) (round : ℕ) (actors : List Acting) (boards : List Board) (world : Kept) : Type 0 where
+-- Within a round: so many rounds are done, and of the next one a part; each node has played as much of it as it stands in it.
+pub record InRound (net : Net) (arrivals : Amounts) (history : List ℕ) (round : ℕ) (actors : List Acting) (boards : List Board) (world : Kept) : Type 0 where
   pub heard : ℕ → ℕ → List Heard
   pub made : ℕ → ℕ → Commitment
-  pub way : IsUnderWay (board_steps net) net.run.rounds round history
+  pub early : List ℕ
+  pub part : List ℕ
+  pub whole : history ≡ early ++ part
+  pub rounds_done : HasRounds (board_steps net) round early
+  pub within : (node : ℕ) → count node part ≤ length (board_steps net node)
+  pub below : round < net.run.rounds
   pub running : IsRunning net arrivals heard made history round boards world
   pub all : length actors ≡ length net.node_names
-  pub plays : round < net.run.rounds → (node : ℕ) (d : Acting) → node < length net.node_names → Plays net arrivals heard made round (steps_done net history round node) node (slice_index_or actors node d)
-  pub rests : round ≡ net.run.rounds → (node : ℕ) (d : Acting) → node < length net.node_names → Rests net heard made round node (slice_index_or actors node d)
+  pub fresh : (later node : ℕ) → round < later → heard later node ≡ []
+  pub plays : (node : ℕ) (d : Acting) → node < length net.node_names → Plays net arrivals heard made round (count node part) node (slice_index_or actors node d)
+
+-- Between two rounds: so many are done, and each node rests.
+pub record Between (net : Net) (arrivals : Amounts) (history : List ℕ) (round : ℕ) (actors : List Acting) (boards : List Board) (world : Kept) : Type 0 where
+  pub heard : ℕ → ℕ → List Heard
+  pub made : ℕ → ℕ → Commitment
+  pub rounds_done : HasRounds (board_steps net) round history
+  pub most : round ≤ net.run.rounds
+  pub running : IsRunning net arrivals heard made history round boards world
+  pub all : length actors ≡ length net.node_names
+  pub fresh : (later node : ℕ) → round ≤ later → heard later node ≡ []
+  pub rests : (node : ℕ) (d : Acting) → node < length net.node_names → Rests net heard made round node (slice_index_or actors node d)
+
+-- A round begins: the nodes before this one have begun it, and the others rest.
+pub record Begins (net : Net) (arrivals : Amounts) (history : List ℕ) (round : ℕ) (actors : List Acting) (boards : List Board) (world : Kept) (first : ℕ) : Type 0 where
+  pub heard : ℕ → ℕ → List Heard
+  pub made : ℕ → ℕ → Commitment
+  pub rounds_done : HasRounds (board_steps net) round history
+  pub below : round < net.run.rounds
+  pub running : IsRunning net arrivals heard made history round boards world
+  pub all : length actors ≡ length net.node_names
+  pub fresh : (later node : ℕ) → round ≤ later → heard later node ≡ []
+  pub plays : (node : ℕ) (d : Acting) → node < first → node < length net.node_names → Plays net arrivals heard made round 0 node (slice_index_or actors node d)
+  pub rests : (node : ℕ) (d : Acting) → first ≤ node → node < length net.node_names → Rests net heard made round node (slice_index_or actors node d)
+
+-- some node wants something
+pub record IsOpen (actors : List Acting) : Type 0 where
+  pub node : ℕ
+  pub there : node < length actors
+  pub wants : (d : Acting) → (slice_index_or actors node d).want ≢ Done
+
+-- A core that is not spent is in a round in which some node wants something, or behind the last round.
+abbrev pub Goes : Net → Amounts → List ℕ → ℕ → List Acting → List Board → Kept → Type 0
+Goes net arrivals history round actors boards world =
+    (InRound net arrivals history round actors boards world × IsOpen actors) ⊎ (Between net arrivals history round actors boards world × (round ≡ net.run.rounds))
+
+-- the lines of actors by their place
+abbrev pub lines_of : List Acting → ℕ → List Green
+lines_of actors node = slice_index_or (map (λ (a : Acting). a.line) actors) node []
+
+-- each node is done
+abbrev pub AllDone : List Acting → Type 0
+AllDone actors = (node : ℕ) (d : Acting) → node < length actors → (slice_index_or actors node d).want ≡ Done

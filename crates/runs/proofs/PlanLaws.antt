@@ -43,7 +43,7 @@ all-plans P net heard made rounds each = all-flat P (plans_in net heard made) 0 
 used : Heard → Used
 used x = record { link = x.link; version = x.version }
 
-used-links : (xs : List Heard) → map (λ (u : Used). u.link) (used_of xs) ≡ map (λ (x : Heard). x.link) xs
+pub used-links : (xs : List Heard) → map (λ (u : Used). u.link) (used_of xs) ≡ map (λ (x : Heard). x.link) xs
 used-links [] = refl
 used-links (x ∷ xs) = ap (λ l. x.link ∷ l) (used-links xs)
 
