@@ -1,6 +1,0 @@
-pub mod Playing
-pub mod Prefixes
-pub mod Put
-pub mod Rounds
-pub mod Running
-pub mod Steps
