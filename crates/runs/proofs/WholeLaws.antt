@@ -1,5 +1,5 @@
 -- The record of a run has a plan for each round and node.
-use Rattle.std.proofs.Common.{◌≡◌, ℕ, zero, suc, ◌+◌, ◌-◌, ◌*◌, ◌<◌, ◌≤◌, List, [], ◌∷◌, ◌++◌, All, length, map, get_or, refl, sym, ap, subst, ◌∙◌, arith, length-append}
+use Rattle.std.proofs.Common.{◌≡◌, ℕ, zero, suc, ◌+◌, ◌-◌, ◌*◌, ◌<◌, List, ◌∷◌, ◌++◌, All, length, map, get_or, refl, sym, ap, subst, ◌∙◌, arith, length-append}
 use Rattle.std.specs.Prelude.{Contains}
 use Rattle.std.specs.List.{flat_map, range_with_len}
 use Rattle.std.proofs.lemmas.List.{get_or_append_left, get_or-append-add, get_or-map, length-map, map-append}
@@ -14,7 +14,7 @@ use Rattle.net_numbers.specs.Numbers.{Net}
 use Rattle.road_net.specs.Network.{IsNetwork, heard_links}
 use Rattle.runs.specs.Plans.{NamesVersions}
 use Rattle.runs.specs.Runs.{IsRun, plans_in, plans_of}
-use Rattle.runs.specs.Whole.{IsWhole, rounds_and_nodes}
+use Rattle.runs.specs.Whole.{IsWhole}
 use Rattle.runs.specs.declared.records.RunRecord.{RunRecord}
 use Rattle.runs.proofs.PlanLaws.{all-named}
 
