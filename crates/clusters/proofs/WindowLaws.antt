@@ -173,7 +173,7 @@ both-first a p b q h g = elim h [
 ]
 
 -- a front that has more somewhere has no less anywhere
-front-within : (lists : List (List Platoon)) (counts more : List ℕ) (q : ℕ) → IsFront lists counts → IsFront lists more → get_or counts q 0 < get_or more q 0
+pub front-within : (lists : List (List Platoon)) (counts more : List ℕ) (q : ℕ) → IsFront lists counts → IsFront lists more → get_or counts q 0 < get_or more q 0
     → (k : ℕ) → get_or counts k 0 ≤ get_or more k 0
 front-within lists counts more q h g lt k = elim (cases_lt (get_or more k 0) (get_or counts k 0)) [
   | inr fine ↦ fine

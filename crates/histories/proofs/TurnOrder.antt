@@ -40,9 +40,19 @@ module _ (steps : ℕ → List BoardStep) (nodes : ℕ) (beyond : (n : ℕ) → 
       subst (λ r. HasRounds steps r (xs ++ ys)) (let z : suc (first + second) ≡ first + suc second = omega arith in z)
       (xs ++ early, block, (ap (λ l. xs ++ l) e ∙ sym (append_assoc xs early block)), round, rounds-append first second xs early a before)
 
-  -- a history under way can go on to a lawful one
-  pub goes-on : (rounds done : ℕ) (h : List ℕ) → IsUnderWay steps rounds done h → CanGoOn steps rounds h
-  goes-on rounds done h way = by (rounds - done) (let most = way.most in omega arith)
+  -- so many rounds, and of the next one a part, which may be all of it
+  pub record IsBegun (rounds done : ℕ) (h : List ℕ) : Type 0 where
+    pub early : List ℕ
+    pub part : List ℕ
+    pub whole : h ≡ early ++ part
+    pub rounds_done : HasRounds steps done early
+    pub within : (node : ℕ) → count node part ≤ length (steps node)
+    pub most : done ≤ rounds
+    pub over : done ≡ rounds → part ≡ []
+
+  -- it can go on to a lawful history
+  pub begun-on : (rounds done : ℕ) (h : List ℕ) → IsBegun rounds done h → CanGoOn steps rounds h
+  begun-on rounds done h way = by (rounds - done) (let most = way.most in omega arith)
     where
       by : (left : ℕ) → rounds ≡ done + left → CanGoOn steps rounds h
       by zero e = ([], subst (HasRounds steps rounds) (sym (append-nil h)) (subst (λ r. HasRounds steps r h) (let z : done ≡ rounds = omega arith in z) (subst (HasRounds steps done) (sym (way.whole ∙ ap (λ l. way.early ++ l) (way.over (omega arith)) ∙ append-nil way.early)) way.rounds_done)))
@@ -54,6 +64,10 @@ module _ (steps : ℕ → List BoardStep) (nodes : ℕ) (beyond : (n : ℕ) → 
         where
           shape : (a b c d : List ℕ) → a ++ ((b ++ c) ++ d) ≡ (a ++ b) ++ (c ++ d)
           shape a b c d = simp (append_assoc) refl
+
+  -- and so can a history under way
+  pub goes-on : (rounds done : ℕ) (h : List ℕ) → IsUnderWay steps rounds done h → CanGoOn steps rounds h
+  goes-on rounds done h way = begun-on rounds done h (record { early = way.early; part = way.part; whole = way.whole; rounds_done = way.rounds_done; within = way.within; most = way.most; over = way.over })
 
 -- a node more takes its turns
 spread-suc : (f : ℕ → ℕ) (from len : ℕ) → spread f from (suc len) ≡ spread f from len ++ replicate (f (from + len)) (from + len)

@@ -42,7 +42,7 @@ passing-none p s = refl
 version-none : (steps : ℕ → List BoardStep) (h : List ℕ) (link : ℕ) → version_at steps h link 0 ≡ 0
 version-none steps h link = refl
 
-version-more : (steps : ℕ → List BoardStep) (h : List ℕ) (link i : ℕ) → version_at steps h link (i + 1) ≡ version_at steps h link i + cond (is_publish_of link (step_at steps h i)) 1 0
+pub version-more : (steps : ℕ → List BoardStep) (h : List ℕ) (link i : ℕ) → version_at steps h link (i + 1) ≡ version_at steps h link i + cond (is_publish_of link (step_at steps h i)) 1 0
 unfolding passing
 version-more steps h link i = passing-append (λ k. is_publish_of link (step_at steps h k)) 0 i 1 ∙ ap (λ n. version_at steps h link i + n) (ap (λ s. passing (λ k. is_publish_of link (step_at steps h k)) s 1) (let e : 0 + i ≡ i = omega arith in e) ∙ passing-one (λ k. is_publish_of link (step_at steps h k)) i)
 
@@ -81,7 +81,7 @@ head-fails p x xs none = elim (cases_Bool (p x)) [
   | inr fails ↦ fails
 ]
 
-none-found : (p : BoardStep → Bool) (xs : List BoardStep) (k : ℕ) (d : BoardStep) → filter p xs ≡ [] → p d ≡ false → p (get_or xs k d) ≡ false
+pub none-found : (p : BoardStep → Bool) (xs : List BoardStep) (k : ℕ) (d : BoardStep) → filter p xs ≡ [] → p d ≡ false → p (get_or xs k d) ≡ false
 none-found p [] k d none e = e
 none-found p (x ∷ xs) zero d none e = head-fails p x xs none
 none-found p (x ∷ xs) (suc k) d none e = none-found p xs k d (sym (filter-no p x xs (head-fails p x xs none)) ∙ none) e

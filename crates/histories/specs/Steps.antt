@@ -1,5 +1,5 @@
 -- Board steps: what a node does at the boards in each round.
-use Rattle.std.specs.Prelude.{◌≡◌, ℕ, ◌≤◌, ◌==◌, Bool, false, List, [], ◌∷◌, ◌++◌, Option, Some, None, is_some, length, map, filter, if◌then◌else◌}
+use Rattle.std.specs.Prelude.{◌≡◌, ℕ, ◌≤◌, ◌==◌, Bool, false, List, [], ◌∷◌, ◌++◌, Option, Some, None, is_some, length, map, filter, if◌then◌else◌, unwrap_or}
 use Rattle.net_numbers.specs.Numbers.{Net}
 use Rattle.net_numbers.specs.Outline.{link_at}
 use Rattle.road_net.specs.Network.{heard_links, told_links}
@@ -19,6 +19,10 @@ is_publish_of link (Publish published) = published == link
 abbrev pub is_read_of : ℕ → BoardStep → Bool
 is_read_of link (Read read) = read == link
 is_read_of link (Publish published) = false
+
+-- the node that publishes on a link: that at its begin
+abbrev pub publisher : Net → ℕ → ℕ
+publisher net link = unwrap_or (link_at net link).from 0
 
 -- the step, if this is the node
 abbrev pub step_if : Option ℕ → ℕ → BoardStep → List BoardStep

@@ -19,11 +19,11 @@ use Rattle.net_numbers.specs.Outline.{link_at}
 use Rattle.road_net.specs.Network.{IsNetwork}
 use Rattle.histories.specs.Histories.{count, HasRounds, IsEntry, IsLawful, version_at}
 use Rattle.histories.specs.Merges.{IsMerge}
-use Rattle.histories.specs.Steps.{board_steps, step_if, AreSteps}
+use Rattle.histories.specs.Steps.{board_steps, step_if, AreSteps, publisher}
 use Rattle.histories.specs.declared.steps.BoardStep.TheVariants as step
 use Rattle.histories.proofs.Players.{are-steps}
 use Rattle.merged_calls.proofs.Sorted.{marked}
-use Rattle.merged_calls.specs.Places.{publisher, StandsAt, AreTold}
+use Rattle.merged_calls.specs.Places.{StandsAt, AreTold}
 use Rattle.merged_calls.proofs.Marks.{Marked, AreMarked, IsMarkedMerge, of_node, step_in}
 use Rattle.histories.proofs.Entries.{entry}
 use Rattle.histories.proofs.Lists.{filter-yes, filter-no}

@@ -8,9 +8,9 @@ ghost use Rattle.board_model.specs.Boards.{Log};
 ghost use Rattle.board_model.specs.Calls.{log_at, Agree, AreLogsOf};
 ghost use Rattle.histories.specs.Histories.{IsLawful};
 ghost use Rattle.histories.specs.Merges.{IsMerge};
-ghost use Rattle.histories.specs.Steps.{board_steps};
+ghost use Rattle.histories.specs.Steps.{board_steps, publisher};
 ghost use Rattle.merged_calls.specs.Calls.{AreCalls};
-ghost use Rattle.merged_calls.specs.Places.{publisher, AreTold};
+ghost use Rattle.merged_calls.specs.Places.{AreTold};
 
 use road_net::Network;
 

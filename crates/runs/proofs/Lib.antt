@@ -1,0 +1,13 @@
+pub mod Agree
+pub mod Committed
+pub mod Expected
+pub mod Gathered
+pub mod Heard
+pub mod Keep
+pub mod KeptLaws
+pub mod Lines
+pub mod One
+pub mod Past
+pub mod Places
+pub mod PlanLaws
+pub mod WholeLaws

@@ -1,0 +1,14 @@
+use Rattle.std.proofs.Common.{arith}
+use Rattle.runs.proofs.Keep.{all-keep}
+use Rattle.runs.proofs.KeptLaws.{kept}
+use Rattle.runs.proofs.WholeLaws.{whole}
+use Rattle.runs.proofs.laws.law_of_runs.Goals as goal
+
+pub returns-clause-kept : goal.returns-clause-kept
+returns-clause-kept c = λ arrivals history record_of_run lawful run.
+    let net = c.args.net.now in
+    let network = c.nodes-nodes.ensures.network in
+    kept net network arrivals history lawful record_of_run run (all-keep net network arrivals run.heard run.made net.run.rounds (omega arith) run.by.commits)
+
+pub returns-clause-whole : goal.returns-clause-whole
+returns-clause-whole c = λ arrivals history record_of_run lawful run. whole c.args.net.now c.nodes-nodes.ensures.network arrivals history lawful record_of_run run

@@ -1,0 +1,5 @@
+pub mod Kept
+pub mod Plans
+pub mod Runs
+pub mod Safe
+pub mod Whole

@@ -1,0 +1,54 @@
+-- The plan records of a run by themselves.
+use Rattle.std.specs.Prelude.{◌≡◌, ℕ, ◌*◌, ◌<◌, ◌≤◌, List, Contains, Some, length, map, slice_index}
+use Rattle.arrivals.specs.Amounts.{Amounts}
+use Rattle.board_model.specs.declared.boards.Heard.{Heard}
+use Rattle.clusters.specs.Platoons.{ArePlatoonsOf}
+use Rattle.clusters.specs.Sound.{cluster_lists}
+use Rattle.clusters.specs.Windows.{IsWindow}
+use Rattle.clusters.specs.declared.shapes.Platoon.{Platoon}
+use Rattle.clusters.specs.declared.shapes.Window.{Window}
+use Rattle.control_flow.specs.Greens.{head_at}
+use Rattle.histories.specs.Histories.{round_at, step_at, version_at}
+use Rattle.histories.specs.Steps.{board_steps}
+use Rattle.histories.specs.declared.steps.BoardStep.TheVariants.{Read}
+use Rattle.intersection_actor.specs.Commits.{Commitment}
+use Rattle.intersection_actor.specs.declared.records.PlanRecord.{PlanRecord}
+use Rattle.intersection_actor.specs.declared.records.Used.{Used}
+use Rattle.net_numbers.specs.Numbers.{Net}
+use Rattle.net_numbers.specs.Outline.{plan_at}
+use Rattle.road_net.specs.Network.{heard_links}
+use Rattle.switch_rules.specs.declared.Head.{Head}
+use Rattle.runs.specs.Runs.{hearing, line_before, sensed_in}
+
+-- a plan record is that of the node and the round of a place
+pub record IsOfPlace (net : Net) (history : List ℕ) (place : ℕ) (plan : PlanRecord) : Type 0 where
+  pub node : plan.node ≡ slice_index history place
+  pub round : plan.round ≡ round_at (board_steps net) history place
+
+-- A plan names the versions that it used: one for each link on which its node hears another one, in their order; and at each place
+-- where the node reads a link in the round of the plan, the plan names the version that the link has there.
+pub record NamesVersions (net : Net) (history : List ℕ) (plan : PlanRecord) : Type 0 where
+  pub links : map (λ (u : Used). u.link) plan.used ≡ heard_links net plan.node
+  pub versions : (place link : ℕ) → place < length history → IsOfPlace net history place plan → step_at (board_steps net) history place ≡ Read link
+      → Contains plan.used (record { link = link; version = version_at (board_steps net) history link place })
+
+-- No plan uses an older version of a link than an earlier plan of its node.
+abbrev pub NeverOlder : List PlanRecord → Type 0
+NeverOlder plans = (early late : PlanRecord) (before now : Used) → Contains plans early → Contains plans late → early.node ≡ late.node → early.round < late.round
+    → Contains early.used before → Contains late.used now → before.link ≡ now.link → before.version ≤ now.version
+
+-- what a plan heard: the versions that it names, with the forecasts that were published as these versions
+abbrev pub heard_by : Net → (ℕ → ℕ → Commitment) → PlanRecord → List Heard
+heard_by net made plan = map (λ (u : Used). hearing net made u.link u.version) plan.used
+
+-- The instance of a plan is that of just the versions that it names: it has the phases of the node, the head that the node's line
+-- has when the round begins, and the clusters of the window of the platoons that are expected from what the node senses then and
+-- from the forecasts of those versions.
+pub record IsPlannedFrom (net : Net) (arrivals : Amounts) (made : ℕ → ℕ → Commitment) (plan : PlanRecord) : Type 0 where
+  pub head : Head
+  pub platoons : List (List Platoon)
+  pub window : Window
+  pub at : head_at (plan_at net plan.node) (line_before net made plan.round plan.node) (plan.round * net.run.step) ≡ Some head
+  pub expected : ArePlatoonsOf net plan.node (sensed_in net arrivals made plan.round plan.node) (heard_by net made plan) platoons
+  pub taken : IsWindow platoons window
+  pub instance : plan.instance ≡ record { plan = plan_at net plan.node; head = head; lists = cluster_lists window.lists }

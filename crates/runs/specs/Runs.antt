@@ -1,0 +1,102 @@
+-- A run: what each node makes in each round, from what it senses and hears, and the record of it.
+use Rattle.std.specs.Prelude.{◌≡◌, ℕ, zero, suc, ◌*◌, ◌/◌, ◌<◌, List, [], Option, Contains, length, map, slice_index}
+use Rattle.std.specs.List.{flat_map, range_with_len}
+use Rattle.arrivals.specs.Amounts.{Amounts}
+use Rattle.board_model.specs.declared.boards.Heard.{Heard}
+use Rattle.board_model.specs.declared.forecasts.Row.{Row}
+use Rattle.clusters.specs.Inflow.{IsHeardOf}
+use Rattle.clusters.specs.Windows.{counts_of}
+use Rattle.control_flow.specs.Greens.{standing}
+use Rattle.control_flow.specs.Timelines.{rotation_of}
+use Rattle.control_flow.specs.declared.greens.Green.{Green}
+use Rattle.histories.specs.Histories.{round_at, step_at, version_at}
+use Rattle.histories.specs.Steps.{board_steps, publisher}
+use Rattle.histories.specs.declared.steps.BoardStep.TheVariants.{Read}
+use Rattle.intersection_actor.specs.Commits.{Commitment, IsCommit, phases_of, record_of}
+use Rattle.intersection_actor.specs.Rounds.{first_head}
+use Rattle.intersection_actor.specs.declared.records.PlanRecord.{PlanRecord}
+use Rattle.net_numbers.specs.Numbers.{Net}
+use Rattle.net_numbers.specs.Outline.{plan_at}
+use Rattle.net_simulator.specs.Arriving.{arriving_of}
+use Rattle.net_simulator.specs.Flow.{Passed, past_of}
+use Rattle.net_simulator.specs.Senses.{sense}
+use Rattle.net_simulator.specs.Sums.{link_totals, totals}
+use Rattle.outflow.specs.Outflow.{departures, forecast_of}
+use Rattle.road_net.specs.declared.senses.Sensed.{Sensed}
+use Rattle.runs.specs.declared.records.RunRecord.{RunRecord}
+
+-- Below, `made round node` is the commit of a node in a round, and `heard round node` what the node has heard in it.
+
+-- the line of a node before a round: at first the ring turns from second 0, and then it is that of the commit of the round before
+abbrev pub line_before : Net → (ℕ → ℕ → Commitment) → ℕ → ℕ → List Green
+line_before net made zero node = rotation_of (plan_at net node) first_head 0
+line_before net made (suc round) node = (made round node).line
+
+-- which phase is green in a second at a node, and since when: in the seconds of a round the signals show the lines of its commits
+abbrev pub shown_by : Net → (ℕ → ℕ → Commitment) → ℕ → ℕ → Option (ℕ × ℕ)
+shown_by net made x node = standing (made (x / net.run.step) node).line x
+
+-- what passed the links in the first n seconds, under these lines
+abbrev pub past_by : Net → Amounts → (ℕ → ℕ → Commitment) → ℕ → ℕ → ℕ → Passed
+past_by net arrivals made n = past_of net (arriving_of arrivals) (shown_by net made) n
+
+-- what a node senses when a round begins
+abbrev pub sensed_in : Net → Amounts → (ℕ → ℕ → Commitment) → ℕ → ℕ → Sensed
+sensed_in net arrivals made round node = sense net (past_by net arrivals made (round * net.run.step)) (round * net.run.step) node
+
+-- what a commit of a round tells on a link
+abbrev pub told_in : Net → ℕ → ℕ → Commitment → List Row
+told_in net round link c = forecast_of net link (round * net.run.step) (departures c.window.lists (counts_of c.window.lists) (phases_of c.answer) c.served)
+
+-- the forecast of a version of a link: version 0 is the empty one, and each next version is told by the commit of one round more
+-- of the node that publishes on the link
+abbrev pub forecast_at : Net → (ℕ → ℕ → Commitment) → ℕ → ℕ → List Row
+forecast_at net made link zero = []
+forecast_at net made link (suc round) = told_in net round link (made round (publisher net link))
+
+-- what is heard of a link with this version
+abbrev pub hearing : Net → (ℕ → ℕ → Commitment) → ℕ → ℕ → Heard
+hearing net made link version = record { link = link; version = version; forecast = forecast_at net made link version }
+
+-- A node commits in a round: it has heard each link on which it hears another node, in their order, and its commit is made from
+-- its line before the round, from what it senses when the round begins, and from what it has heard.
+pub record Commits (net : Net) (arrivals : Amounts) (heard : ℕ → ℕ → List Heard) (made : ℕ → ℕ → Commitment) (round node : ℕ) : Type 0 where
+  pub links : IsHeardOf net node (heard round node)
+  pub commit : IsCommit net node round (line_before net made round node) (sensed_in net arrivals made round node) (heard round node) (made round node)
+
+-- each node of the network commits in each of so many rounds
+abbrev pub AllCommit : Net → Amounts → (ℕ → ℕ → List Heard) → (ℕ → ℕ → Commitment) → ℕ → Type 0
+AllCommit net arrivals heard made rounds = (round node : ℕ) → round < rounds → node < length net.node_names → Commits net arrivals heard made round node
+
+-- the plan records of a round by node, and those of so many rounds, one after another
+abbrev pub plans_in : Net → (ℕ → ℕ → List Heard) → (ℕ → ℕ → Commitment) → ℕ → List PlanRecord
+plans_in net heard made round = map (λ node. record_of node round (heard round node) (made round node)) (range_with_len 0 (length net.node_names))
+
+abbrev pub plans_of : Net → (ℕ → ℕ → List Heard) → (ℕ → ℕ → Commitment) → ℕ → List PlanRecord
+plans_of net heard made rounds = flat_map (plans_in net heard made) (range_with_len 0 rounds)
+
+-- the second behind the last round
+abbrev pub end_of_run : Net → ℕ
+end_of_run net = net.run.rounds * net.run.step
+
+-- The record of a run in which the nodes hear this: they commit in all rounds; it has their plan records by round and node, the
+-- last line of each node, and what the world has counted of each link and in all when the last round is over.
+pub record IsRunBy (net : Net) (arrivals : Amounts) (heard : ℕ → ℕ → List Heard) (made : ℕ → ℕ → Commitment) (run : RunRecord) : Type 0 where
+  pub commits : AllCommit net arrivals heard made net.run.rounds
+  pub plans : run.plans ≡ plans_of net heard made net.run.rounds
+  pub timelines : run.timelines ≡ map (line_before net made net.run.rounds) (range_with_len 0 (length net.node_names))
+  pub links : run.links ≡ map (link_totals net (past_by net arrivals made (end_of_run net)) (end_of_run net)) (range_with_len 0 (length net.link_names))
+  pub all : run.totals ≡ totals net (arriving_of arrivals) (past_by net arrivals made (end_of_run net)) (end_of_run net)
+
+-- The nodes hear along a history: at each place where a node reads a link, it hears the version that the link has there, with the
+-- forecast that was published as that version.
+abbrev pub HearAlong : Net → List ℕ → (ℕ → ℕ → List Heard) → (ℕ → ℕ → Commitment) → Type 0
+HearAlong net history heard made = (place link : ℕ) → place < length history → step_at (board_steps net) history place ≡ Read link
+    → Contains (heard (round_at (board_steps net) history place) (slice_index history place)) (hearing net made link (version_at (board_steps net) history link place))
+
+-- The run of a history: its record is that of a run in which the nodes hear along the history.
+pub record IsRun (net : Net) (arrivals : Amounts) (history : List ℕ) (run : RunRecord) : Type 0 where
+  pub heard : ℕ → ℕ → List Heard
+  pub made : ℕ → ℕ → Commitment
+  pub by : IsRunBy net arrivals heard made run
+  pub along : HearAlong net history heard made

