@@ -25,7 +25,7 @@ pub fn law_of_merged_calls(net: &Network)
         → AreLogsOf calls (log_at logs) → IsMerge logs h → IsLawful net.now h }
     ensures one { (calls : ℕ → List Call) (logs : List Log) (h other : List ℕ) → AreCalls (board_steps net.now) net.now.run.rounds calls
         → AreLogsOf calls (log_at logs) → IsMerge logs h → IsMerge logs other → h ≡ other }
-    ensures told { (calls : ℕ → List Call) (logs : List Log) (h : List ℕ) → AreCalls (board_steps net.now) net.now.run.rounds calls
+    ensures stands { (calls : ℕ → List Call) (logs : List Log) (h : List ℕ) → AreCalls (board_steps net.now) net.now.run.rounds calls
         → AreLogsOf calls (log_at logs) → Agree calls (log_at logs) → IsMerge logs h → AreTold (board_steps net.now) (publisher net.now) calls h }
 {
     let _nodes = net.nodes();
