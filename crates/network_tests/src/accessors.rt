@@ -30,28 +30,56 @@ const TIMES: Phase = Phase {
 const NODES: &[(&str, &[u32], &[u32])] = &[("a", &[0, 2], &[1]), ("b", &[1, 3], &[2, 4])];
 
 /// The links that each phase serves: a node, its phase, and they.
-const PHASES: &[(u32, u8, &[u32])] = &[
-    (0, 0, &[2]),
-    (0, 1, &[0]),
-    (1, 0, &[1]),
-    (1, 1, &[3]),
-];
+const PHASES: &[(u32, u8, &[u32])] = &[(0, 0, &[2]), (0, 1, &[0]), (1, 0, &[1]), (1, 1, &[3])];
 
 /// The name, the ends, the phase and the turns of each link.
 const LINKS: &[(&str, Option<u32>, Option<u32>, u8, &[Turn])] = &[
-    ("sa", None, Some(0), 1, &[Turn { exit: 1, share: 1000 }]),
+    (
+        "sa",
+        None,
+        Some(0),
+        1,
+        &[Turn {
+            exit: 1,
+            share: 1000,
+        }],
+    ),
     (
         "ab",
         Some(0),
         Some(1),
         0,
         &[
-            Turn { exit: 2, share: 500 },
-            Turn { exit: 4, share: 500 },
+            Turn {
+                exit: 2,
+                share: 500,
+            },
+            Turn {
+                exit: 4,
+                share: 500,
+            },
         ],
     ),
-    ("ba", Some(1), Some(0), 0, &[Turn { exit: 1, share: 1000 }]),
-    ("sb", None, Some(1), 1, &[Turn { exit: 4, share: 1000 }]),
+    (
+        "ba",
+        Some(1),
+        Some(0),
+        0,
+        &[Turn {
+            exit: 1,
+            share: 1000,
+        }],
+    ),
+    (
+        "sb",
+        None,
+        Some(1),
+        1,
+        &[Turn {
+            exit: 4,
+            share: 1000,
+        }],
+    ),
     ("xb", Some(1), None, 0, &[]),
 ];
 

@@ -99,7 +99,12 @@ pub(crate) fn misjudged(alloc: Global, base: &str, rows: &str) -> Result<String,
     for row in rows.lines() {
         let (edits, wanted) = row.rsplit_once(" => ").unwrap_or((row, "no outcome"));
         match changed(alloc, base, edits)? {
-            Some(text) => note_misjudged(&mut wrong, row, fault_of(alloc, text.as_bytes()), wanted)?,
+            Some(text) => note_misjudged(
+                &mut wrong,
+                row,
+                fault_of(alloc, text.as_bytes()),
+                wanted,
+            )?,
             None => write!(wrong, "{row}: an edit does not fit\n")?,
         }
     }
