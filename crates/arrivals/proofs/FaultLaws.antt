@@ -5,9 +5,8 @@ use Rattle.std.proofs.lemmas.List.{take-append-drop}
 use Rattle.std.proofs.lemmas.List.Elements.{All-head, All-tail}
 use Rattle.std.proofs.lemmas.List.Sums.{sum_by-append, sum_by-cons}
 use Rattle.std.proofs.lemmas.Option.{same_Some}
-use Rattle.foundation.specs.Options.{◌>>=◌}
 use Rattle.net_draft.specs.Faults.{each}
-use Rattle.net_draft.proofs.Each.{bind-some}
+use Rattle.record_text.proofs.Parts.{head-of, in-middle, parts}
 use Rattle.net_numbers.specs.Numbers.{Net}
 use Rattle.arrivals.specs.declared.rows.ArrivalRow.{ArrivalRow}
 use Rattle.arrivals.specs.declared.rows.RowFault.{RowFault}
@@ -16,37 +15,6 @@ use Rattle.arrivals.specs.Amounts.{Amounts, AreArrivalsOf}
 use Rattle.arrivals.specs.Faults.{IsFirst, IsAtLink, IsAtBound, IsAtSum, IsRowFault, Refuses}
 use Rattle.arrivals.specs.Stored.{Adds}
 use Rattle.arrivals.specs.Rows.{most_of_all, IsSource, HasBounds, IsRow, AreRows, amount_of}
-
--- a reading of a list goes through its parts
-record Parts {X Y : Type 0} (f : X → Option Y) (xs ys : List X) (zs : List Y) : Type 0 where
-  front : List Y
-  back : List Y
-  reads_front : each f xs ≡ Some front
-  reads_back : each f ys ≡ Some back
-  whole : zs ≡ front ++ back
-
-parts-more : {X Y : Type 0} (f : X → Option Y) (x : X) (xs ys : List X) (y : Y) (vs zs : List Y) → f x ≡ Some y → zs ≡ y ∷ vs → Parts f xs ys vs → Parts f (x ∷ xs) ys zs
-parts-more f x xs ys y vs zs here all p =
-    record { front = y ∷ p.front; back = p.back; reads_front = rw (here, p.reads_front) refl; reads_back = p.reads_back; whole = all ∙ ap (λ l. y ∷ l) p.whole }
-
-parts : {X Y : Type 0} (f : X → Option Y) (xs ys : List X) (zs : List Y) → each f (xs ++ ys) ≡ Some zs → Parts f xs ys zs
-parts f [] ys zs e = record { front = []; back = zs; reads_front = refl; reads_back = e; whole = refl }
-parts f (x ∷ xs) ys zs e =
-    let (y, here, rest) = bind-some (f x) (λ v. each f (xs ++ ys) >>= λ vs. Some (v ∷ vs)) zs e in
-    let (vs, more, last) = bind-some (each f (xs ++ ys)) (λ vs. Some (y ∷ vs)) zs rest in
-    parts-more f x xs ys y vs zs here (sym (same_Some _ _ last)) (parts f xs ys vs more)
-
--- the first that is read
-head-of : {X Y : Type 0} (f : X → Option Y) (x : X) (xs : List X) (zs : List Y) → each f (x ∷ xs) ≡ Some zs → (y : Y) × (ys : List Y) × (f x ≡ Some y) × (zs ≡ y ∷ ys)
-head-of f x xs zs e =
-    let (y, here, rest) = bind-some (f x) (λ v. each f xs >>= λ vs. Some (v ∷ vs)) zs e in
-    let (ys, more, last) = bind-some (each f xs) (λ vs. Some (y ∷ vs)) zs rest in
-    (y, ys, here, sym (same_Some _ _ last))
-
--- what holds of all holds of the one in the middle
-in-middle : {X : Type 0} (P : X → Type 0) (xs ys : List X) (y : X) → All P (xs ++ y ∷ ys) → P y
-in-middle P [] ys y all = All-head P y ys all
-in-middle P (x ∷ xs) ys y all = in-middle P xs ys y (All-tail P x (xs ++ y ∷ ys) all)
 
 -- with a first element at fault, where what is at fault can be no lawful row, not all are rows
 pub refuses : {X : Type 0} (read : X → Option ArrivalRow) (net : Net) (all : List X) (n : ℕ) (at_fault : List ArrivalRow → X → Type 0) → IsFirst read net all n at_fault

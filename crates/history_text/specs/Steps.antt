@@ -1,19 +1,29 @@
 -- What the steps of the code answer. No public clause names these words.
-use Rattle.std.specs.Prelude.{◌≡◌, ℕ, List, [], ◌∷◌, Option, Some, None, Result, Ok, Err, IsSomeAnd}
-use Rattle.net_numbers.specs.Numbers.{Net, number_of}
+use Rattle.std.specs.Prelude.{◌≡◌, ℕ, List, [], ◌∷◌, ◌++◌, Option, Some, None}
+use Rattle.net_numbers.specs.Numbers.{Net}
+use Rattle.histories.specs.Progress.{Course, HasCome}
 use Rattle.history_text.specs.declared.faults.HistoryFault.{HistoryFault}
-use Rattle.history_text.specs.declared.faults.HistoryFault.TheVariants.{Row, Node}
+use Rattle.history_text.specs.declared.faults.HistoryFault.TheVariants.{NoMemory, Row, Node, Extra, Turn}
 use Rattle.history_text.specs.Entries.{steps_of}
-use Rattle.history_text.specs.Faults.{IsAtRow, IsAtNode}
+use Rattle.history_text.specs.Faults.{IsAtExtra, IsAtNode, IsAtRow, IsAtTurn}
 
 -- the steps of a node that may be absent
 abbrev pub steps_if : Option ℕ → List ℕ
 steps_if None = []
 steps_if (Some node) = node ∷ []
 
--- the steps of a record; else it tells none, or its name is no node's
-abbrev pub Reads : Net → List (List ℕ) → ℕ → Result (Option ℕ) HistoryFault → Type 0
-Reads net fields number (Ok node) = steps_of net fields ≡ Some (steps_if node)
-Reads net fields number (Err (Row n)) = (n ≡ number) × IsAtRow fields
-Reads net fields number (Err (Node n)) = (n ≡ number) × IsAtNode net fields
-Reads net fields number (Err _) = ⊥
+-- why the record with this number is at fault behind a history
+abbrev pub IsEntryFault : Net → List ℕ → List (List ℕ) → ℕ → HistoryFault → Type 0
+IsEntryFault net history fields number NoMemory = Unit {0}
+IsEntryFault net history fields number (Row n) = (n ≡ number) × IsAtRow fields
+IsEntryFault net history fields number (Node n) = (n ≡ number) × IsAtNode net fields
+IsEntryFault net history fields number (Extra n) = (n ≡ number) × IsAtExtra net history fields
+IsEntryFault net history fields number (Turn n) = (n ≡ number) × IsAtTurn net history fields
+IsEntryFault net history fields number _ = ⊥
+
+-- the steps of a record were taken behind a history
+pub record AreTaken (net : Net) (fields : List (List ℕ)) (old new : List ℕ) (p : Course) : Type 0 where
+  pub more : List ℕ
+  pub told : steps_of net fields ≡ Some more
+  pub new_is : new ≡ old ++ more
+  pub come : HasCome net new p

@@ -1,6 +1,6 @@
 //! Faults of the file of a history.
 use foundation::threads::CrossesThreads;
-use std::alloc::AllocError;
+use std::alloc::{AllocError, AllocFailed};
 
 /// Why a file is no history of a network. A number is that of the first row at fault, from 1.
 ///
@@ -32,6 +32,17 @@ impl From<AllocError> for HistoryFault {
     ghost from_gives = { λ _ fault. fault ≡ NoMemory };
 
     fn from(_error: AllocError) -> HistoryFault {
+        HistoryFault::NoMemory
+    }
+}
+
+impl<T: Drop> From<AllocFailed<T>> for HistoryFault {
+    ghost use Rattle.std.specs.Prelude.{◌≡◌};
+    ghost use Rattle.history_text.specs.declared.faults.HistoryFault.TheVariants.{NoMemory};
+
+    ghost from_gives = { λ _ fault. fault ≡ NoMemory };
+
+    fn from(_error: AllocFailed<T>) -> HistoryFault {
         HistoryFault::NoMemory
     }
 }
