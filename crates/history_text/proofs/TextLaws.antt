@@ -18,7 +18,7 @@ use Rattle.history_text.specs.declared.faults.HistoryFault.{HistoryFault}
 use Rattle.history_text.specs.declared.faults.HistoryFault.TheVariants.{NoMemory, Header, Row, Node, Extra, Turn, Short}
 use Rattle.history_text.specs.Entries.{header, steps_by, steps_of, told_of}
 use Rattle.history_text.specs.Faults.{AreFaulty, AreUnderWay, EndEarly, HasFaultBehind, IsAtExtra, IsAtNode, IsAtRow, IsAtTurn, IsFirst, IsRecordFault, Refuses}
-use Rattle.history_text.specs.Steps.{AreTaken, IsEntryFault}
+use Rattle.history_text.specs.Steps.{AreAllTaken, AreTaken, IsEntryFault}
 use Rattle.history_text.specs.Texts.{AreHistoryRecords}
 
 -- The records that were read, the steps that they tell, and how far these have come.
@@ -31,10 +31,13 @@ pub record IsUnder (net : Net) (all : List (List (List ℕ))) (number : ℕ) (le
   pub history_is : history ≡ concat steps
   pub come : HasCome net history p
 
+behind-header : (xs ys : List (List (List ℕ))) → ◌≡◌ {A = List (List (List ℕ))} (header ∷ xs) (header ∷ ys) → xs ≡ ys
+behind-header xs ys same = cc
+
 -- the header alone was read
-pub under-none : (net : Net) (all : List (List (List ℕ))) (fields : List (List ℕ)) (left : List (List (List ℕ))) (history : List ℕ) (p : Course) → all ≡ fields ∷ left → fields ≡ header → history ≡ [] → HasCome net [] p → IsUnder net all 0 left history p
-under-none net all fields left history p are is none come =
-    record { records = []; steps = []; are = are ∙ ap (λ l. l ∷ left) is; reads = refl; counted = refl; history_is = none; come = subst (λ (h : List ℕ). HasCome net h p) (sym none) come }
+pub under-none : (net : Net) (left : List (List (List ℕ))) (history : List ℕ) (p : Course) → history ≡ [] → HasCome net [] p → IsUnder net (header ∷ left) 0 left history p
+under-none net left history p none come =
+    record { records = []; steps = []; are = refl; reads = refl; counted = refl; history_is = none; come = subst (λ (h : List ℕ). HasCome net h p) (sym none) come }
 
 -- what is left begins with a record
 pub under-at : (net : Net) (all : List (List (List ℕ))) (number : ℕ) (left : List (List (List ℕ))) (fields : List (List ℕ)) (rest : List (List (List ℕ))) (history : List ℕ) (p : Course) → left ≡ fields ∷ rest → IsUnder net all number left history p → IsUnder net all number (fields ∷ rest) history p
@@ -87,32 +90,32 @@ module _ (net : Net) (all : List (List (List ℕ))) (number : ℕ) (fields : Lis
     come = taken.come;
   }
 
-module _ (net : Net) (all : List (List (List ℕ))) (number : ℕ) (left : List (List (List ℕ))) (history : List ℕ) (p : Course) (under : IsUnder net all number left history p) (none : left ≡ []) where
-  all-read : all ≡ header ∷ under.records
-  all-read = under.are ∙ ap (λ l. header ∷ (under.records ++ l)) none ∙ ap (λ l. header ∷ l) (append-nil under.records)
+-- nothing is left
+pub under-all : (net : Net) (behind : List (List (List ℕ))) (number : ℕ) (left : List (List (List ℕ))) (history : List ℕ) (p : Course) → IsUnder net (header ∷ behind) number left history p → left ≡ [] → AreAllTaken net behind history p
+under-all net behind number left history p under none =
+    let same : behind ≡ under.records = behind-header behind under.records (under.are ∙ ap (λ l. header ∷ (under.records ++ l)) none ∙ ap (λ l. header ∷ l) (append-nil under.records)) in
+    record { steps = under.steps; reads = rw same under.reads; history_is = under.history_is; come = under.come }
 
-  -- nothing is left, and all rounds are done
-  pub under-all : IsLawful net history → AreHistoryRecords net all history
-  under-all lawful = record { records = under.records; are = all-read; steps = under.steps; reads = under.reads; history_is = under.history_is; lawful = lawful }
+module _ (net : Net) (all behind : List (List (List ℕ))) (history : List ℕ) (p : Course) (are : all ≡ header ∷ behind) (taken : AreAllTaken net behind history p) where
+  -- all rounds are done
+  pub taken-all : IsLawful net history → AreHistoryRecords net all history
+  taken-all lawful = record { records = behind; are = are; steps = taken.steps; reads = taken.reads; history_is = taken.history_is; lawful = lawful }
 
   -- or not all
-  pub under-short : (IsLawful net history → ⊥) → AreFaulty net all Short
-  under-short other = record {
-    records = under.records;
-    are = all-read;
+  pub taken-short : (IsLawful net history → ⊥) → AreFaulty net all Short
+  taken-short other = record {
+    records = behind;
+    are = are;
     first = record {
       history = history;
       done = p.done;
-      under_way = record { steps = under.steps; reads = under.reads; history_is = under.history_is; way = way-of net history p under.come };
+      under_way = record { steps = taken.steps; reads = taken.reads; history_is = taken.history_is; way = way-of net history p taken.come };
       early = (
-        let most = under.come.way.most in
-        let rounds = under.come.rounds in
-        elim (cases_lt p.done p.rounds) [ inl less ↦ omega (arith, less, rounds) | inr more ↦ absurd (other (come-over net history p under.come (omega (arith, most, more)))) ]);
+        let most = taken.come.way.most in
+        let rounds = taken.come.rounds in
+        elim (cases_lt p.done p.rounds) [ inl less ↦ omega (arith, less, rounds) | inr more ↦ absurd (other (come-over net history p taken.come (omega (arith, most, more)))) ]);
     };
   }
-
-behind-header : (xs ys : List (List (List ℕ))) → ◌≡◌ {A = List (List (List ℕ))} (header ∷ xs) (header ∷ ys) → xs ≡ ys
-behind-header xs ys same = cc
 
 -- a record that tells nothing, or names no node, has no steps
 none-told : (net : Net) (fields : List (List ℕ)) (more : List ℕ) → told_of fields ≡ None → steps_of net fields ≡ Some more → ⊥

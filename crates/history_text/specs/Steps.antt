@@ -1,5 +1,7 @@
 -- What the steps of the code answer. No public clause names these words.
 use Rattle.std.specs.Prelude.{◌≡◌, ℕ, List, [], ◌∷◌, ◌++◌, Option, Some, None}
+use Rattle.std.specs.List.{concat}
+use Rattle.net_draft.specs.Faults.{each}
 use Rattle.net_numbers.specs.Numbers.{Net}
 use Rattle.histories.specs.Progress.{Course, HasCome}
 use Rattle.history_text.specs.declared.faults.HistoryFault.{HistoryFault}
@@ -27,3 +29,10 @@ pub record AreTaken (net : Net) (fields : List (List ℕ)) (old new : List ℕ) 
   pub told : steps_of net fields ≡ Some more
   pub new_is : new ≡ old ++ more
   pub come : HasCome net new p
+
+-- the steps of all these records were taken, and they are this history
+pub record AreAllTaken (net : Net) (records : List (List (List ℕ))) (history : List ℕ) (p : Course) : Type 0 where
+  pub steps : List (List ℕ)
+  pub reads : each (steps_of net) records ≡ Some steps
+  pub history_is : history ≡ concat steps
+  pub come : HasCome net history p

@@ -12,10 +12,10 @@ use record_text::node_named;
 use road_net::Network;
 
 /// Whether the record is the header.
-pub(crate) fn is_header(record: &ByteRecord) -> bool
-    ensures { IsTrue result ↔ (fields_of record.now ≡ header) }
+pub(crate) fn is_header(row: &ByteRecord) -> bool
+    ensures { IsTrue result ↔ (fields_of row.now ≡ header) }
 {
-    match seven(record) {
+    match seven(row) {
         Some((kind, round, node, x, y, z, w)) => are_first(kind, round, node) && are_last(x, y, z, w),
         None => false,
     }
@@ -37,22 +37,22 @@ fn are_last(x: &[u8], y: &[u8], z: &[u8], w: &[u8]) -> bool
 
 /// The fields of a record that has seven.
 fn seven(
-    record: &ByteRecord,
+    row: &ByteRecord,
 ) -> Option<(&[u8], &[u8], &[u8], &[u8], &[u8], &[u8], &[u8])>
-    ensures { MatchOption result (length (fields_of record.now) ≢ 7)
-        (λ f. fields_of record.now ≡ f.0.now ∷ f.1.now ∷ f.2.now ∷ f.3.now ∷ f.4.now ∷ f.5.now ∷ f.6.now ∷ []) }
+    ensures { MatchOption result (length (fields_of row.now) ≢ 7)
+        (λ f. fields_of row.now ≡ f.0.now ∷ f.1.now ∷ f.2.now ∷ f.3.now ∷ f.4.now ∷ f.5.now ∷ f.6.now ∷ []) }
 {
-    if record.len() != 7 {
+    if row.len() != 7 {
         return None;
     }
     Some((
-        record.get(0)?,
-        record.get(1)?,
-        record.get(2)?,
-        record.get(3)?,
-        record.get(4)?,
-        record.get(5)?,
-        record.get(6)?,
+        row.get(0)?,
+        row.get(1)?,
+        row.get(2)?,
+        row.get(3)?,
+        row.get(4)?,
+        row.get(5)?,
+        row.get(6)?,
     ))
 }
 
@@ -60,14 +60,14 @@ fn seven(
 #[tactic(auto, unfolding(crate::specs::Entries::steps_of))]
 pub(crate) fn read_step(
     net: &Network,
-    record: &ByteRecord,
+    row: &ByteRecord,
     number: u32,
 ) -> Result<Option<u32>, HistoryFault>
     requires { IsNetwork net.now }
-    ensures ok { IfOk result (λ node. steps_of net.now (fields_of record.now) ≡ Some (steps_if node)) }
-    ensures first { IfErr result (λ fault. (history : List ℕ) → IsEntryFault net.now history (fields_of record.now) number fault) }
+    ensures ok { IfOk result (λ node. steps_of net.now (fields_of row.now) ≡ Some (steps_if node)) }
+    ensures first { IfErr result (λ fault. (history : List ℕ) → IsEntryFault net.now history (fields_of row.now) number fault) }
 {
-    let Some((kind, _, node, _, _, _, _)) = seven(record) else {
+    let Some((kind, _, node, _, _, _, _)) = seven(row) else {
         return Err(HistoryFault::Row(number));
     };
     if is_passed_over(kind) {

@@ -1,13 +1,14 @@
-use Rattle.std.proofs.Common.{length}
+use Rattle.std.proofs.Common.{◌∷◌, length}
 use Rattle.record_text.specs.Reading.{IsReading, left_of}
+use Rattle.history_text.specs.Entries.{header}
 use Rattle.history_text.proofs.TextLaws.{IsUnder}
-use Rattle.history_text.proofs.texts.read_records.Given as goal
+use Rattle.history_text.proofs.texts.take_steps.Given as goal
 
 -- the reader stands behind the records that were read, which tell the steps so far
 abbrev pub invariant-loop-number : goal.invariant-loop-number
 invariant-loop-number l = record {
   reading : IsReading l.reader;
-  under : IsUnder l.net (left_of l.fn.reader) l.number (left_of l.reader) l.steps.items l.progress;
+  under : IsUnder l.net (header ∷ left_of l.fn.reader) l.number (left_of l.reader) l.steps.items l.progress;
 }
 
 -- how many records are left
