@@ -1,9 +1,0 @@
-use Rattle.std.proofs.Common.{ap, arith, length}
-use Rattle.record_text.proofs.RecordLaws.{few-records}
-use Rattle.history_text.proofs.texts.read_history.Goals as goal
-
-pub read_records-requires-clause-few : goal.read_records-requires-clause-few
-read_records-requires-clause-few c = let a = few-records c.args.bytes.now in let b = ap length c.open-reader.ensures.left in omega (arith, a, b, c.requires)
-
-pub returns-clause-refused : goal.returns-clause-refused
-returns-clause-refused c = rw c.open-reader.ensures.left at c.read_records.ensures.refused
