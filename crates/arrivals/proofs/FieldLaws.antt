@@ -24,4 +24,3 @@ told_of-none (x ∷ y ∷ z ∷ w ∷ more) other = refl
 -- a field that is not there
 pub field-missing : (fs : List (List ℕ)) (i : ℕ) → i < length fs → None ≡ field_at fs i → ⊥
 field-missing fs i h none = field-there fs i h (sym none)
-

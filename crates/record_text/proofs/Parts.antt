@@ -36,4 +36,3 @@ head-of f x xs zs e =
 pub in-middle : {X : Type 0} (P : X → Type 0) (xs ys : List X) (y : X) → All P (xs ++ y ∷ ys) → P y
 in-middle P [] ys y all = All-head P y ys all
 in-middle P (x ∷ xs) ys y all = in-middle P xs ys y (All-tail P x (xs ++ y ∷ ys) all)
-

@@ -23,10 +23,7 @@ pub fn open<'a>(alloc: Global, bytes: &'a [u8]) -> Reader<&'a [u8]>
 /// Reads the first record that is left, if there is one. Of a text in memory it fails for want of memory alone.
 ///
 /// docs/FORMATS.md, "Records".
-pub fn next_record(
-    reader: &mut Reader<&[u8]>,
-    row: &mut ByteRecord,
-) -> Result<bool, AllocError>
+pub fn next_record(reader: &mut Reader<&[u8]>, row: &mut ByteRecord) -> Result<bool, AllocError>
     requires { IsReading reader.old }
     ensures { IfOk result (λ found. Takes reader.old reader.new found (fields_of row.new)) }
 {
