@@ -1,10 +1,10 @@
 pub mod Counts
 pub mod Entries
+pub mod HowFar
 pub mod Lists
 pub mod Ordered
 pub mod Players
 pub mod Prefixes
-pub mod Progress
 pub mod Rounds
 pub mod StepLaws
 pub mod TurnOrder

@@ -7,7 +7,7 @@ use Rattle.histories.specs.declared.steps.BoardStep.{BoardStep}
 use Rattle.histories.specs.Histories.{count, HasRounds, IsUnderWay}
 use Rattle.histories.proofs.Counts.{count-append}
 use Rattle.histories.proofs.Rounds.{next, begun, over-at-once, within-more, step-more, round-more, rounds-count}
-use Rattle.histories.proofs.Progress.{cut-here}
+use Rattle.histories.proofs.HowFar.{cut-here}
 
 module _ (steps : ℕ → List BoardStep) (nodes : ℕ) (beyond : (n : ℕ) → nodes ≤ n → steps n ≡ []) where
   -- a node below a number has fewer than it may, or each has as many

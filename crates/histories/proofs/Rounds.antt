@@ -113,7 +113,7 @@ module _ (steps : ℕ → List BoardStep) where
   begun rounds n some = record { early = []; part = []; whole = refl; rounds_done = refl; within = λ m. omega arith; unfinished = λ less. (n, some); most = omega arith; over = λ e. refl }
 
   -- where no node has a step, all rounds are done at once
-  pub over-at-once : (rounds : ℕ) → ((n : ℕ) → steps n ≡ []) → IsUnderWay steps rounds rounds []
+  abbrev pub over-at-once : (rounds : ℕ) → ((n : ℕ) → steps n ≡ []) → IsUnderWay steps rounds rounds []
   over-at-once rounds none = record { early = []; part = []; whole = refl; rounds_done = empty rounds; within = λ m. omega arith; unfinished = λ less. absurd (omega arith); most = omega arith; over = λ e. refl }
     where
       empty : (rounds : ℕ) → HasRounds steps rounds []

@@ -59,8 +59,15 @@ impl History {
 pub fn lawful(net: &Network, h: &History) -> bool
     ensures { IsTrue result ↔ IsLawful net.now h.now }
 {
+    are_lawful(net, h.steps())
+}
+
+/// Whether these nodes are a lawful history of a network.
+fn are_lawful(net: &Network, nodes: &[u32]) -> bool
+    ensures { IsTrue result ↔ IsLawful net.now nodes.now }
+{
     let mut progress = Progress::new(net);
-    for node in h.steps() {
+    for node in nodes {
         if progress.take(*node).is_err() {
             return false;
         }

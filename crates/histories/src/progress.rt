@@ -54,6 +54,7 @@ impl CrossesThreads for Progress {}
 impl Progress {
     ghost use Rattle.std.specs.Prelude.{◌≡◌, ◌↔◌, ◌++◌, ◌∷◌, ℕ, List, [], IfErr, IsTrue, OnErr, OnOk};
     ghost use Rattle.net_numbers.specs.Numbers.{Net};
+    ghost use Rattle.road_net.specs.Network.{IsNetwork};
     ghost use Rattle.histories.specs.Histories.{IsLawful};
     ghost use Rattle.histories.specs.Progress.{HasCome, IsStop, IsStuck};
 
@@ -61,7 +62,8 @@ impl Progress {
     ///
     /// docs/RULES.md, "Histories".
     pub fn new(net: &Network) -> Progress
-        ensures { HasCome net.now [] result }
+        ensures come { HasCome net.now [] result }
+        ensures network { IsNetwork net.now }
     {
         let steps = step_counts(net);
         let whole = total(&steps);

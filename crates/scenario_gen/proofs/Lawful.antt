@@ -7,12 +7,12 @@ use Rattle.std.proofs.lemmas.List.Elements.{All-cons, All-head, All-nil, All-tai
 use Rattle.std.proofs.lemmas.List.FromFn.{length-range_with_len}
 use Rattle.std.proofs.lemmas.List.Sums.{sum_by-append, sum_by-cons, sum_by-le}
 use Rattle.std.proofs.lemmas.Option.{same_Some}
-use Rattle.net_draft.specs.Faults.{each}
+use Rattle.foundation.proofs.EachLaws.{each-self}
 use Rattle.net_draft.specs.declared.drafts.Draft.{Draft}
 use Rattle.net_draft.specs.declared.faults.NetFault.{NetFault}
 use Rattle.net_draft.specs.declared.faults.NetFault.TheVariants as net_fault
 use Rattle.net_numbers.specs.Numbers.{Net}
-use Rattle.net_numbers.specs.Outcome.{Refuses}
+use Rattle.net_numbers.specs.FirstFaults.{Refuses}
 use Rattle.net_numbers.specs.Outline.{link_at}
 use Rattle.road_net.specs.Network.{IsNetworkOf}
 use Rattle.arrivals.specs.declared.rows.ArrivalRow.{ArrivalRow}
@@ -112,10 +112,6 @@ only-want d (net_fault.Crowd n) has why = absurd (why has.net has.network)
 only-want d (net_fault.Shares l) has why = absurd (why has.net has.network)
 only-want d (net_fault.Phaseless l) has why = absurd (why has.net has.network)
 only-want d (net_fault.Clash a b) has why = absurd (why has.net has.network)
-
-each-self : {X : Type 0} (xs : List X) → each Some xs ≡ Some xs
-each-self [] = refl
-each-self (x ∷ xs) = rw (each-self xs) refl
 
 -- a row at fault among lawful ones
 module _ (net : Net) (all : List ArrivalRow) (are : AreRows net all) where

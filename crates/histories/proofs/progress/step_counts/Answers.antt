@@ -1,6 +1,6 @@
 use Rattle.std.proofs.Common.{arith}
 use Rattle.histories.specs.Steps.{board_steps}
-use Rattle.histories.proofs.Progress.{counts-none, counts-more, counts-all}
+use Rattle.histories.proofs.HowFar.{counts-none, counts-more, counts-all}
 use Rattle.histories.proofs.StepLaws.{steps-beyond}
 use Rattle.histories.proofs.progress.step_counts.Goals as goal
 

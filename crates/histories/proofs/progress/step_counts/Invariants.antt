@@ -1,5 +1,5 @@
 use Rattle.histories.specs.Steps.{board_steps}
-use Rattle.histories.proofs.Progress.{HaveCounts}
+use Rattle.histories.proofs.HowFar.{HaveCounts}
 use Rattle.histories.proofs.progress.step_counts.Given as goal
 
 abbrev pub invariant-loop-node : goal.invariant-loop-node

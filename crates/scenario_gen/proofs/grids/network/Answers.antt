@@ -1,6 +1,6 @@
 use Rattle.std.proofs.Common.{subst}
 use Rattle.net_numbers.specs.Numbers.{Net}
-use Rattle.net_numbers.specs.Outcome.{Refuses}
+use Rattle.net_numbers.specs.FirstFaults.{Refuses}
 use Rattle.net_draft.specs.declared.drafts.Draft.{Draft}
 use Rattle.road_net.specs.Network.{IsNetworkOf}
 use Rattle.scenario_gen.specs.Drafts.{grid_draft}

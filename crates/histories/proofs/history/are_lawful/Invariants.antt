@@ -1,6 +1,6 @@
 use Rattle.std.proofs.Common.{take}
 use Rattle.histories.specs.Progress.{HasCome}
-use Rattle.histories.proofs.history.lawful.Given as goal
+use Rattle.histories.proofs.history.are_lawful.Given as goal
 
 abbrev pub invariant-loop-node : goal.invariant-loop-node
-invariant-loop-node l = HasCome l.net (take l.node-index l.h) l.progress
+invariant-loop-node l = HasCome l.net (take l.node-index l.nodes) l.progress

@@ -1,8 +1,8 @@
 -- How far a history has come, as counts of the steps that are left in a round.
-use Rattle.std.proofs.Common.{◌≡◌, Bool, ℕ, zero, suc, ◌+◌, ◌-◌, ◌*◌, ◌<◌, ◌≤◌, List, [], ◌∷◌, ◌++◌, length, take, drop, get_or, set, All, refl, sym, ap, ◌∙◌, subst, inl, inr, arith, append_assoc, eqb, eq-eqb, ◌==◌, if◌then◌else◌}
+use Rattle.std.proofs.Common.{◌≡◌, true, false, Result, Ok, Err, OnOk, OnErr, is_err, ℕ, zero, suc, ◌+◌, ◌-◌, ◌<◌, ◌≤◌, List, [], ◌∷◌, ◌++◌, length, take, drop, get_or, set, All, refl, sym, ap, ◌∙◌, subst, inl, inr, arith, append_assoc, eqb, eq-eqb, ◌==◌, if◌then◌else◌}
 use Rattle.std.specs.Prelude.{◌⊎◌, IsTrue, sum_by, replicate}
 use Rattle.std.proofs.lemmas.List.Elements.{All-replicate, All-set}
-use Rattle.std.proofs.lemmas.Bool.{cases_eq, cases_lt, cond_both, eqb-true, eqb-false}
+use Rattle.std.proofs.lemmas.Bool.{cases_eq, cases_lt, cond_both, eqb-true, eqb-false, false≢true, true≢false}
 use Rattle.std.proofs.lemmas.List.{take_more, take-append-drop, length-replicate, get_or-set_same, get_or-set_other, length-set}
 use Rattle.std.proofs.lemmas.List.Sums.{sum_by-cons, sum_by-set}
 use Rattle.histories.specs.declared.steps.BoardStep.{BoardStep}
@@ -78,12 +78,13 @@ module _ (net : Net) (steps : List ℕ) (are : (n : ℕ) → get_or steps n 0 �
       no-steps [] e = refl
       no-steps (x ∷ xs) e = absurd (omega arith)
 
-  pub come-begin : (whole done : ℕ) → whole ≡ all_of steps → done ≡ (if whole == 0 then net.run.rounds else 0) → HasCome net [] (at done)
-  come-begin whole done is by =
-      subst (λ d. HasCome net [] (at d)) (sym by)
+  pub come-begin : (whole rounds done : ℕ) → whole ≡ all_of steps → rounds ≡ net.run.rounds → done ≡ (if whole == 0 then rounds else 0) → HasCome net [] (record { rounds = rounds; done = done; steps = steps; left = steps })
+  come-begin whole rounds done is same by =
+      subst (λ r. HasCome net [] (record { rounds = r; done = done; steps = steps; left = steps })) (sym same)
+      (subst (λ d. HasCome net [] (at d)) (sym (by ∙ ap (λ r. if whole == 0 then r else 0) same))
       (cond_both (whole == 0) net.run.rounds 0 (λ d. HasCome net [] (at d))
       (λ e. come-none (omega (arith, is, eqb-true whole 0 e)))
-      (λ e. come-some (elim (cases_lt 0 whole) [ inl some ↦ omega (arith, is, some) | inr none ↦ absurd (eqb-false whole 0 e (omega (arith, none))) ])))
+      (λ e. come-some (elim (cases_lt 0 whole) [ inl some ↦ omega (arith, is, some) | inr none ↦ absurd (eqb-false whole 0 e (omega (arith, none))) ]))))
 
 -- a history that has come so far
 module _ (net : Net) (h : List ℕ) (p : Course) (come : HasCome net h p) where
@@ -154,6 +155,19 @@ cut-here xs i inside = sym (take-append-drop (i + 1) xs) ∙ ap (λ l. l ++ drop
 -- an answer that a test of two numbers gives
 pub tells : (a b : ℕ) (P : Type 0) → (P → a ≡ b) → (a ≡ b → P) → (IsTrue (eqb a b) → P) × (P → IsTrue (eqb a b))
 tells a b P to from = ((λ t. from (eqb-true a b t)), (λ p. eq-eqb a b (to p)))
+
+-- one step of a node less
+pub fewer : (left : List ℕ) (n x all : ℕ) → n < length left → x + 1 ≡ get_or left n 0 → all ≡ all_of left → all_of (set left n x) ≡ all - 1
+fewer left n x all inside own is = omega (arith, sum_by-set (λ c. c) left n x 0 inside, own, is)
+
+-- what a call says where it answers Ok, and where it answers Err
+pub at-ok : {X E : Type 0} (r : Result X E) (P : Type 0) → OnOk r P → is_err r ≡ false → P
+at-ok (Ok x) P says e = says
+at-ok (Err x) P says e = absurd (true≢false e)
+
+pub at-err : {X E : Type 0} (r : Result X E) (P : Type 0) → OnErr r P → is_err r ≡ true → P
+at-err (Ok x) P says e = absurd (false≢true e)
+at-err (Err x) P says e = says
 
 -- a lawful history, cut at a place
 pub lawful-cut : (net : Net) (xs : List ℕ) (i : ℕ) → i < length xs → IsLawful net xs → IsLawful net (take i xs ++ get_or xs i 0 ∷ drop (i + 1) xs)
