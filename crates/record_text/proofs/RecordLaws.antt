@@ -3,7 +3,7 @@ use Rattle.std.proofs.Common.{Bor, ◌≡◌, ℕ, zero, suc, ◌+◌, ◌<◌, 
 use Rattle.std.proofs.lemmas.Bool.{cond_both, false≢true}
 use Rattle.std.proofs.lemmas.Option.{same_Some}
 use Rattle.csv.specs.Machine.{Read, ends_with, after_end, in_field, start_field, start_record, step, ends_at_end, is_end, fields_after, field_after, next_record}
-use Rattle.csv.specs.Reading.{Reached, ReadRecord, Ready, default_config, records_from, records_next, strip_bom, is_bom}
+use Rattle.csv.specs.Reading.{Reached, ReadRecord, Ready, default_config, records_from, records_next}
 use Rattle.csv.specs.declared.parser.Action.{Action}
 use Rattle.csv.specs.declared.parser.State.{State}
 use Rattle.csv.specs.declared.parser.State.TheVariants as st
@@ -12,7 +12,6 @@ use Rattle.csv.specs.declared.reader.Reader.{Reader}
 use Rattle.csv.proofs.ReadFacts.{rows-more, rows-end}
 use Rattle.std.specs.Result.{result_ok}
 use Rattle.csv.specs.declared.reader.Trim.TheVariants as trim
-use Rattle.record_text.specs.Records.{records_of}
 use Rattle.record_text.specs.Reading.{source, records_in, left_of, IsReading, Takes}
 
 -- where a record ends, the machine stands between two
@@ -98,21 +97,6 @@ enough (suc n) (suc m) s bytes between h g =
     let fewer = taken-some s [] [] bytes p between e in
     enough n m p.1 p.2 (taken s [] [] bytes p e).between (omega (arith, fewer)) (omega (arith, fewer)))
 
-next-few : (f : State → List ℕ → List (List (List ℕ))) (o : Option Read) (most : ℕ) → ((p : Read) → o ≡ Some p → length (f p.1 p.2) + 1 ≤ most) → length (records_next f o) ≤ most
-next-few f None most few = omega arith
-next-few f (Some p) most few = let h = few p refl in omega arith
-
--- there are no more records than bytes
-pub few-from : (n : ℕ) (s : State) (bytes : List ℕ) → ends_at_end s ≡ false → length (records_from default_config n s bytes) ≤ length bytes
-unfolding records_from
-few-from zero s bytes between = omega arith
-few-from (suc n) s bytes between =
-    next-few (records_from default_config n) (next_record default_config s [] [] bytes) (length bytes)
-    (λ p e.
-    let fewer = taken-some s [] [] bytes p between e in
-    let rest = few-from n p.1 p.2 (taken s [] [] bytes p e).between in
-    omega (arith, fewer, rest))
-
 -- the first record, and those behind it
 first-of : (s : State) (bytes : List ℕ) (p : Read) → ends_at_end s ≡ false → next_record default_config s [] [] bytes ≡ Some p → records_in s (Some bytes) ≡ p.0 ∷ records_in p.1 (Some p.2)
 unfolding records_from
@@ -165,14 +149,3 @@ takes-ok want old new fields (Err e) answer is same reads first = rw same tt
 -- a record that was found was the first that was left
 pub found-one : (old new : Reader (Bor (List ℕ))) (found : Bool) (fields : List (List ℕ)) → found ≡ true → Takes old new found fields → IsReading new × (left_of old ≡ fields ∷ left_of new)
 found-one old new found fields yes_is takes = rw yes_is at takes
-
-short-strip : (bytes : List ℕ) → length (strip_bom bytes) ≤ length bytes
-unfolding strip_bom
-short-strip [] = omega arith
-short-strip (a ∷ []) = omega arith
-short-strip (a ∷ b ∷ []) = omega arith
-short-strip (a ∷ b ∷ c ∷ rest) = cond_both (is_bom a b c) rest (a ∷ b ∷ c ∷ rest) (λ l. length l ≤ length (a ∷ b ∷ c ∷ rest)) (λ e. omega arith) (λ e. omega arith)
-
--- nor has a text
-pub few-records : (bytes : List ℕ) → length (records_of bytes) ≤ length bytes
-few-records bytes = let a = few-from (length (strip_bom bytes) + 1) st.StartRecord (strip_bom bytes) refl in omega (arith, a, short-strip bytes)
