@@ -2,7 +2,7 @@ use Rattle.std.proofs.Common.{refl, arith}
 use Rattle.signal_cli.proofs.Fetching.{fetched-whole, fetched-long}
 use Rattle.signal_cli.proofs.texts.fetch_text.Goals as goal
 
-pub returns-in-Ok-clause-refused : goal.returns-in-Ok-clause-err
+pub returns-in-Ok-clause-refused : goal.returns-in-Ok-clause-refused
 returns-in-Ok-clause-refused g c kind =
     (refl, c.in-Ok.ensures.ok, fetched-long (g.S.Shelf.state c.args.shelf.now).files kind c.args.file.now c.in-Ok.text.items c.in-Ok.ensures.text (omega arith))
 
