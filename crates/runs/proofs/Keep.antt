@@ -56,14 +56,14 @@ head-of plan rows now head line early e = by (row_after rows now) refl e
   where
     by : (o : Option Green) → row_after rows now ≡ o → option_map (head_in plan now) o ≡ Some head → IsSoonHead plan head
     by None found is = absurd (none-some head is)
-    by (Some row) found is =
-        let same : head_in plan now row ≡ head = same_Some (head_in plan now row) head is in
-        let green = row_after-some (IsGreen plan) rows now row line.lawful.greens found in
-        let from = row_after-some (λ (r : Green). r.from ≤ 100000) rows now row line.begins found in
+    by (Some here) found is =
+        let same : head_in plan now here ≡ head = same_Some (head_in plan now here) head is in
+        let green = row_after-some (IsGreen plan) rows now here line.lawful.greens found in
+        let from = row_after-some (λ (r : Green). r.from ≤ 100000) rows now here line.begins found in
         subst (IsSoonHead plan) same (record {
-          is = head-of-row plan now row green.0 green.1;
-          since = (let s = head_in-since plan now row in let f = from.0 in omega arith);
-          reach = head_in-by plan now row 100000 early from.0;
+          is = head-of-row plan now here green.0 green.1;
+          since = (let s = head_in-since plan now here in let f = from.0 in omega arith);
+          reach = head_in-by plan now here 100000 early from.0;
         })
 
 -- the rows of a commit's timeline
