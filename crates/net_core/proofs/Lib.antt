@@ -1,0 +1,6 @@
+pub mod Playing
+pub mod Prefixes
+pub mod Put
+pub mod Rounds
+pub mod Running
+pub mod Steps

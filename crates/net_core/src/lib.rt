@@ -1,0 +1,8 @@
+//! The run of a history, given as a list: one thread does the nodes' board steps in any lawful order.
+#![tactic(auto)]
+
+mod acts;
+mod faults;
+mod parts;
+
+pub use faults::StepFault;
