@@ -20,6 +20,7 @@ use Rattle.net_simulator.specs.Worlds.{Kept, Stands}
 use Rattle.road_net.specs.Network.{heard_links, told_links}
 use Rattle.runs.specs.Runs.{AllCommit, Commits, HearAlong, forecast_at, line_before, sensed_in, shown_by}
 use Rattle.net_core.specs.declared.parts.Board.{Board}
+use Rattle.net_core.specs.declared.parts.Parts.{Parts}
 
 -- the plan records of a node in so many rounds
 abbrev pub records_of : (ℕ → ℕ → List Heard) → (ℕ → ℕ → Commitment) → ℕ → ℕ → List PlanRecord
@@ -141,3 +142,28 @@ lines_of actors node = slice_index_or (map (λ (a : Acting). a.line) actors) nod
 -- each node is done
 abbrev pub AllDone : List Acting → Type 0
 AllDone actors = (node : ℕ) (d : Acting) → node < length actors → (slice_index_or actors node d).want ≡ Done
+
+-- what is so of the parts of a core: within a round, between two, and as one begins
+abbrev pub AreInRound : Net → Amounts → Parts → Type 0
+AreInRound net arrivals p = InRound net arrivals p.history.items p.round p.actors.all.items p.boards.items p.world
+
+abbrev pub AreBetween : Net → Amounts → Parts → Type 0
+AreBetween net arrivals p = Between net arrivals p.history.items p.round p.actors.all.items p.boards.items p.world
+
+abbrev pub AreBeginning : Net → Amounts → Parts → ℕ → Type 0
+AreBeginning net arrivals p first = Begins net arrivals p.history.items p.round p.actors.all.items p.boards.items p.world first
+
+-- within a round behind this history
+abbrev pub AreAfter : Net → Amounts → List ℕ → Parts → Type 0
+AreAfter net arrivals history p = InRound net arrivals history p.round p.actors.all.items p.boards.items p.world
+
+-- and between two steps of a core that is not spent
+abbrev pub AreGoing : Net → Amounts → Parts → Type 0
+AreGoing net arrivals p = Goes net arrivals p.history.items p.round p.actors.all.items p.boards.items p.world
+
+-- a node wants this, or something
+abbrev pub Wants : Parts → ℕ → Want → Type 0
+Wants p node want = (d : Acting) → (slice_index_or p.actors.all.items node d).want ≡ want
+
+abbrev pub WantsMore : Parts → ℕ → Type 0
+WantsMore p node = (d : Acting) → (slice_index_or p.actors.all.items node d).want ≢ Done

@@ -4,5 +4,6 @@
 mod acts;
 mod faults;
 mod parts;
+mod rounds;
 
 pub use faults::StepFault;
