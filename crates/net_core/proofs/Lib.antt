@@ -3,4 +3,6 @@ pub mod Prefixes
 pub mod Put
 pub mod Rounds
 pub mod Running
+pub mod Standing
 pub mod Steps
+pub mod Wanting

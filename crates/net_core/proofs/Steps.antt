@@ -69,24 +69,24 @@ apart : true ≡ false → ⊥
 apart e = cc
 
 -- with links left to read a node wants to read the next
-reading-next : (L : List ℕ) (c : ℕ) → c < length L → reading (drop c L) ≡ Read (get_or L c 0)
+pub reading-next : (L : List ℕ) (c : ℕ) → c < length L → reading (drop c L) ≡ Read (get_or L c 0)
 reading-next L c inside = ap reading (drop_more L c 0 inside)
 
-telling-next : (L : List ℕ) (c : ℕ) → c < length L → telling_first (drop c L) ≡ Publish (get_or L c 0)
+pub telling-next : (L : List ℕ) (c : ℕ) → c < length L → telling_first (drop c L) ≡ Publish (get_or L c 0)
 telling-next L c inside = ap telling_first (drop_more L c 0 inside)
 
-telling-none : (L : List ℕ) (c : ℕ) → length L ≤ c → telling_first (drop c L) ≡ Done
+pub telling-none : (L : List ℕ) (c : ℕ) → length L ≤ c → telling_first (drop c L) ≡ Done
 telling-none L c past = ap telling_first (drop_all c L past)
 
 -- the steps behind the readings publish
-told-step : (net : Net) (n c : ℕ) → length (heard_links net n) ≤ c → c - length (heard_links net n) < length (told_links net n) → get_or (board_steps net n) c (steps.Read 0) ≡ steps.Publish (get_or (told_links net n) (c - length (heard_links net n)) 0)
+pub told-step : (net : Net) (n c : ℕ) → length (heard_links net n) ≤ c → c - length (heard_links net n) < length (told_links net n) → get_or (board_steps net n) c (steps.Read 0) ≡ steps.Publish (get_or (told_links net n) (c - length (heard_links net n)) 0)
 told-step net n c past inside =
     let reads : length (map steps.Read (heard_links net n)) ≡ length (heard_links net n) = length-map (heard_links net n) steps.Read in
     get_or-append_right (map steps.Read (heard_links net n)) (map steps.Publish (told_links net n)) (length (heard_links net n)) c (steps.Read 0) reads past
     ∙ get_or-map steps.Publish (told_links net n) (c - length (heard_links net n)) 0 (steps.Read 0) inside
 
 module _ (net : Net) (network : IsNetwork net) (arrivals : Amounts) (history : List ℕ) (round : ℕ) (actors : List Acting) (boards : List Board) (world : Kept) (i : InRound net arrivals history round actors boards world) where
-  abbrev way : Begun net network round history
+  abbrev pub way : Begun net network round history
   way = record { early = i.early; part = i.part; whole = i.whole; rounds_done = i.rounds_done; within = i.within; most = (let less = i.below in omega arith); over = λ e. absurd (let less = i.below in omega arith) }
 
   module _ (n : ℕ) (below : n < length net.node_names) (old : Acting) (is : (d : Acting) → get_or actors n d ≡ old) where

@@ -88,7 +88,7 @@ pub(crate) fn go_on<P: Planner>(
     ensures going { OnOk result (AreGoing net.now arrivals.now parts.new) }
     ensures history { parts.new.history ≡ parts.old.history }
 {
-    while all_done(parts.actors.all.as_slice()) {
+    'rounds: while all_done(parts.actors.all.as_slice()) {
         end_round(net, arrivals, parts);
         if parts.round == net.run().rounds {
             return Ok(());
