@@ -1,5 +1,5 @@
 -- A core, as contracts see it: a run under way.
-use Rattle.std.specs.Prelude.{◌≡◌, ◌≢◌, ℕ, ◌+◌, ◌==◌, ◌≤◌, Bool, true, false, if◌then◌else◌, List, Option, Some, None, length, slice_get}
+use Rattle.std.specs.Prelude.{◌≡◌, ◌≢◌, ℕ, ◌==◌, ◌<◌, ◌≤◌, Bool, true, false, if◌then◌else◌, List, Option, Some, None, length, slice_get}
 use Rattle.arrivals.specs.Amounts.{Amounts}
 use Rattle.histories.specs.Histories.{count, IsLawful, IsUnderWay}
 use Rattle.histories.specs.Steps.{board_steps}
@@ -35,11 +35,41 @@ pub record IsWanted (net : Net) (history : List ℕ) (node : ℕ) (want : Want) 
 abbrev pub IsItsTurn : Net → List ℕ → ℕ → Type 0
 IsItsTurn net history node = (want : Want) → IsWanted net history node want → want ≢ Done
 
--- why a core does no step of a node: the network has no such node; or else it is spent; or else all rounds are done; or else the
--- node wants nothing in this round; or else memory ran out
+-- a node may do its next step: it exists, the core is not spent, and the node wants something
+pub record MayStep (core : Course) (node : ℕ) : Type 0 where
+  pub exists : node < length core.net.node_names
+  pub fresh : core.spent ≡ false
+  pub turn : IsItsTurn core.net core.steps node
+
+-- a node exists, but the core is spent; or all its rounds are done; or not all are, and the node wants nothing in this one
+pub record IsSpent (core : Course) (node : ℕ) : Type 0 where
+  pub exists : node < length core.net.node_names
+  pub spent : core.spent ≡ true
+
+pub record IsOver (core : Course) (node : ℕ) : Type 0 where
+  pub exists : node < length core.net.node_names
+  pub fresh : core.spent ≡ false
+  pub lawful : IsLawful core.net core.steps
+
+pub record HasNoTurn (core : Course) (node : ℕ) : Type 0 where
+  pub exists : node < length core.net.node_names
+  pub fresh : core.spent ≡ false
+  pub unlawful : ¬ IsLawful core.net core.steps
+  pub wanted : IsWanted core.net core.steps node Done
+
+-- why a core does no step of a node: the network has no such node; or else the core is spent; or else all rounds are done; or else
+-- the node wants nothing in this round; or else memory ran out
 abbrev pub IsStepFault : Course → ℕ → StepFault → Type 0
 IsStepFault core node UnknownNode = length core.net.node_names ≤ node
-IsStepFault core node Spent = (node + 1 ≤ length core.net.node_names) × (core.spent ≡ true)
-IsStepFault core node Over = (node + 1 ≤ length core.net.node_names) × (core.spent ≡ false) × IsLawful core.net core.steps
-IsStepFault core node NotItsTurn = (node + 1 ≤ length core.net.node_names) × (core.spent ≡ false) × (¬ IsLawful core.net core.steps) × IsWanted core.net core.steps node Done
-IsStepFault core node NoMemory = (node + 1 ≤ length core.net.node_names) × (core.spent ≡ false) × IsItsTurn core.net core.steps node
+IsStepFault core node Spent = IsSpent core node
+IsStepFault core node Over = IsOver core node
+IsStepFault core node NotItsTurn = HasNoTurn core node
+IsStepFault core node NoMemory = MayStep core node
+
+-- what a core is behind a step that was not done: as it was, and spent where memory ran out
+abbrev pub Stays : Course → Course → StepFault → Type 0
+Stays old new UnknownNode = new ≡ old
+Stays old new Spent = new ≡ old
+Stays old new Over = new ≡ old
+Stays old new NotItsTurn = new ≡ old
+Stays old new NoMemory = new ≡ record old { spent = true }

@@ -1,7 +1,7 @@
 -- No public clause names these: what a core keeps between two steps.
-use Rattle.std.specs.Prelude.{◌≡◌, ◌≢◌, ℕ, ◌+◌, ◌-◌, ◌*◌, ◌<◌, ◌≤◌, ◌⊎◌, List, [], ◌∷◌, ◌++◌, Some, drop, length, map, slice_index_or}
+use Rattle.std.specs.Prelude.{◌≡◌, ◌≢◌, ℕ, Bool, false, ◌+◌, ◌-◌, ◌*◌, ◌<◌, ◌≤◌, ◌⊎◌, List, [], ◌∷◌, ◌++◌, Some, drop, length, map, slice_index_or}
 use Rattle.std.specs.List.{range_with_len}
-use Rattle.arrivals.specs.Amounts.{Amounts}
+use Rattle.arrivals.specs.Amounts.{Amounts, AreArrivals}
 use Rattle.board_model.specs.declared.boards.Heard.{Heard}
 use Rattle.control_flow.specs.Greens.{end_of}
 use Rattle.control_flow.specs.declared.greens.Green.{Green}
@@ -9,7 +9,7 @@ use Rattle.histories.specs.Histories.{count, version_at, HasRounds}
 use Rattle.histories.specs.Steps.{board_steps}
 use Rattle.intersection_actor.specs.Acting.{Acting, reading}
 use Rattle.intersection_actor.specs.Commits.{Commitment, phases_of, record_of}
-use Rattle.intersection_actor.specs.Rounds.{IsOf}
+use Rattle.intersection_actor.specs.Rounds.{IsNew, IsOf}
 use Rattle.intersection_actor.specs.declared.records.PlanRecord.{PlanRecord}
 use Rattle.intersection_actor.specs.declared.records.Want.{Want}
 use Rattle.intersection_actor.specs.declared.records.Want.TheVariants.{Publish, Done}
@@ -167,3 +167,25 @@ Wants p node want = (d : Acting) → (slice_index_or p.actors.all.items node d).
 
 abbrev pub WantsMore : Parts → ℕ → Type 0
 WantsMore p node = (d : Acting) → (slice_index_or p.actors.all.items node d).want ≢ Done
+
+-- New actors of the first nodes, so many; and so many boards on which nothing is published.
+pub record AreNew (net : Net) (nodes : ℕ) (actors : List Acting) : Type 0 where
+  pub all : length actors ≡ nodes
+  pub new : (node : ℕ) (d : Acting) → node < nodes → IsNew net node (slice_index_or actors node d)
+  pub of : (node : ℕ) (d : Acting) → node < nodes → IsOf net (slice_index_or actors node d)
+
+pub record AreBlank (links : ℕ) (boards : List Board) : Type 0 where
+  pub all : length boards ≡ links
+  pub versions : (link : ℕ) (d : Board) → link < links → (slice_index_or boards link d).version ≡ 0
+  pub forecasts : (link : ℕ) (d : Board) → link < links → (slice_index_or boards link d).forecast ≡ []
+
+-- the parts of a core before the first round
+pub record AreAtFirst (net : Net) (arrivals : Amounts) (p : Parts) : Type 0 where
+  pub between : AreBetween net arrivals p
+  pub history : p.history.items ≡ []
+  pub round : p.round ≡ 0
+
+-- A core at rest: its arrivals are those of its network, and where it is not spent it can go on.
+pub record IsSound (net : Net) (arrivals : Amounts) (p : Parts) (spent : Bool) : Type 0 where
+  pub enter : AreArrivals net arrivals
+  pub going : spent ≡ false → AreGoing net arrivals p

@@ -2,8 +2,11 @@
 #![tactic(auto)]
 
 mod acts;
+mod core;
 mod faults;
+mod making;
 mod parts;
 mod rounds;
 
+pub use core::Core;
 pub use faults::StepFault;
