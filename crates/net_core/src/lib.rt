@@ -2,11 +2,11 @@
 #![tactic(auto)]
 
 mod acts;
-mod core;
+mod cores;
 mod faults;
 mod making;
 mod parts;
 mod rounds;
 
-pub use core::Core;
+pub use cores::Core;
 pub use faults::StepFault;
