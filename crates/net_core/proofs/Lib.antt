@@ -4,5 +4,6 @@ pub mod Put
 pub mod Rounds
 pub mod Running
 pub mod Standing
+pub mod Starting
 pub mod Steps
 pub mod Wanting
