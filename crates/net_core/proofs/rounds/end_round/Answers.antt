@@ -1,5 +1,5 @@
 use Rattle.std.proofs.Common.{◌+◌, ap, arith, ◌∙◌}
-use Rattle.net_numbers.specs.declared.roads.Run.{Run}
+use Rattle.net_draft.specs.declared.drafts.Run.{Run}
 use Rattle.net_core.proofs.Standing.{end-between, end-room, end-stands, few-rounds}
 use Rattle.net_core.proofs.rounds.end_round.Goals as goal
 
