@@ -6,4 +6,5 @@ pub mod Running
 pub mod Standing
 pub mod Starting
 pub mod Steps
+pub mod Turns
 pub mod Wanting

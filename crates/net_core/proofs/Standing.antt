@@ -38,7 +38,7 @@ pub at-any : {X : Type 0} (xs : List X) (n : ℕ) (x : X) → n < length xs → 
 at-any xs n x inside is d = get_or_default xs n d x inside ∙ sym is
 
 -- some actor, to read a list by
-abbrev no_acting : Acting
+abbrev pub no_acting : Acting
 no_acting = record { node = 0; line = []; records = []; want = Done; round = 0; left = []; sensed = record { now = 0; links = [] }; heard = []; window = record { lists = []; waiting = 0 }; phases = []; served = [] }
 
 on-three : {E A B C D : Type 0} (r : Result (Unit {0}) E) → (A → B → C → D) → OnOk r A → OnOk r B → OnOk r C → OnOk r D

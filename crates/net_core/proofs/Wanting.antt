@@ -174,3 +174,9 @@ module _ (net : Net) (network : IsNetwork net) (arrivals : Amounts) (p : Parts) 
     | inl (i, open_node) ↦ i
     | inr (b, same) ↦ absurd (other same)
   ]
+
+  pub going-there : AreGoing net arrivals p → (n : ℕ) → n < length net.node_names → n < length p.actors.all.items
+  going-there going n below = elim going [
+    | inl (i, open_node) ↦ omega (arith, i.all)
+    | inr (b, same) ↦ omega (arith, b.all)
+  ]
