@@ -2,7 +2,7 @@
 use crate::faults::StepFault;
 use crate::making::parts_of;
 use crate::parts::Parts;
-use crate::rounds::{begin_round, go_on, is_done, play};
+use crate::loops::{begin_round, go_on, is_done, play};
 use arrivals::Arrivals;
 use foundation::threads::CrossesThreads;
 use intersection_actor::Want;

@@ -4,9 +4,9 @@
 mod acts;
 mod cores;
 mod faults;
+mod loops;
 mod making;
 mod parts;
-mod rounds;
 
 pub use cores::Core;
 pub use faults::StepFault;

@@ -1,6 +1,6 @@
 use Rattle.std.proofs.Common.{◌≡◌}
 use Rattle.net_core.specs.Going.{AreBeginning}
-use Rattle.net_core.proofs.rounds.begin_round.Given as goal
+use Rattle.net_core.proofs.loops.begin_round.Given as goal
 
 abbrev pub invariant-loop-node : goal.invariant-loop-node
 invariant-loop-node g l = record {

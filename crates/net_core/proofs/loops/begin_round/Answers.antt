@@ -1,6 +1,6 @@
 use Rattle.std.proofs.Common.{refl, arith, ◌∙◌}
 use Rattle.net_core.proofs.Rounds.{begins-all, begins-none}
-use Rattle.net_core.proofs.rounds.begin_round.Goals as goal
+use Rattle.net_core.proofs.loops.begin_round.Goals as goal
 
 pub loop-node-init : goal.loop-node-init
 loop-node-init g c = record {

@@ -1,6 +1,6 @@
 use Rattle.std.proofs.Common.{◌≡◌, ◌-◌}
 use Rattle.net_core.specs.Going.{AreInRound}
-use Rattle.net_core.proofs.rounds.go_on.Given as goal
+use Rattle.net_core.proofs.loops.go_on.Given as goal
 
 abbrev pub invariant-rounds : goal.invariant-rounds
 invariant-rounds g l = record {
