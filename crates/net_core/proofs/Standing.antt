@@ -8,7 +8,7 @@ use Rattle.std.proofs.Math.Nat.{mul-le-mul_right}
 use Rattle.arrivals.specs.Amounts.{Amounts, AreArrivals}
 use Rattle.clusters.specs.Windows.{counts_of}
 use Rattle.control_flow.specs.declared.greens.Green.{Green}
-use Rattle.histories.specs.Histories.{count, version_at}
+use Rattle.histories.specs.Histories.{count, step_at, version_at}
 use Rattle.histories.specs.Steps.{board_steps, is_publish_of}
 use Rattle.histories.proofs.StepLaws.{step-count}
 use Rattle.intersection_actor.specs.Acting.{Acting, begun, reading, tells_from, wanting, with_heard}
@@ -153,7 +153,7 @@ module _ (net : Net) (network : IsNetwork net) (arrivals : Amounts) (p : Parts) 
               let enough : length (heard_links net n) ≤ c = x.enough in
               let small : c < length (board_steps net n) = omega (arith, step-count net n) in
               let at : (b : Board) → b ≡ get_or p.boards.items L b → b.version < 1000 = λ b is.
-                  let told : is_publish_of L _ ≡ true = ap (is_publish_of L) (own-step net network p.history.items p.round (way net network arrivals p.history.items p.round p.actors.all.items p.boards.items p.world i) n c refl small ∙ told-step net n c enough inside) ∙ eq-eqb L L refl in
+                  let told : is_publish_of L (step_at (board_steps net) (p.history.items ++ n ∷ []) (length p.history.items)) ≡ true = ap (is_publish_of L) (own-step net network p.history.items p.round (way net network arrivals p.history.items p.round p.actors.all.items p.boards.items p.world i) n c refl small ∙ told-step net n c enough inside) ∙ eq-eqb L L refl in
                   let version = ap (λ (y : Board). y.version) is ∙ i.running.boards_are.versions L n ends.hearer b ends.from ends.to in
                   let now = now-published net network p.history.items p.round (way net network arrivals p.history.items p.round p.actors.all.items p.boards.items p.world i) L n ends.hearer c ends.from ends.to refl small told in
                   omega (arith, version, now, few-rounds) in

@@ -4,6 +4,7 @@ use Rattle.std.specs.Prelude.{◌⊎◌}
 use Rattle.std.proofs.lemmas.Bool.{cases_lt}
 use Rattle.std.proofs.lemmas.List.{get_or_append_left, get_or_push, get_or_past, length_push}
 use Rattle.arrivals.specs.Amounts.{Amounts}
+use Rattle.control_flow.specs.Greens.{end_of}
 use Rattle.histories.specs.Histories.{version_at}
 use Rattle.histories.specs.Steps.{board_steps}
 use Rattle.intersection_actor.specs.Acting.{Acting}
@@ -12,9 +13,10 @@ use Rattle.intersection_actor.specs.Rounds.{IsNew, IsOf}
 use Rattle.net_numbers.specs.Numbers.{Net, no_link}
 use Rattle.net_numbers.specs.Outline.{link_at}
 use Rattle.net_numbers.specs.declared.roads.Link.{Link}
+use Rattle.net_simulator.specs.Arriving.{arriving_of}
 use Rattle.net_simulator.specs.Worlds.{Kept, Stands}
 use Rattle.road_net.specs.Network.{IsNetwork}
-use Rattle.runs.specs.Runs.{forecast_at}
+use Rattle.runs.specs.Runs.{forecast_at, shown_by}
 use Rattle.schedule_meaning.specs.declared.planners.Answer.TheVariants.{NoPlan}
 use Rattle.net_core.specs.Going.{AreBlank, AreNew, Between}
 use Rattle.net_core.specs.declared.parts.Board.{Board}
@@ -39,6 +41,9 @@ link-there net l t to = elim (cases_lt l (length net.links)) [
   | inr past ↦ absurd (let e : None ≡ Some t = sym (ap (λ (k : Link). k.to) (get_or_past net.links l no_link past)) ∙ to in cc)
 ]
 
+zero-times : (s : ℕ) → 0 ≡ 0 * s
+zero-times s = omega arith
+
 pub at-first : (net : Net) → IsNetwork net → (arrivals : Amounts) (history : List ℕ) (actors : List Acting) (boards : List Board) (world : Kept) → history ≡ [] → AreNew net (length net.node_names) actors → AreBlank (length net.link_names) boards
     → world.second ≡ 0 → ((arriving : ℕ → ℕ → ℕ) (shown : ℕ → ℕ → Option (ℕ × ℕ)) → Stands net arriving shown world) → Between net arrivals history 0 actors boards world
 at-first net network arrivals history actors boards world none new blank second stands = record {
@@ -54,8 +59,8 @@ at-first net network arrivals history actors boards world none new blank second 
       versions = λ link f t d from to. blank.versions link d (there link t to) ∙ sym (no-version link);
       forecasts = λ link f t d from to. blank.forecasts link d (there link t to) ∙ sym (no-forecast link);
     };
-    second = second;
-    stands = stands _ _;
+    second = second ∙ zero-times net.run.step;
+    stands = stands (arriving_of arrivals) (shown_by net (λ r n. no_commitment));
   };
   all = new.all;
   fresh = λ later n most. refl;
@@ -66,7 +71,7 @@ at-first net network arrivals history actors boards world none new blank second 
         of = new.of n d below;
         want = is.want;
         line = is.line;
-        ahead = is.ahead;
+        ahead = (let P : ℕ → Type 0 = λ z. z < end_of (get_or actors n d).line in subst P (zero-times net.run.step) is.ahead);
         records = is.records;
       };
 }

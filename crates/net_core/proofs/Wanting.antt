@@ -49,12 +49,11 @@ module _ (net : Net) (h : List ℕ) where
     ]
   ]
 
-  wanted-at : ℕ → ℕ → ℕ → Want
+  abbrev wanted-at : ℕ → ℕ → ℕ → Want
   wanted-at n done c = cond (eqb done net.run.rounds) Done (wanted_step (slice_get (board_steps net n) c))
 
   -- a node wants one thing
   pub wanted-once : (n : ℕ) (a b : Want) → IsWanted net h n a → IsWanted net h n b → a ≡ b
-  unfolding wanted-at
   wanted-once n a b one two =
       let done : one.done ≡ two.done = same-done one.done two.done one.way two.way in
       let same : count n one.way.part ≡ count n two.way.part = (let e : one.done * length (board_steps net n) ≡ two.done * length (board_steps net n) = ap (λ d. d * length (board_steps net n)) done in omega (arith, e, count-under one.done one.way n, count-under two.done two.way n)) in
@@ -151,32 +150,32 @@ module _ (net : Net) (network : IsNetwork net) (arrivals : Amounts) (p : Parts) 
   -- what a node of a core wants
   pub is-wanted : AreGoing net arrivals p → (n : ℕ) (a : Acting) → n < length net.node_names → a ≡ get_or p.actors.all.items n a → IsWanted net p.history.items n a.want
   is-wanted going n a below is = elim going [
-    | inl (i, open_node) ↦ round-wanted i open_node a n a below is
-    | inr (b, last) ↦ over-wanted b last n a below is
+    | inl both ↦ round-wanted both.0 both.1 a n a below is
+    | inr both ↦ over-wanted both.0 both.1 n a below is
   ]
 
   -- all rounds are done exactly where the history is lawful
   pub going-over : (d : Acting) → AreGoing net arrivals p → p.round ≡ net.run.rounds → IsLawful net p.history.items
   going-over d going last = elim going [
-    | inl (i, open_node) ↦ absurd (let less = i.below in omega arith)
-    | inr (b, same) ↦ over-lawful b same
+    | inl both ↦ absurd (let less = both.0.below in omega arith)
+    | inr both ↦ over-lawful both.0 both.1
   ]
 
   pub going-last : (d : Acting) → AreGoing net arrivals p → IsLawful net p.history.items → p.round ≡ net.run.rounds
   going-last d going lawful = elim going [
-    | inl (i, open_node) ↦ absurd (round-lawless i open_node d lawful)
-    | inr (b, same) ↦ same
+    | inl both ↦ absurd (round-lawless both.0 both.1 d lawful)
+    | inr both ↦ both.1
   ]
 
   -- where not all are done, the core is in a round
   pub going-in : AreGoing net arrivals p → p.round ≢ net.run.rounds → AreInRound net arrivals p
   going-in going other = elim going [
-    | inl (i, open_node) ↦ i
-    | inr (b, same) ↦ absurd (other same)
+    | inl both ↦ both.0
+    | inr both ↦ absurd (other both.1)
   ]
 
   pub going-there : AreGoing net arrivals p → (n : ℕ) → n < length net.node_names → n < length p.actors.all.items
   going-there going n below = elim going [
-    | inl (i, open_node) ↦ omega (arith, i.all)
-    | inr (b, same) ↦ omega (arith, b.all)
+    | inl both ↦ omega (arith, both.0.all)
+    | inr both ↦ omega (arith, both.0.all)
   ]
