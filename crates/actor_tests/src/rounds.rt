@@ -1,12 +1,12 @@
 //! Rounds of two nodes.
-ghost use Rattle.std.specs.Prelude.{◌≡◌, ◌<◌, ◌≤◌, IfOk, IsTrue, OnOk, length};
+ghost use Rattle.std.specs.Prelude.{◌≡◌, ◌<◌, ◌≤◌, IsTrue, OnOk, length};
 ghost use Rattle.arrivals.specs.Amounts.{AreArrivals};
 ghost use Rattle.control_flow.specs.Greens.{end_of};
 ghost use Rattle.net_simulator.specs.Worlds.{IsWorldOf};
-ghost use Rattle.actor_tests.specs.Street.{AreNodes, IsNode, IsRound};
+ghost use Rattle.actor_tests.specs.Street.{IsDark, IsNode, IsRound};
 
-use crate::boards::{Board, boards, heard_on, publish};
-use crate::notes::{note_forecast, note_line, note_plans};
+use crate::boards::{Boards, empty_boards};
+use crate::notes::{note_line, note_plans};
 use arrivals::Arrivals;
 use control_flow::greens::{Green, Timeline};
 use forward_dp::LayerPlanner;
@@ -15,15 +15,6 @@ use net_simulator::{Lights, World};
 use road_net::Network;
 use std::alloc::Global;
 use std::test::Fail;
-
-/// Two nodes, the boards of the links, and what the nodes have told.
-#[derive(Drop)]
-pub(crate) struct Street {
-    a: Actor,
-    b: Actor,
-    boards: Vec<Board>,
-    told: Vec<u64>,
-}
 
 /// Signals that show no green: no vehicle has come to one in the seconds of these tests.
 struct Dark;
@@ -48,79 +39,130 @@ pub(crate) fn seen(
 ) -> Result<Vec<u64>, Fail>
     requires { AreArrivals net.now arrivals.now }
 {
-    let step = net.run().step;
+    if net.nodes() < 2 {
+        return Err("too few nodes".into());
+    }
     let mut world = World::new(alloc, net)?;
-    let mut street = before_rounds(alloc, net)?;
+    seen_in(alloc, net, arrivals, orders, &mut world)
+}
+
+/// The same, in this world.
+fn seen_in(
+    alloc: Global,
+    net: &Network,
+    arrivals: &Arrivals,
+    orders: &str,
+    world: &mut World,
+) -> Result<Vec<u64>, Fail>
+    requires arrivals { AreArrivals net.now arrivals.now }
+    requires world { IsDark net.now arrivals.now world.old }
+    requires nodes { 2 ≤ length net.now.node_names }
+{
+    let mut a = Actor::new(alloc, net, 0)?;
+    seen_from(alloc, net, arrivals, orders, world, &mut a)
+}
+
+/// The same, with this first node.
+fn seen_from(
+    alloc: Global,
+    net: &Network,
+    arrivals: &Arrivals,
+    orders: &str,
+    world: &mut World,
+    a: &mut Actor,
+) -> Result<Vec<u64>, Fail>
+    requires arrivals { AreArrivals net.now arrivals.now }
+    requires world { IsDark net.now arrivals.now world.old }
+    requires nodes { 2 ≤ length net.now.node_names }
+    requires a { IsNode net.now 0 a.old }
+{
+    let mut b = Actor::new(alloc, net, 1)?;
+    seen_of(alloc, net, arrivals, orders, world, a, &mut b)
+}
+
+/// The same, with these two nodes.
+fn seen_of(
+    alloc: Global,
+    net: &Network,
+    arrivals: &Arrivals,
+    orders: &str,
+    world: &mut World,
+    a: &mut Actor,
+    b: &mut Actor,
+) -> Result<Vec<u64>, Fail>
+    requires arrivals { AreArrivals net.now arrivals.now }
+    requires world { IsDark net.now arrivals.now world.old }
+    requires a { IsNode net.now 0 a.old }
+    requires b { IsNode net.now 1 b.old }
+{
+    let mut boards = empty_boards(alloc, net.links())?;
+    play(alloc, net, arrivals, orders, world, a, b, &mut boards)?;
+    noted(alloc, a, b, &boards)
+}
+
+/// What two nodes have planned and told.
+fn noted(alloc: Global, a: &Actor, b: &Actor, boards: &Boards) -> Result<Vec<u64>, Fail> {
+    let mut seen = Vec::new(alloc);
+    note_plans(a.records(), &mut seen)?;
+    note_plans(b.records(), &mut seen)?;
+    note_line(a.timeline(), &mut seen)?;
+    note_line(b.timeline(), &mut seen)?;
+    boards.note_told(&mut seen)?;
+    Ok(seen)
+}
+
+/// Plays these rounds.
+fn play(
+    alloc: Global,
+    net: &Network,
+    arrivals: &Arrivals,
+    orders: &str,
+    world: &mut World,
+    a: &mut Actor,
+    b: &mut Actor,
+    boards: &mut Boards,
+) -> Result<(), Fail>
+    requires arrivals { AreArrivals net.now arrivals.now }
+    requires world { IsDark net.now arrivals.now world.old }
+    requires a { IsNode net.now 0 a.old }
+    requires b { IsNode net.now 1 b.old }
+{
+    let step = net.run().step;
     for (round, order) in orders.split_ascii_whitespace().enumerate() {
-        play(alloc, net, &world, &mut street, round, order)?;
+        let round = u32::try_from(round).map_err(|_| "many rounds")?;
+        begin(alloc, net, world, a, 0, round)?;
+        begin(alloc, net, world, b, 1, round)?;
+        play_round(alloc, net, order, a, b, boards)?;
         if step > 100 || world.now() > 10_000 {
             return Err("late".into());
         }
         world.advance(net, &Dark, arrivals, step);
     }
-    noted(alloc, &street)
-}
-
-/// Two nodes before their first round.
-fn before_rounds(alloc: Global, net: &Network) -> Result<Street, Fail>
-    ensures { IfOk result (AreNodes net.now) }
-{
-    if net.nodes() < 2 {
-        return Err("too few nodes".into());
-    }
-    Ok(Street {
-        a: Actor::new(alloc, net, 0)?,
-        b: Actor::new(alloc, net, 1)?,
-        boards: boards(alloc, net.links())?,
-        told: Vec::new(alloc),
-    })
-}
-
-/// What two nodes have planned and told.
-fn noted(alloc: Global, street: &Street) -> Result<Vec<u64>, Fail> {
-    let mut seen = Vec::new(alloc);
-    note_plans(street.a.records(), &mut seen)?;
-    note_plans(street.b.records(), &mut seen)?;
-    note_line(street.a.timeline(), &mut seen)?;
-    note_line(street.b.timeline(), &mut seen)?;
-    for number in street.told.as_slice() {
-        seen.push(*number)?;
-    }
-    Ok(seen)
-}
-
-/// Plays a round in this order of the nodes' steps.
-fn play(
-    alloc: Global,
-    net: &Network,
-    world: &World,
-    street: &mut Street,
-    round: usize,
-    order: &str,
-) -> Result<(), Fail>
-    requires nodes { AreNodes net.now street.old }
-    requires world { IsWorldOf net.now world.now }
-    ensures { OnOk result (AreNodes net.now street.new) }
-{
-    let round = u32::try_from(round).map_err(|_| "many rounds")?;
-    begin(alloc, net, world, &mut street.a, 0, round)?;
-    begin(alloc, net, world, &mut street.b, 1, round)?;
-    for name in order.as_bytes() {
-        step_of(alloc, net, street, *name)?;
-    }
     Ok(())
 }
 
-/// The next board step of the node of this name.
-fn step_of(alloc: Global, net: &Network, street: &mut Street, name: u8) -> Result<(), Fail>
-    requires { AreNodes net.now street.old }
-    ensures { OnOk result (AreNodes net.now street.new) }
+/// Plays the board steps of a round in this order.
+fn play_round(
+    alloc: Global,
+    net: &Network,
+    order: &str,
+    a: &mut Actor,
+    b: &mut Actor,
+    boards: &mut Boards,
+) -> Result<(), Fail>
+    requires a { IsNode net.now 0 a.old }
+    requires b { IsNode net.now 1 b.old }
+    ensures a { OnOk result (IsNode net.now 0 a.new) }
+    ensures b { OnOk result (IsNode net.now 1 b.new) }
 {
-    match name {
-        b'a' => step(alloc, net, &mut street.a, 0, &mut street.boards, &mut street.told),
-        b'b' => step(alloc, net, &mut street.b, 1, &mut street.boards, &mut street.told),
-        _ => Err("no node".into()),
+    for name in order.as_bytes() {
+        if *name == b'a' {
+            step(alloc, net, a, 0, boards)?;
+        } else {
+            step(alloc, net, b, 1, boards)?;
+        }
     }
+    Ok(())
 }
 
 /// Begins a round at a node, in the second of the world.
@@ -140,8 +182,11 @@ fn begin(
     let Want::Done = actor.want() else {
         return Err("the round before is not done".into());
     };
-    if !is_round(net, round, sensed.now) || !ends_behind(actor.timeline(), sensed.now) {
+    if !is_round(net, round, sensed.now) {
         return Err("no such round".into());
+    }
+    if !ends_behind(actor.timeline(), sensed.now) {
+        return Err("the timeline is too short".into());
     }
     actor.begin(alloc, net, round, sensed)?;
     plan(alloc, net, actor, node)
@@ -185,21 +230,19 @@ fn step(
     net: &Network,
     actor: &mut Actor,
     node: u32,
-    boards: &mut [Board],
-    told: &mut Vec<u64>,
+    boards: &mut Boards,
 ) -> Result<(), Fail>
     requires { IsNode net.now node actor.old }
     ensures { OnOk result (IsNode net.now node actor.new) }
 {
     match actor.want() {
         Want::Read(link) => {
-            actor.take(heard_on(alloc, boards, link)?)?;
+            actor.take(boards.heard_on(alloc, link)?)?;
             plan(alloc, net, actor, node)
         }
         Want::Publish(link) => {
             let forecast = actor.outgoing(alloc, net)?;
-            note_forecast(link, &forecast, told)?;
-            publish(boards, link, forecast)?;
+            boards.publish(link, forecast)?;
             actor.sent(net);
             Ok(())
         }
