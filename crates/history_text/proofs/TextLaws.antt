@@ -43,9 +43,9 @@ under-none net left history p none come =
 pub under-at : (net : Net) (all : List (List (List ℕ))) (number : ℕ) (left : List (List (List ℕ))) (fields : List (List ℕ)) (rest : List (List (List ℕ))) (history : List ℕ) (p : Course) → left ≡ fields ∷ rest → IsUnder net all number left history p → IsUnder net all number (fields ∷ rest) history p
 under-at net all number left fields rest history p same under = rw same at under
 
--- how many records were read
-pub under-few : (net : Net) (all : List (List (List ℕ))) (number : ℕ) (left : List (List (List ℕ))) (history : List ℕ) (p : Course) → IsUnder net all number left history p → number < length all
-under-few net all number left history p under = let a = ap length under.are in omega (arith, a, length-append under.records left, under.counted)
+-- how many records were read, where one is left
+pub under-few : (net : Net) (all : List (List (List ℕ))) (number : ℕ) (fields : List (List ℕ)) (left : List (List (List ℕ))) (history : List ℕ) (p : Course) → IsUnder net all number (fields ∷ left) history p → number + 1 < length all
+under-few net all number fields left history p under = let a = ap length under.are in omega (arith, a, length-append under.records (fields ∷ left), under.counted)
 
 -- the rounds that are done, in the rounds of the network
 way-of : (net : Net) (history : List ℕ) (p : Course) → HasCome net history p → IsUnderWay (board_steps net) net.run.rounds p.done history

@@ -15,14 +15,14 @@ pub returns-in_ok-push-in-Ok-clause-taken : goal.returns-in_ok-push-in-Ok-clause
 returns-in_ok-push-in-Ok-clause-taken c = record {
   more = c.in-Some.node ∷ [];
   told = c.in_ok-node.ensures.ok ∙ ap (λ o. Some (steps_if o)) c.in-Some.is;
-  new_is = c.in_ok-push.ensures.items;
-  come = subst (λ (h : List ℕ). HasCome c.args.net.now h c.take.new.self) (sym c.in_ok-push.ensures.items) (c.in-Ok.ensures.ok c.args.net.now c.args.steps.now.items c.requires.come);
+  new_is = c.in_ok-push-in-Ok.ensures.items;
+  come = subst (λ (h : List ℕ). HasCome c.args.net.now h c.take.new.self) (sym c.in_ok-push-in-Ok.ensures.items) (c.in-Ok.ensures.ok c.args.net.now c.args.steps.now.items c.requires.come);
 }
 
 pub returns-in-Err-Over-clause-first : goal.returns-in-Err-Over-clause-first
 returns-in-Err-Over-clause-first c =
-    (refl, (c.in-Some.node, (c.in_ok-node.ensures.ok ∙ ap (λ o. Some (steps_if o)) c.in-Some.is, (rw c.in-Err-Over.field-0-is at c.in-Err-Over.ensures.first) c.args.net.now c.args.steps.now.items c.requires.come)))
+    (refl, (c.in-Some.node, c.in_ok-node.ensures.ok ∙ ap (λ o. Some (steps_if o)) c.in-Some.is, (rw c.in-Err-Over.field-0-is at c.in-Err-Over.ensures.first) c.args.net.now c.args.steps.now.items c.requires.come))
 
 pub returns-in-Err-NotItsTurn-clause-first : goal.returns-in-Err-NotItsTurn-clause-first
 returns-in-Err-NotItsTurn-clause-first c =
-    (refl, (c.in-Some.node, (c.in_ok-node.ensures.ok ∙ ap (λ o. Some (steps_if o)) c.in-Some.is, (rw c.in-Err-NotItsTurn.field-0-is at c.in-Err-NotItsTurn.ensures.first) c.args.net.now c.args.steps.now.items c.requires.come)))
+    (refl, (c.in-Some.node, c.in_ok-node.ensures.ok ∙ ap (λ o. Some (steps_if o)) c.in-Some.is, (rw c.in-Err-NotItsTurn.field-0-is at c.in-Err-NotItsTurn.ensures.first) c.args.net.now c.args.steps.now.items c.requires.come))

@@ -8,7 +8,10 @@ pub loop-number-init : goal.loop-number-init
 loop-number-init c = record { reading = c.requires.reading; under = under-none c.args.net.now _ _ _ c.requires.none c.requires.come }
 
 pub overflow_add-number : goal.overflow_add-number
-overflow_add-number c = let a = under-few c.args.net.now _ _ _ _ _ c.loop-number.invariant.under in omega (arith, a, c.requires.few)
+overflow_add-number c =
+    let (reading, left) = found-one c.loop-number.reader c.next_record.new.reader _ _ c.if-branch.true c.in_ok-next_record.ensures in
+    let a = under-few c.args.net.now _ _ _ _ _ _ (under-at c.args.net.now _ _ _ _ _ _ _ left c.loop-number.invariant.under) in
+    omega (arith, a, c.requires.few)
 
 pub returns-in_err-take_step-clause-first : goal.returns-in_err-take_step-clause-first
 returns-in_err-take_step-clause-first c =
