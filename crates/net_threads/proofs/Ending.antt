@@ -35,9 +35,9 @@ use Rattle.runs.specs.declared.records.RunRecord.{RunRecord}
 use Rattle.runs.proofs.Past.{map-range-same}
 use Rattle.runs.proofs.PlanLaws.{all-plans}
 use Rattle.net_threads.specs.Calls.{AreStepsOf, IsRunOfCalls, MergeToLawful}
-use Rattle.net_threads.specs.Rounds.{Between, records_of}
-use Rattle.net_threads.proofs.Along.{along}
-use Rattle.net_threads.proofs.Told.{call-heard, rounds-made, steps-made}
+use Rattle.round_calls.specs.Rounds.{Between, records_of}
+use Rattle.round_calls.proofs.Along.{along}
+use Rattle.round_calls.proofs.Told.{call-heard, rounds-made, steps-made}
 
 contains-map : {X Y : Type 0} (f : X → Y) (xs : List X) (x : X) → Contains xs x → Contains (map f xs) (f x)
 contains-map f xs x (k, below, is) = (k, (omega (arith, length-map xs f)), get_or-map f xs k x (f x) below ∙ ap f is)

@@ -1,6 +1,5 @@
 -- What the calls of the passes tell of a run in threads.
-use Rattle.std.specs.Prelude.{◌≡◌, ℕ, ◌/◌, false, Some, List, Contains, length, map, replicate, slice_get}
-use Rattle.std.specs.List.{concat}
+use Rattle.std.specs.Prelude.{◌≡◌, ℕ, ◌/◌, false, Some, List, Contains, length, map, slice_get}
 use Rattle.arrivals.specs.Amounts.{Amounts}
 use Rattle.board_model.specs.Boards.{Log}
 use Rattle.board_model.specs.Calls.{Agree, AreLogsOf, log_at}
@@ -13,11 +12,12 @@ use Rattle.merged_calls.specs.Calls.{step_of}
 use Rattle.net_numbers.specs.Numbers.{Net}
 use Rattle.runs.specs.Kept.{IsKeptRun}
 use Rattle.runs.specs.declared.records.RunRecord.{RunRecord}
+use Rattle.round_calls.specs.Told.{repeated}
 
 -- The calls of a node's pass are its board steps in all rounds, round by round; and each reading has the version that the plan of its
 -- round names for its link.
 pub record AreStepsOf (net : Net) (run : RunRecord) (node : ℕ) (calls : List Call) : Type 0 where
-  pub steps : map step_of calls ≡ concat (replicate net.run.rounds (board_steps net node))
+  pub steps : map step_of calls ≡ repeated net.run.rounds (board_steps net node)
   pub named : (place : ℕ) (call : Call) (plan : PlanRecord) → slice_get calls place ≡ Some call → call.publishes ≡ false
       → Contains run.plans plan → plan.node ≡ node → plan.round ≡ place / length (board_steps net node)
       → Contains plan.used (record { link = call.link; version = call.version })

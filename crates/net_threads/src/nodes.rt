@@ -1,7 +1,7 @@
 //! The nodes of a network, and the world.
 ghost use Rattle.std.specs.Prelude.{◌≡◌, ℕ, Option, IfOk, length};
 ghost use Rattle.net_simulator.specs.Worlds.{Stands};
-ghost use Rattle.net_threads.specs.Rounds.{AreNew};
+ghost use Rattle.round_calls.specs.Rounds.{AreNew};
 
 use control_flow::green_at;
 use control_flow::greens::Green;
@@ -24,7 +24,7 @@ pub(crate) struct Stage {
 }
 
 impl Lights for Nodes {
-    ghost use Rattle.net_threads.specs.Rounds.{lines_of};
+    ghost use Rattle.round_calls.specs.Rounds.{lines_of};
 
     ghost lines = { λ nodes node. lines_of nodes.all.items node };
 

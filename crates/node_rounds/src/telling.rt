@@ -3,7 +3,7 @@ ghost use Rattle.std.specs.Prelude.{◌≡◌, ℕ, ◌+◌, ◌<◌, ◌≤◌,
 ghost use Rattle.intersection_actor.specs.Acting.{told_at};
 ghost use Rattle.intersection_actor.specs.Rounds.{IsOf};
 ghost use Rattle.road_net.specs.Network.{told_links};
-ghost use Rattle.node_rounds.specs.Nodes.{HasSent, HasTold, IsSamePass};
+ghost use Rattle.round_calls.specs.Nodes.{HasSent, HasTold, IsSamePass};
 
 use board_model::Gate;
 use intersection_actor::{Actor, Want};

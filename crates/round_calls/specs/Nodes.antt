@@ -21,18 +21,18 @@ use Rattle.net_simulator.specs.Senses.{sense}
 use Rattle.net_simulator.specs.Worlds.{IsWorldOf, Kept, Stands, standing_by}
 use Rattle.outflow.specs.Outflow.{departures, forecast_of}
 use Rattle.road_net.specs.declared.senses.Sensed.{Sensed}
-use Rattle.node_rounds.specs.Told.{AreCallsOf, heard_of}
+use Rattle.round_calls.specs.Told.{AreCallsOf, heard_of}
 
 -- a node may play a round: the round begins in the world's second, the node's actor rests, and its pass is of these boards, has the
 -- node's number, and has the calls of a round left
 pub record CanPlay (net : Net) (round : ℕ) (world : Kept) (boards : BoardsView) (a : Acting) (p : PassView) : Type 0 where
-  pub round : round < net.run.rounds
+  pub more : round < net.run.rounds
   pub second : world.second ≡ round * net.run.step
-  pub world : IsWorldOf net world
+  pub stands : IsWorldOf net world
   pub of : IsOf net a
   pub want : a.want ≡ Done
   pub ahead : round * net.run.step < end_of a.line
-  pub boards : p.boards ≡ boards.id
+  pub own : p.boards ≡ boards.id
   pub number : p.number ≡ a.node
   pub left : length (board_steps net a.node) ≤ p.left
 

@@ -19,8 +19,8 @@ use Rattle.net_numbers.specs.Numbers.{Net}
 use Rattle.net_simulator.specs.Arriving.{arriving_of}
 use Rattle.net_simulator.specs.Worlds.{Kept, Stands}
 use Rattle.runs.specs.Runs.{AllCommit, line_before, shown_by}
-use Rattle.node_rounds.specs.Nodes.{CanPlay, HasPlayed}
-use Rattle.node_rounds.specs.Told.{AreCallsOf}
+use Rattle.round_calls.specs.Nodes.{CanPlay, HasPlayed}
+use Rattle.round_calls.specs.Told.{AreCallsOf}
 
 -- the boards and the number of each pass
 abbrev pub names : List PassView → List (TableId × ℕ)
@@ -32,8 +32,8 @@ AreSamePasses old new = names new ≡ names old
 
 -- each of these nodes may play a round
 pub record CanAllPlay (net : Net) (round : ℕ) (world : Kept) (boards : BoardsView) (planners : ℕ) (actors : List Acting) (passes : List PassView) : Type 0 where
-  pub planners : planners ≡ length passes
-  pub actors : length actors ≡ length passes
+  pub planned : planners ≡ length passes
+  pub acted : length actors ≡ length passes
   pub each : (k : ℕ) (a : Acting) (p : PassView) → k < length passes → CanPlay net round world boards (slice_index_or actors k a) (slice_index_or passes k p)
 
 -- each of these nodes has played a round
@@ -91,7 +91,7 @@ pub record Between (net : Net) (arrivals : Amounts) (boards : BoardsView) (round
   pub stands : Stands net (arriving_of arrivals) (shown_by net made) world
   pub all : length actors ≡ length net.node_names
   pub rests : (node : ℕ) (a : Acting) → node < length net.node_names → Rests net heard made round node (slice_index_or actors node a)
-  pub passes : HaveLeft net boards round mark passes
+  pub own : HaveLeft net boards round mark passes
   pub calls : AreCallsIn net heard made round (calls_in passes)
   pub rising : (node : ℕ) → IsRising (calls_in passes node)
   pub below : (node : ℕ) → All (λ call. call.stamp < mark) (calls_in passes node)

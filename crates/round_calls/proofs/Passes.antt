@@ -7,7 +7,7 @@ use Rattle.std.proofs.lemmas.Option.{slice_get-get_or, slice_get_past}
 use Rattle.atomic_table.specs.Seated.{TableId}
 use Rattle.board_model.specs.declared.calls.Call.{Call}
 use Rattle.board_rule.specs.Passes.{AreAllPasses, BoardsView, PassView, calls_in, highest, raised}
-use Rattle.net_threads.specs.Rounds.{AreSamePasses, names}
+use Rattle.round_calls.specs.Rounds.{AreSamePasses, names}
 
 -- some pass, to read a list by
 abbrev pub no_pass : BoardsView → PassView

@@ -16,9 +16,9 @@ use Rattle.net_numbers.specs.Numbers.{Net}
 use Rattle.net_simulator.specs.Arriving.{arriving_of}
 use Rattle.net_simulator.specs.Worlds.{Kept, Stands}
 use Rattle.runs.specs.Runs.{shown_by}
-use Rattle.net_threads.specs.Rounds.{AreNew, Between}
-use Rattle.net_threads.proofs.Passes.{calls-at, calls-past, no_pass}
-use Rattle.net_threads.proofs.Rounding.{no_commitment}
+use Rattle.round_calls.specs.Rounds.{AreNew, Between}
+use Rattle.round_calls.proofs.Passes.{calls-at, calls-past, no_pass}
+use Rattle.round_calls.proofs.Rounding.{no_commitment}
 
 zero-times : (s : ℕ) → 0 ≡ 0 * s
 zero-times s = omega arith
@@ -52,9 +52,9 @@ at-first net arrivals boards passes actors world new second stands all own none 
         ahead = (let P : ℕ → Type 0 = λ z. z < end_of (get_or actors n a).line in subst P (zero-times net.run.step) is.ahead);
         records = is.records;
       };
-  passes = record { all = all; own = own; left = λ n p below. (let P : ℕ → Type 0 = λ r. r * length (board_steps net n) ≤ (get_or passes n p).left in subst P (let e : net.run.rounds ≡ net.run.rounds - 0 = omega arith in e) (left n p below)); known = λ n p below. omega arith };
+  own = record { all = all; own = own; left = λ n p below. (let P : ℕ → Type 0 = λ r. r * length (board_steps net n) ≤ (get_or passes n p).left in subst P (let e : net.run.rounds ≡ net.run.rounds - 0 = omega arith in e) (left n p below)); known = λ n p below. omega arith };
   calls = no-calls boards passes none;
-  rising = λ n. subst IsRising (sym (no-calls boards passes none n)) (pairs-nil _);
+  rising = λ n. subst IsRising (sym (no-calls boards passes none n)) (pairs-nil (λ (early late : Call). early.stamp < late.stamp));
   below = λ n. subst (All (λ (c : Call). c.stamp < 0)) (sym (no-calls boards passes none n)) (All-nil _);
 }
 

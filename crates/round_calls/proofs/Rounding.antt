@@ -1,5 +1,5 @@
 -- A round of all nodes leads from between two rounds to between the next ones.
-use Rattle.std.proofs.Common.{◌≡◌, ℕ, zero, suc, ◌+◌, ◌-◌, ◌*◌, ◌/◌, ◌<◌, ◌≤◌, max, cond, List, [], ◌∷◌, ◌++◌, Option, All, length, map, get_or, refl, sym, ap, subst, ◌∙◌, inl, inr, arith, append-nil, eqb, eq-eqb, ne_eqb}
+use Rattle.std.proofs.Common.{◌≡◌, ℕ, zero, suc, ◌+◌, ◌-◌, ◌*◌, ◌/◌, ◌<◌, ◌≤◌, max, cond, false, List, [], ◌∷◌, ◌++◌, Option, All, length, map, get_or, refl, sym, ap, subst, ◌∙◌, inl, inr, arith, append-nil, eqb, eq-eqb, ne_eqb}
 use Rattle.std.specs.Prelude.{◌⊎◌}
 use Rattle.std.specs.List.{range_with_len}
 use Rattle.std.proofs.lemmas.Bool.{cases_lt}
@@ -29,8 +29,8 @@ use Rattle.net_simulator.specs.Flow.{Passed, past_of}
 use Rattle.net_simulator.specs.Senses.{sense}
 use Rattle.net_simulator.specs.Sums.{link_totals, totals}
 use Rattle.net_simulator.specs.Worlds.{IsWorldOf, Keeps, Kept, Stands, standing_by}
-use Rattle.node_rounds.specs.Nodes.{CanPlay, HasPlayed, IsRoundOf, NodeRound}
-use Rattle.node_rounds.specs.Told.{AreCallsOf}
+use Rattle.round_calls.specs.Nodes.{CanPlay, HasPlayed, IsRoundOf, NodeRound}
+use Rattle.round_calls.specs.Told.{AreCallsOf}
 use Rattle.road_net.specs.Network.{IsNetwork}
 use Rattle.road_net.specs.declared.senses.Sensed.{Sensed}
 use Rattle.runs.specs.Runs.{AllCommit, Commits, line_before, sensed_in, shown_by}
@@ -39,9 +39,9 @@ use Rattle.runs.proofs.Keep.{all-keep}
 use Rattle.runs.proofs.Lines.{shows}
 use Rattle.runs.proofs.Past.{map-range-same, past-at-nodes}
 use Rattle.schedule_meaning.specs.declared.planners.Answer.TheVariants.{NoPlan}
-use Rattle.net_threads.specs.Rounds.{AreCallsIn, AreRoundOf, AreSamePasses, Between, CanAllPlay, HaveAllPlayed, HaveLeft, Rests, lines_of, records_of}
-use Rattle.net_threads.proofs.Passes.{at-most-highest, calls-at, calls-past, no_pass, own-at, own-same, raised-at, raised-calls, raised-names}
-use Rattle.net_threads.proofs.Told.{in-moved}
+use Rattle.round_calls.specs.Rounds.{AreCallsIn, AreRoundOf, AreSamePasses, Between, CanAllPlay, HaveAllPlayed, HaveLeft, Rests, lines_of, records_of}
+use Rattle.round_calls.proofs.Passes.{at-most-highest, calls-at, calls-past, no_pass, own-at, own-same, raised-at, raised-calls, raised-names}
+use Rattle.round_calls.proofs.Told.{in-moved}
 
 -- some actor, and some commit, where there is none
 abbrev pub no_acting : Acting
@@ -108,24 +108,24 @@ module _ (net : Net) (network : IsNetwork net) (arrivals : Amounts) (round : ℕ
     pub can-play : AreArrivals net arrivals → (planners : ℕ) → planners ≡ length net.node_names → CanAllPlay net round world boards planners actors passes
     can-play enter planners count =
         let all = b.all in
-        let many = b.passes.all in
+        let many = b.own.all in
         record {
-          planners = count ∙ sym many;
-          actors = all ∙ sym many;
+          planned = count ∙ sym many;
+          acted = all ∙ sym many;
           each = λ k a p inside.
               let below : k < length net.node_names = omega arith in
               let rests = b.rests k a below in
-              let own = own-at boards passes k p b.passes.own inside in
-              let left : (net.run.rounds - round) * length (board_steps net k) ≤ (get_or passes k p).left = b.passes.left k p below in
+              let own = own-at boards passes k p b.own.own inside in
+              let left : (net.run.rounds - round) * length (board_steps net k) ≤ (get_or passes k p).left = b.own.left k p below in
               let some : 1 * length (board_steps net k) ≤ (net.run.rounds - round) * length (board_steps net k) = mul-le-mul_right {m = 1} {n = net.run.rounds - round} (length (board_steps net k)) (omega arith) in
               record {
-                round = less;
+                more = less;
                 second = b.second;
-                world = record { arrivals = arrivals; lines = line_before net b.made round; enter = enter; stands = before-stands b.heard b.made b.most b.commits world b.second b.stands };
+                stands = record { arrivals = arrivals; lines = line_before net b.made round; enter = enter; stands = before-stands b.heard b.made b.most b.commits world b.second b.stands };
                 of = rests.of;
                 want = rests.want;
                 ahead = rests.ahead;
-                boards = own.0;
+                own = own.0;
                 number = own.1 ∙ sym rests.node_is;
                 left = subst (λ n. length (board_steps net n) ≤ (get_or passes k p).left) (sym rests.node_is) (omega arith);
               };
@@ -142,28 +142,24 @@ module _ (net : Net) (network : IsNetwork net) (arrivals : Amounts) (round : ℕ
       abbrev N : ℕ
       N = length net.node_names
 
-      pick : (n : ℕ) → (n < N) ⊎ (N ≤ n) → NodeRound
-      pick n (inl below) = (played.each n A P (omega (arith, b.passes.all))).0
+      abbrev pick : (n : ℕ) → (n < N) ⊎ (N ≤ n) → NodeRound
+      pick n (inl below) = (played.each n A P (omega (arith, b.own.all))).0
       pick n (inr past) = record { sensed = record { now = 0; links = [] }; heard = []; made = no_commitment; calls = [] }
 
-      did : ℕ → NodeRound
+      abbrev did : ℕ → NodeRound
       did n = pick n (cases_lt n N)
 
       did-is : (n : ℕ) → n < N → IsRoundOf net round world (get_or actors n A) (get_or acted n A) (get_or passes n P) (get_or called n P) (did n)
-      unfolding did
       did-is n below = by (cases_lt n N)
         where
           by : (s : (n < N) ⊎ (N ≤ n)) → IsRoundOf net round world (get_or actors n A) (get_or acted n A) (get_or passes n P) (get_or called n P) (pick n s)
-          unfolding pick
-          by (inl inside) = (played.each n A P (omega (arith, b.passes.all))).1
+          by (inl inside) = (played.each n A P (omega (arith, b.own.all))).1
           by (inr past) = absurd (omega arith)
 
       did-past : (n : ℕ) → N ≤ n → (did n).calls ≡ []
-      unfolding did
       did-past n past = by (cases_lt n N)
         where
           by : (s : (n < N) ⊎ (N ≤ n)) → (pick n s).calls ≡ []
-          unfolding pick
           by (inl below) = absurd (omega arith)
           by (inr over) = refl
 
@@ -242,16 +238,16 @@ module _ (net : Net) (network : IsNetwork net) (arrivals : Amounts) (round : ℕ
 
       -- the calls
       many : length called ≡ N
-      many = played.passes ∙ b.passes.all
+      many = played.passes ∙ b.own.all
 
       calls-more : (n : ℕ) → calls_in called n ≡ calls_in passes n ++ (did n).calls
       calls-more n = elim (cases_lt n N) [
         | inl below ↦
             calls-at called n P (omega (arith, many)) ∙ (did-is n below).made.added
-            ∙ ap (λ (l : List Call). l ++ (did n).calls) (sym (calls-at passes n P (omega (arith, b.passes.all))))
+            ∙ ap (λ (l : List Call). l ++ (did n).calls) (sym (calls-at passes n P (omega (arith, b.own.all))))
         | inr past ↦
             calls-past called n (omega (arith, many))
-            ∙ sym (ap (λ (l : List Call). l ++ (did n).calls) (calls-past passes n (omega (arith, b.passes.all))) ∙ did-past n past)
+            ∙ sym (ap (λ (l : List Call). l ++ (did n).calls) (calls-past passes n (omega (arith, b.own.all))) ∙ did-past n past)
       ]
 
       own-calls : (n : ℕ) → AreCallsOf net round n (heard round n) (made round n) (did n).calls
@@ -266,7 +262,7 @@ module _ (net : Net) (network : IsNetwork net) (arrivals : Amounts) (round : ℕ
       above : (n : ℕ) → All (λ (c : Call). b.mark ≤ c.stamp) (did n).calls
       above n = elim (cases_lt n N) [
         | inl below ↦
-            let known = b.passes.known n P below in
+            let known = b.own.known n P below in
             All-weaker (λ (c : Call). (get_or passes n P).known ≤ c.stamp) (λ (c : Call). b.mark ≤ c.stamp) (λ c h. omega arith) (did n).calls (did-is n below).made.later
         | inr past ↦ subst (All (λ (c : Call). b.mark ≤ c.stamp)) (sym (did-past n past)) (All-nil _)
       ]
@@ -295,7 +291,7 @@ module _ (net : Net) (network : IsNetwork net) (arrivals : Amounts) (round : ℕ
       rising : (n : ℕ) → IsRising (calls_in met n)
       rising n = subst IsRising (sym (calls-met n)) (elim (cases_lt n N) [
         | inl below ↦ subst IsRising (sym (calls-at called n P (omega (arith, many)))) (did-is n below).order.rising
-        | inr past ↦ subst IsRising (sym (calls-past called n (omega (arith, many)))) (pairs-nil _)
+        | inr past ↦ subst IsRising (sym (calls-past called n (omega (arith, many)))) (pairs-nil (λ (early late : Call). early.stamp < late.stamp))
       ])
 
       below-top : (n : ℕ) → All (λ (c : Call). c.stamp < top) (calls_in met n)
@@ -310,12 +306,12 @@ module _ (net : Net) (network : IsNetwork net) (arrivals : Amounts) (round : ℕ
       left : (same : AreSamePasses passes called) → HaveLeft net boards (round + 1) top met
       left same = record {
         all = met-many;
-        own = own-same boards called met (raised-names top called) (own-same boards passes called same b.passes.own);
+        own = own-same boards called met (raised-names top called) (own-same boards passes called same b.own.own);
         left = λ n p below.
             let is = (did-is n below).made in
             let w : ℕ = length (board_steps net n) in
             let all : length (did n).calls ≡ w = sym (length-map (did n).calls step_of) ∙ ap length (did-is n below).calls.steps ∙ ap (λ k. length (board_steps net k)) (node-is n below) in
-            let had : (net.run.rounds - round) * w ≤ (get_or passes n P).left = b.passes.left n P below in
+            let had : (net.run.rounds - round) * w ≤ (get_or passes n P).left = b.own.left n P below in
             let used : (get_or called n P).left + length (did n).calls ≡ (get_or passes n P).left = is.left in
             let less_one : (net.run.rounds - round) * w ≡ (net.run.rounds - (round + 1)) * w + w = one-less (net.run.rounds - round) (net.run.rounds - (round + 1)) w (omega arith) in
             let here : (get_or met n p).left ≡ (get_or called n P).left = ap (λ (q : PassView). q.left) (raised-at top called n p (omega (arith, many)) ∙ ap (raised top) (get_or_default called n p P (omega (arith, many)))) in
@@ -326,6 +322,9 @@ module _ (net : Net) (network : IsNetwork net) (arrivals : Amounts) (round : ℕ
           one-less : (a c w : ℕ) → a ≡ c + 1 → a * w ≡ c * w + w
           one-less a c w e = ap (λ k. k * w) e ∙ (let z : (c + 1) * w ≡ c * w + w = omega arith in z)
 
+      next-most : round + 1 ≤ net.run.rounds
+      next-most = omega arith
+
       -- the lines of the nodes show what the world moves by
       line-is : (n : ℕ) → n < N → lines_of acted n ≡ line_before net made (round + 1) n
       line-is n below = get_or-map (λ (a : Acting). a.line) acted n A [] (omega (arith, played.actors, b.all)) ∙ (rests-own n below).line
@@ -333,7 +332,7 @@ module _ (net : Net) (network : IsNetwork net) (arrivals : Amounts) (round : ℕ
       lines-show : (x n : ℕ) → x < (round + 1) * net.run.step → n < N → standing (lines_of acted n) x ≡ shown_by net made x n
       lines-show x n less below =
           ap (λ (l : List Green). standing l x) (line-is n below)
-          ∙ shows net network made (round + 1) (all-keep net network arrivals heard made (round + 1) (omega arith) commits) (round + 1) (omega arith) x n below (div_below x net.run.step (round + 1) network.outline.run.step.0 less)
+          ∙ shows net network made (round + 1) (all-keep net network arrivals heard made (round + 1) next-most commits) (round + 1) (omega arith) x n below (div_below x net.run.step (round + 1) network.outline.run.step.0 less)
 
       next-second : (round + 1) * net.run.step ≡ round * net.run.step + net.run.step
       next-second = omega arith
@@ -367,7 +366,7 @@ module _ (net : Net) (network : IsNetwork net) (arrivals : Amounts) (round : ℕ
             stands = stands-same net network (arriving_of arrivals) (standing_by (lines_of acted)) (shown_by net made) moved (λ x n less below. lines-show x n (omega arith) below) stands;
             all = played.actors ∙ b.all;
             rests = rests;
-            passes = left same;
+            own = left same;
             calls = subst (λ r. AreCallsIn net heard made r (calls_in met)) one calls;
             rising = rising;
             below = below-top;

@@ -16,13 +16,13 @@ use Rattle.intersection_actor.specs.Commits.{Commitment}
 use Rattle.merged_calls.specs.Places.{AreTold, StandsAt, sent}
 use Rattle.net_numbers.specs.Numbers.{Net}
 use Rattle.net_numbers.specs.Outline.{link_at}
-use Rattle.node_rounds.specs.Told.{heard_of}
+use Rattle.round_calls.specs.Told.{heard_of}
 use Rattle.road_net.specs.Network.{IsNetwork, heard_links}
 use Rattle.runs.specs.Runs.{HearAlong, forecast_at, hearing, told_in}
 use Rattle.runs.proofs.Heard.{Ends, heard-ends}
 use Rattle.runs.proofs.Places.{once, read-first, step-of}
-use Rattle.net_threads.specs.Rounds.{AreCallsIn}
-use Rattle.net_threads.proofs.Told.{call-heard, read-is, sent-all}
+use Rattle.round_calls.specs.Rounds.{AreCallsIn}
+use Rattle.round_calls.proofs.Told.{call-heard, read-is, sent-all}
 
 -- the forecast of a version, among those that were told in so many rounds
 version-told : (net : Net) (made : ℕ → ℕ → Commitment) (link rounds version : ℕ) → version ≤ rounds
@@ -39,7 +39,7 @@ along net network heard made calls history are lawful told place link inside ste
     let (round, k, less, there) = step-of net network history lawful place inside in
     let first = read-first net node k link there.small (sym there.step_is ∙ step) in
     let ends : Ends net node link = subst (Ends net node) first.1 (heard-ends net node k network first.0) in
-    let range = version-law net network link history place lawful inside (subst IsSome (sym ends.from) tt) (subst IsSome (sym ends.to) tt) in
+    let range = version-law net network link history place lawful inside (subst IsSome (sym ends.from) refl) (subst IsSome (sym ends.to) refl) in
     let upper = range.1 in
     let most : version_at (board_steps net) history link place ≤ net.run.rounds = omega (arith, there.round_is) in
     let version : call.version ≡ version_at (board_steps net) history link place = at.version reads.0 ∙ ap (λ l. version_at (board_steps net) history l place) reads.1 in

@@ -1,7 +1,7 @@
 -- What the calls of the nodes tell, round by round.
-use Rattle.std.proofs.Common.{◌≡◌, ℕ, zero, suc, ◌+◌, ◌-◌, ◌*◌, ◌/◌, ◌<◌, ◌≤◌, cond, Bool, true, false, List, [], ◌∷◌, ◌++◌, Option, Some, None, All, length, map, filter, replicate, refl, sym, ap, subst, ◌∙◌, inl, inr, arith, length-append}
+use Rattle.std.proofs.Common.{◌≡◌, ℕ, zero, suc, ◌+◌, ◌-◌, ◌*◌, ◌/◌, ◌<◌, ◌≤◌, cond, Bool, true, false, List, [], ◌∷◌, ◌++◌, Option, Some, None, All, length, map, filter, refl, sym, ap, subst, ◌∙◌, inl, inr, arith, length-append}
 use Rattle.std.specs.Prelude.{◌⊎◌, Contains, slice_get}
-use Rattle.std.specs.List.{concat, range_with_len}
+use Rattle.std.specs.List.{range_with_len}
 use Rattle.std.proofs.lemmas.List.{length-map, map-append}
 use Rattle.std.proofs.lemmas.List.Elements.{All-filter, All-head, filter-append}
 use Rattle.std.proofs.lemmas.List.FromFn.{map-range_with_len_more}
@@ -14,14 +14,13 @@ use Rattle.histories.specs.Steps.{board_steps, is_publish_of}
 use Rattle.histories.specs.declared.steps.BoardStep.{BoardStep}
 use Rattle.histories.specs.declared.steps.BoardStep.TheVariants.{Read, Publish}
 use Rattle.histories.proofs.Lists.{filter-map}
-use Rattle.histories.proofs.TurnOrder.{repeated-more}
 use Rattle.intersection_actor.specs.Commits.{Commitment}
 use Rattle.merged_calls.specs.Calls.{AreRounds, step_of}
 use Rattle.merged_calls.specs.Places.{sent}
 use Rattle.net_numbers.specs.Numbers.{Net}
-use Rattle.node_rounds.specs.Told.{AreCallsOf, heard_of}
+use Rattle.round_calls.specs.Told.{AreCallsOf, heard_of, repeated}
 use Rattle.runs.specs.Runs.{told_in}
-use Rattle.net_threads.specs.Rounds.{AreCallsIn, AreRoundOf}
+use Rattle.round_calls.specs.Rounds.{AreCallsIn, AreRoundOf}
 
 -- a place of a list in two parts
 pub in-parts : {X : Type 0} (xs ys : List X) (k : ℕ) (x : X) → slice_get (xs ++ ys) k ≡ Some x → ((k < length xs) × (slice_get xs k ≡ Some x)) ⊎ ((length xs ≤ k) × (slice_get ys (k - length xs) ≡ Some x))
@@ -126,13 +125,11 @@ module _ (net : Net) (heard : ℕ → ℕ → List Heard) (made : ℕ → ℕ �
     rounds-made rounds early before,
   )
 
-  pub steps-made : (rounds : ℕ) (calls : ℕ → List Call) → AreCallsIn net heard made rounds calls → (node : ℕ) → map step_of (calls node) ≡ concat (replicate rounds (board_steps net node))
+  pub steps-made : (rounds : ℕ) (calls : ℕ → List Call) → AreCallsIn net heard made rounds calls → (node : ℕ) → map step_of (calls node) ≡ repeated rounds (board_steps net node)
   steps-made zero calls are node = ap (map step_of) (are node)
   steps-made (suc rounds) calls (early, last, mark, is, before) node =
-      let one : rounds + 1 ≡ suc rounds = omega arith in
-      repeated-more (board_steps net node) rounds (map step_of (early node)) (map step_of (calls node)) (steps-made rounds early before node)
-      (ap (map step_of) (is.split node) ∙ map-append step_of (early node) (last node) ∙ ap (λ s. map step_of (early node) ++ s) (is.own node).steps)
-      ∙ ap (λ r. concat (replicate r (board_steps net node))) one
+      ap (map step_of) (is.split node) ∙ map-append step_of (early node) (last node) ∙ ap (λ s. map step_of (early node) ++ s) (is.own node).steps
+      ∙ ap (λ s. s ++ board_steps net node) (steps-made rounds early before node)
 
   count-made : (rounds : ℕ) (calls : ℕ → List Call) → AreCallsIn net heard made rounds calls → (node : ℕ) → length (calls node) ≡ rounds * length (board_steps net node)
   count-made zero calls are node = ap length (are node) ∙ (let z : 0 ≡ 0 * length (board_steps net node) = omega arith in z)
