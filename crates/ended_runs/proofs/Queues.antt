@@ -1,7 +1,7 @@
 -- Lists that are taken round by round, the first of each, then the second of each, and so on.
 use Rattle.std.proofs.Common.{◌≡◌, ℕ, zero, suc, ◌+◌, ◌*◌, ◌<◌, ◌≤◌, List, [], ◌∷◌, ◌++◌, drop, length, map, get_or, set, take, get_or-set_other, length-set, refl, sym, ap, ◌∙◌, arith, append-nil, append_assoc, length-append, length-take}
 use Rattle.std.specs.List.{flat_map, range_with_len}
-use Rattle.std.proofs.lemmas.List.{get_or-map, length-map, map-append, take_all, take_more, take_more_set}
+use Rattle.std.proofs.lemmas.List.{length-map, map-append, take_all, take_more, take_more_set}
 use Rattle.std.proofs.Math.Seq.{drop-nil}
 use Rattle.std.proofs.Math.Nat.{mul-le-mul_right}
 use Rattle.std.proofs.lemmas.Grind.{flat_map-append}
@@ -14,6 +14,17 @@ map-by f g [] s same = refl
 map-by f g (x ∷ xs) s same =
     ap (λ y. y ∷ map f xs) (same 0 x (omega arith) ∙ ap g (let e : s + 0 ≡ s = omega arith in e))
     ∙ ap (λ l. g s ∷ l) (map-by f g xs (s + 1) (λ k d less. same (suc k) d (omega arith) ∙ ap g (let e : s + suc k ≡ s + 1 + k = omega arith in e)))
+
+-- how many there are, where they are told by others
+pub long-by : {A B C : Type 0} (f : A → B) (g : C → B) (all start : List A) (more : List C) → map f all ≡ map f start ++ map g more → length all ≡ length start + length more
+long-by f g all start more is =
+    let e : length (map f all) ≡ length (map f start) + length (map g more) = ap length is ∙ length-append (map f start) (map g more) in
+    omega (arith, e, length-map all f, length-map start f, length-map more g)
+
+pub long-behind : {B C : Type 0} (g : C → B) (all start : List B) (more : List C) → all ≡ start ++ map g more → length all ≡ length start + length more
+long-behind g all start more is =
+    let e : length all ≡ length start + length (map g more) = ap length is ∙ length-append start (map g more) in
+    omega (arith, e, length-map more g)
 
 module _ {A : Type 0} where
   -- what is made of one number more of a range
@@ -50,7 +61,7 @@ module _ {A : Type 0} where
   rounds-few lists (suc rounds) =
       let one : suc rounds ≡ rounds + 1 = omega arith in
       let e : length (round_by_round (suc rounds) lists) ≡ length (round_by_round rounds lists) + length (first_of_each (map (drop rounds) lists)) =
-          ap (λ n. length (round_by_round n lists)) one ∙ ap length (rounds-more lists rounds) ∙ length-append (round_by_round rounds lists) (first_of_each (map (drop rounds) lists)) in
+      ap (λ n. length (round_by_round n lists)) one ∙ ap length (rounds-more lists rounds) ∙ length-append (round_by_round rounds lists) (first_of_each (map (drop rounds) lists)) in
       let few : length (first_of_each (map (drop rounds) lists)) ≤ length lists = omega (arith, first-few (map (drop rounds) lists), length-map lists (drop {A = A} rounds)) in
       let many : suc rounds * length lists ≡ rounds * length lists + length lists = omega arith in
       omega (arith, e, few, many, rounds-few lists rounds)

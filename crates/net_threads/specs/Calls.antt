@@ -1,9 +1,10 @@
 -- What the calls of the passes tell of a run in threads.
-use Rattle.std.specs.Prelude.{◌≡◌, ℕ, ◌/◌, false, Some, List, Contains, length, map, slice_get}
+use Rattle.std.specs.Prelude.{◌≡◌, ℕ, ◌*◌, ◌/◌, ◌≤◌, false, IfSome, Some, List, Contains, length, map, slice_get}
 use Rattle.arrivals.specs.Amounts.{Amounts}
 use Rattle.board_model.specs.Boards.{Log}
 use Rattle.board_model.specs.Calls.{Agree, AreLogsOf, log_at}
 use Rattle.board_model.specs.declared.calls.Call.{Call}
+use Rattle.board_rule.specs.Passes.{PassView}
 use Rattle.histories.specs.Histories.{IsLawful}
 use Rattle.histories.specs.Merges.{IsMerge}
 use Rattle.histories.specs.Steps.{board_steps}
@@ -30,3 +31,7 @@ MergeToLawful net calls = (logs : List Log) (history : List ℕ) → AreLogsOf c
 abbrev pub IsRunOfCalls : Net → Amounts → (ℕ → List Call) → RunRecord → Type 0
 IsRunOfCalls net arrivals calls run = (logs : List Log) (history : List ℕ) → AreLogsOf calls (log_at logs) → Agree calls (log_at logs) → IsMerge logs history
     → IsKeptRun net arrivals history run
+
+-- each pass has at least as many calls left as its node has board steps in all rounds
+abbrev pub HaveCallsLeft : Net → List PassView → Type 0
+HaveCallsLeft net passes = (node : ℕ) → IfSome (slice_get passes node) (λ p. net.run.rounds * length (board_steps net node) ≤ p.left)
