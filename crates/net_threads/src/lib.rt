@@ -2,7 +2,6 @@
 //! boards; then the passes meet, and the world moves.
 #![tactic(auto)]
 
-mod ends;
 mod joined;
 mod nodes;
 mod rounds;

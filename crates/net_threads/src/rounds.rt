@@ -1,8 +1,8 @@
 //! The rounds of a network in threads.
-ghost use Rattle.std.specs.Prelude.{◌≡◌, ℕ, ◌+◌, ◌*◌, ◌<◌, ◌≤◌, [], All, IfOk, OnOk, length, slice_index};
+ghost use Rattle.std.specs.Prelude.{◌≡◌, ℕ, ◌+◌, ◌<◌, [], All, IfOk, OnOk, length};
 ghost use Rattle.arrivals.specs.Amounts.{AreArrivals};
 ghost use Rattle.board_rule.specs.Passes.{AreAllPasses, calls_in};
-ghost use Rattle.histories.specs.Steps.{board_steps};
+ghost use Rattle.ended_runs.specs.Ending.{IsRecordOf};
 ghost use Rattle.net_threads.specs.Calls.{AreStepsOf, HaveCallsLeft, IsRunOfCalls, MergeToLawful};
 ghost use Rattle.round_calls.specs.Rounds.{AreSamePasses, Between};
 
@@ -87,6 +87,17 @@ fn play_rounds<P: Planner + Send, R: Threads + Wait + Sync, G: Gate + Sync>(
     Ok(())
 }
 
+/// The record that the nodes and the world leave.
+fn end(alloc: Global, net: &Network, stage: Stage) -> Result<RunRecord, AllocError>
+    requires actors { length stage.nodes.all.items ≡ length net.now.node_names }
+    requires counts { length stage.world.counts ≡ length net.now.link_names }
+    ensures { IfOk result (IsRecordOf net.now stage.nodes.all.items stage.world) }
+{
+    let Stage { nodes, world } = stage;
+    let Nodes { all } = nodes;
+    record_of(alloc, net, all, &world)
+}
+
 /// The run of a network in threads. In each round every node plays in a branch of its own: it senses, reads the boards of the links on
 /// which it hears other nodes, plans with its own planner, and publishes on the boards of those on which it tells them, in whatever
 /// order the machine gives. Each board step is a call of the node's own pass, and `gate.before` is called before it. Then the passes
@@ -138,7 +149,5 @@ pub fn run_rounds<P: Planner + Send + Drop, R: Threads + Wait + Sync, G: Gate + 
         planners.as_mut_slice(),
         passes,
     )?;
-    let Stage { nodes, world } = stage;
-    let Nodes { all } = nodes;
-    record_of(alloc, net, all, &world)
+    end(alloc, net, stage)
 }
