@@ -134,6 +134,8 @@ pub fn run_rounds<P: Planner + Send + Drop, R: Threads + Wait + Sync, G: Gate + 
     ensures lawful { OnOk result (MergeToLawful net.now (calls_in passes.new)) }
     ensures run { IfOk result (IsRunOfCalls net.now arrivals.now (calls_in passes.new)) }
 {
+    // What it says of the network is wanted here, and not the count.
+    let _ = net.nodes();
     law_of_merged_calls(net);
     law_of_runs(net);
     let mut planners = planners;
