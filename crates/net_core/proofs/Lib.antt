@@ -1,4 +1,4 @@
-pub mod Lawful
+pub mod Along
 pub mod Over
 pub mod Playing
 pub mod Prefixes

@@ -15,6 +15,17 @@ map-by f g (x ∷ xs) s same =
     ap (λ y. y ∷ map f xs) (same 0 x (omega arith) ∙ ap g (let e : s + 0 ≡ s = omega arith in e))
     ∙ ap (λ l. g s ∷ l) (map-by f g xs (s + 1) (λ k d less. same (suc k) d (omega arith) ∙ ap g (let e : s + suc k ≡ s + 1 + k = omega arith in e)))
 
+-- how many there are, where they are told by others
+pub long-by : {A B C : Type 0} (f : A → B) (g : C → B) (all start : List A) (more : List C) → map f all ≡ map f start ++ map g more → length all ≡ length start + length more
+long-by f g all start more is =
+    let e : length (map f all) ≡ length (map f start) + length (map g more) = ap length is ∙ length-append (map f start) (map g more) in
+    omega (arith, e, length-map all f, length-map start f, length-map more g)
+
+pub long-behind : {B C : Type 0} (g : C → B) (all start : List B) (more : List C) → all ≡ start ++ map g more → length all ≡ length start + length more
+long-behind g all start more is =
+    let e : length all ≡ length start + length (map g more) = ap length is ∙ length-append start (map g more) in
+    omega (arith, e, length-map more g)
+
 module _ {A : Type 0} where
   -- what is made of one number more of a range
   flat-more : (f : ℕ → List A) (s n : ℕ) → flat_map f (range_with_len s (suc n)) ≡ flat_map f (range_with_len s n) ++ f (s + n)

@@ -1,5 +1,5 @@
 use Rattle.std.proofs.Common.{◌≡◌}
-use Rattle.net_core.proofs.Lawful.{gone}
+use Rattle.net_core.proofs.Along.{gone}
 use Rattle.net_core.proofs.whole_run.run.Given as goal
 
 abbrev pub invariant-loop-node : goal.invariant-loop-node
