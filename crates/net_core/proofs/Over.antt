@@ -3,6 +3,7 @@ use Rattle.std.proofs.Common.{◌≡◌, ℕ, ◌+◌, ◌*◌, ◌<◌, List, l
 use Rattle.std.specs.List.{range_with_len}
 use Rattle.arrivals.specs.Amounts.{Amounts}
 use Rattle.control_flow.specs.declared.greens.Green.{Green}
+use Rattle.histories.specs.Histories.{IsLawful}
 use Rattle.intersection_actor.specs.Acting.{Acting}
 use Rattle.intersection_actor.specs.Commits.{record_of}
 use Rattle.intersection_actor.specs.declared.records.PlanRecord.{PlanRecord}
@@ -11,6 +12,7 @@ use Rattle.net_simulator.specs.Arriving.{arriving_of}
 use Rattle.net_simulator.specs.Counts.{counts_at}
 use Rattle.net_simulator.specs.Flow.{past_of}
 use Rattle.net_simulator.specs.Sums.{link_totals, totals}
+use Rattle.road_net.specs.Network.{IsNetwork}
 use Rattle.runs.specs.Runs.{IsRun, line_before, plans_of, shown_by}
 use Rattle.runs.specs.declared.records.RunRecord.{RunRecord}
 use Rattle.runs.proofs.Past.{map-range-same}
@@ -18,6 +20,8 @@ use Rattle.net_core.specs.Ending.{IsRecordOf, lines_in, records_in, round_by_rou
 use Rattle.net_core.specs.Going.{AreBetween, AreGoing, records_of}
 use Rattle.net_core.specs.declared.parts.Parts.{Parts}
 use Rattle.net_core.proofs.Queues.{columns, map-by}
+use Rattle.net_core.proofs.Standing.{no_acting}
+use Rattle.net_core.proofs.Wanting.{going-last}
 
 -- The parts of a core behind the last round.
 module _ (net : Net) (arrivals : Amounts) (parts : Parts) (b : AreBetween net arrivals parts) (last : parts.round ≡ net.run.rounds) where
@@ -69,3 +73,9 @@ over-between net arrivals parts going last = elim going [
   | inl both ↦ absurd (let less = both.0.below in omega arith)
   | inr both ↦ both.0
 ]
+
+-- The record of a core whose history is lawful is that of a run.
+pub over-run : (net : Net) → IsNetwork net → (arrivals : Amounts) (parts : Parts) → AreGoing net arrivals parts → IsLawful net parts.history.items → (run : RunRecord) → IsRecordOf net parts run → IsRun net arrivals parts.history.items run
+over-run net network arrivals parts going lawful run r =
+    let last : parts.round ≡ net.run.rounds = going-last net network arrivals parts no_acting going lawful in
+    is-run net arrivals parts (over-between net arrivals parts going last) last run r
