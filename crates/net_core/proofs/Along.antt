@@ -2,7 +2,7 @@
 use Rattle.std.proofs.Common.{◌≡◌, ℕ, ◌+◌, ◌<◌, ◌≤◌, cond, eqb, false, true, List, [], ◌∷◌, ◌++◌, Some, length, get_or, take, drop, refl, sym, ap, ◌∙◌, subst, arith, ne_eqb}
 use Rattle.std.specs.Prelude.{slice_get}
 use Rattle.std.proofs.lemmas.Bool.{false≢true}
-use Rattle.std.proofs.lemmas.List.{take_more}
+use Rattle.std.proofs.lemmas.List.{take_all, take_more}
 use Rattle.std.proofs.lemmas.Option.{slice_get-get_or}
 use Rattle.arrivals.specs.Amounts.{Amounts}
 use Rattle.histories.specs.Histories.{count, IsLawful, IsUnderWay}
@@ -36,6 +36,10 @@ module _ (net : Net) (arrivals : Amounts) (h : List ℕ) where
       is ∙ ap (λ (c : Course). record c { steps = c.steps ++ get_or h place 0 ∷ [] }) was
       ∙ ap (λ (l : List ℕ). record { net = net; arrivals = arrivals; steps = l; spent = false }) (sym (take_more h place 0 inside))
 
+  -- with all
+  pub gone-all : (place : ℕ) (core : Course) → length h ≤ place → core ≡ gone net arrivals h place → core ≡ record { net = net; arrivals = arrivals; steps = h; spent = false }
+  gone-all place core past is = is ∙ ap (λ (l : List ℕ). record { net = net; arrivals = arrivals; steps = l; spent = false }) (take_all place h past)
+
   module _ (network : IsNetwork net) (lawful : IsLawful net h) (place : ℕ) (inside : place < length h) where
     node : ℕ
     node = get_or h place 0
@@ -54,10 +58,10 @@ module _ (net : Net) (arrivals : Amounts) (h : List ℕ) where
 
     -- only for want of memory is its next step not done
     pub no-fault : (done : ℕ) → IsUnderWay (board_steps net) net.run.rounds done (take place h) → (old : Course) → old ≡ gone net arrivals h place → (fault : StepFault) → IsStepFault old (get_or h place 0) fault → fault ≡ NoMemory
+    unfolding node
     no-fault done way old is fault why = by fault (subst (λ (c : Course). IsStepFault c (get_or h place 0) fault) is why)
       where
         by : (fault : StepFault) → IsStepFault (gone net arrivals h place) (get_or h place 0) fault → fault ≡ NoMemory
-        unfolding node
         by UnknownNode past = absurd (let both = ahead done way in let none : length (board_steps net node) ≡ 0 = ap length (steps-beyond net network node past) in omega (arith, both.1, none))
         by Spent w = absurd (false≢true w.spent)
         by Over w = absurd (let both = ahead done way in let over = all-done (board_steps net) net.run.rounds done (take place h) way w.lawful in omega (arith, both.0, over))
