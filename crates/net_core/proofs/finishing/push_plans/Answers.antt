@@ -1,4 +1,4 @@
-use Rattle.std.proofs.Common.{rules, ◌≡◌, ◌+◌, ◌≤◌, ◌++◌, ◌*◌, vec_capacity, List, length, map, take, drop, sym, ap, subst, ◌∙◌, arith, append-nil, append_assoc}
+use Rattle.std.proofs.Common.{rules, ◌≡◌, ◌+◌, ◌≤◌, ◌++◌, ◌*◌, vec_capacity, List, length, map, take, drop, sym, ap, ◌∙◌, arith, append-nil, append_assoc}
 use Rattle.std.specs.VecDeque.{deque_items}
 use Rattle.std.proofs.lemmas.List.{length-map, take_at}
 use Rattle.net_core.specs.Ending.{first_of_each, without_first, round_by_round}

@@ -1,4 +1,4 @@
-use Rattle.std.proofs.Common.{rules, ◌≡◌, ◌++◌, length, vec_capacity, map, take, sym, ap, ◌∙◌, arith, append-nil}
+use Rattle.std.proofs.Common.{rules, ◌++◌, vec_capacity, map, sym, ap, ◌∙◌, arith, append-nil}
 use Rattle.std.specs.VecDeque.{deque_items}
 use Rattle.std.proofs.lemmas.List.{take_all}
 use Rattle.net_core.specs.Ending.{first_of_each}

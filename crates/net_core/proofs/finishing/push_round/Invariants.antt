@@ -1,4 +1,4 @@
-use Rattle.std.proofs.Common.{◌≡◌, ◌++◌, length, map, take, vec_capacity}
+use Rattle.std.proofs.Common.{◌≡◌, ◌++◌, map, take, vec_capacity}
 use Rattle.std.specs.VecDeque.{deque_items}
 use Rattle.net_core.specs.Ending.{first_of_each}
 use Rattle.net_core.proofs.Queues.{AreTaken}
