@@ -1,5 +1,5 @@
 -- Why a core does no step of a node, and when it may.
-use Rattle.std.proofs.Common.{◌≡◌, ◌≢◌, ℕ, ◌<◌, Bool, true, false, IsTrue, nat_eq, List, length, get_or, subst, sym, ◌∙◌, arith}
+use Rattle.std.proofs.Common.{◌≡◌, ◌≢◌, ℕ, ◌<◌, Bool, false, IsTrue, nat_eq, length, get_or, subst, sym, ◌∙◌}
 use Rattle.std.proofs.lemmas.Bool.{eq-eqb, eqb-true}
 use Rattle.arrivals.specs.Amounts.{Amounts}
 use Rattle.intersection_actor.specs.Acting.{Acting}

@@ -1,4 +1,4 @@
-use Rattle.std.proofs.Common.{refl, arith, ◌∙◌}
+use Rattle.std.proofs.Common.{refl, arith}
 use Rattle.net_core.proofs.Rounds.{begins-all, begins-none}
 use Rattle.net_core.proofs.loops.begin_round.Goals as goal
 
