@@ -1,9 +1,9 @@
 //! A run under way.
 use crate::faults::StepFault;
 use crate::finishing::{Room, record_of_parts, room_of};
+use crate::loops::{begin_round, go_on, is_done, play};
 use crate::making::parts_of;
 use crate::parts::Parts;
-use crate::loops::{begin_round, go_on, is_done, play};
 use arrivals::Arrivals;
 use foundation::threads::CrossesThreads;
 use intersection_actor::Want;
