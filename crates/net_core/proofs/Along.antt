@@ -1,5 +1,5 @@
 -- A core that goes along a lawful history.
-use Rattle.std.proofs.Common.{◌≡◌, ℕ, ◌+◌, ◌<◌, ◌≤◌, cond, eqb, false, true, List, [], ◌∷◌, ◌++◌, Some, length, get_or, take, drop, refl, sym, ap, ◌∙◌, subst, arith, ne_eqb}
+use Rattle.std.proofs.Common.{◌≡◌, ℕ, ◌+◌, ◌<◌, ◌≤◌, cond, false, List, [], ◌∷◌, ◌++◌, Some, length, get_or, take, drop, refl, sym, ap, ◌∙◌, subst, arith, ne_eqb}
 use Rattle.std.specs.Prelude.{slice_get}
 use Rattle.std.proofs.lemmas.Bool.{false≢true}
 use Rattle.std.proofs.lemmas.List.{take_all, take_more}
@@ -12,8 +12,7 @@ use Rattle.histories.specs.declared.steps.BoardStep.TheVariants as steps
 use Rattle.histories.proofs.HowFar.{lawful-cut}
 use Rattle.histories.proofs.Rounds.{all-done, next}
 use Rattle.histories.proofs.StepLaws.{steps-beyond}
-use Rattle.intersection_actor.specs.declared.records.Want.{Want}
-use Rattle.intersection_actor.specs.declared.records.Want.TheVariants.{Read, Publish, Done}
+use Rattle.intersection_actor.specs.declared.records.Want.TheVariants.{Done}
 use Rattle.net_numbers.specs.Numbers.{Net}
 use Rattle.road_net.specs.Network.{IsNetwork}
 use Rattle.net_core.specs.Cores.{Course, IsStepFault, IsWanted, wanted_step}
@@ -52,9 +51,9 @@ module _ (net : Net) (arrivals : Amounts) (h : List ℕ) where
     turn-comes w =
         let (less, fewer) = ahead w.done w.way in
         wants-it (get_or (board_steps net node) (count node w.way.part) (steps.Read 0)) (
-            w.is
-            ∙ ap (λ b. cond b Done (wanted_step (slice_get (board_steps net node) (count node w.way.part)))) (ne_eqb w.done net.run.rounds (λ e. omega arith))
-            ∙ ap wanted_step (slice_get-get_or (board_steps net node) (count node w.way.part) (steps.Read 0) fewer))
+        w.is
+        ∙ ap (λ b. cond b Done (wanted_step (slice_get (board_steps net node) (count node w.way.part)))) (ne_eqb w.done net.run.rounds (λ e. omega arith))
+        ∙ ap wanted_step (slice_get-get_or (board_steps net node) (count node w.way.part) (steps.Read 0) fewer))
 
     -- only for want of memory is its next step not done
     pub no-fault : (done : ℕ) → IsUnderWay (board_steps net) net.run.rounds done (take place h) → (old : Course) → old ≡ gone net arrivals h place → (fault : StepFault) → IsStepFault old (get_or h place 0) fault → fault ≡ NoMemory

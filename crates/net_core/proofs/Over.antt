@@ -1,8 +1,7 @@
 -- The record of a run that is over.
-use Rattle.std.proofs.Common.{◌≡◌, ℕ, ◌+◌, ◌*◌, ◌<◌, List, length, map, get_or, sym, ap, ◌∙◌, inl, inr, arith}
+use Rattle.std.proofs.Common.{◌≡◌, ℕ, ◌+◌, ◌*◌, List, length, map, ap, ◌∙◌, inl, inr, arith}
 use Rattle.std.specs.List.{range_with_len}
 use Rattle.arrivals.specs.Amounts.{Amounts}
-use Rattle.control_flow.specs.declared.greens.Green.{Green}
 use Rattle.histories.specs.Histories.{IsLawful}
 use Rattle.intersection_actor.specs.Acting.{Acting}
 use Rattle.intersection_actor.specs.Commits.{record_of}
@@ -13,7 +12,7 @@ use Rattle.net_simulator.specs.Counts.{counts_at}
 use Rattle.net_simulator.specs.Flow.{past_of}
 use Rattle.net_simulator.specs.Sums.{link_totals, totals}
 use Rattle.road_net.specs.Network.{IsNetwork}
-use Rattle.runs.specs.Runs.{IsRun, line_before, plans_of, shown_by}
+use Rattle.runs.specs.Runs.{IsRun, line_before, shown_by}
 use Rattle.runs.specs.declared.records.RunRecord.{RunRecord}
 use Rattle.runs.proofs.Past.{map-range-same}
 use Rattle.net_core.specs.Ending.{IsRecordOf, lines_in, records_in, round_by_round}

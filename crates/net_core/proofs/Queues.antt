@@ -1,7 +1,7 @@
 -- Lists that are taken round by round, the first of each, then the second of each, and so on.
 use Rattle.std.proofs.Common.{◌≡◌, ℕ, zero, suc, ◌+◌, ◌*◌, ◌<◌, ◌≤◌, List, [], ◌∷◌, ◌++◌, drop, length, map, get_or, set, take, get_or-set_other, length-set, refl, sym, ap, ◌∙◌, arith, append-nil, append_assoc, length-append, length-take}
 use Rattle.std.specs.List.{flat_map, range_with_len}
-use Rattle.std.proofs.lemmas.List.{get_or-map, length-map, map-append, take_all, take_more, take_more_set}
+use Rattle.std.proofs.lemmas.List.{length-map, map-append, take_all, take_more, take_more_set}
 use Rattle.std.proofs.Math.Seq.{drop-nil}
 use Rattle.std.proofs.Math.Nat.{mul-le-mul_right}
 use Rattle.std.proofs.lemmas.Grind.{flat_map-append}
@@ -61,7 +61,7 @@ module _ {A : Type 0} where
   rounds-few lists (suc rounds) =
       let one : suc rounds ≡ rounds + 1 = omega arith in
       let e : length (round_by_round (suc rounds) lists) ≡ length (round_by_round rounds lists) + length (first_of_each (map (drop rounds) lists)) =
-          ap (λ n. length (round_by_round n lists)) one ∙ ap length (rounds-more lists rounds) ∙ length-append (round_by_round rounds lists) (first_of_each (map (drop rounds) lists)) in
+      ap (λ n. length (round_by_round n lists)) one ∙ ap length (rounds-more lists rounds) ∙ length-append (round_by_round rounds lists) (first_of_each (map (drop rounds) lists)) in
       let few : length (first_of_each (map (drop rounds) lists)) ≤ length lists = omega (arith, first-few (map (drop rounds) lists), length-map lists (drop {A = A} rounds)) in
       let many : suc rounds * length lists ≡ rounds * length lists + length lists = omega arith in
       omega (arith, e, few, many, rounds-few lists rounds)

@@ -178,7 +178,10 @@ impl<'a> Core<'a> {
         let _ = self.net.nodes();
         law_of_runs(self.net);
         let Core {
-            net, parts, room, ..
+            net,
+            parts,
+            room,
+            ..
         } = self;
         record_of_parts(net, parts, room)
     }

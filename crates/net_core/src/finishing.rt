@@ -3,7 +3,7 @@ ghost use Rattle.std.specs.Prelude.{◌≡◌, ℕ, ◌+◌, ◌*◌, ◌<◌, �
 ghost use Rattle.std.specs.List.{range_with_len};
 ghost use Rattle.std.specs.VecDeque.{deque_items};
 ghost use Rattle.net_simulator.specs.Counts.{counts_at};
-ghost use Rattle.net_core.specs.Ending.{HasRoom, IsRecordOf, lines_in, first_of_each, records_in, round_by_round, without_first};
+ghost use Rattle.net_core.specs.Ending.{HasRoom, IsRecordOf, first_of_each, lines_in, records_in, round_by_round, without_first};
 
 use crate::parts::{Actors, Parts};
 use control_flow::greens::Timeline;
@@ -88,11 +88,7 @@ fn push_parts(
 }
 
 /// Moves the plans of so many rounds from the queues behind the plans, round by round.
-fn push_plans(
-    rounds: u32,
-    queues: &mut Vec<VecDeque<PlanRecord>>,
-    plans: &mut Vec<PlanRecord>,
-)
+fn push_plans(rounds: u32, queues: &mut Vec<VecDeque<PlanRecord>>, plans: &mut Vec<PlanRecord>)
     requires { vec_len plans.old + rounds * length queues.old.items ≤ vec_capacity plans.old }
     ensures { plans.new.items ≡ plans.old.items ++ round_by_round rounds (map deque_items queues.old.items) }
 {

@@ -16,7 +16,7 @@ push_round-requires c =
     let slice : length c.as_mut_slice.result.now ≡ length c.loop-round.queues.items = ap length c.as_mut_slice.ensures.value in
     let queues : length c.loop-round.queues.items ≡ length lists = sym (length-map c.loop-round.queues.items deque_items) ∙ ap length i.queues ∙ length-map lists (drop c.loop-round.round) in
     let all : length c.args.plans.now.items + c.args.rounds * length lists ≤ vec_capacity c.args.plans.now =
-        (let long = length-map c.args.queues.now.items deque_items in let times : c.args.rounds * length lists ≡ c.args.rounds * length c.args.queues.now.items = ap (λ n. c.args.rounds * n) long in omega (arith, times, c.args.plans.now.ok.0, c.requires)) in
+    (let long = length-map c.args.queues.now.items deque_items in let times : c.args.rounds * length lists ≡ c.args.rounds * length c.args.queues.now.items = ap (λ n. c.args.rounds * n) long in omega (arith, times, c.args.plans.now.ok.0, c.requires)) in
     let room = rounds-room c.args.plans.now.items c.loop-round.plans.items lists c.loop-round.round c.args.rounds (vec_capacity c.args.plans.now) i.plans c.loop-round-test.true all in
     omega (arith, room, slice, queues, i.room, c.loop-round.plans.ok.0)
 
@@ -26,7 +26,7 @@ loop-round-preserved c =
     let lists : List (List PlanRecord) = map deque_items c.args.queues.now.items in
     let now : map deque_items c.as_mut_slice.result.now ≡ map (drop c.loop-round.round) lists = ap (map deque_items) c.as_mut_slice.ensures.value ∙ i.queues in
     let back : take c.loop-round.queues.len (c.push_round.new.queues ++ drop (length c.push_round.new.queues) c.loop-round.queues.items) ≡ c.push_round.new.queues =
-        take_at c.push_round.new.queues (drop (length c.push_round.new.queues) c.loop-round.queues.items) c.loop-round.queues.len (omega (arith, c.push_round.auto.queues, c.as_mut_slice.ensures.len)) in
+    take_at c.push_round.new.queues (drop (length c.push_round.new.queues) c.loop-round.queues.items) c.loop-round.queues.len (omega (arith, c.push_round.auto.queues, c.as_mut_slice.ensures.len)) in
     record {
       queues = ap (map deque_items) back ∙ c.push_round.ensures.queues ∙ ap without_first now ∙ without-more lists c.loop-round.round;
       plans =
