@@ -1,7 +1,6 @@
 -- How a node goes on in its round.
-use Rattle.std.proofs.Common.{◌≡◌, ℕ, zero, suc, ◌+◌, ◌-◌, ◌*◌, ◌<◌, ◌≤◌, cond, Bool, true, false, List, [], ◌∷◌, ◌++◌, Option, Some, None, length, map, is_some, filter, All, drop, get_or, find, le-leb, refl, sym, ap, subst, ◌∙◌, inl, inr, arith, length-append}
-use Rattle.std.specs.Prelude.{nat_le, ◌⊎◌}
-use Rattle.std.specs.List.{range_with_len}
+use Rattle.std.proofs.Common.{◌≡◌, ℕ, zero, suc, ◌+◌, ◌-◌, ◌*◌, ◌<◌, ◌≤◌, cond, true, false, List, [], ◌∷◌, ◌++◌, Option, Some, None, length, map, is_some, All, drop, get_or, find, le-leb, refl, sym, ap, subst, ◌∙◌, inl, inr, arith}
+use Rattle.std.specs.Prelude.{nat_le}
 use Rattle.std.specs.List.Sorted.{IsStrictlyIncreasing}
 use Rattle.std.proofs.lemmas.Bool.{cases_lt, lt-leb}
 use Rattle.std.proofs.lemmas.List.{drop-drop, length_push}
@@ -12,12 +11,10 @@ use Rattle.arrivals.specs.Amounts.{Amounts}
 use Rattle.board_model.specs.declared.boards.Heard.{Heard}
 use Rattle.control_flow.specs.Greens.{end_of}
 use Rattle.control_flow.specs.declared.greens.Green.{Green}
-use Rattle.intersection_actor.specs.Acting.{Acting, begun, reading, telling, tells_from, wanting, with_heard}
+use Rattle.intersection_actor.specs.Acting.{Acting, reading, telling, tells_from, wanting, with_heard}
 use Rattle.intersection_actor.specs.Commits.{Commitment, IsCommit, phases_of, record_of}
 use Rattle.intersection_actor.specs.Rounds.{IsCommitted, IsOf, KeepsPast}
 use Rattle.intersection_actor.specs.declared.records.PlanRecord.{PlanRecord}
-use Rattle.intersection_actor.specs.declared.records.Want.{Want}
-use Rattle.intersection_actor.specs.declared.records.Want.TheVariants.{Publish, Done}
 use Rattle.net_numbers.specs.Numbers.{Net}
 use Rattle.net_numbers.specs.Outline.{link_at}
 use Rattle.net_numbers.specs.declared.roads.Link.{Link}

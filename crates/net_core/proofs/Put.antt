@@ -1,7 +1,5 @@
 -- A function of rounds and nodes, changed at one of them.
-use Rattle.std.proofs.Common.{◌≡◌, ℕ, cond, eqb, Bool, true, false, refl, ap, ◌∙◌, sym, eq-eqb, ne_eqb}
-use Rattle.std.proofs.lemmas.Bool.{cases_eq}
-use Rattle.std.specs.Prelude.{◌⊎◌}
+use Rattle.std.proofs.Common.{◌≡◌, ℕ, cond, eqb, Bool, true, false, refl, ap, ◌∙◌, eq-eqb, ne_eqb}
 
 module _ {A : Type 0} (f : ℕ → ℕ → A) (round node : ℕ) (x : A) where
   abbrev pub put : ℕ → ℕ → A

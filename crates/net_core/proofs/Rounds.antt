@@ -1,40 +1,30 @@
 -- A round begins, node by node, and ends.
-use Rattle.std.proofs.Common.{◌≡◌, ◌≢◌, ℕ, zero, suc, ◌+◌, ◌-◌, ◌*◌, ◌/◌, ◌<◌, ◌≤◌, List, [], ◌∷◌, ◌++◌, Option, Some, All, length, map, drop, get_or, set, refl, sym, ap, subst, ◌∙◌, inl, inr, arith, append-nil, length-set, get_or-set_same, get_or-set_other}
-use Rattle.std.specs.Prelude.{◌⊎◌}
-use Rattle.std.proofs.lemmas.Bool.{cases_eq, cases_lt}
-use Rattle.std.proofs.lemmas.List.{get_or_default}
-use Rattle.std.proofs.lemmas.List.Elements.{All-get_or}
+use Rattle.std.proofs.Common.{◌≡◌, ℕ, ◌+◌, ◌*◌, ◌<◌, ◌≤◌, List, [], ◌∷◌, length, get_or, set, refl, sym, ap, subst, ◌∙◌, inl, inr, arith, append-nil, length-set, get_or-set_same, get_or-set_other}
+use Rattle.std.proofs.lemmas.Bool.{cases_eq}
 use Rattle.std.proofs.lemmas.Nat.{div_below}
 use Rattle.arrivals.specs.Amounts.{Amounts, AreArrivals}
 use Rattle.board_model.specs.declared.boards.Heard.{Heard}
-use Rattle.control_flow.specs.Greens.{end_of, standing}
 use Rattle.control_flow.specs.declared.greens.Green.{Green}
-use Rattle.histories.specs.Histories.{count, HasRounds, IsRound}
-use Rattle.histories.specs.Steps.{board_steps}
-use Rattle.histories.proofs.StepLaws.{step-count}
-use Rattle.histories.proofs.TurnOrder.{IsBegun}
 use Rattle.intersection_actor.specs.Acting.{Acting, begun, reading}
 use Rattle.intersection_actor.specs.Commits.{Commitment}
 use Rattle.intersection_actor.specs.Rounds.{IsCommitted, IsOf, KeepsPast}
-use Rattle.intersection_actor.specs.declared.records.Want.{Want}
-use Rattle.intersection_actor.specs.declared.records.Want.TheVariants.{Read, Commit, Publish, Done}
+use Rattle.intersection_actor.specs.declared.records.Want.TheVariants.{Commit}
 use Rattle.net_numbers.specs.Numbers.{Net}
 use Rattle.net_simulator.specs.Arriving.{arriving_of}
 use Rattle.net_simulator.specs.Flow.{Passed, past_of}
 use Rattle.net_simulator.specs.Senses.{sense}
 use Rattle.net_simulator.specs.Worlds.{IsWorldOf, Kept, Stands, standing_by}
-use Rattle.road_net.specs.Network.{IsNetwork, heard_links, told_links}
-use Rattle.road_net.specs.declared.senses.Sensed.{Sensed}
-use Rattle.runs.specs.Runs.{AllCommit, line_before, past_by, sensed_in, shown_by}
+use Rattle.road_net.specs.Network.{IsNetwork, heard_links}
+use Rattle.runs.specs.Runs.{AllCommit, line_before, sensed_in, shown_by}
 use Rattle.runs.proofs.Agree.{SameBefore}
 use Rattle.runs.proofs.Keep.{all-keep}
-use Rattle.runs.proofs.Lines.{AllKeep, shows}
+use Rattle.runs.proofs.Lines.{shows}
 use Rattle.runs.proofs.Past.{past-at-nodes}
 use Rattle.net_core.specs.Acts.{Settles}
-use Rattle.net_core.specs.Going.{Begins, Between, Hears, InRound, IsRunning, Plays, Rests, Tells, telling_first}
+use Rattle.net_core.specs.Going.{Begins, Between, InRound, IsRunning, Plays, Rests}
 use Rattle.net_core.specs.declared.parts.Board.{Board}
 use Rattle.net_core.proofs.Playing.{Listens, commits-on, listens-on, plays-moved, rests-moved}
-use Rattle.net_core.proofs.Prefixes.{Begun, beyond-of}
+use Rattle.net_core.proofs.Prefixes.{Begun}
 use Rattle.net_core.proofs.Put.{put, put-node, put-round}
 use Rattle.net_core.proofs.Running.{commit-on, stands-same}
 

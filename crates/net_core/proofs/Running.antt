@@ -1,5 +1,5 @@
 -- How a run goes on: by a reading, a publishing, a commit, and a round of seconds.
-use Rattle.std.proofs.Common.{◌≡◌, ℕ, zero, suc, ◌+◌, ◌-◌, ◌*◌, ◌/◌, ◌<◌, ◌≤◌, cond, Bool, true, false, List, [], ◌∷◌, ◌++◌, Option, Some, None, length, get_or, set, refl, sym, ap, subst, ◌∙◌, inl, inr, arith, length-append, length-set, get_or-set_same, get_or-set_other, eqb, ne_eqb, eq-eqb}
+use Rattle.std.proofs.Common.{◌≡◌, ℕ, zero, suc, ◌+◌, ◌*◌, ◌/◌, ◌<◌, ◌≤◌, cond, Bool, true, false, List, [], ◌∷◌, ◌++◌, Option, Some, length, get_or, set, refl, sym, ap, subst, ◌∙◌, inl, inr, arith, length-set, get_or-set_same, get_or-set_other, eqb, ne_eqb, eq-eqb}
 use Rattle.std.specs.Prelude.{Contains, unwrap_or}
 use Rattle.std.proofs.lemmas.Bool.{cases_eq, cases_lt}
 use Rattle.std.proofs.lemmas.Nat.{div_below}
@@ -21,13 +21,12 @@ use Rattle.net_simulator.specs.Arriving.{arriving_of}
 use Rattle.net_simulator.specs.Flow.{Passed, past_of}
 use Rattle.net_simulator.specs.Sums.{link_totals, totals}
 use Rattle.net_simulator.specs.Worlds.{Keeps, Kept, Stands}
-use Rattle.road_net.specs.Network.{IsNetwork, heard_links, told_links}
-use Rattle.runs.specs.Runs.{AllCommit, Commits, HearAlong, forecast_at, hearing, shown_by, told_in}
+use Rattle.road_net.specs.Network.{IsNetwork, heard_links}
+use Rattle.runs.specs.Runs.{HearAlong, forecast_at, hearing, shown_by, told_in}
 use Rattle.runs.proofs.Agree.{SameBefore, commits-moved}
-use Rattle.runs.proofs.Heard.{Ends}
 use Rattle.runs.proofs.Past.{past-at-nodes}
 use Rattle.runs.proofs.Places.{first-small, read-step}
-use Rattle.net_core.specs.Going.{HasBoards, IsRunning}
+use Rattle.net_core.specs.Going.{IsRunning}
 use Rattle.net_core.specs.declared.parts.Board.{Board}
 use Rattle.net_core.proofs.Prefixes.{Begun, ends-at, last-node, last-version, not-yet, now-published, own-round, own-step, round-front, step-front, version-front}
 use Rattle.net_core.proofs.Put.{put, put-here, put-node, put-round}

@@ -1,6 +1,5 @@
 -- What the steps of a core need of where it stands.
-use Rattle.std.proofs.Common.{◌≡◌, ◌≢◌, ℕ, zero, suc, ◌+◌, ◌-◌, ◌*◌, ◌<◌, ◌≤◌, true, List, [], ◌∷◌, ◌++◌, Option, Some, Result, Ok, Err, OnOk, length, get_or, set, drop, refl, sym, ap, subst, ◌∙◌, inl, inr, arith, eq-eqb}
-use Rattle.std.specs.Prelude.{◌⊎◌}
+use Rattle.std.proofs.Common.{◌≡◌, ℕ, ◌+◌, ◌-◌, ◌*◌, ◌<◌, ◌≤◌, true, List, [], ◌∷◌, ◌++◌, Result, Ok, Err, OnOk, length, get_or, set, drop, refl, sym, ap, subst, ◌∙◌, inl, inr, arith, eq-eqb}
 use Rattle.std.proofs.lemmas.Bool.{cases_lt}
 use Rattle.std.proofs.lemmas.List.{get_or_default}
 use Rattle.std.proofs.lemmas.Result.{on_ok_weaker}
@@ -8,7 +7,7 @@ use Rattle.std.proofs.Math.Nat.{mul-le-mul_right}
 use Rattle.arrivals.specs.Amounts.{Amounts, AreArrivals}
 use Rattle.clusters.specs.Windows.{counts_of}
 use Rattle.control_flow.specs.declared.greens.Green.{Green}
-use Rattle.histories.specs.Histories.{count, step_at, version_at}
+use Rattle.histories.specs.Histories.{count, step_at}
 use Rattle.histories.specs.Steps.{board_steps, is_publish_of}
 use Rattle.histories.proofs.StepLaws.{step-count}
 use Rattle.intersection_actor.specs.Acting.{Acting, begun, reading, tells_from, wanting, with_heard}
@@ -25,7 +24,7 @@ use Rattle.road_net.specs.Network.{IsNetwork, heard_links, told_links}
 use Rattle.runs.specs.Runs.{line_before}
 use Rattle.runs.proofs.Heard.{heard-ends}
 use Rattle.net_core.specs.Acts.{Settles}
-use Rattle.net_core.specs.Going.{AllDone, AreBeginning, AreBetween, AreGoing, AreInRound, Begins, Between, InRound, Plays, Rests, Wants, WantsMore, lines_of, telling_first}
+use Rattle.net_core.specs.Going.{AllDone, AreBeginning, AreInRound, Begins, Between, InRound, Plays, Rests, Wants, lines_of, telling_first}
 use Rattle.net_core.specs.declared.parts.Board.{Board}
 use Rattle.net_core.specs.declared.parts.Parts.{Parts}
 use Rattle.net_core.proofs.Playing.{told-ends}
@@ -153,10 +152,10 @@ module _ (net : Net) (network : IsNetwork net) (arrivals : Amounts) (p : Parts) 
               let enough : length (heard_links net n) ≤ c = x.enough in
               let small : c < length (board_steps net n) = omega (arith, step-count net n) in
               let at : (b : Board) → b ≡ get_or p.boards.items L b → b.version < 1000 = λ b is.
-                  let told : is_publish_of L (step_at (board_steps net) (p.history.items ++ n ∷ []) (length p.history.items)) ≡ true = ap (is_publish_of L) (own-step net network p.history.items p.round (way net network arrivals p.history.items p.round p.actors.all.items p.boards.items p.world i) n c refl small ∙ told-step net n c enough inside) ∙ eq-eqb L L refl in
-                  let version = ap (λ (y : Board). y.version) is ∙ i.running.boards_are.versions L n ends.hearer b ends.from ends.to in
-                  let now = now-published net network p.history.items p.round (way net network arrivals p.history.items p.round p.actors.all.items p.boards.items p.world i) L n ends.hearer c ends.from ends.to refl small told in
-                  omega (arith, version, now, few-rounds) in
+              let told : is_publish_of L (step_at (board_steps net) (p.history.items ++ n ∷ []) (length p.history.items)) ≡ true = ap (is_publish_of L) (own-step net network p.history.items p.round (way net network arrivals p.history.items p.round p.actors.all.items p.boards.items p.world i) n c refl small ∙ told-step net n c enough inside) ∙ eq-eqb L L refl in
+              let version = ap (λ (y : Board). y.version) is ∙ i.running.boards_are.versions L n ends.hearer b ends.from ends.to in
+              let now = now-published net network p.history.items p.round (way net network arrivals p.history.items p.round p.actors.all.items p.boards.items p.world i) L n ends.hearer c ends.from ends.to refl small told in
+              omega (arith, version, now, few-rounds) in
               (omega (arith, same, there, network.outline.road_count, i.running.boards_are.all), subst (λ l. (b : Board) → b ≡ get_or p.boards.items l b → b.version < 1000) same at)
         ]
       ]

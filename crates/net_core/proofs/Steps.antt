@@ -1,8 +1,7 @@
 -- A node does its next board step, and a round ends.
-use Rattle.std.proofs.Common.{◌≡◌, ◌≢◌, ℕ, zero, suc, ◌+◌, ◌-◌, ◌*◌, ◌<◌, ◌≤◌, Bool, true, false, List, [], ◌∷◌, ◌++◌, Option, Some, length, map, drop, get_or, set, refl, sym, ap, subst, ◌∙◌, inl, inr, arith, append_assoc, length-append, length-set, get_or-set_same, get_or-set_other}
-use Rattle.std.specs.Prelude.{◌⊎◌}
+use Rattle.std.proofs.Common.{◌≡◌, ℕ, suc, ◌+◌, ◌-◌, ◌*◌, ◌<◌, ◌≤◌, Bool, true, false, List, [], ◌∷◌, ◌++◌, length, map, drop, get_or, set, refl, sym, ap, subst, ◌∙◌, inl, inr, arith, append_assoc, length-set, get_or-set_same, get_or-set_other}
 use Rattle.std.proofs.lemmas.Bool.{cases_eq, cases_lt}
-use Rattle.std.proofs.lemmas.List.{drop-drop, drop_all, drop_more, get_or-append_right, get_or-map, length-map, length-drop}
+use Rattle.std.proofs.lemmas.List.{drop_all, drop_more, get_or-append_right, get_or-map, length-map, length-drop}
 use Rattle.std.proofs.lemmas.Nat.{div_below}
 use Rattle.arrivals.specs.Amounts.{Amounts}
 use Rattle.board_model.specs.declared.boards.Heard.{Heard}
@@ -13,13 +12,12 @@ use Rattle.control_flow.specs.Greens.{standing}
 use Rattle.control_flow.specs.declared.greens.Green.{Green}
 use Rattle.histories.specs.Histories.{count, HasRounds, IsRound, version_at}
 use Rattle.histories.specs.Steps.{board_steps}
-use Rattle.histories.specs.declared.steps.BoardStep.{BoardStep}
 use Rattle.histories.specs.declared.steps.BoardStep.TheVariants as steps
 use Rattle.histories.proofs.Counts.{count-append, count-else, count-one}
 use Rattle.histories.proofs.StepLaws.{step-count, steps-beyond}
 use Rattle.intersection_actor.specs.Acting.{Acting, reading, tells_from, wanting, with_heard}
 use Rattle.intersection_actor.specs.Commits.{Commitment, phases_of}
-use Rattle.intersection_actor.specs.Rounds.{IsCommitted, IsOf, KeepsPast}
+use Rattle.intersection_actor.specs.Rounds.{IsCommitted, IsOf}
 use Rattle.intersection_actor.specs.declared.records.Want.{Want}
 use Rattle.intersection_actor.specs.declared.records.Want.TheVariants.{Read, Commit, Publish, Done}
 use Rattle.net_numbers.specs.Numbers.{Net}
@@ -35,11 +33,11 @@ use Rattle.runs.proofs.Keep.{all-keep}
 use Rattle.runs.proofs.Lines.{shows}
 use Rattle.runs.proofs.Places.{first-small}
 use Rattle.net_core.specs.Acts.{Settles}
-use Rattle.net_core.specs.Going.{AllDone, Between, Hears, InRound, IsRunning, Plays, Rests, Tells, lines_of, telling_first}
+use Rattle.net_core.specs.Going.{AllDone, Between, Hears, InRound, IsRunning, Plays, Tells, lines_of, telling_first}
 use Rattle.net_core.specs.declared.parts.Board.{Board}
 use Rattle.net_core.proofs.Playing.{Listens, commits-on, listens-on, plays-moved, tells-on, told-ends, took}
 use Rattle.net_core.proofs.Prefixes.{Begun}
-use Rattle.net_core.proofs.Put.{put, put-here, put-node, put-round}
+use Rattle.net_core.proofs.Put.{put, put-node, put-round}
 use Rattle.net_core.proofs.Running.{commit-on, read-on, stands-same, tell-on}
 
 -- what wants are

@@ -1,5 +1,6 @@
 -- Why a core does no step of a node, and when it may.
-use Rattle.std.proofs.Common.{◌≡◌, ◌≢◌, ℕ, ◌<◌, Bool, true, false, List, length, get_or, subst, arith}
+use Rattle.std.proofs.Common.{◌≡◌, ◌≢◌, ℕ, ◌<◌, Bool, false, IsTrue, nat_eq, length, get_or, subst, sym, ◌∙◌}
+use Rattle.std.proofs.lemmas.Bool.{eq-eqb, eqb-true}
 use Rattle.arrivals.specs.Amounts.{Amounts}
 use Rattle.intersection_actor.specs.Acting.{Acting}
 use Rattle.intersection_actor.specs.declared.records.Want.TheVariants.{Done}
@@ -31,6 +32,13 @@ module _ (net : Net) (network : IsNetwork net) (arrivals : Amounts) (p : Parts) 
 
   pub over-when : IsLawful net p.history.items → p.round ≡ net.run.rounds
   over-when lawful = going-last net network arrivals p no_acting going lawful
+
+  -- whether as many rounds are done as there are says whether the history is lawful
+  pub over-decides : (rounds : ℕ) → rounds ≡ net.run.rounds → (IsTrue (nat_eq p.round rounds) → (spent ≡ false) × IsLawful net p.history.items) × ((spent ≡ false) × IsLawful net p.history.items → IsTrue (nat_eq p.round rounds))
+  over-decides rounds all = (
+    (λ same. (fresh, lawful-when (eqb-true p.round rounds same ∙ all))),
+    (λ both. eq-eqb p.round rounds (over-when both.1 ∙ sym all)),
+  )
 
   pub round-now : p.round ≢ net.run.rounds → AreInRound net arrivals p
   round-now other = going-in net network arrivals p going other

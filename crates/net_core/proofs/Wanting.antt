@@ -1,6 +1,6 @@
 -- What the nodes of a core want, and when it is whose turn.
-use Rattle.std.proofs.Common.{◌≡◌, ◌≢◌, ℕ, zero, suc, ◌+◌, ◌-◌, ◌*◌, ◌<◌, ◌≤◌, cond, eqb, Bool, true, false, List, [], ◌∷◌, ◌++◌, Option, Some, None, length, get_or, map, drop, refl, sym, ap, subst, ◌∙◌, inl, inr, arith, eq-eqb, ne_eqb, append-nil}
-use Rattle.std.specs.Prelude.{◌⊎◌, slice_get}
+use Rattle.std.proofs.Common.{◌≡◌, ◌≢◌, ℕ, ◌+◌, ◌-◌, ◌*◌, ◌<◌, ◌≤◌, cond, eqb, List, [], Some, length, get_or, map, refl, sym, ap, subst, ◌∙◌, inl, inr, arith, eq-eqb, ne_eqb, append-nil}
+use Rattle.std.specs.Prelude.{slice_get}
 use Rattle.std.proofs.lemmas.Bool.{cases_lt}
 use Rattle.std.proofs.lemmas.List.{get_or_append_left, get_or-map, length-map}
 use Rattle.std.proofs.lemmas.Option.{slice_get-get_or, slice_get_past}
@@ -13,13 +13,13 @@ use Rattle.histories.specs.declared.steps.BoardStep.TheVariants as steps
 use Rattle.histories.proofs.Counts.{count-append}
 use Rattle.histories.proofs.Rounds.{all-done, rounds-count}
 use Rattle.histories.proofs.StepLaws.{step-count}
-use Rattle.intersection_actor.specs.Acting.{Acting, reading}
+use Rattle.intersection_actor.specs.Acting.{Acting}
 use Rattle.intersection_actor.specs.declared.records.Want.{Want}
-use Rattle.intersection_actor.specs.declared.records.Want.TheVariants.{Read, Commit, Publish, Done}
+use Rattle.intersection_actor.specs.declared.records.Want.TheVariants.{Done}
 use Rattle.net_numbers.specs.Numbers.{Net}
 use Rattle.road_net.specs.Network.{IsNetwork, heard_links, told_links}
 use Rattle.net_core.specs.Cores.{IsItsTurn, IsWanted, wanted_step}
-use Rattle.net_core.specs.Going.{AreBetween, AreGoing, AreInRound, Hears, IsOpen, Plays, Tells, telling_first}
+use Rattle.net_core.specs.Going.{AreBetween, AreGoing, AreInRound, IsOpen, Plays}
 use Rattle.net_core.specs.declared.parts.Parts.{Parts}
 use Rattle.net_core.proofs.Steps.{reading-next, telling-next, telling-none, told-step}
 

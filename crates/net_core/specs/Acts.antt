@@ -1,7 +1,6 @@
 -- What one node does: it begins a round, reads, and publishes; and it commits as soon as it has read all.
 use Rattle.std.specs.Prelude.{◌≡◌}
-use Rattle.board_model.specs.declared.boards.Heard.{Heard}
-use Rattle.intersection_actor.specs.Acting.{Acting, begun, with_heard}
+use Rattle.intersection_actor.specs.Acting.{Acting}
 use Rattle.intersection_actor.specs.Rounds.{IsCommitted, KeepsPast}
 use Rattle.intersection_actor.specs.declared.records.Want.{Want}
 use Rattle.intersection_actor.specs.declared.records.Want.TheVariants.{Read, Commit, Publish, Done}

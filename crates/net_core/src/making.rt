@@ -12,8 +12,11 @@ use std::alloc::{AllocError, Global};
 
 /// The parts of a core before the first round.
 pub(crate) fn parts_of(alloc: Global, net: &Network) -> Result<Parts, AllocError>
-    ensures { (arrivals : Amounts) → IfOk result (AreAtFirst net.now arrivals) }
+    ensures first { (arrivals : Amounts) → IfOk result (AreAtFirst net.now arrivals) }
+    ensures below { IfOk result (λ parts. parts.round < net.now.run.rounds) }
 {
+    // What it says of the network is wanted here, and not the count.
+    let _ = net.nodes();
     let actors = actors_of(alloc, net)?;
     let boards = boards_of(alloc, net)?;
     let world = World::new(alloc, net)?;

@@ -1,4 +1,4 @@
-use Rattle.std.proofs.Common.{◌≡◌, ℕ, OnOk, Result, Ok, Err, subst, sym, ◌∙◌, ap}
+use Rattle.std.proofs.Common.{◌≡◌, ℕ, OnOk, Result, subst, ◌∙◌, ap}
 use Rattle.intersection_actor.specs.Acting.{Acting, begun, reading}
 use Rattle.net_numbers.specs.Numbers.{Net}
 use Rattle.road_net.specs.Network.{heard_links}

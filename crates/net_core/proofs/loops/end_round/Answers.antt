@@ -1,6 +1,6 @@
 use Rattle.std.proofs.Common.{◌+◌, ap, arith, ◌∙◌}
 use Rattle.net_draft.specs.declared.drafts.Run.{Run}
-use Rattle.net_core.proofs.Standing.{end-between, end-room, end-stands, few-rounds}
+use Rattle.net_core.proofs.Standing.{end-between, end-room, end-stands}
 use Rattle.net_core.proofs.loops.end_round.Goals as goal
 
 pub advance-requires-clause-second : goal.advance-requires-clause-second

@@ -1,4 +1,4 @@
-use Rattle.net_core.proofs.Starting.{blank-more, blank-none}
+use Rattle.net_core.proofs.Starting.{blank-none}
 use Rattle.net_core.proofs.making.boards_of.Goals as goal
 
 pub loop-link-init : goal.loop-link-init
