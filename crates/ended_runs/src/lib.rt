@@ -107,11 +107,7 @@ fn push_parts(
 }
 
 /// Moves the plans of so many rounds from the queues behind the plans, round by round.
-fn push_plans(
-    rounds: u32,
-    queues: &mut Vec<VecDeque<PlanRecord>>,
-    plans: &mut Vec<PlanRecord>,
-)
+fn push_plans(rounds: u32, queues: &mut Vec<VecDeque<PlanRecord>>, plans: &mut Vec<PlanRecord>)
     requires { vec_len plans.old + rounds * length queues.old.items ≤ vec_capacity plans.old }
     ensures { plans.new.items ≡ plans.old.items ++ round_by_round rounds (map deque_items queues.old.items) }
 {

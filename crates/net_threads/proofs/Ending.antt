@@ -1,5 +1,5 @@
 -- Behind the last round.
-use Rattle.std.proofs.Common.{◌≡◌, ℕ, zero, suc, ◌+◌, ◌*◌, ◌/◌, ◌<◌, ◌≤◌, false, List, [], ◌∷◌, ◌++◌, Some, Result, Ok, Err, OnOk, All, length, map, get_or, refl, sym, ap, subst, ◌∙◌, arith}
+use Rattle.std.proofs.Common.{◌≡◌, ℕ, ◌+◌, ◌*◌, ◌/◌, ◌<◌, List, Result, Ok, Err, OnOk, All, length, map, sym, ap, subst, ◌∙◌, arith}
 use Rattle.std.specs.Prelude.{Contains}
 use Rattle.std.specs.List.{range_with_len}
 use Rattle.std.proofs.lemmas.List.{get_or-map, length-map}
@@ -16,7 +16,7 @@ use Rattle.histories.specs.Histories.{IsLawful}
 use Rattle.histories.specs.Merges.{IsMerge}
 use Rattle.histories.specs.Steps.{board_steps, publisher}
 use Rattle.intersection_actor.specs.Acting.{Acting}
-use Rattle.intersection_actor.specs.Commits.{Commitment, record_of, used_of}
+use Rattle.intersection_actor.specs.Commits.{record_of, used_of}
 use Rattle.intersection_actor.specs.declared.records.PlanRecord.{PlanRecord}
 use Rattle.intersection_actor.specs.declared.records.Used.{Used}
 use Rattle.merged_calls.specs.Calls.{AreCalls}
@@ -30,7 +30,7 @@ use Rattle.net_simulator.specs.Worlds.{Kept}
 use Rattle.road_net.specs.Network.{IsNetwork}
 use Rattle.runs.specs.Kept as kept
 use Rattle.runs.specs.Kept.{IsKeptRun}
-use Rattle.runs.specs.Runs.{IsRun, IsRunBy, end_of_run, line_before, plans_of, shown_by}
+use Rattle.runs.specs.Runs.{IsRun, IsRunBy, line_before, shown_by}
 use Rattle.runs.specs.declared.records.RunRecord.{RunRecord}
 use Rattle.runs.proofs.Past.{map-range-same}
 use Rattle.runs.proofs.PlanLaws.{all-plans}
@@ -88,8 +88,8 @@ module _ (net : Net) (network : IsNetwork net) (arrivals : Amounts) (boards : Bo
         let IsUsed : PlanRecord → Type 0 = λ p. p.node ≡ node → p.round ≡ place / w → Contains p.used (record { link = call.link; version = call.version }) in
         let heard : Contains (b.heard (place / w) node) (record { link = call.link; version = call.version; forecast = call.forecast }) = call-heard net b.heard b.made net.run.rounds (calls_in passes) b.calls node place call at reads in
         let each : (r n : ℕ) → r < net.run.rounds → n < length net.node_names → IsUsed (record_of n r (b.heard r n) (b.made r n)) = λ r n less below n_is r_is.
-            subst (λ (h : List Heard). Contains (used_of h) (record { link = call.link; version = call.version })) (sym (ap (λ s. b.heard s n) r_is ∙ ap (b.heard (place / w)) n_is))
-                (contains-map used (b.heard (place / w) node) (record { link = call.link; version = call.version; forecast = call.forecast }) heard) in
+        subst (λ (h : List Heard). Contains (used_of h) (record { link = call.link; version = call.version })) (sym (ap (λ s. b.heard s n) r_is ∙ ap (b.heard (place / w)) n_is))
+        (contains-map used (b.heard (place / w) node) (record { link = call.link; version = call.version; forecast = call.forecast }) heard) in
         All-contains IsUsed run.plans plan (subst (All IsUsed) (sym (run-by run left).plans) (all-plans IsUsed net b.heard b.made net.run.rounds each)) there node_is round_is;
   }
 

@@ -1,6 +1,6 @@
 -- Two halves of the nodes that played a round, and the passes behind it.
-use Rattle.std.proofs.Common.{◌≡◌, ℕ, ◌+◌, ◌-◌, ◌*◌, ◌<◌, ◌≤◌, List, ◌++◌, Result, Ok, Err, OnOk, length, take, drop, get_or, map, refl, sym, ap, subst, ◌∙◌, inl, inr, arith, length-append, length-take-le}
-use Rattle.std.specs.Prelude.{IfSome, slice_get}
+use Rattle.std.proofs.Common.{◌≡◌, ℕ, ◌+◌, ◌-◌, ◌*◌, ◌<◌, ◌≤◌, List, ◌++◌, Result, Ok, Err, OnOk, length, take, drop, get_or, sym, ap, subst, ◌∙◌, inl, inr, arith, length-append, length-take-le}
+use Rattle.std.specs.Prelude.{IfSome}
 use Rattle.std.proofs.lemmas.Bool.{cases_lt}
 use Rattle.std.proofs.lemmas.List.{get_or-append-add, get_or-drop, get_or-take, get_or_append_left, length-drop, take_at}
 use Rattle.std.proofs.lemmas.Option.{slice_get-get_or}

@@ -1,5 +1,5 @@
 -- A node's readings, one after another.
-use Rattle.std.proofs.Common.{◌≡◌, ℕ, zero, suc, ◌+◌, ◌-◌, ◌<◌, ◌≤◌, false, List, [], ◌∷◌, ◌++◌, All, drop, length, map, get_or, refl, sym, ap, subst, ◌∙◌, arith, append-nil, append_assoc, length-append}
+use Rattle.std.proofs.Common.{◌≡◌, ℕ, ◌+◌, ◌<◌, ◌≤◌, false, List, [], ◌∷◌, ◌++◌, drop, length, map, get_or, refl, sym, ap, ◌∙◌, arith, append-nil, append_assoc, length-append}
 use Rattle.std.proofs.lemmas.List.{get_or-append-add, length-map, map-append}
 use Rattle.std.proofs.lemmas.List.Elements.{All-nil}
 use Rattle.board_model.specs.declared.boards.Heard.{Heard}
@@ -7,8 +7,7 @@ use Rattle.board_model.specs.declared.calls.Call.{Call}
 use Rattle.board_rule.specs.Passes.{PassView}
 use Rattle.histories.specs.Steps.{board_steps}
 use Rattle.histories.proofs.StepLaws.{step-count}
-use Rattle.intersection_actor.specs.Acting.{Acting, reading, with_heard}
-use Rattle.intersection_actor.specs.declared.records.Want.{Want}
+use Rattle.intersection_actor.specs.Acting.{Acting, reading}
 use Rattle.intersection_actor.specs.declared.records.Want.TheVariants.{Read, Commit}
 use Rattle.net_numbers.specs.Numbers.{Net}
 use Rattle.road_net.specs.Network.{IsNetwork, heard_links}
@@ -59,9 +58,9 @@ module _ (a b : Acting) (p q : PassView) (heard : HasHeard a b p q) (link : ℕ)
       let want : c.want ≡ reading (drop 1 b.left) = ap (λ (x : Acting). x.want) read.actor in
       let was : b.heard ≡ a.heard ++ map heard_of heard.calls = ap (λ (x : Acting). x.heard) heard.actor in
       let told : b.heard ++ heard_of call ∷ [] ≡ a.heard ++ map heard_of (heard.calls ++ call ∷ []) =
-          ap (λ l. l ++ heard_of call ∷ []) was ∙ append_assoc a.heard (map heard_of heard.calls) (heard_of call ∷ []) ∙ ap (λ l. a.heard ++ l) (sym (map-append heard_of heard.calls (call ∷ []))) in
+      ap (λ l. l ++ heard_of call ∷ []) was ∙ append_assoc a.heard (map heard_of heard.calls) (heard_of call ∷ []) ∙ ap (λ l. a.heard ++ l) (sym (map-append heard_of heard.calls (call ∷ []))) in
       let first : c ≡ record a { want = reading (drop 1 b.left); left = drop 1 b.left; heard = b.heard ++ heard_of call ∷ [] } =
-          read.actor ∙ ap (λ (x : Acting). record x { want = reading (drop 1 b.left); left = drop 1 b.left; heard = b.heard ++ heard_of call ∷ [] }) heard.actor in
+      read.actor ∙ ap (λ (x : Acting). record x { want = reading (drop 1 b.left); left = drop 1 b.left; heard = b.heard ++ heard_of call ∷ [] }) heard.actor in
       record {
         calls = heard.calls ++ call ∷ [];
         made = made-more p q r heard.calls call heard.made read.later read.pass some;

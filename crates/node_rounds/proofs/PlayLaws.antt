@@ -1,21 +1,18 @@
 -- A node's round.
-use Rattle.std.proofs.Common.{◌≡◌, ℕ, suc, ◌+◌, ◌*◌, ◌<◌, ◌≤◌, Bool, true, false, List, [], ◌∷◌, ◌++◌, All, Some, None, length, map, get_or, refl, sym, ap, subst, ◌∙◌, arith, append-nil, if◌then◌else◌}
-use Rattle.std.specs.Prelude.{Contains, slice_get}
+use Rattle.std.proofs.Common.{◌≡◌, ℕ, suc, ◌+◌, ◌*◌, ◌<◌, Bool, true, false, List, [], ◌∷◌, ◌++◌, All, length, map, get_or, refl, sym, ap, subst, ◌∙◌, arith, append-nil, if◌then◌else◌}
+use Rattle.std.specs.Prelude.{Contains}
 use Rattle.std.proofs.lemmas.List.{get_or-map, length-map, map-append}
 use Rattle.std.proofs.lemmas.List.Elements.{All-append, All-weaker}
 use Rattle.std.proofs.lemmas.Option.{slice_get_past}
 use Rattle.board_model.specs.declared.boards.Heard.{Heard}
 use Rattle.board_model.specs.declared.calls.Call.{Call}
-use Rattle.board_model.specs.declared.forecasts.Row.{Row}
 use Rattle.board_rule.specs.Passes.{AreInOrder, PassView}
 use Rattle.clusters.specs.Windows.{counts_of}
-use Rattle.clusters.specs.declared.shapes.Window.{Window}
 use Rattle.control_flow.specs.Greens.{end_of}
 use Rattle.control_flow.specs.declared.greens.Green.{Green}
 use Rattle.histories.specs.Steps.{board_steps}
-use Rattle.histories.specs.declared.steps.BoardStep.{BoardStep}
 use Rattle.histories.specs.declared.steps.BoardStep.TheVariants as steps
-use Rattle.intersection_actor.specs.Acting.{Acting, begun, telling, told_at, wanting}
+use Rattle.intersection_actor.specs.Acting.{Acting, begun, telling}
 use Rattle.intersection_actor.specs.Commits.{Commitment, IsCommit, phases_of, record_of}
 use Rattle.intersection_actor.specs.Rounds.{IsCommitted, IsOf, KeepsPast}
 use Rattle.intersection_actor.specs.declared.records.PlanRecord.{PlanRecord}
@@ -27,8 +24,7 @@ use Rattle.outflow.specs.Outflow.{departures, forecast_of}
 use Rattle.road_net.specs.Network.{heard_links, told_links}
 use Rattle.road_net.specs.declared.senses.Sensed.{Sensed}
 use Rattle.runs.specs.Runs.{told_in}
-use Rattle.switch_rules.specs.declared.Served.{Served}
-use Rattle.round_calls.specs.Nodes.{HasHeard, HasPlayed, HasTold, IsRoundOf, IsSeen, outgoing}
+use Rattle.round_calls.specs.Nodes.{HasHeard, HasPlayed, HasTold, IsSeen, outgoing}
 use Rattle.round_calls.specs.Told.{AreCallsOf, heard_of}
 use Rattle.node_rounds.proofs.Made.{made-both}
 
@@ -62,7 +58,7 @@ publishes-all calls links same k d inside reads =
     let c : Call = get_or calls k d in
     let there : k < length links = omega (arith, ap length same, length-map calls step_of, length-map links steps.Publish) in
     let e : steps.Read c.link ≡ steps.Publish (get_or links k 0) =
-        sym (step-of-read c.publishes c.link reads) ∙ sym (get_or-map step_of calls k d (step_of d) inside) ∙ ap (λ l. get_or l k (step_of d)) same ∙ get_or-map steps.Publish links k 0 (step_of d) there in
+    sym (step-of-read c.publishes c.link reads) ∙ sym (get_or-map step_of calls k d (step_of d) inside) ∙ ap (λ l. get_or l k (step_of d)) same ∙ get_or-map steps.Publish links k 0 (step_of d) there in
     never c.link (get_or links k 0) e
   where
     never : (l m : ℕ) → steps.Read l ≡ steps.Publish m → ⊥
@@ -154,7 +150,7 @@ module _ (net : Net) (round : ℕ) (world : Kept) (a b c d e : Acting) (p q r : 
         line = ap (λ (x : Acting). x.line) told.actor ∙ ap (λ (x : Acting). x.line) committed.all;
         ahead =
             subst (λ (l : List Green). (round + 1) * net.run.step < end_of l) (sym (ap (λ (x : Acting). x.line) told.actor))
-                (subst (λ k. (k + 1) * net.run.step < end_of d.line) round-c kept.later);
+            (subst (λ k. (k + 1) * net.run.step < end_of d.line) round-c kept.later);
         records =
             ap (λ (x : Acting). x.records) told.actor ∙ ap (λ (x : Acting). x.records) committed.all ∙ ap (λ (l : List PlanRecord). l ++ record_of c.node c.round c.heard made ∷ []) records-c
             ∙ ap (λ (x : PlanRecord). a.records ++ x ∷ []) (ap (λ k. record_of k c.round c.heard made) node-c ∙ ap (λ k. record_of a.node k c.heard made) round-c ∙ ap (λ (l : List Heard). record_of a.node round l made) heard-c);

@@ -1,16 +1,15 @@
 -- A node's publishings, one after another.
-use Rattle.std.proofs.Common.{◌≡◌, ℕ, zero, suc, ◌+◌, ◌-◌, ◌<◌, ◌≤◌, Bool, true, false, List, [], ◌∷◌, ◌++◌, Option, Some, None, All, filter, is_some, length, map, take, get_or, refl, sym, ap, subst, ◌∙◌, inl, inr, arith, append-nil, if◌then◌else◌}
+use Rattle.std.proofs.Common.{◌≡◌, ℕ, zero, suc, ◌+◌, ◌<◌, ◌≤◌, Bool, true, false, List, [], ◌∷◌, ◌++◌, Some, filter, is_some, length, map, take, get_or, refl, sym, ap, ◌∙◌, inl, inr, arith, append-nil, if◌then◌else◌}
 use Rattle.std.specs.Prelude.{not, slice_get}
 use Rattle.std.proofs.lemmas.Bool.{cases_Bool}
 use Rattle.std.proofs.lemmas.List.{length_push, length-map, map-append, take_all, take_more}
 use Rattle.std.proofs.lemmas.List.Elements.{All-nil, filter-append}
-use Rattle.std.proofs.lemmas.Option.{slice_get_past, slice_get_within}
+use Rattle.std.proofs.lemmas.Option.{slice_get_within}
 use Rattle.board_model.specs.declared.calls.Call.{Call}
 use Rattle.board_model.specs.declared.forecasts.Row.{Row}
 use Rattle.board_rule.specs.Passes as board
 use Rattle.board_rule.specs.Passes.{PassView, call_of_publish}
 use Rattle.board_model.specs.declared.boards.Sent.{Sent}
-use Rattle.histories.specs.declared.steps.BoardStep.{BoardStep}
 use Rattle.histories.specs.declared.steps.BoardStep.TheVariants as steps
 use Rattle.histories.proofs.Lists.{filter-no, filter-yes}
 use Rattle.intersection_actor.specs.Acting.{Acting, telling, tells_from, told_at, wanting}

@@ -1,23 +1,20 @@
 -- The nodes hear along the merge of their calls.
-use Rattle.std.proofs.Common.{◌≡◌, ℕ, zero, suc, ◌+◌, ◌*◌, ◌/◌, ◌<◌, ◌≤◌, false, List, [], ◌∷◌, Option, Some, length, map, filter, get_or, refl, sym, ap, subst, ◌∙◌, arith}
+use Rattle.std.proofs.Common.{◌≡◌, ℕ, zero, suc, ◌≤◌, List, [], ◌∷◌, map, filter, get_or, refl, sym, ap, subst, ◌∙◌, arith}
 use Rattle.std.specs.Prelude.{Contains, IsSome, slice_index_or}
 use Rattle.std.specs.List.{range_with_len}
-use Rattle.std.proofs.lemmas.List.{get_or-map}
 use Rattle.std.proofs.lemmas.List.FromFn.{get_or-map-range_with_len}
-use Rattle.arrivals.specs.Amounts.{Amounts}
 use Rattle.board_model.specs.declared.boards.Heard.{Heard}
 use Rattle.board_model.specs.declared.calls.Call.{Call}
 use Rattle.board_model.specs.declared.forecasts.Row.{Row}
-use Rattle.histories.specs.Histories.{IsLawful, earlier, round_at, step_at, version_at}
+use Rattle.histories.specs.Histories.{IsLawful, earlier, round_at, version_at}
 use Rattle.histories.specs.Steps.{board_steps, is_publish_of, publisher}
-use Rattle.histories.specs.declared.steps.BoardStep.TheVariants.{Read, Publish}
+use Rattle.histories.specs.declared.steps.BoardStep.TheVariants.{Publish}
 use Rattle.histories.proofs.Versions.{version-law}
 use Rattle.intersection_actor.specs.Commits.{Commitment}
-use Rattle.merged_calls.specs.Places.{AreTold, StandsAt, sent}
+use Rattle.merged_calls.specs.Places.{AreTold, sent}
 use Rattle.net_numbers.specs.Numbers.{Net}
-use Rattle.net_numbers.specs.Outline.{link_at}
 use Rattle.round_calls.specs.Told.{heard_of}
-use Rattle.road_net.specs.Network.{IsNetwork, heard_links}
+use Rattle.road_net.specs.Network.{IsNetwork}
 use Rattle.runs.specs.Runs.{HearAlong, forecast_at, hearing, told_in}
 use Rattle.runs.proofs.Heard.{Ends, heard-ends}
 use Rattle.runs.proofs.Places.{once, read-first, step-of}
@@ -44,15 +41,15 @@ along net network heard made calls history are lawful told place link inside ste
     let most : version_at (board_steps net) history link place ≤ net.run.rounds = omega (arith, there.round_is) in
     let version : call.version ≡ version_at (board_steps net) history link place = at.version reads.0 ∙ ap (λ l. version_at (board_steps net) history l place) reads.1 in
     let sent-is : sent link (calls (publisher net link)) ≡ map (λ round. told_in net round link (made round (publisher net link))) (range_with_len 0 net.run.rounds) =
-        sent-all net heard made net.run.rounds calls are (publisher net link) link (subst (λ f. filter-once f) (sym ends.tells) (once net network history lawful link ends.teller node ends.from ends.to)) in
+    sent-all net heard made net.run.rounds calls are (publisher net link) link (subst (λ f. filter-once f) (sym ends.tells) (once net network history lawful link ends.teller node ends.from ends.to)) in
     let forecast : call.forecast ≡ forecast_at net made link (version_at (board_steps net) history link place) =
-        at.forecast reads.0
-        ∙ ap (λ l. slice_index_or ([] ∷ sent l (calls (publisher net l))) call.version []) reads.1
-        ∙ ap (λ (s : List (List Row)). slice_index_or ([] ∷ s) call.version []) sent-is
-        ∙ ap (λ v. slice_index_or ([] ∷ map (λ round. told_in net round link (made round (publisher net link))) (range_with_len 0 net.run.rounds)) v []) version
-        ∙ version-told net made link net.run.rounds (version_at (board_steps net) history link place) most in
+    at.forecast reads.0
+    ∙ ap (λ l. slice_index_or ([] ∷ sent l (calls (publisher net l))) call.version []) reads.1
+    ∙ ap (λ (s : List (List Row)). slice_index_or ([] ∷ s) call.version []) sent-is
+    ∙ ap (λ v. slice_index_or ([] ∷ map (λ round. told_in net round link (made round (publisher net link))) (range_with_len 0 net.run.rounds)) v []) version
+    ∙ version-told net made link net.run.rounds (version_at (board_steps net) history link place) most in
     let same : heard_of call ≡ hearing net made link (version_at (board_steps net) history link place) =
-        λ i. record { link = reads.1 i; version = version i; forecast = forecast i } in
+    λ i. record { link = reads.1 i; version = version i; forecast = forecast i } in
     subst (Contains (heard (round_at (board_steps net) history place) node)) same (call-heard net heard made net.run.rounds calls are node (earlier history place) call at.found reads.0)
   where
     filter-once : ℕ → Type 0

@@ -1,13 +1,12 @@
 -- Passes by their places.
-use Rattle.std.proofs.Common.{◌≡◌, ℕ, zero, suc, ◌+◌, ◌<◌, ◌≤◌, max, List, [], ◌∷◌, ◌++◌, Option, Some, None, All, length, map, get_or, refl, sym, ap, subst, ◌∙◌, inl, inr, arith}
-use Rattle.std.specs.Prelude.{IfSome, slice_get}
+use Rattle.std.proofs.Common.{◌≡◌, ℕ, zero, suc, ◌<◌, ◌≤◌, List, [], ◌∷◌, All, length, map, get_or, refl, sym, ap, subst, ◌∙◌, inl, inr, arith}
+use Rattle.std.specs.Prelude.{IfSome}
 use Rattle.std.proofs.lemmas.Bool.{cases_lt}
 use Rattle.std.proofs.lemmas.List.{get_or-map, get_or_past, length-map}
 use Rattle.std.proofs.lemmas.Option.{slice_get-get_or, slice_get_past}
 use Rattle.atomic_table.specs.Seated.{TableId}
-use Rattle.board_model.specs.declared.calls.Call.{Call}
 use Rattle.board_rule.specs.Passes.{AreAllPasses, BoardsView, PassView, calls_in, highest, raised}
-use Rattle.round_calls.specs.Rounds.{AreSamePasses, names}
+use Rattle.round_calls.specs.Rounds.{AreSamePasses}
 
 -- some pass, to read a list by
 abbrev pub no_pass : BoardsView → PassView

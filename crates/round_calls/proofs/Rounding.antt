@@ -1,7 +1,6 @@
 -- A round of all nodes leads from between two rounds to between the next ones.
-use Rattle.std.proofs.Common.{◌≡◌, ℕ, zero, suc, ◌+◌, ◌-◌, ◌*◌, ◌/◌, ◌<◌, ◌≤◌, max, cond, false, List, [], ◌∷◌, ◌++◌, Option, All, length, map, get_or, refl, sym, ap, subst, ◌∙◌, inl, inr, arith, append-nil, eqb, eq-eqb, ne_eqb}
+use Rattle.std.proofs.Common.{◌≡◌, ℕ, suc, ◌+◌, ◌-◌, ◌*◌, ◌/◌, ◌<◌, ◌≤◌, max, cond, false, List, [], ◌∷◌, ◌++◌, Option, All, length, map, get_or, refl, sym, ap, subst, ◌∙◌, inl, inr, arith, eqb, eq-eqb, ne_eqb}
 use Rattle.std.specs.Prelude.{◌⊎◌}
-use Rattle.std.specs.List.{range_with_len}
 use Rattle.std.proofs.lemmas.Bool.{cases_lt}
 use Rattle.std.proofs.lemmas.List.{get_or_default, get_or-map, length-map}
 use Rattle.std.proofs.lemmas.List.Elements.{All-nil, All-weaker}
@@ -28,8 +27,8 @@ use Rattle.net_simulator.specs.Arriving.{arriving_of}
 use Rattle.net_simulator.specs.Flow.{Passed, past_of}
 use Rattle.net_simulator.specs.Senses.{sense}
 use Rattle.net_simulator.specs.Sums.{link_totals, totals}
-use Rattle.net_simulator.specs.Worlds.{IsWorldOf, Keeps, Kept, Stands, standing_by}
-use Rattle.round_calls.specs.Nodes.{CanPlay, HasPlayed, IsRoundOf, NodeRound}
+use Rattle.net_simulator.specs.Worlds.{Keeps, Kept, Stands, standing_by}
+use Rattle.round_calls.specs.Nodes.{IsRoundOf, NodeRound}
 use Rattle.round_calls.specs.Told.{AreCallsOf}
 use Rattle.road_net.specs.Network.{IsNetwork}
 use Rattle.road_net.specs.declared.senses.Sensed.{Sensed}
@@ -39,7 +38,7 @@ use Rattle.runs.proofs.Keep.{all-keep}
 use Rattle.runs.proofs.Lines.{shows}
 use Rattle.runs.proofs.Past.{map-range-same, past-at-nodes}
 use Rattle.schedule_meaning.specs.declared.planners.Answer.TheVariants.{NoPlan}
-use Rattle.round_calls.specs.Rounds.{AreCallsIn, AreRoundOf, AreSamePasses, Between, CanAllPlay, HaveAllPlayed, HaveLeft, Rests, lines_of, records_of}
+use Rattle.round_calls.specs.Rounds.{AreCallsIn, AreSamePasses, Between, CanAllPlay, HaveAllPlayed, HaveLeft, Rests, lines_of, records_of}
 use Rattle.round_calls.proofs.Passes.{at-most-highest, calls-at, calls-past, no_pass, own-at, own-same, raised-at, raised-calls, raised-names}
 use Rattle.round_calls.proofs.Told.{in-moved}
 
@@ -197,9 +196,9 @@ module _ (net : Net) (network : IsNetwork net) (arrivals : Amounts) (round : ℕ
       own-commits n below =
           let is = did-is n below in
           let commit : IsCommit net n round (line_before net b.made round n) (sensed_in net arrivals b.made round n) (did n).heard (did n).made =
-              subst (λ k. IsCommit net k round (line_before net b.made round n) (sensed_in net arrivals b.made round n) (did n).heard (did n).made) (node-is n below)
-                  (subst (λ (l : List Green). IsCommit net (get_or actors n A).node round l (sensed_in net arrivals b.made round n) (did n).heard (did n).made) (b.rests n A below).line
-                  (subst (λ (s : Sensed). IsCommit net (get_or actors n A).node round (get_or actors n A).line s (did n).heard (did n).made) (sensed-is n below) is.commit)) in
+          subst (λ k. IsCommit net k round (line_before net b.made round n) (sensed_in net arrivals b.made round n) (did n).heard (did n).made) (node-is n below)
+          (subst (λ (l : List Green). IsCommit net (get_or actors n A).node round l (sensed_in net arrivals b.made round n) (did n).heard (did n).made) (b.rests n A below).line
+          (subst (λ (s : Sensed). IsCommit net (get_or actors n A).node round (get_or actors n A).line s (did n).heard (did n).made) (sensed-is n below) is.commit)) in
           record {
             links = subst (IsHeardOf net n) (sym (heard-own n)) (subst (λ k. IsHeardOf net k (did n).heard) (node-is n below) is.heard);
             commit = subst (IsCommit net n round (line_before net made round n) (sensed_in net arrivals made round n) (heard round n)) (sym (made-own n))
@@ -254,8 +253,8 @@ module _ (net : Net) (network : IsNetwork net) (arrivals : Amounts) (round : ℕ
       own-calls n = elim (cases_lt n N) [
         | inl below ↦
             subst (λ (c : Commitment). AreCallsOf net round n (heard round n) c (did n).calls) (sym (made-own n))
-                (subst (λ (h : List Heard). AreCallsOf net round n h (did n).made (did n).calls) (sym (heard-own n))
-                (subst (λ k. AreCallsOf net round k (did n).heard (did n).made (did n).calls) (node-is n below) (did-is n below).calls))
+            (subst (λ (h : List Heard). AreCallsOf net round n h (did n).made (did n).calls) (sym (heard-own n))
+            (subst (λ k. AreCallsOf net round k (did n).heard (did n).made (did n).calls) (node-is n below) (did-is n below).calls))
         | inr past ↦ subst (AreCallsOf net round n (heard round n) (made round n)) (sym (did-past n past)) (record { steps = sym (steps-beyond net network n past); hears = All-nil _; tells = All-nil _ })
       ]
 
@@ -299,7 +298,7 @@ module _ (net : Net) (network : IsNetwork net) (arrivals : Amounts) (round : ℕ
         | inl below ↦
             let most = at-most-highest called n P (omega (arith, many)) in
             subst (All (λ (c : Call). c.stamp < top)) (sym (calls-at called n P (omega (arith, many))))
-                (All-weaker (λ (c : Call). c.stamp < (get_or called n P).known) (λ (c : Call). c.stamp < top) (λ c h. omega arith) (get_or called n P).calls (did-is n below).order.below)
+            (All-weaker (λ (c : Call). c.stamp < (get_or called n P).known) (λ (c : Call). c.stamp < top) (λ c h. omega arith) (get_or called n P).calls (did-is n below).order.below)
         | inr past ↦ subst (All (λ (c : Call). c.stamp < top)) (sym (calls-past called n (omega (arith, many)))) (All-nil _)
       ])
 

@@ -1,5 +1,5 @@
 -- What the calls of the nodes tell, round by round.
-use Rattle.std.proofs.Common.{◌≡◌, ℕ, zero, suc, ◌+◌, ◌-◌, ◌*◌, ◌/◌, ◌<◌, ◌≤◌, cond, Bool, true, false, List, [], ◌∷◌, ◌++◌, Option, Some, None, All, length, map, filter, refl, sym, ap, subst, ◌∙◌, inl, inr, arith, length-append}
+use Rattle.std.proofs.Common.{◌≡◌, ℕ, zero, suc, ◌+◌, ◌-◌, ◌*◌, ◌/◌, ◌<◌, ◌≤◌, cond, Bool, true, false, List, [], ◌∷◌, ◌++◌, Some, All, length, map, filter, refl, sym, ap, subst, ◌∙◌, inl, inr, arith, length-append}
 use Rattle.std.specs.Prelude.{◌⊎◌, Contains, slice_get}
 use Rattle.std.specs.List.{range_with_len}
 use Rattle.std.proofs.lemmas.List.{length-map, map-append}
@@ -20,7 +20,7 @@ use Rattle.merged_calls.specs.Places.{sent}
 use Rattle.net_numbers.specs.Numbers.{Net}
 use Rattle.round_calls.specs.Told.{AreCallsOf, heard_of, repeated}
 use Rattle.runs.specs.Runs.{told_in}
-use Rattle.round_calls.specs.Rounds.{AreCallsIn, AreRoundOf}
+use Rattle.round_calls.specs.Rounds.{AreCallsIn}
 
 -- a place of a list in two parts
 pub in-parts : {X : Type 0} (xs ys : List X) (k : ℕ) (x : X) → slice_get (xs ++ ys) k ≡ Some x → ((k < length xs) × (slice_get xs k ≡ Some x)) ⊎ ((length xs ≤ k) × (slice_get ys (k - length xs) ≡ Some x))

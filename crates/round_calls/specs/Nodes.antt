@@ -13,7 +13,7 @@ use Rattle.histories.specs.declared.steps.BoardStep.TheVariants as steps
 use Rattle.intersection_actor.specs.Acting.{Acting, reading, told_at, wanting, with_heard}
 use Rattle.intersection_actor.specs.Commits.{Commitment, IsCommit, record_of}
 use Rattle.intersection_actor.specs.Rounds.{IsOf}
-use Rattle.intersection_actor.specs.declared.records.Want.TheVariants.{Commit, Done}
+use Rattle.intersection_actor.specs.declared.records.Want.TheVariants.{Done}
 use Rattle.merged_calls.specs.Calls.{step_of}
 use Rattle.net_numbers.specs.Numbers.{Net}
 use Rattle.net_simulator.specs.Flow.{past_of}

@@ -1,5 +1,5 @@
 -- No public clause names these: how far the nodes are between the rounds.
-use Rattle.std.specs.Prelude.{◌≡◌, ℕ, zero, suc, ◌+◌, ◌-◌, ◌*◌, ◌<◌, ◌≤◌, List, [], ◌++◌, All, length, map, slice_index_or}
+use Rattle.std.specs.Prelude.{◌≡◌, ℕ, zero, suc, ◌-◌, ◌*◌, ◌<◌, ◌≤◌, List, [], ◌++◌, All, length, map, slice_index_or}
 use Rattle.std.specs.List.{range_with_len}
 use Rattle.arrivals.specs.Amounts.{Amounts}
 use Rattle.atomic_table.specs.Seated.{TableId}

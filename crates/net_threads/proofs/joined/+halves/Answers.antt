@@ -1,4 +1,4 @@
-use Rattle.std.proofs.Common.{◌/◌, length, sym, ◌∙◌, arith}
+use Rattle.std.proofs.Common.{◌/◌, length, arith}
 use Rattle.net_threads.proofs.Joining.{ok-both, played-both}
 use Rattle.net_threads.proofs.joined.+halves.Goals as goal
 

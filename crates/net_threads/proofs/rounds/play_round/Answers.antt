@@ -1,4 +1,4 @@
-use Rattle.std.proofs.Common.{◌≡◌, ℕ, ◌+◌, ◌++◌, List, length, map, take, drop, sym, ap, subst, ◌∙◌, arith}
+use Rattle.std.proofs.Common.{◌≡◌, ◌+◌, ◌++◌, List, length, map, take, drop, sym, ap, subst, ◌∙◌}
 use Rattle.board_rule.specs.Passes.{PassView, highest, raised}
 use Rattle.intersection_actor.specs.Acting.{Acting}
 use Rattle.net_draft.specs.declared.drafts.Run.{Run}
@@ -27,7 +27,7 @@ advance-requires-clause-stands g c =
     let stage = c.args.stage.now in
     let acted = c.play_all.new.actors in
     let played : HaveAllPlayed net c.args.round stage.world stage.nodes.all.items acted c.args.passes.now c.play_all.new.passes =
-        subst (λ (actors : List Acting). HaveAllPlayed net c.args.round stage.world actors acted c.args.passes.now c.play_all.new.passes) c.as_mut_slice.ensures.value c.in_ok-play_all.ensures.played in
+    subst (λ (actors : List Acting). HaveAllPlayed net c.args.round stage.world actors acted c.args.passes.now c.play_all.new.passes) c.as_mut_slice.ensures.value c.in_ok-play_all.ensures.played in
     let back : take stage.nodes.all.len (acted ++ drop (length acted) stage.nodes.all.items) ≡ acted = put-back stage.nodes.all.len acted stage.nodes.all.items stage.nodes.all.ok.0 played.actors in
     subst (λ (actors : List Acting). Stands net (arriving_of c.args.arrivals.now) (standing_by (lines_of actors)) stage.world) (sym back)
     (over-before net c.run-step.ensures.network c.args.arrivals.now c.args.round c.args.boards.now c.args.passes.now stage.nodes.all.items stage.world c.requires.between c.requires.round acted c.play_all.new.passes played)
@@ -39,12 +39,12 @@ returns-clause-between g c =
     let acted = c.play_all.new.actors in
     let called = c.play_all.new.passes in
     let played : HaveAllPlayed net c.args.round stage.world stage.nodes.all.items acted c.args.passes.now called =
-        subst (λ (actors : List Acting). HaveAllPlayed net c.args.round stage.world actors acted c.args.passes.now called) c.as_mut_slice.ensures.value c.in_ok-play_all.ensures.played in
+    subst (λ (actors : List Acting). HaveAllPlayed net c.args.round stage.world actors acted c.args.passes.now called) c.as_mut_slice.ensures.value c.in_ok-play_all.ensures.played in
     let back : take stage.nodes.all.len (acted ++ drop (length acted) stage.nodes.all.items) ≡ acted = put-back stage.nodes.all.len acted stage.nodes.all.items stage.nodes.all.ok.0 played.actors in
     let stands : Stands net (arriving_of c.args.arrivals.now) (standing_by (lines_of acted)) c.advance.new.self =
-        subst (λ (actors : List Acting). Stands net (arriving_of c.args.arrivals.now) (standing_by (lines_of actors)) c.advance.new.self) back c.advance.ensures.stands in
+    subst (λ (actors : List Acting). Stands net (arriving_of c.args.arrivals.now) (standing_by (lines_of actors)) c.advance.new.self) back c.advance.ensures.stands in
     let over = round-over net c.run-step.ensures.network c.args.arrivals.now c.args.round c.args.boards.now c.args.passes.now stage.nodes.all.items stage.world c.requires.between c.requires.round acted called played
-        c.in_ok-play_all.ensures.same c.advance.new.self (c.advance.ensures.second ∙ ap (λ (r : Run). stage.world.second + r.step) c.run-step.ensures.value) stands in
+    c.in_ok-play_all.ensures.same c.advance.new.self (c.advance.ensures.second ∙ ap (λ (r : Run). stage.world.second + r.step) c.run-step.ensures.value) stands in
     subst (λ (passes : List PassView). Between net c.args.arrivals.now c.args.boards.now (c.args.round + 1) passes (take stage.nodes.all.len (acted ++ drop (length acted) stage.nodes.all.items)) c.advance.new.self) (sym c.in_ok-meet.ensures.met)
     (subst (λ (actors : List Acting). Between net c.args.arrivals.now c.args.boards.now (c.args.round + 1) (map (raised (highest called)) called) actors c.advance.new.self) (sym back) over)
 

@@ -1,4 +1,3 @@
-use Rattle.std.proofs.Common.{◌≡◌, subst}
 use Rattle.board_rule.specs.Passes.{calls_in}
 use Rattle.ended_runs.specs.Ending.{IsRecordOf}
 use Rattle.histories.proofs.Ordered.{if-ok}

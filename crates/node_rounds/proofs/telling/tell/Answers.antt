@@ -1,6 +1,6 @@
-use Rattle.std.proofs.Common.{◌≡◌, subst, sym, ap, ◌∙◌}
+use Rattle.std.proofs.Common.{subst, sym, ◌∙◌}
 use Rattle.round_calls.specs.Nodes.{HasTold}
-use Rattle.node_rounds.proofs.TellLaws.{among-more, call-left, goes, goes-by, told-more, wants-link}
+use Rattle.node_rounds.proofs.TellLaws.{among-more, call-left, goes-by, told-more, wants-link}
 use Rattle.node_rounds.proofs.telling.tell.Goals as goal
 
 pub publish-requires-clause-want : goal.publish-requires-clause-want
