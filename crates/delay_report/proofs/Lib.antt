@@ -1,2 +1,5 @@
 pub mod EntryLaws
+pub mod RecordLaws
 pub mod TextLaws
+pub mod WalkLaws
+pub mod WrittenLaws
