@@ -185,3 +185,10 @@ records-refuse net all (Node n) f = behind-refuses net all (Node n) f
 records-refuse net all (Extra n) f = behind-refuses net all (Extra n) f
 records-refuse net all (Turn n) f = behind-refuses net all (Turn n) f
 records-refuse net all Short f = behind-refuses net all Short f
+
+-- records are those of one history at most
+pub one-history : (net : Net) (all : List (List (List ℕ))) (one other : List ℕ) → AreHistoryRecords net all one → AreHistoryRecords net all other → one ≡ other
+one-history net all one other a b =
+    let records : a.records ≡ b.records = behind-header a.records b.records (sym a.are ∙ b.are) in
+    let steps : a.steps ≡ b.steps = same_Some a.steps b.steps (sym a.reads ∙ ap (each (steps_of net)) records ∙ b.reads) in
+    a.history_is ∙ ap concat steps ∙ sym b.history_is

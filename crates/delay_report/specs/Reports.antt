@@ -1,7 +1,7 @@
 -- The report of a run: its records, and its text.
 use Rattle.std.specs.Prelude.{codes, nat_lt, ℕ, ◌+◌, List, [], ◌∷◌, ◌++◌, length, filter, map, slice_index, slice_index_or}
 use Rattle.std.specs.Fmt.{decimal}
-use Rattle.std.specs.List.{concat, flat_map, join_with_byte, range_with_len}
+use Rattle.std.specs.List.{flat_map, join_with_byte, range_with_len}
 use Rattle.csv.specs.Writing.{default_writer, row_text}
 use Rattle.control_flow.specs.declared.greens.Green.{Green}
 use Rattle.histories.specs.Histories.{round_at, step_at, version_at}
@@ -72,13 +72,12 @@ total_record totals = codes "total" ∷ [] ∷ [] ∷ decimal totals.entered ∷
 -- The records of a report: the header; the steps of the history, in their order; the plans by round and node; the greens by node
 -- and time; the links; and all totals.
 unfoldable pub report_records : Net → RunRecord → List ℕ → List (List (List ℕ))
-report_records net run history = concat (
-    (header ∷ []) ∷
-    map (step_record_at net history) (range_with_len 0 (length history)) ∷
-    map (plan_record net) run.plans ∷
-    flat_map (green_records net run) (range_with_len 0 (length net.node_names)) ∷
-    map (link_record_of net run) (range_with_len 0 (length net.link_names)) ∷
-    (total_record run.totals ∷ []) ∷ [])
+report_records net run history =
+    header ∷ (map (step_record_at net history) (range_with_len 0 (length history))
+    ++ (map (plan_record net) run.plans
+    ++ (flat_map (green_records net run) (range_with_len 0 (length net.node_names))
+    ++ (map (link_record_of net run) (range_with_len 0 (length net.link_names))
+    ++ total_record run.totals ∷ []))))
 
 -- the text of records, as `csv` writes them
 abbrev pub records_text : List (List (List ℕ)) → List ℕ
