@@ -4,11 +4,13 @@ use Rattle.std.proofs.lemmas.Bool.{cases_eq, cases_lt}
 use Rattle.std.proofs.lemmas.List.{get_or-map, get_or-set_same, get_or-set_other, length-map, take_more}
 use Rattle.std.proofs.lemmas.List.Elements.{All-append, All-filter, All-map, All-weaker}
 use Rattle.std.proofs.lemmas.List.Sums.{count_by-le-length}
+use Rattle.std.proofs.lemmas.List.FromFn.{get_or-map-range_with_len, length-range_with_len}
 use Rattle.std.specs.List.{range_with_len}
 use Rattle.net_numbers.specs.Numbers.{Net}
 use Rattle.net_numbers.specs.Outline.{link_at}
+use Rattle.net_numbers.specs.declared.roads.Link.{Link}
 use Rattle.road_net.specs.Network.{IsNetwork, entry_links, exit_links, heard_links, told_links}
-use Rattle.road_net.specs.declared.joins.Side.TheVariants.{From, To}
+use Rattle.road_net.specs.Joins.{links_of_node}
 use Rattle.road_net.proofs.AtSide.{links_of_node-are}
 use Rattle.histories.specs.Histories.{count, IsLawful, round_at, step_at, version_at}
 use Rattle.histories.specs.Steps.{board_steps, is_publish_of}
@@ -21,18 +23,27 @@ use Rattle.histories.proofs.Prefixes.{beginning}
 use Rattle.histories.proofs.Rounds.{next}
 use Rattle.histories.proofs.StepLaws.{steps-beyond}
 use Rattle.histories.proofs.Versions.{version-more}
+use Rattle.delay_report.specs.Walks.{StandsAt}
+use Rattle.delay_report.specs.declared.steps.Walk.{Walk}
 
 -- the link of a step
 abbrev pub link_of : BoardStep → ℕ
 link_of (Read link) = link
 link_of (Publish link) = link
 
+-- the links at a side of a node are there
+at-side : (side : _) (node : ℕ) (links : List Link) → All (λ l. l < length links) (links_of_node side links node)
+at-side side node links = λ k d inside. ((links_of_node-are side node links).have k d inside).0
+
 module _ (net : Net) (network : IsNetwork net) (node : ℕ) where
+  named : (links : List ℕ) → All (λ l. l < length net.links) links → All (λ l. l < length net.link_names) links
+  named links exist = All-weaker (λ l. l < length net.links) (λ l. l < length net.link_names) (λ l below. omega (arith, below, network.outline.road_count)) links exist
+
   entries-exist : All (λ l. l < length net.link_names) (entry_links net node)
-  entries-exist = All-weaker _ (λ l. l < length net.link_names) (λ l p. let below = p.0 in omega (arith, below, network.outline.road_count)) (entry_links net node) (links_of_node-are To node net.links).have
+  entries-exist = named (entry_links net node) (search (at-side))
 
   exits-exist : All (λ l. l < length net.link_names) (exit_links net node)
-  exits-exist = All-weaker _ (λ l. l < length net.link_names) (λ l p. let below = p.0 in omega (arith, below, network.outline.road_count)) (exit_links net node) (links_of_node-are From node net.links).have
+  exits-exist = named (exit_links net node) (search (at-side))
 
   -- the links of a node's steps are there
   pub step-links : All (λ s. link_of s < length net.link_names) (board_steps net node)
@@ -57,3 +68,17 @@ module _ (net : Net) (network : IsNetwork net) (h : List ℕ) (lawful : IsLawful
     | inl less ↦ less
     | inr past ↦ (let none : length (board_steps net (get_or h i 0)) ≡ 0 = ap length (steps-beyond net network (get_or h i 0) past) in absurd (omega (arith, none, has-steps)))
   ]
+
+-- what the walk's parts are at a place
+module _ (net : Net) (h : List ℕ) (lawful : IsLawful net h) (i : ℕ) (inside : i < length h) (walk : Walk) (stands : StandsAt net h i walk) where
+  pub below : get_or h i 0 < length net.node_names
+  below = node-below net stands.network h lawful i inside
+
+  steps-long : length walk.steps.items ≡ length net.node_names
+  steps-long = sym (length-map walk.steps.items (λ own. own.items)) ∙ ap length stands.steps ∙ length-map (range_with_len 0 (length net.node_names)) (board_steps net) ∙ length-range_with_len 0 (length net.node_names)
+
+  pub in-steps : get_or h i 0 < length walk.steps.items
+  in-steps = omega (arith, below, steps-long)
+
+  pub in-taken : get_or h i 0 < length walk.taken.items
+  in-taken = omega (arith, below, stands.nodes)

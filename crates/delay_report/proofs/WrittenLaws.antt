@@ -1,9 +1,10 @@
 -- What is written, one record after another.
-use Rattle.std.proofs.Common.{◌≡◌, ◌≢◌, ℕ, ◌+◌, ◌<◌, ◌≤◌, Bool, true, false, List, [], ◌∷◌, ◌++◌, length, get_or, take, map, filter, if◌then◌else◌, Option, Some, None, Result, Ok, Err, OnOk, IfOk, Vec, ok_or, refl, sym, ap, ◌∙◌, subst, arith, append_assoc, append-nil}
-use Rattle.std.proofs.lemmas.List.{map-append, map_more, take_all, take_more}
+use Rattle.std.proofs.Common.{◌≡◌, ◌≢◌, ℕ, ◌+◌, ◌<◌, ◌≤◌, Bool, true, false, List, [], ◌∷◌, ◌++◌, length, get_or, take, map, filter, if◌then◌else◌, ◌==◌, ne_eqb, Option, Some, None, Result, Ok, Err, OnOk, IfOk, Vec, ok_or, refl, sym, ap, ◌∙◌, subst, arith, append_assoc, append-nil}
+use Rattle.std.proofs.lemmas.List.{length-map, length-take, map-append, map_more, take_all, take_more}
 use Rattle.std.proofs.lemmas.List.Elements.{filter-append}
+use Rattle.std.proofs.lemmas.Option.{same_Some}
 use Rattle.std.proofs.lemmas.Grind.{flat_map-append}
-use Rattle.std.specs.List.{flat_map, range_with_len}
+use Rattle.std.specs.List.{flat_map, join_with_byte, range_with_len}
 use Rattle.std.specs.Result.{result_ok}
 use Rattle.std.specs.Io.KnownBytes.{Appends, Keeps}
 use Rattle.foundation.proofs.RangeLaws.{range-push}
@@ -25,37 +26,43 @@ adds-then a b c xs ys first second = record {
       subst (HasWritten c) both (second.adds (text ++ records_text xs) (first.adds text h));
 }
 
-appends-known : (xs bs : List ℕ) (new : Option (List ℕ)) → Appends (Some xs) new bs → new ≡ Some (xs ++ bs)
-appends-known xs bs None h = absurd h
-appends-known xs bs (Some ys) h = ap (λ l. Some l) h
+appends-from : (old new : Option (List ℕ)) (xs bs : List ℕ) → old ≡ Some xs → Appends old new bs → new ≡ Some (xs ++ bs)
+appends-from None new xs bs known h = absurd cc
+appends-from (Some ys) None xs bs known h = absurd h
+appends-from (Some ys) (Some zs) xs bs known h = ap (λ l. Some l) (h ∙ ap (λ l. l ++ bs) (same_Some ys xs known))
 
-keeps-known : (xs : List ℕ) (new : Option (List ℕ)) → Keeps (Some xs) new → new ≡ Some xs
-keeps-known xs None h = absurd h
-keeps-known xs (Some ys) h = ap (λ l. Some l) h
+keeps-from : (old : Option (List ℕ)) (xs new : List ℕ) → old ≡ Some xs → Keeps old (Some new) → new ≡ xs
+keeps-from None xs new known h = absurd cc
+keeps-from (Some ys) xs new known h = h ∙ same_Some ys xs known
 
-module _ {E D Z : Type 0} (want : D) (old new : Writer (Vec ℕ Z)) (fields : List (List ℕ)) where
-  written-text : (text : List ℕ) → HasWritten old text
-      → (fields_written old ≡ 0 → has_written old ≡ false → ((writer_setup old).style ≢ style.NonNumeric) → Appends (text_written (λ (v : Vec ℕ Z). Some v.items) old) (text_written (λ (v : Vec ℕ Z). Some v.items) new) (row_text (writer_setup old) fields))
-      → text_written (λ (v : Vec ℕ Z). Some v.items) new ≡ Some (text ++ records_text (fields ∷ []))
+-- what a call appends, where the writer stood between two records
+abbrev pub Writes : {Z : Type 0} → Writer (Vec ℕ Z) → Writer (Vec ℕ Z) → List (List ℕ) → Type 0
+Writes {Z} old new fields = fields_written old ≡ 0 → has_written old ≡ false → ((writer_setup old).style ≢ style.NonNumeric)
+    → Appends (text_written (λ (v : Vec ℕ Z). Some v.items) old) (text_written (λ (v : Vec ℕ Z). Some v.items) new) (row_text (writer_setup old) fields)
+
+module _ {Z : Type 0} (old new : Writer (Vec ℕ Z)) (fields : List (List ℕ)) where
+  written-text : (text : List ℕ) → HasWritten old text → Writes old new fields → text_written (λ (v : Vec ℕ Z). Some v.items) new ≡ Some (text ++ records_text (fields ∷ []))
   written-text text h bytes =
       let plain : (writer_setup old).style ≢ style.NonNumeric = λ other. absurd (necessary (sym (ap (λ (s : WriterBuilder). s.style) h.setup) ∙ other)) in
-      let grown = rw (h.text_is, h.setup) at (bytes h.fields h.clean plain) in
-      appends-known text (row_text default_writer fields) _ grown ∙ ap (λ l. Some (text ++ l)) (sym (append-nil (row_text default_writer fields)))
+      appends-from _ _ text (row_text (writer_setup old) fields) h.text_is (bytes h.fields h.clean plain)
+      ∙ ap (λ (s : WriterBuilder). Some (text ++ row_text s fields)) h.setup ∙ ap (λ l. Some (text ++ l)) (sym (append-nil (row_text default_writer fields)))
     where
       necessary : style.Necessary ≡ style.NonNumeric → ⊥
       necessary same = cc
 
-  -- a call that wrote a record
-  pub record-written : (r : Result (Unit {0}) E) (answer : Result (Unit {0}) D) → answer ≡ ok_or (result_ok r) want
-      → OnOk r (fields_written old ≡ 0 → has_written old ≡ false → ((writer_setup old).style ≢ style.NonNumeric) → Appends (text_written (λ (v : Vec ℕ Z). Some v.items) old) (text_written (λ (v : Vec ℕ Z). Some v.items) new) (row_text (writer_setup old) fields))
-      → OnOk r (fields_written new ≡ 0) → OnOk r (has_written new ≡ false) → OnOk r (writer_setup new ≡ writer_setup old) → OnOk answer (Adds old new (fields ∷ []))
-  record-written (Ok done) answer same bytes ended clean setup = rw same (record { adds = λ text h. record { setup = setup ∙ h.setup; fields = ended; clean = clean; text_is = written-text text h bytes } })
-  record-written (Err e) answer same bytes ended clean setup = rw same tt
+  pub one-written : Writes old new fields → fields_written new ≡ 0 → has_written new ≡ false → writer_setup new ≡ writer_setup old → Adds old new (fields ∷ [])
+  one-written bytes ended clean setup = record { adds = λ text h. record { setup = setup ∙ h.setup; fields = ended; clean = clean; text_is = written-text text h bytes } }
+
+-- a call that wrote a record
+pub record-written : {E D Z : Type 0} (want : D) (old new : Writer (Vec ℕ Z)) (fields : List (List ℕ)) (r : Result (Unit {0}) E) (answer : Result (Unit {0}) D) → answer ≡ ok_or (result_ok r) want
+    → OnOk r (Writes old new fields) → OnOk r (fields_written new ≡ 0) → OnOk r (has_written new ≡ false) → OnOk r (writer_setup new ≡ writer_setup old) → OnOk answer (Adds old new (fields ∷ []))
+record-written want old new fields (Ok done) answer same bytes ended clean setup = rw same (one-written old new fields bytes ended clean setup)
+record-written want old new fields (Err e) answer same bytes ended clean setup = rw same tt
 
 -- the bytes that a call gave back are the text that was written
 pub bytes-written : {E D Z : Type 0} (want : D) (out : Writer (Vec ℕ Z)) (r : Result (Vec ℕ Z) E) (answer : Result (Vec ℕ Z) D) → answer ≡ ok_or (result_ok r) want
     → IfOk r (λ (w : Vec ℕ Z). Keeps (text_written (λ (v : Vec ℕ Z). Some v.items) out) (Some w.items)) → IfOk answer (λ (bytes : Vec ℕ Z). (text : List ℕ) → HasWritten out text → bytes.items ≡ text)
-bytes-written {Z = Z} want out (Ok w) answer same keeps = rw same (λ text h. let kept : Keeps (Some text) (Some w.items) = rw h.text_is at keeps in kept)
+bytes-written want out (Ok w) answer same keeps = rw same (λ text h. keeps-from _ text w.items h.text_is keeps)
 bytes-written want out (Err e) answer same keeps = rw same tt
 
 -- a loop over a list: none yet, one element more, and all
@@ -89,3 +96,20 @@ adds-if f p xs i x a b c inside at so_far one =
     one-if : (b : Bool) → (if b then f x ∷ [] else []) ≡ map f (if b then x ∷ [] else [])
     one-if true = refl
     one-if false = refl
+
+-- texts with a byte between each two: one more at the end
+join-push : (c : ℕ) (x : List ℕ) (xs : List (List ℕ)) (y : List ℕ) → join_with_byte c (x ∷ (xs ++ y ∷ [])) ≡ join_with_byte c (x ∷ xs) ++ c ∷ y
+join-push c x [] y = refl
+join-push c x (z ∷ zs) y = ap (λ l. x ++ c ∷ l) (join-push c z zs y) ∙ sym (append_assoc x (c ∷ join_with_byte c (z ∷ zs)) (c ∷ y))
+
+joined : (c : ℕ) (xs : List (List ℕ)) (y old new : List ℕ) (i : ℕ) → i ≡ length xs → old ≡ join_with_byte c xs → new ≡ (old ++ (if i == 0 then [] else c ∷ [])) ++ y → new ≡ join_with_byte c (xs ++ y ∷ [])
+joined c [] y old new i none was is = is ∙ ap (λ l. (l ++ (if i == 0 then [] else c ∷ [])) ++ y) was ∙ ap (λ k. (if k == 0 then [] else c ∷ []) ++ y) none
+joined c (x ∷ xs) y old new i some was is =
+    is ∙ ap (λ l. (l ++ (if i == 0 then [] else c ∷ [])) ++ y) was ∙ ap (λ (b : Bool). (join_with_byte c (x ∷ xs) ++ (if b then [] else c ∷ [])) ++ y) (ne_eqb i 0 (λ e. absurd (omega (arith, e, some))))
+    ∙ append_assoc (join_with_byte c (x ∷ xs)) (c ∷ []) y ∙ sym (join-push c x xs y)
+
+pub joined-more : {X : Type 0} (c : ℕ) (f : X → List ℕ) (xs : List X) (i : ℕ) (x : X) (old new : List ℕ) → i < length xs → x ≡ get_or xs i x → old ≡ join_with_byte c (map f (take i xs)) → new ≡ (old ++ (if i == 0 then [] else c ∷ [])) ++ f x
+    → new ≡ join_with_byte c (map f (take (i + 1) xs))
+joined-more c f xs i x old new inside at was is =
+    joined c (map f (take i xs)) (f x) old new i (omega (arith, length-map (take i xs) f, length-take i xs)) was is
+    ∙ ap (join_with_byte c) (ap (λ y. map f (take i xs) ++ f y ∷ []) at ∙ sym (map_more f xs i x inside))

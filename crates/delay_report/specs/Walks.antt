@@ -4,11 +4,13 @@ use Rattle.std.specs.List.{range_with_len}
 use Rattle.histories.specs.Histories.{count, version_at}
 use Rattle.histories.specs.Steps.{board_steps}
 use Rattle.net_numbers.specs.Numbers.{Net}
+use Rattle.road_net.specs.Network.{IsNetwork}
 use Rattle.delay_report.specs.declared.steps.Walk.{Walk}
 
 -- at a place of a history: the steps of each node in a round, how many it has taken, and how many forecasts were published on
 -- each link
 pub record StandsAt (net : Net) (history : List ℕ) (place : ℕ) (walk : Walk) : Type 0 where
+  pub network : IsNetwork net
   pub steps : map (λ own. own.items) walk.steps.items ≡ map (board_steps net) (range_with_len 0 (length net.node_names))
   pub nodes : length walk.taken.items ≡ length net.node_names
   pub links : length walk.made.items ≡ length net.link_names

@@ -1,5 +1,5 @@
 //! The records of plans.
-ghost use Rattle.std.specs.Prelude.{◌≡◌, ◌++◌, ◌<◌, [], ◌∷◌, All, IfOk, OnOk, length, map};
+ghost use Rattle.std.specs.Prelude.{◌≡◌, ◌==◌, ◌++◌, ◌<◌, [], ◌∷◌, All, IfOk, OnOk, if◌then◌else◌, length, map};
 ghost use Rattle.std.specs.Fmt.{decimal};
 ghost use Rattle.std.specs.List.{flat_map, join_with_byte};
 ghost use Rattle.delay_report.specs.Reports as report;
@@ -68,12 +68,21 @@ fn used_text(alloc: Global, net: &Network, used: &[Used]) -> Result<Vec<u8>, All
 {
     let mut text = Vec::new(alloc);
     for (place, version) in used.iter().enumerate() {
-        if place > 0 {
-            text.push(b';')?;
-        }
+        push_semicolon(place, &mut text)?;
         push_version(net, *version, &mut text)?;
     }
     Ok(text)
+}
+
+/// Writes a semicolon behind a text, unless nothing stands before this place.
+fn push_semicolon(place: usize, text: &mut Vec<u8>) -> Result<(), AllocError>
+    ensures { OnOk result (text.new.items ≡ text.old.items ++ (if place == 0 then [] else 59 ∷ [])) }
+{
+    if place == 0 {
+        return Ok(());
+    }
+    text.push(b';')?;
+    Ok(())
 }
 
 /// Writes a version behind a text.

@@ -1,5 +1,5 @@
 //! The records of what the signals showed and the world counted.
-ghost use Rattle.std.specs.Prelude.{◌≡◌, ◌<◌, [], ◌∷◌, OnOk, filter, length, map, nat_lt, slice_index_or};
+ghost use Rattle.std.specs.Prelude.{◌≡◌, ◌<◌, [], ◌∷◌, OnOk, filter, if◌then◌else◌, length, map, nat_lt, slice_index_or};
 ghost use Rattle.std.specs.List.{flat_map, range_with_len};
 ghost use Rattle.runs.specs.Runs.{end_of_run};
 ghost use Rattle.delay_report.specs.Reports.{green_record, link_record, no_totals, total_record};
@@ -40,23 +40,25 @@ fn write_greens_of(
     ensures { OnOk result (Adds out.old out.new (map (green_record net.now node) (filter (λ green. nat_lt green.from end) greens.now))) }
 {
     for green in greens {
-        if green.from < end {
-            write_green(net, node, *green, out)?;
-        }
+        write_green(net, node, *green, end, out)?;
     }
     Ok(())
 }
 
-/// Writes the record of a green.
+/// Writes the record of a green, if it begins before a second.
 fn write_green(
     net: &Network,
     node: u32,
     green: Green,
+    end: u32,
     out: &mut Writer<Vec<u8>>,
 ) -> Result<(), AllocError>
     requires { node < length net.now.node_names }
-    ensures { OnOk result (Adds out.old out.new (green_record net.now node green ∷ [])) }
+    ensures { OnOk result (Adds out.old out.new (if nat_lt green.from end then green_record net.now node green ∷ [] else [])) }
 {
+    if green.from >= end {
+        return Ok(());
+    }
     let phase = number(u64::from(green.phase));
     let from = number(u64::from(green.from));
     let to = number(u64::from(green.to));
