@@ -113,3 +113,8 @@ pub joined-more : {X : Type 0} (c : ℕ) (f : X → List ℕ) (xs : List X) (i :
 joined-more c f xs i x old new inside at was is =
     joined c (map f (take i xs)) (f x) old new i (omega (arith, length-map (take i xs) f, length-take i xs)) was is
     ∙ ap (join_with_byte c) (ap (λ y. map f (take i xs) ++ f y ∷ []) at ∙ sym (map_more f xs i x inside))
+
+-- what holds anyway
+pub on-ok : {T E P : Type 0} (r : Result T E) → P → OnOk r P
+on-ok (Ok v) holds = holds
+on-ok (Err e) holds = tt

@@ -3,9 +3,16 @@ use Rattle.std.specs.Prelude.{◌≡◌, ℕ, ◌<◌, List, length, map, slice_
 use Rattle.std.specs.List.{range_with_len}
 use Rattle.histories.specs.Histories.{count, version_at}
 use Rattle.histories.specs.Steps.{board_steps}
+use Rattle.histories.specs.declared.steps.BoardStep.{BoardStep}
+use Rattle.histories.specs.declared.steps.BoardStep.TheVariants.{Read, Publish}
 use Rattle.net_numbers.specs.Numbers.{Net}
 use Rattle.road_net.specs.Network.{IsNetwork}
 use Rattle.delay_report.specs.declared.steps.Walk.{Walk}
+
+-- the link of a step
+abbrev pub link_of : BoardStep → ℕ
+link_of (Read link) = link
+link_of (Publish link) = link
 
 -- at a place of a history: the steps of each node in a round, how many it has taken, and how many forecasts were published on
 -- each link

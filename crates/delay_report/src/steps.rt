@@ -1,13 +1,12 @@
 //! The records of the board steps of a history.
-ghost use Rattle.std.specs.Prelude.{◌≡◌, ◌+◌, ◌/◌, ◌%◌, ◌<◌, [], ◌∷◌, IfOk, OnOk, codes, length, map, slice_index_or};
+ghost use Rattle.std.specs.Prelude.{◌≡◌, ◌+◌, ◌<◌, [], ◌∷◌, IfOk, OnOk, codes, length, map};
 ghost use Rattle.std.specs.Fmt.{decimal};
 ghost use Rattle.std.specs.List.{range_with_len};
-ghost use Rattle.histories.specs.Histories.{IsLawful};
+ghost use Rattle.histories.specs.Histories.{IsLawful, round_at, step_at};
 ghost use Rattle.histories.specs.Steps.{board_steps};
-ghost use Rattle.histories.specs.declared.steps.BoardStep.TheVariants.{Read};
 ghost use Rattle.net_numbers.specs.Outline.{link_name_at, node_name_at};
 ghost use Rattle.delay_report.specs.Reports.{step_record_at};
-ghost use Rattle.delay_report.specs.Walks.{StandsAt};
+ghost use Rattle.delay_report.specs.Walks.{StandsAt, link_of};
 ghost use Rattle.delay_report.specs.Written.{Adds};
 
 use crate::records::{number, write_record};
@@ -80,25 +79,32 @@ fn write_step(
     ensures stands { OnOk result (StandsAt net.now nodes.now (place + 1) walk.new) }
 {
     let node = nodes[place];
-    let (round, step) = next_of(&walk.steps[node as usize], walk.taken[node as usize]);
+    let (round, step) = next_of(net, nodes, place, walk);
     walk.taken[node as usize] += 1;
     match step {
         BoardStep::Read(link) => {
             write_fields(net, round, node, b"read", link, walk.made[link as usize], out)
         }
         BoardStep::Publish(link) => {
-            walk.made[link as usize] += 1;
-            write_fields(net, round, node, b"publish", link, walk.made[link as usize], out)
+            let version = walk.made[link as usize] + 1;
+            walk.made[link as usize] = version;
+            write_fields(net, round, node, b"publish", link, version, out)
         }
     }
 }
 
-/// The round of the next of a node's steps, of which so many were taken, and that step.
-fn next_of(own: &[BoardStep], taken: usize) -> (usize, BoardStep)
-    requires { 0 < length own.now }
-    ensures round { result.0 ≡ taken / length own.now }
-    ensures step { result.1 ≡ slice_index_or own.now (taken % length own.now) (Read 0) }
+/// The round of the step at a place, and the step.
+fn next_of(net: &Network, nodes: &[u32], place: usize, walk: &Walk) -> (usize, BoardStep)
+    requires lawful { IsLawful net.now nodes.now }
+    requires inside { place < length nodes.now }
+    requires stands { StandsAt net.now nodes.now place walk.now }
+    ensures round { result.0 ≡ round_at (board_steps net.now) nodes.now place }
+    ensures step { result.1 ≡ step_at (board_steps net.now) nodes.now place }
+    ensures link { link_of result.1 < length net.now.link_names }
 {
+    let node = nodes[place] as usize;
+    let own = walk.steps[node].as_slice();
+    let taken = walk.taken[node];
     (taken / own.len(), own[taken % own.len()])
 }
 
