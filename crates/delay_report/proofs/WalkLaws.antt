@@ -23,6 +23,7 @@ use Rattle.histories.proofs.Prefixes.{beginning}
 use Rattle.histories.proofs.Rounds.{next}
 use Rattle.histories.proofs.StepLaws.{steps-beyond}
 use Rattle.histories.proofs.Versions.{version-more}
+use Rattle.intersection_actor.specs.declared.records.Used.{Used}
 use Rattle.delay_report.specs.Reports.{step_record, step_record_at}
 use Rattle.delay_report.specs.Walks.{StandsAt, link_of}
 use Rattle.delay_report.specs.declared.steps.Walk.{Walk}
@@ -48,11 +49,21 @@ module _ (net : Net) (network : IsNetwork net) (node : ℕ) where
   exits-exist : All (λ l. l < length net.link_names) (exit_links net node)
   exits-exist = named (exit_links net node) (search (at-side))
 
+  heard-exist : All (λ l. l < length net.link_names) (heard_links net node)
+  heard-exist = All-filter (λ l. is_some (link_at net l).from) (λ l. l < length net.link_names) (entry_links net node) entries-exist
+
+  -- the links of versions are there, where they are those on which the node hears another one
+  pub used-exist : (used : List Used) → map (λ (u : Used). u.link) used ≡ heard_links net node → All (λ (u : Used). u.link < length net.link_names) used
+  used-exist used are k d inside =
+      let at : get_or (map (λ (u : Used). u.link) used) k d.link ≡ (get_or used k d).link = get_or-map (λ (u : Used). u.link) used k d d.link inside in
+      let there : k < length (heard_links net node) = omega (arith, inside, length-map used (λ (u : Used). u.link), ap length are) in
+      subst (λ l. l < length net.link_names) (ap (λ ls. get_or ls k d.link) (sym are) ∙ at) (heard-exist k d.link there)
+
   -- the links of a node's steps are there
   pub step-links : All (λ s. link_of s < length net.link_names) (board_steps net node)
   step-links =
       All-append (λ s. link_of s < length net.link_names) (map Read (heard_links net node)) (map Publish (told_links net node))
-      (All-map (λ s. link_of s < length net.link_names) Read (heard_links net node) (All-filter (λ l. is_some (link_at net l).from) (λ l. l < length net.link_names) (entry_links net node) entries-exist))
+      (All-map (λ s. link_of s < length net.link_names) Read (heard_links net node) heard-exist)
       (All-map (λ s. link_of s < length net.link_names) Publish (told_links net node) (All-filter (λ l. is_some (link_at net l).to) (λ l. l < length net.link_names) (exit_links net node) exits-exist))
 
   pub step-link : (k : ℕ) → k < length (board_steps net node) → link_of (get_or (board_steps net node) k (Read 0)) < length net.link_names

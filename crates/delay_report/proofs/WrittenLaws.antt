@@ -97,6 +97,20 @@ adds-if f p xs i x a b c inside at so_far one =
     one-if true = refl
     one-if false = refl
 
+-- the end of such loops
+pub adds-numbers : {Z : Type 0} (f : ℕ → List (List ℕ)) (n m : ℕ) (a b : Writer (Vec ℕ Z)) → n ≡ m → Adds a b (map f (range_with_len 0 n)) → Adds a b (map f (range_with_len 0 m))
+adds-numbers f n m a b same so_far = subst (λ k. Adds a b (map f (range_with_len 0 k))) same so_far
+
+pub adds-parts : {Z : Type 0} (f : ℕ → List (List (List ℕ))) (n m : ℕ) (a b : Writer (Vec ℕ Z)) → n ≡ m → Adds a b (flat_map f (range_with_len 0 n)) → Adds a b (flat_map f (range_with_len 0 m))
+adds-parts f n m a b same so_far = subst (λ k. Adds a b (flat_map f (range_with_len 0 k))) same so_far
+
+pub adds-passed : {X Z : Type 0} (f : X → List (List ℕ)) (p : X → Bool) (xs : List X) (i : ℕ) (a b : Writer (Vec ℕ Z)) → length xs ≤ i → Adds a b (map f (filter p (take i xs))) → Adds a b (map f (filter p xs))
+adds-passed f p xs i a b end so_far = subst (λ l. Adds a b (map f (filter p l))) (take_all i xs end) so_far
+
+-- records that are the same
+pub adds-same : {Z : Type 0} (a b : Writer (Vec ℕ Z)) (xs ys : List (List (List ℕ))) → xs ≡ ys → Adds a b xs → Adds a b ys
+adds-same a b xs ys same adds = subst (Adds a b) same adds
+
 -- texts with a byte between each two: one more at the end
 join-push : (c : ℕ) (x : List ℕ) (xs : List (List ℕ)) (y : List ℕ) → join_with_byte c (x ∷ (xs ++ y ∷ [])) ≡ join_with_byte c (x ∷ xs) ++ c ∷ y
 join-push c x [] y = refl
@@ -108,11 +122,10 @@ joined c (x ∷ xs) y old new i some was is =
     is ∙ ap (λ l. (l ++ (if i == 0 then [] else c ∷ [])) ++ y) was ∙ ap (λ (b : Bool). (join_with_byte c (x ∷ xs) ++ (if b then [] else c ∷ [])) ++ y) (ne_eqb i 0 (λ e. absurd (omega (arith, e, some))))
     ∙ append_assoc (join_with_byte c (x ∷ xs)) (c ∷ []) y ∙ sym (join-push c x xs y)
 
-pub joined-more : {X : Type 0} (c : ℕ) (f : X → List ℕ) (xs : List X) (i : ℕ) (x : X) (old new : List ℕ) → i < length xs → x ≡ get_or xs i x → old ≡ join_with_byte c (map f (take i xs)) → new ≡ (old ++ (if i == 0 then [] else c ∷ [])) ++ f x
+pub joined-more : {X : Type 0} (c : ℕ) (f : X → List ℕ) (xs : List X) (i : ℕ) (d : X) (old new : List ℕ) → i < length xs → old ≡ join_with_byte c (map f (take i xs)) → new ≡ (old ++ (if i == 0 then [] else c ∷ [])) ++ f (get_or xs i d)
     → new ≡ join_with_byte c (map f (take (i + 1) xs))
-joined-more c f xs i x old new inside at was is =
-    joined c (map f (take i xs)) (f x) old new i (omega (arith, length-map (take i xs) f, length-take i xs)) was is
-    ∙ ap (join_with_byte c) (ap (λ y. map f (take i xs) ++ f y ∷ []) at ∙ sym (map_more f xs i x inside))
+joined-more c f xs i d old new inside was is =
+    joined c (map f (take i xs)) (f (get_or xs i d)) old new i (omega (arith, length-map (take i xs) f, length-take i xs)) was is ∙ ap (join_with_byte c) (sym (map_more f xs i d inside))
 
 -- what holds anyway
 pub on-ok : {T E P : Type 0} (r : Result T E) → P → OnOk r P

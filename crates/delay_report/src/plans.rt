@@ -2,6 +2,7 @@
 ghost use Rattle.std.specs.Prelude.{◌≡◌, ◌==◌, ◌++◌, ◌<◌, [], ◌∷◌, All, IfOk, OnOk, if◌then◌else◌, length, map};
 ghost use Rattle.std.specs.Fmt.{decimal};
 ghost use Rattle.std.specs.List.{flat_map, join_with_byte};
+ghost use Rattle.road_net.specs.Network.{heard_links};
 ghost use Rattle.delay_report.specs.Reports as report;
 ghost use Rattle.delay_report.specs.Reports.{plan_record};
 ghost use Rattle.delay_report.specs.Written.{Adds};
@@ -22,7 +23,7 @@ pub(crate) fn write_plans(
     out: &mut Writer<Vec<u8>>,
 ) -> Result<(), AllocError>
     requires nodes { All (λ p. p.node < length net.now.node_names) plans.now }
-    requires links { All (λ p. All (λ u. u.link < length net.now.link_names) p.used) plans.now }
+    requires used { All (λ p. map (λ u. u.link) p.used ≡ heard_links net.now p.node) plans.now }
     ensures { OnOk result (Adds out.old out.new (map (plan_record net.now) plans.now)) }
 {
     for plan in plans {
@@ -39,7 +40,7 @@ fn write_plan(
     out: &mut Writer<Vec<u8>>,
 ) -> Result<(), AllocError>
     requires node { plan.now.node < length net.now.node_names }
-    requires links { All (λ u. u.link < length net.now.link_names) plan.now.used }
+    requires used { map (λ u. u.link) plan.now.used ≡ heard_links net.now plan.now.node }
     ensures { OnOk result (Adds out.old out.new (plan_record net.now plan.now ∷ [])) }
 {
     let round = number(u64::from(plan.round));

@@ -5,6 +5,7 @@ ghost use Rattle.std.specs.List.{range_with_len};
 ghost use Rattle.histories.specs.Histories.{IsLawful, round_at, step_at};
 ghost use Rattle.histories.specs.Steps.{board_steps};
 ghost use Rattle.net_numbers.specs.Outline.{link_name_at, node_name_at};
+ghost use Rattle.road_net.specs.Network.{IsNetwork};
 ghost use Rattle.delay_report.specs.Reports.{step_record_at};
 ghost use Rattle.delay_report.specs.Walks.{StandsAt, link_of};
 ghost use Rattle.delay_report.specs.Written.{Adds};
@@ -34,7 +35,8 @@ pub(crate) fn write_steps(
     out: &mut Writer<Vec<u8>>,
 ) -> Result<(), AllocError>
     requires { IsLawful net.now nodes.now }
-    ensures { OnOk result (Adds out.old out.new (map (step_record_at net.now nodes.now) (range_with_len 0 (length nodes.now)))) }
+    ensures records { OnOk result (Adds out.old out.new (map (step_record_at net.now nodes.now) (range_with_len 0 (length nodes.now)))) }
+    ensures network { OnOk result (IsNetwork net.now) }
 {
     let mut walk = begin(alloc, net, nodes)?;
     for place in 0..nodes.len() {
