@@ -1,5 +1,5 @@
 -- The parts of a report, one after another.
-use Rattle.std.proofs.Common.{◌≡◌, ℕ, ◌+◌, ◌<◌, ◌≤◌, List, [], ◌∷◌, ◌++◌, length, map, filter, nat_lt, slice_index_or, get_or, All, Vec, sym, ap, ◌∙◌, subst, arith}
+use Rattle.std.proofs.Common.{◌≡◌, ℕ, ◌<◌, List, [], ◌∷◌, length, map, filter, nat_lt, slice_index_or, get_or, All, Vec, sym, ap, ◌∙◌, subst, arith}
 use Rattle.std.specs.List.{flat_map, range_with_len}
 use Rattle.std.proofs.lemmas.List.{get_or-map, length-map}
 use Rattle.std.proofs.lemmas.List.Elements.{All-append, All-map, All-nil}
@@ -54,7 +54,7 @@ pub nodes-exist : (net : Net) (run : RunRecord) → IsWhole net run → All (λ 
 nodes-exist net run whole k d inside =
     let nodes : ℕ = length net.node_names in
     let below : All (λ (pair : ℕ × ℕ). pair.1 < nodes) (rounds_and_nodes net.run.rounds nodes) =
-        all-flat (λ (pair : ℕ × ℕ). pair.1 < nodes) _ (λ round. All-map (λ (pair : ℕ × ℕ). pair.1 < nodes) (λ (node : ℕ). (round, node)) (range_with_len 0 nodes) (range-below nodes)) (range_with_len 0 net.run.rounds) in
+    all-flat (λ (pair : ℕ × ℕ). pair.1 < nodes) _ (λ round. All-map (λ (pair : ℕ × ℕ). pair.1 < nodes) (λ (node : ℕ). (round, node)) (range_with_len 0 nodes) (range-below nodes)) (range_with_len 0 net.run.rounds) in
     let seen : PlanRecord → ℕ × ℕ = λ p. (p.round, p.node) in
     let there : k < length (rounds_and_nodes net.run.rounds nodes) = omega (arith, inside, length-map run.plans seen, ap length whole.plans) in
     let at : get_or (rounds_and_nodes net.run.rounds nodes) k (seen d) ≡ seen (get_or run.plans k d) = ap (λ l. get_or l k (seen d)) (sym whole.plans) ∙ get_or-map seen run.plans k d (seen d) inside in

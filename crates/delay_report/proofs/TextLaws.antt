@@ -1,22 +1,22 @@
 -- The records of a history, one after another, and the first at fault.
-use Rattle.std.proofs.Common.{◌≡◌, ℕ, ◌+◌, ◌<◌, ◌≤◌, ◌^◌, List, [], ◌∷◌, ◌++◌, length, Option, Some, None, IsSomeAnd, refl, sym, ap, ◌∙◌, subst, inl, inr, arith, append_assoc, append-nil, length-append}
+use Rattle.std.proofs.Common.{◌≡◌, ℕ, ◌+◌, ◌<◌, List, [], ◌∷◌, ◌++◌, length, Option, Some, None, IsSomeAnd, refl, sym, ap, ◌∙◌, subst, inl, inr, arith, append_assoc, append-nil, length-append}
 use Rattle.std.specs.List.{concat}
 use Rattle.std.proofs.lemmas.List.Folds.{concat-append}
 use Rattle.std.proofs.lemmas.Option.{same_Some, none-some}
 use Rattle.std.proofs.lemmas.Bool.{cases_lt}
-use Rattle.foundation.specs.Options.{◌>>=◌, each}
+use Rattle.foundation.specs.Options.{each}
 use Rattle.foundation.proofs.EachLaws.{each-append, each-cons, each-push}
 use Rattle.foundation.proofs.OptionLaws.{bind-some}
 use Rattle.net_numbers.specs.Numbers.{Net, number_of}
-use Rattle.histories.specs.Histories.{count, HasRounds, IsLawful, IsUnderWay}
-use Rattle.histories.specs.Progress.{Course, HasCome, IsDoneInRound}
+use Rattle.histories.specs.Histories.{IsLawful, IsUnderWay}
+use Rattle.histories.specs.Progress.{Course, HasCome}
 use Rattle.histories.specs.Steps.{board_steps}
 use Rattle.histories.proofs.HowFar.{come-over}
 use Rattle.histories.proofs.Rounds.{all-done, next}
 use Rattle.delay_report.specs.declared.faults.HistoryFault.{HistoryFault}
 use Rattle.delay_report.specs.declared.faults.HistoryFault.TheVariants.{NoMemory, Header, Row, Node, Extra, Turn, Short}
 use Rattle.delay_report.specs.Entries.{header, steps_by, steps_of, told_of}
-use Rattle.delay_report.specs.Faults.{AreFaulty, AreUnderWay, EndEarly, HasFaultBehind, IsAtExtra, IsAtNode, IsAtRow, IsAtTurn, IsFirst, IsRecordFault, Refuses}
+use Rattle.delay_report.specs.Faults.{AreFaulty, HasFaultBehind, IsAtExtra, IsAtNode, IsAtRow, IsAtTurn, IsFirst, IsRecordFault, Refuses}
 use Rattle.delay_report.specs.Steps.{AreAllTaken, AreTaken, IsEntryFault}
 use Rattle.delay_report.specs.Texts.{AreHistoryRecords}
 
@@ -110,9 +110,9 @@ module _ (net : Net) (all behind : List (List (List ℕ))) (history : List ℕ) 
       done = p.done;
       under_way = record { steps = taken.steps; reads = taken.reads; history_is = taken.history_is; way = way-of net history p taken.come };
       early = (
-        let most = taken.come.way.most in
-        let rounds = taken.come.rounds in
-        elim (cases_lt p.done p.rounds) [ inl less ↦ omega (arith, less, rounds) | inr more ↦ absurd (other (come-over net history p taken.come (omega (arith, most, more)))) ]);
+          let most = taken.come.way.most in
+          let rounds = taken.come.rounds in
+          elim (cases_lt p.done p.rounds) [ inl less ↦ omega (arith, less, rounds) | inr more ↦ absurd (other (come-over net history p taken.come (omega (arith, most, more)))) ]);
     };
   }
 
@@ -139,10 +139,13 @@ module _ (net : Net) (records : List (List (List ℕ))) (h : List ℕ) (is : Are
     cut =
         let (front, back, reads_front, reads_back, whole) = each-append (steps_of net) first.before (first.here ∷ first.after) is.steps (rw first.are at reads-all) in
         let (more, others, told, behind, tail) = each-cons (steps_of net) first.here first.after back reads_back in
-        let same : front ≡ first.under_way.steps = same_Some front first.under_way.steps (sym reads_front ∙ first.under_way.reads) in
-        (more, concat others, told,
-        is.history_is ∙ ap concat whole ∙ concat-append front back ∙ ap (λ l. concat l ++ concat back) same ∙ ap (λ l. concat first.under_way.steps ++ concat l) tail
-        ∙ ap (λ l. l ++ (more ++ concat others)) (sym first.under_way.history_is))
+        let same : front ≡ first.under_way.steps = same_Some front first.under_way.steps (sym reads_front ∙ first.under_way.reads) in (
+          more,
+          concat others,
+          told,
+          is.history_is ∙ ap concat whole ∙ concat-append front back ∙ ap (λ l. concat l ++ concat back) same ∙ ap (λ l. concat first.under_way.steps ++ concat l) tail
+              ∙ ap (λ l. l ++ (more ++ concat others)) (sym first.under_way.history_is),
+        )
 
     -- a node that comes next in a lawful history
     goes-on : (node : ℕ) → steps_of net first.here ≡ Some (node ∷ []) → (rest : List ℕ) × IsLawful net (first.history ++ node ∷ rest)

@@ -16,7 +16,8 @@ pub(crate) fn is_header(row: &ByteRecord) -> bool
     ensures { IsTrue result ↔ (fields_of row.now ≡ header) }
 {
     match seven(row) {
-        Some((kind, round, node, x, y, z, w)) => are_first(kind, round, node) && are_last(x, y, z, w),
+        Some((kind, round, node, x, y, z, w)) => are_first(kind, round, node)
+            && are_last(x, y, z, w),
         None => false,
     }
 }
@@ -36,9 +37,7 @@ fn are_last(x: &[u8], y: &[u8], z: &[u8], w: &[u8]) -> bool
 }
 
 /// The fields of a record that has seven.
-fn seven(
-    row: &ByteRecord,
-) -> Option<(&[u8], &[u8], &[u8], &[u8], &[u8], &[u8], &[u8])>
+fn seven(row: &ByteRecord) -> Option<(&[u8], &[u8], &[u8], &[u8], &[u8], &[u8], &[u8])>
     ensures { MatchOption result (length (fields_of row.now) ≢ 7)
         (λ f. fields_of row.now ≡ f.0.now ∷ f.1.now ∷ f.2.now ∷ f.3.now ∷ f.4.now ∷ f.5.now ∷ f.6.now ∷ []) }
 {

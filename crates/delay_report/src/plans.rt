@@ -56,7 +56,15 @@ fn write_plan(
             let phases = digits(alloc, sequence.as_slice())?;
             write_record(
                 out,
-                &[b"plan", round.as_bytes(), node, &used, b"plan", delay.as_bytes(), &phases],
+                &[
+                    b"plan",
+                    round.as_bytes(),
+                    node,
+                    &used,
+                    b"plan",
+                    delay.as_bytes(),
+                    &phases,
+                ],
             )
         }
     }

@@ -85,7 +85,15 @@ fn write_step(
     walk.taken[node as usize] += 1;
     match step {
         BoardStep::Read(link) => {
-            write_fields(net, round, node, b"read", link, walk.made[link as usize], out)
+            write_fields(
+                net,
+                round,
+                node,
+                b"read",
+                link,
+                walk.made[link as usize],
+                out,
+            )
         }
         BoardStep::Publish(link) => {
             let version = walk.made[link as usize] + 1;

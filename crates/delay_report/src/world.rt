@@ -65,7 +65,15 @@ fn write_green(
     let name = net.node_name(node).as_bytes();
     write_record(
         out,
-        &[b"green", b"", name, phase.as_bytes(), from.as_bytes(), to.as_bytes(), b""],
+        &[
+            b"green",
+            b"",
+            name,
+            phase.as_bytes(),
+            from.as_bytes(),
+            to.as_bytes(),
+            b"",
+        ],
     )
 }
 
@@ -100,7 +108,15 @@ fn write_link(
     let name = net.link_name(link).as_bytes();
     write_record(
         out,
-        &[b"link", b"", b"", name, entered.as_bytes(), left.as_bytes(), delay.as_bytes()],
+        &[
+            b"link",
+            b"",
+            b"",
+            name,
+            entered.as_bytes(),
+            left.as_bytes(),
+            delay.as_bytes(),
+        ],
     )
 }
 
@@ -114,6 +130,14 @@ pub(crate) fn write_totals(totals: Totals, out: &mut Writer<Vec<u8>>) -> Result<
     let delay = number(totals.delay);
     write_record(
         out,
-        &[b"total", b"", b"", entered.as_bytes(), left.as_bytes(), on.as_bytes(), delay.as_bytes()],
+        &[
+            b"total",
+            b"",
+            b"",
+            entered.as_bytes(),
+            left.as_bytes(),
+            on.as_bytes(),
+            delay.as_bytes(),
+        ],
     )
 }

@@ -1,4 +1,4 @@
-use Rattle.std.proofs.Common.{rules, get_or, ◌∙◌, ap, ◌++◌, arith}
+use Rattle.std.proofs.Common.{get_or, ◌∙◌, ap, ◌++◌, arith}
 use Rattle.delay_report.specs.Reports as report
 use Rattle.delay_report.proofs.WrittenLaws.{joined-more}
 use Rattle.delay_report.proofs.plans.used_text.Goals as goal

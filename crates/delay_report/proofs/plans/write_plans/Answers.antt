@@ -1,4 +1,4 @@
-use Rattle.std.proofs.Common.{rules, arith}
+use Rattle.std.proofs.Common.{arith}
 use Rattle.delay_report.specs.Reports.{plan_record}
 use Rattle.delay_report.proofs.WrittenLaws.{adds-more}
 use Rattle.delay_report.proofs.plans.write_plans.Goals as goal

@@ -1,4 +1,3 @@
-use Rattle.std.proofs.Common.{rules, arith}
 use Rattle.histories.specs.Steps.{board_steps}
 use Rattle.delay_report.proofs.WalkLaws.{all-more}
 use Rattle.delay_report.proofs.steps.all_steps.Goals as goal

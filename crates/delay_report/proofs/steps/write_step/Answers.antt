@@ -1,7 +1,7 @@
-use Rattle.std.proofs.Common.{◌≡◌, ◌+◌, ◌<◌, ◌∷◌, [], length, get_or, set, sym, ap, ◌∙◌, subst, arith, OnOk}
+use Rattle.std.proofs.Common.{◌+◌, ◌<◌, ◌∷◌, [], length, get_or, set, sym, ap, ◌∙◌, subst, arith, OnOk}
 use Rattle.delay_report.specs.Walks.{link_of}
 use Rattle.delay_report.specs.Written.{Adds}
-use Rattle.delay_report.proofs.WalkLaws.{below, in-taken, made-few, made-is, published-record, read-record, stands-published, stands-read, taken-few, taken-is}
+use Rattle.delay_report.proofs.WalkLaws.{below, in-taken, made-few, made-is, published-record, stands-published, stands-read, taken-few, taken-is}
 use Rattle.delay_report.proofs.WrittenLaws.{on-ok}
 use Rattle.delay_report.proofs.steps.write_step.Goals as goal
 

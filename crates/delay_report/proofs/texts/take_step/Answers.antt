@@ -1,8 +1,6 @@
-use Rattle.std.proofs.Common.{◌≡◌, ℕ, List, [], ◌∷◌, Some, refl, sym, ap, ◌∙◌, subst}
+use Rattle.std.proofs.Common.{ℕ, List, [], ◌∷◌, Some, refl, sym, ap, ◌∙◌, subst}
 use Rattle.std.proofs.lemmas.Result.{err_from_is_err_and}
-use Rattle.csv.specs.Records.{fields_of}
 use Rattle.histories.specs.Progress.{HasCome}
-use Rattle.delay_report.specs.Entries.{steps_of}
 use Rattle.delay_report.specs.Steps.{steps_if}
 use Rattle.delay_report.proofs.texts.take_step.Goals as goal
 

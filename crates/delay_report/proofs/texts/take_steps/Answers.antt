@@ -1,7 +1,7 @@
-use Rattle.std.proofs.Common.{◌≡◌, ◌∷◌, arith}
+use Rattle.std.proofs.Common.{arith}
 use Rattle.std.proofs.lemmas.Result.{err_from_is_err_and}
 use Rattle.record_text.proofs.RecordLaws.{found-one}
-use Rattle.delay_report.proofs.TextLaws.{fault-here, under-all, under-at, under-few, under-more, under-none}
+use Rattle.delay_report.proofs.TextLaws.{fault-here, under-at, under-few, under-more, under-none}
 use Rattle.delay_report.proofs.texts.take_steps.Goals as goal
 
 pub loop-number-init : goal.loop-number-init
