@@ -102,8 +102,7 @@ drained-some initial places place row out rising d inside there =
 -- taking a row away keeps the span
 pub placed-less : (places : List (Option Row)) (first end k : ℕ) → ArePlaced places first end → k < length places → ArePlaced (set places k None) first end
 placed-less places first end k placed inside = record {
-  count = length-set places k None ∙ placed.count;
-  within = placed.within;
+  within = subst (λ n. end ≤ n) (sym (length-set places k None)) placed.within;
   below = λ j h. elim (cases_eq j k) [ inl e ↦ get_or-set_at places k j None None e inside | inr other ↦ get_or-set_other places k j None None other ∙ placed.below j h ];
   above = λ j h. elim (cases_eq j k) [ inl e ↦ get_or-set_at places k j None None e inside | inr other ↦ get_or-set_other places k j None None other ∙ placed.above j h ];
 }

@@ -35,17 +35,17 @@ impl Reached {
     ghost use Rattle.flat_table.specs.Groups.{AreJoined, AreReachedBy, IsEmpty, IsSource};
     ghost use Rattle.flat_table.specs.Rows.{AreBestOf, AreLater, AreRisingPlaces, AreUpTo, IsOffered, time_of};
 
-    /// Nothing is reached. An `Err` comes where memory runs out.
+    /// Nothing is reached.
     ///
     /// docs/RULES.md, "Table".
-    pub fn new(alloc: Global) -> Result<Reached, AllocError>
-        ensures { IfOk result IsEmpty }
+    pub fn new(alloc: Global) -> Reached
+        ensures { IsEmpty result }
     {
-        Ok(Reached {
-            greens: Greens::new(alloc)?,
+        Reached {
+            greens: Greens::new(alloc),
             fresh: Vec::new(alloc),
             kept: Vec::new(alloc),
-        })
+        }
     }
 
     /// Takes in all that is reached from rows by a cluster of a phase, which is the next one behind each of them, and is
@@ -91,8 +91,7 @@ impl Reached {
         if served.kept {
             push_row(&mut self.kept, row)
         } else {
-            self.greens.offer(served.start - cluster.arr, row);
-            Ok(())
+            self.greens.offer(served.start - cluster.arr, row)
         }
     }
 

@@ -28,7 +28,7 @@ pub(crate) fn table<L: Ledger>(
     ensures servings { (keys : List Key) → HasKeysWithin i.now limit keys → steps.new ≤ steps.old + length i.now.plan * length keys }
 {
     let last = list_lengths(i);
-    let mut reached = Reached::new(alloc)?;
+    let mut reached = Reached::new(alloc);
     let mut rows = Vec::new(alloc);
     rows.push(first_row(i))?;
     let mut counts = [0; 4];

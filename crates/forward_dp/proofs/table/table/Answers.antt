@@ -12,7 +12,7 @@ loop-next-init g c = record {
   table = subst (IsTable c.args.i.now c.args.limit 4) (sym c.in_ok-push.ensures.items) (subst (λ xs. IsTable c.args.i.now c.args.limit 4 (xs ++ c.first_row.result ∷ [])) (sym c.new-rows.ensures.items) (table-first c.args.i.now c.args.limit c.first_row.ensures.instance c.requires c.first_row.result c.first_row.ensures.row));
   ends = ends-start (length c.args.i.now.plan) _;
   within = λ k. omega (arith, none-counted k);
-  empty = c.in_ok-reached.ensures;
+  empty = c.new-reached.ensures;
   cost = omega arith;
 }
 

@@ -10,7 +10,7 @@ pub loop-wait-preserved : goal.loop-wait-preserved
 loop-wait-preserved c =
     let places = c.loop-wait.self-inside.rows.items in
     let wait = c.loop-wait.wait in
-    let inside : wait < length places = omega (arith, c.loop-wait-test.true, c.loop-wait.invariant.end, c.loop-wait.invariant.placed.within, c.loop-wait.invariant.placed.count) in
+    let inside : wait < length places = omega (arith, c.loop-wait-test.true, c.loop-wait.invariant.end, c.loop-wait.invariant.placed.within) in
     let read : row_in places wait ≡ c.index.result.now = get_or_default places wait None c.index.result.now inside ∙ sym c.index.ensures in
     elim c.match-index.branch [
       | in-Some+in_ok-push w ↦

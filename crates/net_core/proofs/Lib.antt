@@ -1,0 +1,13 @@
+pub mod Along
+pub mod Over
+pub mod Playing
+pub mod Prefixes
+pub mod Put
+pub mod Queues
+pub mod Rounds
+pub mod Running
+pub mod Standing
+pub mod Starting
+pub mod Steps
+pub mod Turns
+pub mod Wanting
