@@ -54,10 +54,24 @@ pub(crate) fn play_all<P: Planner + Send, R: Threads + Wait + Sync, G: Gate + Sy
         );
     }
     let middle = passes.len() / 2;
-    let (a, b) = passes.split_at_mut(middle);
-    let (c, d) = actors.split_at_mut(middle);
-    let (e, f) = planners.split_at_mut(middle);
-    play_both(rt, alloc, net, world, boards, round, gate, c, d, e, f, a, b)
+    let (front_passes, back_passes) = passes.split_at_mut(middle);
+    let (front_actors, back_actors) = actors.split_at_mut(middle);
+    let (front_planners, back_planners) = planners.split_at_mut(middle);
+    play_both(
+        rt,
+        alloc,
+        net,
+        world,
+        boards,
+        round,
+        gate,
+        front_actors,
+        back_actors,
+        front_planners,
+        back_planners,
+        front_passes,
+        back_passes,
+    )
 }
 
 /// Two halves of the nodes play a round at once.
@@ -70,28 +84,54 @@ fn play_both<P: Planner + Send, R: Threads + Wait + Sync, G: Gate + Sync>(
     boards: &Boards,
     round: u32,
     gate: &G,
-    c: &mut [Actor],
-    d: &mut [Actor],
-    e: &mut [P],
-    f: &mut [P],
-    a: &mut [Pass],
-    b: &mut [Pass],
+    front_actors: &mut [Actor],
+    back_actors: &mut [Actor],
+    front_planners: &mut [P],
+    back_planners: &mut [P],
+    front_passes: &mut [Pass],
+    back_passes: &mut [Pass],
 ) -> Result<(), AllocError>
     requires links { boards.now.links ≡ length net.now.link_names }
-    requires front { CanAllPlay net.now round world.now boards.now (length e.old) c.old a.old }
-    requires back { CanAllPlay net.now round world.now boards.now (length f.old) d.old b.old }
-    ensures front { OnOk result (HaveAllPlayed net.now round world.now c.old c.new a.old a.new) }
-    ensures back { OnOk result (HaveAllPlayed net.now round world.now d.old d.new b.old b.new) }
-    ensures same { AreSamePasses a.old a.new × AreSamePasses b.old b.new }
+    requires front { CanAllPlay net.now round world.now boards.now (length front_planners.old) front_actors.old front_passes.old }
+    requires back { CanAllPlay net.now round world.now boards.now (length back_planners.old) back_actors.old back_passes.old }
+    ensures front { OnOk result (HaveAllPlayed net.now round world.now front_actors.old front_actors.new front_passes.old front_passes.new) }
+    ensures back { OnOk result (HaveAllPlayed net.now round world.now back_actors.old back_actors.new back_passes.old back_passes.new) }
+    ensures same { AreSamePasses front_passes.old front_passes.new × AreSamePasses back_passes.old back_passes.new }
 {
     let mut front = || -> Result<(), AllocError>
-        requires { IsSend P.row × IsSync R.row × IsSync G.row × (boards.now.links ≡ length net.now.link_names) × CanAllPlay net.now round world.now boards.now (length e.now) c.now a.now }
-        ensures { OnOk result (HaveAllPlayed net.entry.now round world.entry.now c.entry.now c.exit.now a.entry.now a.exit.now) × AreSamePasses a.entry.now a.exit.now }
-    { play_all(rt, alloc, net, world, boards, round, gate, c, e, a) };
+        requires { IsSend P.row × IsSync R.row × IsSync G.row × (boards.now.links ≡ length net.now.link_names) × CanAllPlay net.now round world.now boards.now (length front_planners.now) front_actors.now front_passes.now }
+        ensures { OnOk result (HaveAllPlayed net.entry.now round world.entry.now front_actors.entry.now front_actors.exit.now front_passes.entry.now front_passes.exit.now) × AreSamePasses front_passes.entry.now front_passes.exit.now }
+    {
+        play_all(
+            rt,
+            alloc,
+            net,
+            world,
+            boards,
+            round,
+            gate,
+            front_actors,
+            front_planners,
+            front_passes,
+        )
+    };
     let mut back = || -> Result<(), AllocError>
-        requires { IsSend P.row × IsSync R.row × IsSync G.row × (boards.now.links ≡ length net.now.link_names) × CanAllPlay net.now round world.now boards.now (length f.now) d.now b.now }
-        ensures { OnOk result (HaveAllPlayed net.entry.now round world.entry.now d.entry.now d.exit.now b.entry.now b.exit.now) × AreSamePasses b.entry.now b.exit.now }
-    { play_all(rt, alloc, net, world, boards, round, gate, d, f, b) };
+        requires { IsSend P.row × IsSync R.row × IsSync G.row × (boards.now.links ≡ length net.now.link_names) × CanAllPlay net.now round world.now boards.now (length back_planners.now) back_actors.now back_passes.now }
+        ensures { OnOk result (HaveAllPlayed net.entry.now round world.entry.now back_actors.entry.now back_actors.exit.now back_passes.entry.now back_passes.exit.now) × AreSamePasses back_passes.entry.now back_passes.exit.now }
+    {
+        play_all(
+            rt,
+            alloc,
+            net,
+            world,
+            boards,
+            round,
+            gate,
+            back_actors,
+            back_planners,
+            back_passes,
+        )
+    };
     let (first, second) = join_mut(rt, &mut front, &mut back);
     first?;
     second
