@@ -15,7 +15,7 @@ use Rattle.net_simulator.specs.Worlds.{Kept, Stands}
 use Rattle.runs.specs.Runs.{AllCommit, IsRunBy, line_before, shown_by}
 use Rattle.runs.specs.declared.records.RunRecord.{RunRecord}
 use Rattle.runs.proofs.Past.{map-range-same}
-use Rattle.ended_runs.specs.Ending.{IsRecordOf, lines_in, records_in, round_by_round}
+use Rattle.ended_runs.specs.Ending.{IsRecordOf, records_in, round_by_round}
 use Rattle.ended_runs.proofs.Queues.{columns, map-by}
 
 module _ (net : Net) (arrivals : Amounts) (heard : ℕ → ℕ → List Heard) (made : ℕ → ℕ → Commitment) (actors : List Acting) (world : Kept) where
