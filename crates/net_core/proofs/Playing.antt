@@ -25,9 +25,10 @@ use Rattle.road_net.specs.Network.{IsNetwork, exit_links, heard_links, told_link
 use Rattle.road_net.specs.declared.senses.Sensed.{Sensed}
 use Rattle.runs.specs.Runs.{Commits, line_before, sensed_in}
 use Rattle.runs.proofs.Agree.{SameBefore, commit-moved, commits-moved, lines-same, sensed-same}
-use Rattle.runs.proofs.Past.{map-range-same}
 use Rattle.runs.proofs.PlanLaws.{used-links}
-use Rattle.net_core.specs.Going.{Hears, Plays, Rests, Tells, records_of, telling_first}
+use Rattle.round_calls.specs.Resting.{Rests, records_of}
+use Rattle.round_calls.proofs.Resting.{records-same}
+use Rattle.net_core.specs.Going.{Hears, Plays, Tells, telling_first}
 use Rattle.net_core.proofs.Put.{put, put-here, put-round}
 
 -- the first of some links from a number on
@@ -36,9 +37,6 @@ find-from v [] zero low high = refl
 find-from v [] (suc j) low high = refl
 find-from v (x ∷ xs) zero low high = ap (λ b. telling (cond b (Some x) (find (λ k. nat_le v k) xs))) (le-leb v x (high 0 (omega arith) (omega arith)))
 find-from v (x ∷ xs) (suc j) low high = ap (λ b. telling (cond b (Some x) (find (λ k. nat_le v k) xs))) (lt-leb v x (low 0 (omega arith) (omega arith))) ∙ find-from v xs j (λ i less inside. low (suc i) (omega arith) (omega arith)) (λ i more inside. high (suc i) (omega arith) (omega arith))
-
-records-same : (heard seen : ℕ → ℕ → List Heard) (made other : ℕ → ℕ → Commitment) (n r : ℕ) → ((s : ℕ) → s < r → heard s n ≡ seen s n) → ((s : ℕ) → s < r → made s n ≡ other s n) → records_of heard made n r ≡ records_of seen other n r
-records-same heard seen made other n r h m = map-range-same (λ s. record_of n s (heard s n) (made s n)) (λ s. record_of n s (seen s n) (other s n)) 0 r (λ s least less. ap (λ (x : List Heard). record_of n s x (made s n)) (h s (omega arith)) ∙ ap (record_of n s (seen s n)) (m s (omega arith)))
 
 module _ (net : Net) (network : IsNetwork net) (arrivals : Amounts) (heard seen : ℕ → ℕ → List Heard) (made other : ℕ → ℕ → Commitment) (round n : ℕ) (below : n < length net.node_names)
     (before : SameBefore net network arrivals made other round) (h : (s : ℕ) → s ≤ round → heard s n ≡ seen s n) (m : (s : ℕ) → s ≤ round → made s n ≡ other s n) where

@@ -23,8 +23,10 @@ use Rattle.outflow.specs.Outflow.{departures, forecast_of}
 use Rattle.road_net.specs.Network.{IsNetwork, heard_links, told_links}
 use Rattle.runs.specs.Runs.{line_before}
 use Rattle.runs.proofs.Heard.{heard-ends}
+use Rattle.round_calls.specs.Resting.{Rests, lines_of}
+use Rattle.round_calls.proofs.Resting.{no_acting}
 use Rattle.net_core.specs.Acts.{Settles}
-use Rattle.net_core.specs.Going.{AllDone, AreBeginning, AreInRound, Begins, Between, InRound, Plays, Rests, Wants, lines_of, telling_first}
+use Rattle.net_core.specs.Going.{AllDone, AreBeginning, AreInRound, Begins, Between, InRound, Plays, Wants, telling_first}
 use Rattle.net_core.specs.declared.parts.Board.{Board}
 use Rattle.net_core.specs.declared.parts.Parts.{Parts}
 use Rattle.net_core.proofs.Playing.{told-ends}
@@ -35,10 +37,6 @@ use Rattle.net_core.proofs.Steps.{over-before, read-next, reading-next, round-ov
 -- an element, whatever the default
 pub at-any : {X : Type 0} (xs : List X) (n : ℕ) (x : X) → n < length xs → x ≡ get_or xs n x → (d : X) → get_or xs n d ≡ x
 at-any xs n x inside is d = get_or_default xs n d x inside ∙ sym is
-
--- some actor, to read a list by
-abbrev pub no_acting : Acting
-no_acting = record { node = 0; line = []; records = []; want = Done; round = 0; left = []; sensed = record { now = 0; links = [] }; heard = []; window = record { lists = []; waiting = 0 }; phases = []; served = [] }
 
 on-three : {E A B C D : Type 0} (r : Result (Unit {0}) E) → (A → B → C → D) → OnOk r A → OnOk r B → OnOk r C → OnOk r D
 on-three (Ok u) f a b c = f a b c

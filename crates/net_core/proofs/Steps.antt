@@ -2,7 +2,6 @@
 use Rattle.std.proofs.Common.{◌≡◌, ℕ, suc, ◌+◌, ◌-◌, ◌*◌, ◌<◌, ◌≤◌, Bool, true, false, List, [], ◌∷◌, ◌++◌, length, map, drop, get_or, set, refl, sym, ap, subst, ◌∙◌, inl, inr, arith, append_assoc, length-set, get_or-set_same, get_or-set_other}
 use Rattle.std.proofs.lemmas.Bool.{cases_eq, cases_lt}
 use Rattle.std.proofs.lemmas.List.{drop_all, drop_more, get_or-append_right, get_or-map, length-map, length-drop}
-use Rattle.std.proofs.lemmas.Nat.{div_below}
 use Rattle.arrivals.specs.Amounts.{Amounts}
 use Rattle.board_model.specs.declared.boards.Heard.{Heard}
 use Rattle.board_model.specs.declared.forecasts.Row.{Row}
@@ -29,16 +28,16 @@ use Rattle.switch_rules.specs.declared.Served.{Served}
 use Rattle.runs.specs.Runs.{AllCommit, Commits, forecast_at, hearing, line_before, shown_by, told_in}
 use Rattle.runs.proofs.Agree.{SameBefore}
 use Rattle.runs.proofs.Heard.{heard-ends}
-use Rattle.runs.proofs.Keep.{all-keep}
-use Rattle.runs.proofs.Lines.{shows}
 use Rattle.runs.proofs.Places.{first-small}
+use Rattle.round_calls.specs.Resting.{lines_of}
+use Rattle.round_calls.proofs.Resting.{before-shows, stands-same}
 use Rattle.net_core.specs.Acts.{Settles}
-use Rattle.net_core.specs.Going.{AllDone, Between, Hears, InRound, IsRunning, Plays, Tells, lines_of, telling_first}
+use Rattle.net_core.specs.Going.{AllDone, Between, Hears, InRound, IsRunning, Plays, Tells, telling_first}
 use Rattle.net_core.specs.declared.parts.Board.{Board}
 use Rattle.net_core.proofs.Playing.{Listens, commits-on, listens-on, plays-moved, tells-on, told-ends, took}
 use Rattle.net_core.proofs.Prefixes.{Begun}
 use Rattle.net_core.proofs.Put.{put, put-node, put-round}
-use Rattle.net_core.proofs.Running.{commit-on, read-on, stands-same, tell-on}
+use Rattle.net_core.proofs.Running.{commit-on, read-on, tell-on}
 
 -- what wants are
 is_read : Want → Bool
@@ -313,7 +312,7 @@ module _ (net : Net) (network : IsNetwork net) (arrivals : Amounts) (history : L
     lines-show : Acting → (x n : ℕ) → x < (round + 1) * net.run.step → n < length net.node_names → standing (lines_of actors n) x ≡ shown_by net i.made x n
     lines-show d x n less below =
         ap (λ (l : List Green). standing l x) (line-is n d below)
-        ∙ shows net network i.made (round + 1) (all-keep net network arrivals i.heard i.made (round + 1) (let z = i.below in omega arith) (over-commits d)) (round + 1) (omega arith) x n below (div_below x net.run.step (round + 1) network.outline.run.step.0 less)
+        ∙ before-shows net network arrivals (round + 1) i.heard i.made (let z = i.below in omega arith) (over-commits d) x n less below
 
     pub over-before : Acting → Stands net (arriving_of arrivals) (standing_by (lines_of actors)) world
     over-before d = stands-same net network (arriving_of arrivals) (shown_by net i.made) (standing_by (lines_of actors)) world (λ x n less below. sym (lines-show d x n (earlier x less) below)) i.running.stands
