@@ -1,0 +1,10 @@
+pub mod Playing
+pub mod Prefixes
+pub mod Put
+pub mod Rounds
+pub mod Running
+pub mod Standing
+pub mod Starting
+pub mod Steps
+pub mod Turns
+pub mod Wanting

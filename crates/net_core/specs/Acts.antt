@@ -1,0 +1,14 @@
+-- What one node does: it begins a round, reads, and publishes; and it commits as soon as it has read all.
+use Rattle.std.specs.Prelude.{◌≡◌}
+use Rattle.intersection_actor.specs.Acting.{Acting}
+use Rattle.intersection_actor.specs.Rounds.{IsCommitted, KeepsPast}
+use Rattle.intersection_actor.specs.declared.records.Want.{Want}
+use Rattle.intersection_actor.specs.declared.records.Want.TheVariants.{Read, Commit, Publish, Done}
+use Rattle.net_numbers.specs.Numbers.{Net}
+
+-- a node that wants this commits at once where it has read all, and else stays as it is
+abbrev pub Settles : Net → Want → Acting → Acting → Type 0
+Settles net (Read link) old new = new ≡ old
+Settles net Commit old new = IsCommitted net old new × KeepsPast net old new
+Settles net (Publish link) old new = new ≡ old
+Settles net Done old new = new ≡ old

@@ -1,0 +1,162 @@
+//! A run under way.
+use crate::faults::StepFault;
+use crate::loops::{begin_round, go_on, is_done, play};
+use crate::making::parts_of;
+use crate::parts::Parts;
+use arrivals::Arrivals;
+use foundation::threads::CrossesThreads;
+use intersection_actor::Want;
+use road_net::Network;
+use schedule_meaning::Planner;
+use std::alloc::{AllocError, Global};
+use std::marker::Model;
+
+/// A run under way: the nodes of a network do their board steps one after another, in any order, and each plans as soon as it has
+/// read all. Contracts see the network, the arrivals, the nodes that have done steps, and whether the core is spent.
+///
+/// docs/RULES.md, "Core".
+#[derive(Drop)]
+pub struct Core<'a> {
+    net: &'a Network,
+    arrivals: &'a Arrivals,
+    parts: Parts,
+    /// Whether an earlier step ran out of memory.
+    spent: bool,
+}
+
+impl<'a> Model for Core<'a> {
+    ghost use Rattle.net_core.specs.Cores.{Course};
+
+    ghost Value = { Course };
+
+    ghost use Rattle.net_core.specs.Going.{IsSound};
+
+    ghost view = { λ core. record { net = core.net.now; arrivals = core.arrivals.now; steps = core.parts.history.items; spent = core.spent } };
+
+    ghost invariant = { λ core. IsSound core.net.now core.arrivals.now core.parts core.spent };
+}
+
+impl<'a> CrossesThreads for Core<'a> {}
+
+impl<'a> Core<'a> {
+    ghost use Rattle.std.specs.Prelude.{◌≡◌, ◌↔◌, ◌+◌, ◌<◌, ◌++◌, ◌∷◌, [], true, false, IsTrue, IfOk, IfErr, OnOk, length};
+    ghost use Rattle.arrivals.specs.Amounts.{AreArrivals};
+    ghost use Rattle.histories.specs.Histories.{IsLawful};
+    ghost use Rattle.net_core.specs.Cores.{IsStepFault, IsWanted, MayStep, Stays};
+
+    /// Begins a run: the nodes begin the first round, and rounds in which no node has a board step run at once. The arrivals are
+    /// those of the network.
+    ///
+    /// An `Err` comes only where memory runs out.
+    ///
+    /// docs/RULES.md, "Core".
+    pub fn start<P: Planner>(
+        alloc: Global,
+        net: &'a Network,
+        arrivals: &'a Arrivals,
+        planner: &mut P,
+    ) -> Result<Core<'a>, AllocError>
+        requires { AreArrivals net.now arrivals.now }
+        ensures { IfOk result (λ core. core ≡ record { net = net.now; arrivals = arrivals.now; steps = []; spent = false }) }
+    {
+        let mut parts = parts_of(alloc, net)?;
+        begin_round(alloc, net, arrivals, &mut parts, planner)?;
+        go_on(alloc, net, arrivals, &mut parts, planner)?;
+        Ok(Core {
+            net,
+            arrivals,
+            parts,
+            spent: false,
+        })
+    }
+
+    /// The nodes that have done board steps, one after another.
+    ///
+    /// docs/RULES.md, "Core".
+    pub fn steps(&self) -> &[u32]
+        ensures { result.now ≡ self.now.steps }
+    {
+        self.parts.history.as_slice()
+    }
+
+    /// What a node wants to do next: nothing, where it has done its steps of this round, where all rounds are done, or where the
+    /// core is spent.
+    ///
+    /// docs/RULES.md, "Core".
+    pub fn wants(&self, node: u32) -> Want
+        requires { node < length self.now.net.node_names }
+        ensures spent { self.now.spent ≡ true → result ≡ Want.Done }
+        ensures next { self.now.spent ≡ false → IsWanted self.now.net self.now.steps node result }
+    {
+        if self.spent {
+            return Want::Done;
+        }
+        self.wanted(node)
+    }
+
+    /// What a node wants, where the core is not spent.
+    fn wanted(&self, node: u32) -> Want
+        requires node { node < length self.now.net.node_names }
+        requires spent { self.now.spent ≡ false }
+        ensures { IsWanted self.now.net self.now.steps node result }
+    {
+        let _ = self.net.nodes();
+        self.parts.actors.all[node as usize].want()
+    }
+
+    /// Whether all rounds are done.
+    ///
+    /// docs/RULES.md, "Core".
+    pub fn is_over(&self) -> bool
+        ensures { IsTrue result ↔ ((self.now.spent ≡ false) × IsLawful self.now.net self.now.steps) }
+    {
+        let rounds = self.net.run().rounds;
+        !self.spent && self.parts.round == rounds
+    }
+
+    /// A node does its next board step, with its own work behind it: once it has read all, it plans. Rounds that are over then end,
+    /// and the next ones begin.
+    ///
+    /// The first of `UnknownNode`, `Spent`, `Over` and `NotItsTurn` that holds is answered, takes no memory and leaves the core as it
+    /// was. `NoMemory` comes only where none of them holds, and leaves the core spent, with its steps as they were.
+    ///
+    /// docs/RULES.md, "Core".
+    pub fn step<P: Planner>(
+        &mut self,
+        alloc: Global,
+        node: u32,
+        planner: &mut P,
+    ) -> Result<(), StepFault>
+        ensures ok { OnOk result (self.new ≡ record self.old { steps = self.old.steps ++ node ∷ [] }) }
+        ensures may { OnOk result (MayStep self.old node) }
+        ensures fault { IfErr result (IsStepFault self.old node) }
+        ensures refused { IfErr result (Stays self.old self.new) }
+    {
+        if node >= self.net.nodes() {
+            return Err(StepFault::UnknownNode);
+        }
+        if self.spent {
+            return Err(StepFault::Spent);
+        }
+        if self.parts.round == self.net.run().rounds {
+            return Err(StepFault::Over);
+        }
+        if is_done(self.parts.actors.all[node as usize].want()) {
+            return Err(StepFault::NotItsTurn);
+        }
+        match play(
+            alloc,
+            self.net,
+            self.arrivals,
+            node,
+            &mut self.parts,
+            planner,
+        ) {
+            Ok(()) => Ok(()),
+            Err(AllocError) => {
+                self.spent = true;
+                Err(StepFault::NoMemory)
+            }
+        }
+    }
+}
