@@ -15,6 +15,7 @@ use std::alloc::{AllocError, Global};
 use std::test::Fail;
 
 /// A run that is asked for: how many rounds, what enters, and the nodes that act.
+#[derive(Clone, Copy)]
 pub(crate) struct Asked<'a> {
     pub(crate) rounds: &'a str,
     pub(crate) arrivals: &'a str,

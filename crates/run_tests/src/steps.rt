@@ -36,6 +36,7 @@ const SPENT: &[(&str, &str)] = &[
 ];
 
 /// A planner that finds no memory.
+#[derive(Clone, Copy)]
 struct NoMemory;
 
 impl Planner for NoMemory {
@@ -84,10 +85,10 @@ fn stepped<P: Planner>(
     for name in nodes.bytes() {
         last = core.step(alloc, node_of(name), planner);
     }
-    let mut wants = Vec::new(alloc);
-    for node in 0..net.nodes() {
-        wants.push(core.wants(node))?;
+    if net.nodes() != 2 {
+        return Err(AllocError);
     }
+    let wants = [core.wants(0), core.wants(1)];
     let count = core.steps().len();
     let is_over = core.is_over();
     format!(in alloc; "{last:?} {wants:?} {count} {is_over}")
