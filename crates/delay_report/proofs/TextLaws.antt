@@ -17,7 +17,7 @@ use Rattle.delay_report.specs.declared.faults.HistoryFault.{HistoryFault}
 use Rattle.delay_report.specs.declared.faults.HistoryFault.TheVariants.{NoMemory, Header, Row, Node, Extra, Turn, Short}
 use Rattle.delay_report.specs.Entries.{header, steps_by, steps_of, told_of}
 use Rattle.delay_report.specs.Faults.{AreFaulty, HasFaultBehind, IsAtExtra, IsAtNode, IsAtRow, IsAtTurn, IsFirst, IsRecordFault, Refuses}
-use Rattle.delay_report.specs.Steps.{AreAllTaken, AreTaken, IsEntryFault}
+use Rattle.delay_report.specs.Taken.{AreAllTaken, AreTaken, IsEntryFault}
 use Rattle.delay_report.specs.Texts.{AreHistoryRecords}
 
 -- The records that were read, the steps that they tell, and how far these have come.

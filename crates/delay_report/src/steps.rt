@@ -45,7 +45,7 @@ pub(crate) fn write_steps(
     Ok(())
 }
 
-/// Nobody has come far before the first step.
+/// Where all stand before the first step.
 fn begin(alloc: Global, net: &Network, nodes: &[u32]) -> Result<Walk, AllocError>
     ensures { IfOk result (λ walk. StandsAt net.now nodes.now 0 walk) }
 {

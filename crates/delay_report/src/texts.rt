@@ -7,7 +7,7 @@ ghost use Rattle.record_text.specs.Reading.{IsReading, left_of};
 ghost use Rattle.road_net.specs.Network.{IsNetwork};
 ghost use Rattle.delay_report.specs.Entries.{header};
 ghost use Rattle.delay_report.specs.Faults.{AreFaulty, IsTextFault, Refuses};
-ghost use Rattle.delay_report.specs.Steps.{AreAllTaken, AreTaken, IsEntryFault};
+ghost use Rattle.delay_report.specs.Taken.{AreAllTaken, AreTaken, IsEntryFault};
 ghost use Rattle.delay_report.specs.Texts.{AreHistoryRecords, IsHistoryText};
 
 use crate::entries::{is_header, read_step};

@@ -3,9 +3,8 @@ ghost use Rattle.std.specs.Prelude.{IfOk};
 ghost use Rattle.arrivals.specs.Amounts.{AreArrivals};
 
 use arrivals::{Arrivals, read_arrivals};
-use histories::History;
 use road_net::{Network, read_network};
-use std::alloc::{AllocError, Global};
+use std::alloc::Global;
 use std::test::Fail;
 
 /// The network file.
@@ -121,18 +120,4 @@ pub(crate) fn arrivals(alloc: Global, net: &Network, text: &str) -> Result<Arriv
         Ok(arrivals) => Ok(arrivals),
         Err(_) => Err("no arrivals".into()),
     }
-}
-
-/// The number of a node of these names: `a` is 0.
-pub(crate) fn node_of(name: u8) -> u32 {
-    u32::from(name.wrapping_sub(b'a'))
-}
-
-/// The history of these nodes.
-pub(crate) fn history(alloc: Global, nodes: &str) -> Result<History, AllocError> {
-    let mut steps = Vec::new(alloc);
-    for name in nodes.bytes() {
-        steps.push(node_of(name))?;
-    }
-    Ok(History::new(steps))
 }

@@ -1,7 +1,8 @@
 //! Many orders of board steps, and what is planned in each.
+use crate::files::HEADER;
 use crate::networks::MANY;
-use crate::reports::{Asked, By, report};
-use std::alloc::Global;
+use crate::played::replayed;
+use std::alloc::{AllocError, Global};
 use std::test::Fail;
 
 /// The nodes that act, one after another, and the plans: round, node, used, and the answer with its delay and order. These were computed
@@ -253,30 +254,34 @@ const ORDERS: &[(&str, &str)] = &[
 fn orders(rt: HostRuntime) -> Result<(), Fail> {
     let alloc = rt.alloc();
     for &(nodes, plans) in ORDERS {
-        for by in [By::Run, By::Steps] {
-            let found = plans_in(alloc, nodes, by)?;
-            assert_eq!(rt; found.as_str(), plans);
-        }
+        let found = plans_in(alloc, nodes)?;
+        assert_eq!(rt; found.as_str(), plans);
     }
     Ok(())
 }
 
 /// What is planned when the nodes act in this order.
-fn plans_in(alloc: Global, nodes: &str, by: By) -> Result<String, Fail> {
-    let asked = Asked {
-        rounds: "4",
-        arrivals: MANY,
-        nodes,
-    };
-    let report = report(alloc, &asked, by)?;
+fn plans_in(alloc: Global, nodes: &str) -> Result<String, Fail> {
+    let file = file_of(alloc, nodes)?;
+    let report = replayed(alloc, "4", MANY, file.as_str())?;
     match str::from_utf8(report.as_slice()) {
-        Ok(text) => plans_of(alloc, text),
+        Ok(text) => Ok(plans_of(alloc, text)?),
         Err(_) => Err("no text".into()),
     }
 }
 
+/// The file of a history in which these nodes act.
+fn file_of(alloc: Global, nodes: &str) -> Result<String, AllocError> {
+    let mut file = String::new(alloc);
+    file.push_str(HEADER)?;
+    for name in nodes.chars() {
+        write!(file, "step,,{name},,,,\n")?;
+    }
+    Ok(file)
+}
+
 /// The records of plans in a report.
-fn plans_of(alloc: Global, report: &str) -> Result<String, Fail> {
+fn plans_of(alloc: Global, report: &str) -> Result<String, AllocError> {
     let mut plans = String::new(alloc);
     for line in report.split('\n') {
         if let Some(plan) = line.strip_prefix("plan,") {

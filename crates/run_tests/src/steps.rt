@@ -4,7 +4,7 @@ ghost use Rattle.arrivals.specs.Amounts.{AreArrivals};
 ghost use Rattle.schedule_meaning.specs.Best.{IsBest, IsLeast};
 ghost use Rattle.schedule_meaning.specs.declared.planners.Answer.{Answer};
 
-use crate::networks::{ONE, arrivals, network, node_of};
+use crate::networks::{ONE, arrivals, network};
 use arrivals::Arrivals;
 use forward_dp::LayerPlanner;
 use foundation::steps::Steps;
@@ -92,4 +92,9 @@ fn stepped<P: Planner>(
     let count = core.steps().len();
     let is_over = core.is_over();
     format!(in alloc; "{last:?} {wants:?} {count} {is_over}")
+}
+
+/// The number of a node of these names: `a` is 0.
+fn node_of(name: u8) -> u32 {
+    u32::from(name.wrapping_sub(b'a'))
 }

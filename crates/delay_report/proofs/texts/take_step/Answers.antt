@@ -1,7 +1,7 @@
 use Rattle.std.proofs.Common.{ℕ, List, [], ◌∷◌, Some, refl, sym, ap, ◌∙◌, subst}
 use Rattle.std.proofs.lemmas.Result.{err_from_is_err_and}
 use Rattle.histories.specs.Progress.{HasCome}
-use Rattle.delay_report.specs.Steps.{steps_if}
+use Rattle.delay_report.specs.Taken.{steps_if}
 use Rattle.delay_report.proofs.texts.take_step.Goals as goal
 
 pub returns-in_err-node-clause-first : goal.returns-in_err-node-clause-first
