@@ -113,7 +113,7 @@ module _ (net : Net) (network : IsNetwork net) (arrivals : Amounts) (p : Parts) 
       -- it is not about to commit
       pub no-commit : (old : Acting) → old ≡ get_or p.actors.all.items n old → old.want ≡ Commit → ⊥
       no-commit old is want = elim (plays-at old is).stage [
-        | inl x ↦ (let e : Read (get_or (heard_links net n) c 0) ≡ Commit = sym (reading-next (heard_links net n) c x.more) ∙ sym x.want ∙ want in cc)
+        | inl x ↦ (let e : Read (get_or (heard_links net n) c 0) ≡ Commit = sym (reading-next (heard_links net n) c x.more) ∙ sym x.listens.want ∙ want in cc)
         | inr x ↦ not-commit (drop (c - length (heard_links net n)) (told_links net n)) (sym x.want ∙ want)
       ]
 
@@ -121,7 +121,7 @@ module _ (net : Net) (network : IsNetwork net) (arrivals : Amounts) (p : Parts) 
       read-there link wants = elim (i.plays n no_acting below).stage [
         | inr x ↦ absurd (not-read link (drop (c - length (heard_links net n)) (told_links net n)) (sym x.want ∙ wants no_acting))
         | inl x ↦
-            let e : Read (get_or (heard_links net n) c 0) ≡ Read link = sym (reading-next (heard_links net n) c x.more) ∙ sym x.want ∙ wants no_acting in
+            let e : Read (get_or (heard_links net n) c 0) ≡ Read link = sym (reading-next (heard_links net n) c x.more) ∙ sym x.listens.want ∙ wants no_acting in
             let same : get_or (heard_links net n) c 0 ≡ link = cc in
             let there = (heard-ends net n c network x.more).exists in
             omega (arith, same, there, network.outline.road_count, i.running.boards_are.all)
@@ -137,7 +137,7 @@ module _ (net : Net) (network : IsNetwork net) (arrivals : Amounts) (p : Parts) 
       -- it publishes the version of the round
       pub tell-there : (link : ℕ) → Wants p n (Publish link) → (link < length p.boards.items) × ((b : Board) → b ≡ get_or p.boards.items link b → b.version < 1000)
       tell-there link wants = elim (i.plays n no_acting below).stage [
-        | inl x ↦ absurd (let e : Read (get_or (heard_links net n) c 0) ≡ Publish link = sym (reading-next (heard_links net n) c x.more) ∙ sym x.want ∙ wants no_acting in cc)
+        | inl x ↦ absurd (let e : Read (get_or (heard_links net n) c 0) ≡ Publish link = sym (reading-next (heard_links net n) c x.more) ∙ sym x.listens.want ∙ wants no_acting in cc)
         | inr x ↦ elim (cases_lt (c - length (heard_links net n)) (length (told_links net n))) [
           | inr past ↦ absurd (let e : Done ≡ Publish link = sym (telling-none (told_links net n) (c - length (heard_links net n)) past) ∙ sym x.want ∙ wants no_acting in cc)
           | inl inside ↦

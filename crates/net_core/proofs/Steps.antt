@@ -32,9 +32,9 @@ use Rattle.runs.proofs.Places.{first-small}
 use Rattle.round_calls.specs.Resting.{lines_of}
 use Rattle.round_calls.proofs.Resting.{before-shows, stands-same}
 use Rattle.net_core.specs.Acts.{Settles}
-use Rattle.net_core.specs.Going.{AllDone, Between, Hears, InRound, IsRunning, Plays, Tells, telling_first}
+use Rattle.net_core.specs.Going.{AllDone, Between, Hears, InRound, IsRunning, Listens, Plays, Tells, telling_first}
 use Rattle.net_core.specs.declared.parts.Board.{Board}
-use Rattle.net_core.proofs.Playing.{Listens, commits-on, listens-on, plays-moved, tells-on, told-ends, took}
+use Rattle.net_core.proofs.Playing.{commits-on, listens-on, plays-moved, tells-on, told-ends, took}
 use Rattle.net_core.proofs.Prefixes.{Begun}
 use Rattle.net_core.proofs.Put.{put, put-node, put-round}
 use Rattle.net_core.proofs.Running.{commit-on, read-on, tell-on}
@@ -148,7 +148,7 @@ module _ (net : Net) (network : IsNetwork net) (arrivals : Amounts) (history : L
           (plays-moved net network arrivals i.heard seen i.made made round k inside before (λ s most. sym (put-node i.heard round n (i.heard round n ++ h ∷ []) s k other)) (λ s most. same s k other) (count k i.part) (get_or actors k d) (i.plays k d inside)))
 
       listens : Listens net arrivals seen i.made round (c + 1) n (with_heard h old)
-      listens = took net network arrivals i.heard i.made round n below c old h plays.node_is x
+      listens = took net network arrivals i.heard i.made round n below c old h x.listens
 
       built : (new : Acting) (made : ℕ → ℕ → Commitment) → SameBefore net network arrivals i.made made round → ((s k : ℕ) → (k ≡ n → ⊥) → i.made s k ≡ made s k) → IsRunning net arrivals seen made (history ++ n ∷ []) round boards world
           → Plays net arrivals seen made round (c + 1) n new → InRound net arrivals (history ++ n ∷ []) round (set actors n new) boards world
@@ -203,7 +203,7 @@ module _ (net : Net) (network : IsNetwork net) (arrivals : Amounts) (history : L
     read-next l b new want board of_new settles = elim plays.stage [
       | inr x ↦ absurd (not-read (drop (c - length (heard_links net n)) (told_links net n)) (sym x.want ∙ want))
       | inl x ↦
-          let same : get_or (heard_links net n) c 0 ≡ l = ap link_in (sym (reading-next (heard_links net n) c x.more) ∙ sym x.want ∙ want) in
+          let same : get_or (heard_links net n) c 0 ≡ l = ap link_in (sym (reading-next (heard_links net n) c x.more) ∙ sym x.listens.want ∙ want) in
           let ends = heard-ends net n c network x.more in
           let v : ℕ = version_at (board_steps net) history (get_or (heard_links net n) c 0) (length history) in
           let there : get_or boards (get_or (heard_links net n) c 0) b ≡ b = ap (λ k. get_or boards k b) same ∙ board b in
@@ -224,7 +224,7 @@ module _ (net : Net) (network : IsNetwork net) (arrivals : Amounts) (history : L
         → InRound net arrivals (history ++ n ∷ []) round (set actors n new) (set boards l nb) world
     unfolding is_publish link_in
     tell-next l b nb new want board of_new new_is version forecast = elim plays.stage [
-      | inl x ↦ absurd (apart (ap is_publish (sym want ∙ x.want ∙ reading-next (heard_links net n) c x.more)))
+      | inl x ↦ absurd (apart (ap is_publish (sym want ∙ x.listens.want ∙ reading-next (heard_links net n) c x.more)))
       | inr x ↦ elim (cases_lt (c - length (heard_links net n)) (length (told_links net n))) [
         | inr past ↦ absurd (apart (ap is_publish (sym want ∙ x.want ∙ telling-none (told_links net n) (c - length (heard_links net n)) past)))
         | inl inside ↦
@@ -276,7 +276,7 @@ module _ (net : Net) (network : IsNetwork net) (arrivals : Amounts) (history : L
     unfolding is_read
     over-tells n d below = elim (i.plays n d below).stage [
       | inr x ↦ x
-      | inl x ↦ absurd (apart (ap is_read (sym (reading-next (heard_links net n) (count n i.part) x.more) ∙ sym x.want ∙ done n d (omega (arith, i.all)))))
+      | inl x ↦ absurd (apart (ap is_read (sym (reading-next (heard_links net n) (count n i.part) x.more) ∙ sym x.listens.want ∙ done n d (omega (arith, i.all)))))
     ]
 
     over-count : (n : ℕ) (d : Acting) → n < length net.node_names → count n i.part ≡ length (board_steps net n)

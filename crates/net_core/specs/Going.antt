@@ -27,9 +27,9 @@ abbrev pub telling_first : List ℕ → Want
 telling_first [] = Done
 telling_first (link ∷ links) = Publish link
 
--- A node hears in a round, of whose board steps it has done so many: it has yet to commit.
-pub record Hears (net : Net) (arrivals : Amounts) (heard : ℕ → ℕ → List Heard) (made : ℕ → ℕ → Commitment) (round done node : ℕ) (a : Acting) : Type 0 where
-  pub more : done < length (heard_links net node)
+-- A node listens in a round: it has done so many readings, and has yet to commit.
+pub record Listens (net : Net) (arrivals : Amounts) (heard : ℕ → ℕ → List Heard) (made : ℕ → ℕ → Commitment) (round done node : ℕ) (a : Acting) : Type 0 where
+  pub node_is : a.node ≡ node
   pub round_is : a.round ≡ round
   pub sensed : a.sensed ≡ sensed_in net arrivals made round node
   pub so_far : a.heard ≡ heard round node
@@ -38,6 +38,11 @@ pub record Hears (net : Net) (arrivals : Amounts) (heard : ℕ → ℕ → List 
   pub want : a.want ≡ reading (drop done (heard_links net node))
   pub line : a.line ≡ line_before net made round node
   pub records : a.records ≡ records_of heard made node round
+
+-- It hears: readings are left to it.
+pub record Hears (net : Net) (arrivals : Amounts) (heard : ℕ → ℕ → List Heard) (made : ℕ → ℕ → Commitment) (round done node : ℕ) (a : Acting) : Type 0 where
+  pub more : done < length (heard_links net node)
+  pub listens : Listens net arrivals heard made round done node a
 
 -- It tells: it has committed.
 pub record Tells (net : Net) (arrivals : Amounts) (heard : ℕ → ℕ → List Heard) (made : ℕ → ℕ → Commitment) (round done node : ℕ) (a : Acting) : Type 0 where
