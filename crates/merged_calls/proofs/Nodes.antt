@@ -34,13 +34,6 @@ mark-is n l (c ∷ cs) all = ap (λ (k : ℕ). tag k (event_of n c) ∷ map (mar
 pub at-mark : (n l : ℕ) (cs : List Call) → at_link l (map (mark n) cs) ≡ map (tag l) (map (event_of n) (calls_at l cs))
 at-mark n l cs = filter-map (mark n) (λ (m : Marked). eqb m.link l) cs ∙ mark-is n l (calls_at l cs) (All-weaker (λ (c : Call). eqb c.link l ≡ true) (λ c. c.link ≡ l) (λ c p. eqb-true c.link l p) (calls_at l cs) (filter_passes (λ (c : Call). eqb c.link l) cs))
 
--- of two nodes, not each one's event is before the other's
-pub apart : (a b : Marked) → (a.event.node ≡ b.event.node → ⊥) → IsBefore a.event b.event → IsBefore b.event a.event → ⊥
-apart a b other (inl p) (inl q) = omega arith
-apart a b other (inl p) (inr q) = omega arith
-apart a b other (inr p) (inl q) = omega arith
-apart a b other (inr p) (inr q) = other (omega arith)
-
 module _ (calls : ℕ → List Call) (logs : ℕ → List BoardEvent) (all : List Marked) (tied : AreLogsOf calls logs) (merged : AreMarked logs all) where
   -- at a link the merge has its log
   pub at-log : (l : ℕ) → at_link l all ≡ map (tag l) (logs l)
@@ -66,3 +59,9 @@ module _ (calls : ℕ → List Call) (logs : ℕ → List BoardEvent) (all : Lis
   -- so there is one merge of the logs
   pub one-merge : ((n : ℕ) → IsRising (calls n)) → (more : List Marked) → AreMarked logs more → ((n : ℕ) → of_node n all ≡ of_node n more) → all ≡ more
   one-merge rising more again parts = same (λ (m : Marked). m.event.node) (λ (a b : Marked). IsBefore a.event b.event) (λ (a b : Marked). IsBefore a.event b.event) apart all more merged.ordered again.ordered parts
+    where
+      apart : (a b : Marked) → (a.event.node ≡ b.event.node → ⊥) → IsBefore a.event b.event → IsBefore b.event a.event → ⊥
+      apart a b other (inl p) (inl q) = omega arith
+      apart a b other (inl p) (inr q) = omega arith
+      apart a b other (inr p) (inl q) = omega arith
+      apart a b other (inr p) (inr q) = other (omega arith)
