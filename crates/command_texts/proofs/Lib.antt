@@ -1,0 +1,4 @@
+pub mod Fetching
+pub mod OneReading
+pub mod Stopping
+pub mod TextLaws

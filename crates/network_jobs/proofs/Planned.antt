@@ -1,0 +1,88 @@
+-- The text of a planned instance.
+use Rattle.std.proofs.Common.{◌≡◌, ℕ, ◌+◌, ◌*◌, ◌^◌, ◌<◌, ◌≤◌, List, [], ◌++◌, length, sum, sum_by, get_or, All, IfSome, Option, Some, None, sym, ap, subst, ◌∙◌, append-nil, arith}
+use Rattle.std.specs.Prelude.{Contains}
+use Rattle.std.proofs.lemmas.List.Sums.{sum-map}
+use Rattle.arrivals.specs.Amounts.{Amounts, entering}
+use Rattle.dp_certificate.specs.Certificates.{Claim}
+use Rattle.instance_form.specs.InstanceText.{HasText, IsWritable, IsWritableCluster, instance_text}
+use Rattle.instance_form.proofs.FormLaws.{text_once}
+use Rattle.instance_form.proofs.LengthLaws.{text-le}
+use Rattle.intersection_actor.specs.declared.records.PlanRecord.{PlanRecord}
+use Rattle.net_numbers.specs.Numbers.{Net, number_of}
+use Rattle.phase_plan.specs.Phases.{IsPhase}
+use Rattle.phase_plan.specs.declared.Phase.{Phase}
+use Rattle.runs.specs.declared.records.RunRecord.{RunRecord}
+use Rattle.schedule_meaning.specs.Best.{IsBest, IsLeast}
+use Rattle.schedule_meaning.specs.Instances.{Problem, IsInstance, counts_of}
+use Rattle.schedule_meaning.specs.Timing.{delay_of}
+use Rattle.schedule_meaning.specs.declared.planners.Answer.{Answer}
+use Rattle.schedule_meaning.specs.declared.planners.Answer.TheVariants.{Plan, NoPlan}
+use Rattle.schedule_meaning.proofs.Choosing.{best-least}
+use Rattle.switch_rules.specs.Serving.{IsCluster}
+use Rattle.switch_rules.specs.declared.Cluster.{Cluster}
+use Rattle.command_texts.specs.Limits.{most_bytes}
+use Rattle.command_texts.specs.Texts.{InstanceText, Reads}
+use Rattle.commands.specs.Headline.{AgreesWith, IsPlannedText, IsRunOf}
+
+-- two answers of an instance than which no sequence has less delay agree
+agree : (p : Problem) (a b : Answer) → IsLeast p a → IsLeast p b → AgreesWith a b
+agree p (Plan s d) (Plan t e) one other =
+    let first : IfSome (Some e) (λ x. d ≤ x) = subst (λ (o : Option ℕ). IfSome o (λ x. d ≤ x)) other.0 (one.1 t) in
+    let second : IfSome (Some d) (λ x. e ≤ x) = subst (λ (o : Option ℕ). IfSome o (λ x. e ≤ x)) one.0 (other.1 s) in
+    omega (arith, first, second)
+agree p (Plan s d) NoPlan one other = let e = sym one.0 ∙ other s in absurd (cc)
+agree p NoPlan (Plan t e) one other = let d = sym other.0 ∙ one t in absurd (cc)
+agree p NoPlan NoPlan one other = tt
+
+-- an instance has a text
+phase_fits : (p : Phase) → IsPhase p → IsWritable p
+phase_fits p h = record {
+  least = omega (arith, h.least);
+  greatest = omega (arith, h.greatest);
+  yellow = omega (arith, h.yellow);
+  clear = omega (arith, h.clear);
+  loss = omega (arith, h.loss);
+  wait = omega (arith, h.wait);
+}
+
+cluster_fits : (c : Cluster) → IsCluster c → IsWritableCluster c
+cluster_fits c h = record { size = omega (arith, h.size); arr = omega (arith, h.arr); len = omega (arith, h.len) }
+
+has_text : (p : Problem) → IsInstance p → HasText p.plan p.head p.lists
+has_text p h = record {
+  count = h.plan.count;
+  each = h.lists;
+  phases = λ i d inside. phase_fits (get_or p.plan i d) (h.plan.phases i d inside);
+  head = record { phase = omega (arith, h.head.phase, h.plan.count); since = omega (arith, h.since); at = omega (arith, h.head.within, h.since, (h.plan.phases p.head.phase _ h.head.phase).greatest) };
+  clusters = λ i d inside. λ j e within. cluster_fits (get_or (get_or p.lists i d) j e) (h.clusters i d inside j e within);
+}
+
+-- it is within the limit, and is read as this instance alone
+reads : (p : Problem) (bytes : List ℕ) → IsInstance p → bytes ≡ instance_text p.plan p.head p.lists → Reads InstanceText bytes p
+reads p bytes h is =
+    let text = text-le p.plan p.head p.lists (has_text p h) in
+    let few : length bytes ≤ most_bytes = omega (arith, ap length is, text, sum-map length p.lists, h.few) in
+    (few, (h, is))
+
+only : (p : Problem) (bytes : List ℕ) → IsInstance p → bytes ≡ instance_text p.plan p.head p.lists → (other : Problem) → Reads InstanceText bytes other → other ≡ p
+only p bytes h is other read =
+    let texts : instance_text other.plan other.head other.lists ++ [] ≡ instance_text p.plan p.head p.lists ++ [] = ap (λ (text : List ℕ). text ++ []) (sym read.1.1 ∙ is) in
+    let same = text_once other.plan p.plan other.head p.head other.lists p.lists [] [] (has_text other read.1.0) (has_text p h) texts in
+    λ i. record { plan = same.0 i; head = same.1 i; lists = same.2 i }
+
+-- the text of the instance of a plan of a run
+pub planned : (net : Net) (arrivals : Amounts) (history node : List ℕ) (number round : ℕ) (bytes : List ℕ) (run : RunRecord) (plan : PlanRecord) → IsRunOf net (entering arrivals) history run
+    → Contains run.plans plan → plan.node ≡ number → plan.round ≡ round → number_of net.node_names node ≡ Some number
+    → IsInstance plan.instance → bytes ≡ instance_text plan.instance.plan plan.instance.head plan.instance.lists → IsLeast plan.instance plan.answer
+    → IsPlannedText net (entering arrivals) history node round bytes
+planned net arrivals history node number round bytes run plan runs among of_node of_round named lawful is least = record {
+  run = run;
+  runs = runs;
+  plan = plan;
+  among = among;
+  of_node = named ∙ ap Some (sym of_node);
+  of_round = of_round;
+  reads = reads plan.instance bytes lawful is;
+  only = only plan.instance bytes lawful is;
+  agrees = λ c same best. agree plan.instance c.answer plan.answer (subst (λ (p : Problem). IsLeast p c.answer) same (best-least c.problem c.answer best)) least;
+}
