@@ -1,4 +1,4 @@
 pub mod Fetching
-pub mod OneReading
+pub mod NoReading
 pub mod Stopping
 pub mod TextLaws

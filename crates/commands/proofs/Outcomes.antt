@@ -14,6 +14,7 @@ use Rattle.commands.specs.Commands.{Call, IsAgainst, IsMissing, IsRejectionOf, I
 use Rattle.commands.specs.Ending.{Ends, Explains, Makes}
 use Rattle.commands.specs.Outcome.{IsBadInput, IsUnread, Outcome, Outside, Read}
 use Rattle.command_texts.specs.Refusals.{Says}
+use Rattle.command_texts.specs.Stops.{StopsIn}
 use Rattle.command_texts.specs.Texts.{AllSaid, AreIn, Tells, TellsBad}
 use Rattle.command_texts.proofs.TextLaws.{as_told, none_bad, none_gains, none_told_bad}
 
@@ -165,3 +166,8 @@ module _ (call : Call) (old new : Outside) where
   outcome (Ok (made.Rejected text)) status makes (inl w) = rejected text.items status makes.0 makes.1 w.is w.gains w.same
   outcome (Ok (made.Rejected text)) status makes (inr b) = broken text.items status makes.0 (makes.1.0, makes.1.1, (inr makes.1.2.0.0, makes.1.2.1)) b.is b.breaks b.line
   outcome (Err why) status makes ends = refuses why status makes ends
+
+-- why the texts of a command could not be had explains why it made nothing
+pub explained : (call : Call) (old new : ShelfState) (why : Refusal) → StopsIn (texts_of call) old new why → Explains call old new why
+explained call old new (refusal.Missing what) stops = absurd stops
+explained call old new _ stops = stops

@@ -4,6 +4,7 @@
 
 mod grid;
 mod instance;
+mod laws;
 mod replay;
 mod runs_kept;
 mod summary;
@@ -11,5 +12,6 @@ mod turns;
 
 pub use grid::grid_job;
 pub use instance::instance_job;
+pub use laws::law_of_instances;
 pub use replay::replay_job;
 pub use turns::turns_job;
