@@ -1,9 +1,8 @@
 -- Words are those of one command at most.
-use Rattle.std.proofs.Common.{rules, ◌≡◌, ℕ, ◌^◌, ◌<◌, List, [], ◌∷◌, true, sym, ap, ◌∙◌, arith}
-use Rattle.std.specs.Fmt.{decimal}
+use Rattle.std.proofs.Common.{rules, ◌≡◌, ℕ, List, [], ◌∷◌, true, sym, ap, ◌∙◌, arith}
 use Rattle.std.proofs.lemmas.Fmt.{decimal_injective}
 use Rattle.std.specs.Str.{bytes_eq}
-use Rattle.commands.specs.Commands.{Call, IsCall, IsWithin, Certify, CertifyBound, Check, Grid, Instance, Plan, Replay, Turns, words_of}
+use Rattle.commands.specs.Commands.{Call, IsCall, Certify, CertifyBound, Check, Grid, Instance, Plan, Replay, Turns, words_of}
 
 -- the first word
 first : List (List ℕ) → List ℕ

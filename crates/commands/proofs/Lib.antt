@@ -1,3 +1,3 @@
 pub mod Calls
-pub mod Numbers
+pub mod Numerals
 pub mod Outcomes

@@ -1,5 +1,5 @@
 -- What the network commands write: reports of runs, and instances that were planned in them.
-use Rattle.std.specs.Prelude.{◌≡◌, ℕ, ◌≤◌, List, Contains, Some, length}
+use Rattle.std.specs.Prelude.{◌≡◌, ℕ, List, Contains, Some}
 use Rattle.arrivals.specs.Amounts.{Amounts, entering}
 use Rattle.delay_report.specs.Reports.{report_text}
 use Rattle.dp_certificate.specs.Certificates.{Claim}

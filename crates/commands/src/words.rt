@@ -14,15 +14,26 @@ use foundation::text::Text;
 #[derive(Clone, Copy)]
 pub enum Command<'a> {
     /// Writes the best answer of an instance.
-    Plan { file: &'a str },
+    Plan {
+        file: &'a str,
+    },
     /// Writes the certificate of an instance.
-    Certify { file: &'a str },
+    Certify {
+        file: &'a str,
+    },
     /// Writes the certificate of an instance by its bounded table.
-    CertifyBound { file: &'a str },
+    CertifyBound {
+        file: &'a str,
+    },
     /// Writes the verdict on a certificate.
-    Check { file: &'a str },
+    Check {
+        file: &'a str,
+    },
     /// Writes the report of the run of the turn order.
-    Turns { net: &'a str, arr: &'a str },
+    Turns {
+        net: &'a str,
+        arr: &'a str,
+    },
     /// Writes the report of the run of a history.
     Replay {
         net: &'a str,
@@ -38,7 +49,11 @@ pub enum Command<'a> {
         round: u32,
     },
     /// Writes the summary of the run of the turn order on the grid of a number.
-    Grid { number: u64, side: u32, rounds: u32 },
+    Grid {
+        number: u64,
+        side: u32,
+        rounds: u32,
+    },
 }
 
 /// The command that the words are.

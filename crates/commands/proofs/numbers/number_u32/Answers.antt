@@ -1,5 +1,5 @@
 use Rattle.std.proofs.Common.{arith, sym, subst, ◌∙◌}
-use Rattle.commands.proofs.Numbers.{IsPlain, not_parsed, parsed, plain}
+use Rattle.commands.proofs.Numerals.{IsPlain, not_parsed, parsed, plain}
 use Rattle.commands.proofs.numbers.number_u32.Goals as goal
 
 pub returns-then-not-may_be_number-clause-none : goal.returns-then-not-may_be_number-clause-none
