@@ -1,5 +1,6 @@
 -- How a command ends, from what it made or why it made nothing, and from how that was delivered.
-use Rattle.std.proofs.Common.{◌≡◌, ℕ, List, Result, Ok, Err, inl, inr, ap}
+use Rattle.std.proofs.Common.{◌≡◌, ℕ, List, Result, Ok, Err, inl, inr, sym, ap, subst}
+use Rattle.std.specs.Result.{IsErrAnd}
 use Rattle.std.specs.Prelude.{◌⊎◌}
 use Rattle.outside_world.specs.Shelf.{ShelfState}
 use Rattle.outside_world.specs.Sink.{Breaks, Gains}
@@ -168,6 +169,14 @@ module _ (call : Call) (old new : Outside) where
   outcome (Err why) status makes ends = refuses why status makes ends
 
 -- why the texts of a command could not be had explains why it made nothing
-pub explained : (call : Call) (old new : ShelfState) (why : Refusal) → StopsIn (texts_of call) old new why → Explains call old new why
+explained : (call : Call) (old new : ShelfState) (why : Refusal) → StopsIn (texts_of call) old new why → Explains call old new why
 explained call old new (refusal.Missing what) stops = absurd stops
 explained call old new _ stops = stops
+
+-- what explains it is handed on as the answer
+pub handed_on : (call : Call) (old new : ShelfState) (result : Result Made Refusal) (why : Refusal) → Explains call old new why → IsErrAnd result (λ e. e ≡ why) → Makes call old new result
+handed_on call old new (Ok made) why explains handed = absurd handed
+handed_on call old new (Err e) why explains handed = subst (Explains call old new) (sym handed) explains
+
+pub failed : (call : Call) (old new : ShelfState) (result : Result Made Refusal) (why : Refusal) → StopsIn (texts_of call) old new why → IsErrAnd result (λ e. e ≡ why) → Makes call old new result
+failed call old new result why stops handed = handed_on call old new result why (explained call old new why stops) handed

@@ -1,6 +1,7 @@
 -- The text of a planned instance.
-use Rattle.std.proofs.Common.{◌≡◌, ℕ, ◌+◌, ◌*◌, ◌^◌, ◌<◌, ◌≤◌, List, [], ◌++◌, length, sum, sum_by, get_or, All, IfSome, Option, Some, None, sym, ap, subst, ◌∙◌, append-nil, arith}
+use Rattle.std.proofs.Common.{◌≡◌, ℕ, ◌+◌, ◌*◌, ◌^◌, ◌<◌, ◌≤◌, List, [], ◌++◌, length, sum, sum_by, get_or, All, IfSome, Option, Some, None, Result, Ok, Err, IfOk, sym, ap, subst, ◌∙◌, append-nil, arith}
 use Rattle.std.specs.Prelude.{Contains}
+use Rattle.std.proofs.lemmas.List.Elements.{All-contains}
 use Rattle.std.proofs.lemmas.List.Sums.{sum-map}
 use Rattle.arrivals.specs.Amounts.{Amounts, entering}
 use Rattle.dp_certificate.specs.Certificates.{Claim}
@@ -9,8 +10,11 @@ use Rattle.instance_form.proofs.FormLaws.{text_once}
 use Rattle.instance_form.proofs.LengthLaws.{text-le}
 use Rattle.intersection_actor.specs.declared.records.PlanRecord.{PlanRecord}
 use Rattle.net_numbers.specs.Numbers.{Net, number_of}
-use Rattle.phase_plan.specs.Phases.{IsPhase}
+use Rattle.phase_plan.specs.Phases.{IsPhase, no_phase}
 use Rattle.phase_plan.specs.declared.Phase.{Phase}
+use Rattle.runs.specs.Kept.{IsKeptRun}
+use Rattle.runs.specs.Runs.{IsRun}
+use Rattle.runs.specs.Whole.{IsWhole}
 use Rattle.runs.specs.declared.records.RunRecord.{RunRecord}
 use Rattle.schedule_meaning.specs.Best.{IsBest, IsLeast}
 use Rattle.schedule_meaning.specs.Instances.{Problem, IsInstance, counts_of}
@@ -53,7 +57,7 @@ has_text p h = record {
   count = h.plan.count;
   each = h.lists;
   phases = λ i d inside. phase_fits (get_or p.plan i d) (h.plan.phases i d inside);
-  head = record { phase = omega (arith, h.head.phase, h.plan.count); since = omega (arith, h.since); at = omega (arith, h.head.within, h.since, (h.plan.phases p.head.phase _ h.head.phase).greatest) };
+  head = record { phase = omega (arith, h.head.phase, h.plan.count); since = omega (arith, h.since); at = omega (arith, h.head.within, h.since, (h.plan.phases p.head.phase no_phase h.head.phase).greatest) };
   clusters = λ i d inside. λ j e within. cluster_fits (get_or (get_or p.lists i d) j e) (h.clusters i d inside j e within);
 }
 
@@ -86,3 +90,18 @@ planned net arrivals history node number round bytes run plan runs among of_node
   only = only plan.instance bytes lawful is;
   agrees = λ c same best. agree plan.instance c.answer plan.answer (subst (λ (p : Problem). IsLeast p c.answer) same (best-least c.problem c.answer best)) least;
 }
+
+-- so is what is written of it, where the run keeps what it must
+pub all_planned : {X E : Type 0} (text_of : X → List ℕ) (net : Net) (arrivals : Amounts) (history : List ℕ) (number round : ℕ) (run : RunRecord) (plan : PlanRecord) (result : Result X E) → IsRunOf net (entering arrivals) history run
+    → Contains run.plans plan → plan.node ≡ number → plan.round ≡ round → IsInstance plan.instance
+    → IfOk result (λ x. text_of x ≡ instance_text plan.instance.plan plan.instance.head plan.instance.lists)
+    → IfOk result (λ x. (node : List ℕ) → number_of net.node_names node ≡ Some number → IsPlannedText net (entering arrivals) history node round (text_of x))
+all_planned text_of net arrivals history number round run plan (Ok x) runs among of_node of_round lawful is = λ node named.
+    planned net arrivals history node number round (text_of x) run plan runs among of_node of_round named lawful is (All-contains (λ (p : PlanRecord). IsLeast p.instance p.answer) run.plans plan runs.kept.kept.least among)
+all_planned text_of net arrivals history number round run plan (Err e) runs among of_node of_round lawful is = tt
+
+-- every run that is kept is whole
+pub all_whole : {E : Type 0} (net : Net) (arrivals : Amounts) (history : List ℕ) (result : Result RunRecord E) → ((run : RunRecord) → IsRun net arrivals history run → IsWhole net run)
+    → IfOk result (IsKeptRun net arrivals history) → IfOk result (IsWhole net)
+all_whole net arrivals history (Ok run) whole kept = whole run kept.run
+all_whole net arrivals history (Err e) whole kept = tt
