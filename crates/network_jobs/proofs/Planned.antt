@@ -1,8 +1,15 @@
 -- The text of a planned instance.
-use Rattle.std.proofs.Common.{◌≡◌, ℕ, ◌+◌, ◌*◌, ◌^◌, ◌<◌, ◌≤◌, List, [], ◌++◌, length, sum, sum_by, get_or, All, IfSome, Option, Some, None, Result, Ok, Err, IfOk, sym, ap, subst, ◌∙◌, append-nil, arith}
+use Rattle.std.proofs.Common.{◌≡◌, ℕ, ◌+◌, ◌*◌, ◌^◌, ◌<◌, ◌≤◌, List, [], ◌++◌, length, map, sum, sum_by, get_or, All, IfSome, Option, Some, None, Result, Ok, Err, IfOk, sym, ap, subst, ◌∙◌, append-nil, arith}
 use Rattle.std.specs.Prelude.{Contains}
 use Rattle.std.proofs.lemmas.List.Elements.{All-contains}
-use Rattle.std.proofs.lemmas.List.Sums.{sum-map}
+use Rattle.std.proofs.lemmas.List.{length-map}
+use Rattle.std.proofs.lemmas.List.Concat.{length-flat_map}
+use Rattle.std.proofs.lemmas.List.FromFn.{length-map-range_with_len, length-range_with_len}
+use Rattle.std.proofs.lemmas.List.Sums.{sum-map, sum_by-le}
+use Rattle.std.proofs.lemmas.Nat.{mul-le}
+use Rattle.std.specs.List.{range_with_len}
+use Rattle.histories.specs.Histories.{turn_order}
+use Rattle.road_net.specs.Network.{IsNetwork}
 use Rattle.arrivals.specs.Amounts.{Amounts, entering}
 use Rattle.dp_certificate.specs.Certificates.{Claim}
 use Rattle.instance_form.specs.InstanceText.{HasText, IsWritable, IsWritableCluster, instance_text}
@@ -14,8 +21,9 @@ use Rattle.phase_plan.specs.Phases.{IsPhase, no_phase}
 use Rattle.phase_plan.specs.declared.Phase.{Phase}
 use Rattle.runs.specs.Kept.{IsKeptRun}
 use Rattle.runs.specs.Runs.{IsRun}
-use Rattle.runs.specs.Whole.{IsWhole}
+use Rattle.runs.specs.Whole.{IsWhole, rounds_and_nodes}
 use Rattle.runs.specs.declared.records.RunRecord.{RunRecord}
+use Rattle.scenario_gen.specs.Grids.{IsGrid}
 use Rattle.schedule_meaning.specs.Best.{IsBest, IsLeast}
 use Rattle.schedule_meaning.specs.Instances.{Problem, IsInstance, counts_of}
 use Rattle.schedule_meaning.specs.Timing.{delay_of}
@@ -26,7 +34,8 @@ use Rattle.switch_rules.specs.Serving.{IsCluster}
 use Rattle.switch_rules.specs.declared.Cluster.{Cluster}
 use Rattle.command_texts.specs.Limits.{most_bytes}
 use Rattle.command_texts.specs.Texts.{InstanceText, Reads}
-use Rattle.commands.specs.Headline.{AgreesWith, IsPlannedText, IsRunOf}
+use Rattle.commands.specs.Headline.{AgreesWith, IsGridSummary, IsPlannedText, IsRunOf}
+use Rattle.commands.specs.Summary.{summary_text}
 
 -- two answers of an instance than which no sequence has less delay agree
 agree : (p : Problem) (a b : Answer) → IsLeast p a → IsLeast p b → AgreesWith a b
@@ -105,3 +114,28 @@ pub all_whole : {E : Type 0} (net : Net) (arrivals : Amounts) (history : List �
     → IfOk result (IsKeptRun net arrivals history) → IfOk result (IsWhole net)
 all_whole net arrivals history (Ok run) whole kept = whole run kept.run
 all_whole net arrivals history (Err e) whole kept = tt
+
+-- a network has so many rounds and nodes that a run of it has few plans
+few_pairs : (rounds nodes : ℕ) → length (rounds_and_nodes rounds nodes) ≤ rounds * nodes
+few_pairs rounds nodes =
+    let row : ℕ → List (ℕ × ℕ) = λ round. map (λ node. (round, node)) (range_with_len 0 nodes) in
+    let each : (round : ℕ) → length (row round) ≡ nodes = λ round. length-map-range_with_len (λ (node : ℕ). let pair : ℕ × ℕ = (round, node) in pair) 0 nodes in
+    let listed : length (rounds_and_nodes rounds nodes) ≤ length (range_with_len 0 rounds) * nodes
+    = omega (arith, length-flat_map row (range_with_len 0 rounds), sum_by-le (λ round. length (row round)) nodes (range_with_len 0 rounds) (λ i d inside. omega (arith, each (get_or (range_with_len 0 rounds) i d)))) in
+    subst (λ n. length (rounds_and_nodes rounds nodes) ≤ n * nodes) (length-range_with_len 0 rounds) listed
+
+few_plans : (net : Net) (run : RunRecord) → IsNetwork net → IsWhole net run → length run.plans ≤ 38400
+few_plans net run network whole =
+    let pairs = few_pairs net.run.rounds (length net.node_names) in
+    let most : net.run.rounds * length net.node_names ≤ 600 * 64 = mul-le net.run.rounds (length net.node_names) 600 64 network.outline.run.rounds.1 network.outline.node_count.1 in
+    omega (arith, length-map {B = ℕ × ℕ} run.plans (λ (p : PlanRecord). (p.round, p.node)), ap length whole.plans, pairs, most)
+
+pub all_few : {E : Type 0} (net : Net) (result : Result RunRecord E) → IsNetwork net → IfOk result (IsWhole net) → IfOk result (λ run. length run.plans ≤ 38400)
+all_few net (Ok run) network whole = few_plans net run network whole
+all_few net (Err e) network whole = tt
+
+-- the summary of a run of the turn order on a grid
+pub all_summed : {X E : Type 0} (text_of : X → List ℕ) (number side rounds : ℕ) (net : Net) (arrivals : Amounts) (run : RunRecord) (result : Result X E) → IsGrid number side rounds net arrivals
+    → IsRunOf net (entering arrivals) (turn_order net) run → IfOk result (λ x. text_of x ≡ summary_text number side rounds run) → IfOk result (λ x. IsGridSummary number side rounds (text_of x))
+all_summed text_of number side rounds net arrivals run (Ok x) grid runs summary = record { net = net; arrivals = arrivals; grid = grid; run = run; runs = runs; summary = summary }
+all_summed text_of number side rounds net arrivals run (Err e) grid runs summary = tt

@@ -1,9 +1,8 @@
 //! The command `grid NUMBER SIDE ROUNDS`.
-ghost use Rattle.std.specs.Prelude.{◌≡◌, IfOk};
+ghost use Rattle.std.specs.Prelude.{◌≤◌, IfOk, length};
 ghost use Rattle.arrivals.specs.Amounts.{AreArrivals, entering};
 ghost use Rattle.histories.specs.Histories as histories;
 ghost use Rattle.outside_world.specs.Shelf.{ShelfState};
-ghost use Rattle.runs.specs.Whole.{IsWhole};
 ghost use Rattle.scenario_gen.specs.Grids.{AreRounds};
 ghost use Rattle.scenario_gen.specs.Layout.{IsSide};
 ghost use Rattle.commands.specs.Commands.{Grid};
@@ -31,7 +30,7 @@ fn run_of_turns(
 ) -> Result<RunRecord, AllocError>
     requires { AreArrivals net.now arrivals.now }
     ensures kept { IfOk result (IsRunOf net.now (entering arrivals.now) (histories.turn_order net.now)) }
-    ensures whole { IfOk result (IsWhole net.now) }
+    ensures few { IfOk result (λ run. length run.plans ≤ 38400) }
 {
     let history = turn_order(alloc, net)?;
     kept_run(alloc, net, arrivals, &history)

@@ -1,5 +1,5 @@
 //! The run of a history, planned by the bounded table, and its report.
-ghost use Rattle.std.specs.Prelude.{IfOk};
+ghost use Rattle.std.specs.Prelude.{◌≤◌, IfOk, length};
 ghost use Rattle.arrivals.specs.Amounts.{AreArrivals, entering};
 ghost use Rattle.histories.specs.Histories.{IsLawful};
 ghost use Rattle.runs.specs.Whole.{IsWhole};
@@ -14,7 +14,7 @@ use road_net::Network;
 use runs::{RunRecord, law_of_runs};
 use std::alloc::{AllocError, Global};
 
-/// The run of a lawful history, with all that it keeps.
+/// The run of a lawful history, with all that it keeps; it has at most 38,400 plans.
 pub fn kept_run(
     alloc: Global,
     net: &Network,
@@ -25,7 +25,9 @@ pub fn kept_run(
     requires lawful { IsLawful net.now h.now }
     ensures kept { IfOk result (IsRunOf net.now (entering arrivals.now) h.now) }
     ensures whole { IfOk result (IsWhole net.now) }
+    ensures few { IfOk result (λ run. length run.plans ≤ 38400) }
 {
+    let _nodes = net.nodes();
     law_of_runs(net);
     run(alloc, net, arrivals, h, &mut BoundPlanner)
 }
