@@ -1,9 +1,8 @@
 -- A node and a round that a network has, or has not.
-use Rattle.std.proofs.Common.{◌≡◌, ℕ, ◌<◌, ◌≤◌, List, Option, Some, None, IsSome, arith}
+use Rattle.std.proofs.Common.{◌≡◌, ℕ, ◌<◌, List, Option, Some, None, IsSome, arith}
 use Rattle.outside_world.specs.Shelf.{ShelfState}
 use Rattle.net_numbers.specs.Numbers.{Net, number_of}
 use Rattle.command_texts.specs.Texts.{ArrivalsText, HistoryText, IsIn, NetworkText}
-use Rattle.command_texts.specs.declared.refusals.Named.{Named}
 use Rattle.command_texts.specs.declared.refusals.Named.TheVariants.{Node, Round}
 use Rattle.command_texts.specs.declared.refusals.Refusal.{Refusal}
 use Rattle.command_texts.specs.declared.refusals.Refusal.TheVariants as refusal

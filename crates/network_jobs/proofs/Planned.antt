@@ -1,5 +1,5 @@
 -- The text of a planned instance.
-use Rattle.std.proofs.Common.{◌≡◌, ℕ, ◌+◌, ◌*◌, ◌^◌, ◌<◌, ◌≤◌, List, [], ◌++◌, length, map, sum, sum_by, get_or, All, IfSome, Option, Some, None, Result, Ok, Err, IfOk, sym, ap, subst, ◌∙◌, append-nil, arith}
+use Rattle.std.proofs.Common.{◌≡◌, ℕ, ◌*◌, ◌≤◌, List, [], ◌++◌, length, map, get_or, IfSome, Option, Some, Result, Ok, Err, IfOk, sym, ap, subst, ◌∙◌, arith}
 use Rattle.std.specs.Prelude.{Contains}
 use Rattle.std.proofs.lemmas.List.Elements.{All-contains}
 use Rattle.std.proofs.lemmas.List.{length-map}
@@ -11,7 +11,6 @@ use Rattle.std.specs.List.{range_with_len}
 use Rattle.histories.specs.Histories.{turn_order}
 use Rattle.road_net.specs.Network.{IsNetwork}
 use Rattle.arrivals.specs.Amounts.{Amounts, entering}
-use Rattle.dp_certificate.specs.Certificates.{Claim}
 use Rattle.instance_form.specs.InstanceText.{HasText, IsWritable, IsWritableCluster, instance_text}
 use Rattle.instance_form.proofs.FormLaws.{text_once}
 use Rattle.instance_form.proofs.LengthLaws.{text-le}
@@ -24,9 +23,8 @@ use Rattle.runs.specs.Runs.{IsRun}
 use Rattle.runs.specs.Whole.{IsWhole, rounds_and_nodes}
 use Rattle.runs.specs.declared.records.RunRecord.{RunRecord}
 use Rattle.scenario_gen.specs.Grids.{IsGrid}
-use Rattle.schedule_meaning.specs.Best.{IsBest, IsLeast}
-use Rattle.schedule_meaning.specs.Instances.{Problem, IsInstance, counts_of}
-use Rattle.schedule_meaning.specs.Timing.{delay_of}
+use Rattle.schedule_meaning.specs.Best.{IsLeast}
+use Rattle.schedule_meaning.specs.Instances.{Problem, IsInstance}
 use Rattle.schedule_meaning.specs.declared.planners.Answer.{Answer}
 use Rattle.schedule_meaning.specs.declared.planners.Answer.TheVariants.{Plan, NoPlan}
 use Rattle.schedule_meaning.proofs.Choosing.{best-least}

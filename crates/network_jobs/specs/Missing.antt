@@ -1,5 +1,5 @@
 -- What a node and a round name in a network. No public clause names anything here.
-use Rattle.std.specs.Prelude.{◌≡◌, ℕ, ◌<◌, ◌≤◌, List, None, Some, IsSome, Result, Ok, Err}
+use Rattle.std.specs.Prelude.{◌≡◌, ℕ, ◌≤◌, List, None, IsSome}
 use Rattle.net_numbers.specs.Numbers.{Net, number_of}
 use Rattle.command_texts.specs.declared.refusals.Named.TheVariants.{Node, Round}
 use Rattle.command_texts.specs.declared.refusals.Refusal.{Refusal}

@@ -23,11 +23,7 @@ use scenario_gen::grid;
 use std::alloc::{AllocError, Global};
 
 // The run of the turn order.
-fn run_of_turns(
-    alloc: Global,
-    net: &Network,
-    arrivals: &Arrivals,
-) -> Result<RunRecord, AllocError>
+fn run_of_turns(alloc: Global, net: &Network, arrivals: &Arrivals) -> Result<RunRecord, AllocError>
     requires { AreArrivals net.now arrivals.now }
     ensures kept { IfOk result (IsRunOf net.now (entering arrivals.now) (histories.turn_order net.now)) }
     ensures few { IfOk result (λ run. length run.plans ≤ 38400) }

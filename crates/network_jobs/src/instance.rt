@@ -90,7 +90,14 @@ fn planned<S: Shelf>(
 {
     let scene = fetch_scene(alloc, shelf, net, arr)?;
     let history = fetch_history(alloc, shelf, Place::Third, hist, &scene.network)?;
-    let text = planned_by(alloc, &scene.network, &scene.arrivals, &history, node, round)?;
+    let text = planned_by(
+        alloc,
+        &scene.network,
+        &scene.arrivals,
+        &history,
+        node,
+        round,
+    )?;
     Ok(Made::Done(text))
 }
 

@@ -25,11 +25,19 @@ pub fn summary(
     let plans = run.plans.as_slice();
     let totals = run.totals;
     let mut text = Vec::new(alloc);
-    push_line(&mut text, b"grid", &[number, u64::from(side), u64::from(rounds)])?;
+    push_line(
+        &mut text,
+        b"grid",
+        &[number, u64::from(side), u64::from(rounds)],
+    )?;
     push_line(&mut text, b"plans", &[plans.len() as u64])?;
     push_line(&mut text, b"none", &[plans_none(plans)])?;
     push_line(&mut text, b"delay", &[planned_delays(plans)])?;
-    push_line(&mut text, b"total", &[totals.entered, totals.left, totals.on, totals.delay])?;
+    push_line(
+        &mut text,
+        b"total",
+        &[totals.entered, totals.left, totals.on, totals.delay],
+    )?;
     Ok(text)
 }
 

@@ -17,11 +17,7 @@ use road_net::Network;
 use std::alloc::{AllocError, Global};
 
 // The report of the run of the turn order.
-fn report_of_turns(
-    alloc: Global,
-    net: &Network,
-    arrivals: &Arrivals,
-) -> Result<Vec<u8>, AllocError>
+fn report_of_turns(alloc: Global, net: &Network, arrivals: &Arrivals) -> Result<Vec<u8>, AllocError>
     requires { AreArrivals net.now arrivals.now }
     ensures { IfOk result (λ text. Headline net.now (entering arrivals.now) (histories.turn_order net.now) text.items) }
 {
@@ -30,12 +26,7 @@ fn report_of_turns(
 }
 
 // The report of the run of the turn order, with the network and the arrivals that the files' texts spell.
-fn reported<S: Shelf>(
-    alloc: Global,
-    shelf: &mut S,
-    net: &str,
-    arr: &str,
-) -> Result<Made, Refusal>
+fn reported<S: Shelf>(alloc: Global, shelf: &mut S, net: &str, arr: &str) -> Result<Made, Refusal>
     ensures { Makes (Turns net.now arr.now) (S.state shelf.old) (S.state shelf.new) result }
 {
     let scene = fetch_scene(alloc, shelf, net, arr)?;
