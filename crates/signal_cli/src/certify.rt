@@ -8,9 +8,9 @@ ghost use Rattle.commands.specs.Commands.{Certify};
 ghost use Rattle.commands.specs.Ending.{Makes};
 ghost use Rattle.commands.specs.Outcome.{Outcome};
 
-use commands::{Made, end};
-use command_texts::{Place, Refusal, Status, fetch_instance};
 use certificate_form::{one_certificate, write_certificate};
+use command_texts::{Place, Refusal, Status, fetch_instance};
+use commands::{Made, end};
 use dp_certificate::Certificate;
 use foundation::steps::Steps;
 use outside_world::{Shelf, Sink};

@@ -7,10 +7,10 @@ ghost use Rattle.commands.specs.Commands.{Check};
 ghost use Rattle.commands.specs.Ending.{IsMadeOf, Makes};
 ghost use Rattle.commands.specs.Outcome.{Outcome};
 
-use commands::{Made, end};
-use command_texts::{Place, Refusal, Status, fetch_certificate};
 use super::verdicts::rejected_line;
 use cert_checker::Verdict;
+use command_texts::{Place, Refusal, Status, fetch_certificate};
+use commands::{Made, end};
 use dp_certificate::Certificate;
 use foundation::steps::Steps;
 use outside_world::{Shelf, Sink};

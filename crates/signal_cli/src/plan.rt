@@ -4,8 +4,8 @@ ghost use Rattle.commands.specs.Ending.{Makes};
 ghost use Rattle.commands.specs.Outcome.{Outcome};
 
 use super::answers::answer_text;
-use commands::{Made, end};
 use command_texts::{Place, Refusal, Status, fetch_instance};
+use commands::{Made, end};
 use forward_dp::LayerPlanner;
 use outside_world::{Shelf, Sink};
 use schedule_meaning::best_answer;
