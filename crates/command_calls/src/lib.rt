@@ -1,4 +1,5 @@
-// The program over files and sinks in memory.
+//! Calls of the program over files and sinks in memory, for the tests of its commands.
+#![tactic(auto)]
 
 use foundation::items::Items;
 use foundation::text::Text;
@@ -86,6 +87,21 @@ pub fn run_with_room(
     Ok(Ending { status, out, err })
 }
 
+/// Calls the program with these words over a shelf with these files; 10,000 bytes may be written.
+pub fn run_over(
+    alloc: Global,
+    words: &[&str],
+    files: &[(&str, &[u8])],
+    faults: Faults<'_>,
+) -> Result<Ending, AllocError> {
+    let words = texts(alloc, words)?;
+    let mut shelf = shelf_with(alloc, files, faults.fetches)?;
+    let mut out = MemorySink::new(alloc, 10_000, faults.out.to_vec(alloc)?)?;
+    let mut err = MemorySink::new(alloc, 1000, faults.err.to_vec(alloc)?)?;
+    let status = signal(alloc, &words, &mut shelf, &mut out, &mut err);
+    Ok(Ending { status, out, err })
+}
+
 /// Calls the program with the words `plan file` over this text. Nothing fails.
 pub fn plan(alloc: Global, text: &[u8]) -> Result<Ending, AllocError> {
     run(alloc, &["plan", "file"], text, NO_FAULTS)
@@ -113,4 +129,21 @@ fn shelf_of(alloc: Global, text: Vec<u8>, fails: &[u32]) -> Result<MemoryShelf, 
     let content = Items::from_vec(text);
     let files = vec![in alloc; (name, content)]?;
     Ok(MemoryShelf::new(alloc, files, fails.to_vec(alloc)?))
+}
+
+fn shelf_with(
+    alloc: Global,
+    contents: &[(&str, &[u8])],
+    fails: &[u32],
+) -> Result<MemoryShelf, AllocError> {
+    let mut files = Vec::new(alloc);
+    for &(name, content) in contents {
+        files.push(file_of(alloc, name, content)?)?;
+    }
+    Ok(MemoryShelf::new(alloc, files, fails.to_vec(alloc)?))
+}
+
+fn file_of(alloc: Global, name: &str, content: &[u8]) -> Result<(Text, Items<u8>), AllocError> {
+    let name = Text::from_string(String::from_str(alloc, name)?);
+    Ok((name, Items::from_vec(content.to_vec(alloc)?)))
 }
