@@ -311,14 +311,15 @@ grid -1 3 20\n\
 fn over(
     alloc: Global,
     line: &str,
-    files: [&str; 3],
+    net: &str,
+    arr: &str,
+    hist: &str,
     faults: Faults<'_>,
 ) -> Result<Ending, AllocError> {
     let mut words = Vec::new(alloc);
     for word in line.split(' ') {
         words.push(word)?;
     }
-    let [net, arr, hist] = files;
     let files = &[
         ("net", net.as_bytes()),
         ("arr", arr.as_bytes()),
@@ -330,12 +331,14 @@ fn over(
 #[test]
 fn worked_runs(rt: HostRuntime) -> Result<(), Fail> {
     let alloc = rt.alloc();
-    let turns = over(alloc, "turns net arr", [NETWORK, ARRIVALS, ""], NO_FAULTS)?;
+    let turns = over(alloc, "turns net arr", NETWORK, ARRIVALS, "", NO_FAULTS)?;
     assert!(rt; turns.is(Status::Done, REPORT, ""));
     let replayed = over(
         alloc,
         "replay net arr hist",
-        [NETWORK, ARRIVALS, REPORT],
+        NETWORK,
+        ARRIVALS,
+        REPORT,
         NO_FAULTS,
     )?;
     assert!(rt; replayed.is(Status::Done, REPORT, ""));
@@ -350,7 +353,9 @@ fn replays_one_round(alloc: Global) -> Result<bool, AllocError> {
         let ending = over(
             alloc,
             "replay net arr hist",
-            [&net, ARRIVALS, history],
+            &net,
+            ARRIVALS,
+            history,
             NO_FAULTS,
         )?;
         if !ending.is(Status::Done, report, "") {
@@ -365,7 +370,7 @@ fn replays_one_round(alloc: Global) -> Result<bool, AllocError> {
 fn planned_instances(rt: HostRuntime) -> Result<(), Fail> {
     let alloc = rt.alloc();
     for &(words, lines) in PLANNED {
-        let planned = over(alloc, words, [NETWORK, ARRIVALS, REPORT], NO_FAULTS)?;
+        let planned = over(alloc, words, NETWORK, ARRIVALS, REPORT, NO_FAULTS)?;
         let text = [PHASES, lines].concat(alloc)?;
         assert!(rt; planned.is(Status::Done, &text, ""));
         assert!(rt; is_accepted(alloc, &planned)?);
@@ -407,44 +412,43 @@ fn refused_texts(rt: HostRuntime) -> Result<(), Fail> {
     let alloc = rt.alloc();
     for &(from, to, line) in BAD_NETWORKS {
         let net = NETWORK.replace(alloc, from, to)?;
-        assert!(rt; is_bad(alloc, "turns net arr", [&net, ARRIVALS, ""], line)?);
+        assert!(rt; is_bad(alloc, "turns net arr", &net, ARRIVALS, "", line)?);
     }
     for &(arrivals, line) in BAD_ARRIVALS {
-        assert!(rt; is_bad(alloc, "turns net arr", [NETWORK, arrivals, ""], line)?);
+        assert!(rt; is_bad(alloc, "turns net arr", NETWORK, arrivals, "", line)?);
     }
     let net = NETWORK.replace(alloc, "rounds = 4", "rounds = 1")?;
     for &(history, line) in BAD_HISTORIES {
-        assert!(rt;
-            is_bad(
-                alloc,
-                "replay net arr hist",
-                [&net, ARRIVALS, history],
-                line
-            )?
-        );
+        assert!(rt; is_bad(alloc, "replay net arr hist", &net, ARRIVALS, history, line)?);
     }
     Ok(())
 }
 
 // Whether the input is refused with this line.
-fn is_bad(alloc: Global, words: &str, files: [&str; 3], line: &str) -> Result<bool, AllocError> {
-    let ending = over(alloc, words, files, NO_FAULTS)?;
+fn is_bad(
+    alloc: Global,
+    words: &str,
+    net: &str,
+    arr: &str,
+    hist: &str,
+    line: &str,
+) -> Result<bool, AllocError> {
+    let ending = over(alloc, words, net, arr, hist, NO_FAULTS)?;
     Ok(ending.is(Status::BadInput, "", line))
 }
 
 #[test]
 fn refused_words(rt: HostRuntime) -> Result<(), Fail> {
     let alloc = rt.alloc();
-    let files = [NETWORK, ARRIVALS, REPORT];
     for &(words, line) in MISSING {
-        assert!(rt; is_bad(alloc, words, files, line)?);
+        assert!(rt; is_bad(alloc, words, NETWORK, ARRIVALS, REPORT, line)?);
     }
     for &(words, line) in UNREAD {
-        let ending = over(alloc, words, files, NO_FAULTS)?;
+        let ending = over(alloc, words, NETWORK, ARRIVALS, REPORT, NO_FAULTS)?;
         assert!(rt; ending.is(Status::ReadFault, "", line));
     }
     for words in NO_COMMAND.lines() {
-        let ending = over(alloc, words, files, NO_FAULTS)?;
+        let ending = over(alloc, words, NETWORK, ARRIVALS, REPORT, NO_FAULTS)?;
         assert!(rt; ending.is(Status::Usage, "", "signal: usage\n"));
     }
     Ok(())
@@ -460,19 +464,39 @@ const FETCHES: &[(&[u32], &str)] = &[
 #[test]
 fn faulty(rt: HostRuntime) -> Result<(), Fail> {
     let alloc = rt.alloc();
-    let files = [NETWORK, ARRIVALS, REPORT];
     for &(fetches, line) in FETCHES {
         let faults = Faults {
             fetches,
             out: &[],
             err: &[],
         };
-        let ending = over(alloc, "replay net arr hist", files, faults)?;
+        let ending = over(
+            alloc,
+            "replay net arr hist",
+            NETWORK,
+            ARRIVALS,
+            REPORT,
+            faults,
+        )?;
         assert!(rt; ending.is(Status::ReadFault, "", line));
     }
-    let ending = over(alloc, "replay net arr hist", files, OUT_KEEPS_FOUR)?;
+    let ending = over(
+        alloc,
+        "replay net arr hist",
+        NETWORK,
+        ARRIVALS,
+        REPORT,
+        OUT_KEEPS_FOUR,
+    )?;
     assert!(rt; ending.is(Status::WriteFault, "kind", "signal: cannot write\n"));
-    let ending = over(alloc, "grid 7 2 1", files, OUT_KEEPS_FOUR)?;
+    let ending = over(
+        alloc,
+        "grid 7 2 1",
+        NETWORK,
+        ARRIVALS,
+        REPORT,
+        OUT_KEEPS_FOUR,
+    )?;
     assert!(rt; ending.is(Status::WriteFault, "grid", "signal: cannot write\n"));
     Ok(())
 }
