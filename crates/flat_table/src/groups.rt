@@ -73,7 +73,7 @@ impl Reached {
             if let Some((served, entry)) = serve_within(
                 i, &row.entry, phase, cluster, limit, &mut rests, steps,
             ) {
-                let order = row.order * 4 + u128::from(phase);
+                let order = row.order.followed_by(phase);
                 self.take_in(&served, cluster, Row { entry, order })?;
             }
         }
