@@ -81,7 +81,7 @@ fn answer_of(alloc: Global, i: &Instance, rows: &[Row]) -> Result<Answer, AllocE
     let Some(best) = best_of(&rows[start..end]) else {
         return Ok(Answer::NoPlan);
     };
-    let sequence = sequence_of(alloc, best.order, places)?;
+    let sequence = sequence_of(alloc, best.order.value(), places)?;
     Ok(Answer::Plan {
         sequence: Items::from_vec(sequence),
         delay: best.entry.delay,

@@ -9,7 +9,7 @@ ghost use Rattle.forward_dp.specs.Numbers.{counts_number};
 ghost use Rattle.forward_dp.specs.Tables.{CanFill, CanFillCell, IsCellFilled, IsFilled, IsFrom, IsNextCounts, IsWholeTable};
 
 use dp_certificate::{Entry, list_lengths};
-use flat_table::{Reached, Row};
+use flat_table::{Order, Reached, Row};
 use foundation::steps::Steps;
 use schedule_meaning::Instance;
 use std::alloc::{AllocError, Global};
@@ -54,7 +54,7 @@ fn first_row(i: &Instance) -> Row
             at: head.at,
             delay: 0,
         },
-        order: 0,
+        order: Order::none(),
     }
 }
 
