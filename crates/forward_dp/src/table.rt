@@ -6,8 +6,10 @@ ghost use Rattle.dp_certificate.specs.Limits.{HasKeysWithin, IsSomeDelay};
 ghost use Rattle.dp_certificate.specs.Prefixes.{Key};
 ghost use Rattle.flat_table.specs.Groups.{IsEmpty};
 ghost use Rattle.forward_dp.specs.Numbers.{counts_number};
-ghost use Rattle.forward_dp.specs.Tables.{CanFill, CanFillCell, IsCellFilled, IsFilled, IsFrom, IsNextCounts, IsWholeTable};
+ghost use Rattle.forward_dp.specs.Tables.{IsCellMade, IsCellReady, IsFrom, IsGroupFilled, IsGroupReady, IsNextCounts, IsTableMade, all_rows};
+ghost use Rattle.flat_table.specs.declared.rows.Row.{Row};
 
+use crate::kept::{Past, Rows};
 use dp_certificate::{Entry, list_lengths};
 use flat_table::{Order, Reached, Row};
 use foundation::steps::Steps;
@@ -17,23 +19,26 @@ use std::sync::ledger::Ledger;
 
 /// The whole table: a row for each key that a fit prefix reaches. Where there is a limit, which is the delay of a feasible
 /// sequence, only with what is within it.
-pub(crate) fn table<L: Ledger>(
+pub(crate) fn table<L: Ledger, P: Past>(
     alloc: Global,
     i: &Instance,
     limit: Option<u64>,
+    past: &mut P,
     steps: &mut Steps<L>,
-) -> Result<Vec<Row>, AllocError>
-    requires { IsSomeDelay i.now limit }
-    ensures whole { IfOk result (λ rows. IsWholeTable i.now limit rows.items) }
+) -> Result<Rows, AllocError>
+    requires delay { IsSomeDelay i.now limit }
+    requires past { P.holds past.old [] }
+    ensures whole { IfOk result (λ rows. (gone : List Row) × P.holds past.new gone × IsTableMade i.now limit gone rows) }
     ensures servings { (keys : List Key) → HasKeysWithin i.now limit keys → steps.new ≤ steps.old + length i.now.plan * length keys }
 {
     let last = list_lengths(i);
     let mut reached = Reached::new(alloc);
-    let mut rows = Vec::new(alloc);
-    rows.push(first_row(i))?;
+    let mut rows = Rows::new(alloc);
+    rows.latest.push(first_row(i))?;
     let mut counts = [0; 4];
     let mut ends = [0; 4];
     while let Some(next) = next_counts(&counts, &last) {
+        rows.enter(&counts, &next, past)?;
         fill_cell(i, limit, &next, &mut ends, &mut reached, &mut rows, steps)?;
         counts = next;
     }
@@ -89,12 +94,12 @@ fn fill_cell<L: Ledger>(
     counts: &[u8; 4],
     ends: &mut [usize; 4],
     reached: &mut Reached,
-    rows: &mut Vec<Row>,
+    rows: &mut Rows,
     steps: &mut Steps<L>,
 ) -> Result<(), AllocError>
-    requires cell { CanFillCell i.now limit counts.now rows.old.items ends.old }
+    requires cell { (gone : List Row) × IsCellReady i.now limit counts.now gone rows.old ends.old }
     requires empty { IsEmpty reached.old }
-    ensures filled { OnOk result (IsCellFilled i.now limit counts.now rows.new.items ends.new) }
+    ensures filled { (gone : List Row) → IsCellReady i.now limit counts.now gone rows.old ends.old → OnOk result (IsCellMade i.now limit counts.now gone rows.new ends.new) }
     ensures empty { OnOk result (IsEmpty reached.new) }
     ensures steps { OnOk result (steps.new + sum ends.old ≤ steps.old + sum ends.new) }
     ensures most { (keys : List Key) → HasKeysWithin i.now limit keys → steps.new + sum ends.old ≤ steps.old + length i.now.plan * length keys }
@@ -125,24 +130,25 @@ fn fill_group<L: Ledger>(
     phase: u8,
     from: usize,
     reached: &mut Reached,
-    rows: &mut Vec<Row>,
+    rows: &mut Rows,
     steps: &mut Steps<L>,
 ) -> Result<usize, AllocError>
-    requires group { CanFill i.now limit counts.now phase from rows.old.items }
+    requires group { (gone : List Row) × IsGroupReady i.now limit counts.now phase from gone rows.old }
     requires empty { IsEmpty reached.old }
-    ensures filled { IfOk result (λ end. IsFilled i.now limit counts.now phase rows.old.items rows.new.items end) }
+    ensures filled { (gone : List Row) → IsGroupReady i.now limit counts.now phase from gone rows.old → IfOk result (IsGroupFilled i.now limit counts.now phase gone rows.old rows.new) }
     ensures empty { OnOk result (IsEmpty reached.new) }
     ensures steps { IfOk result (λ end. steps.new + from ≤ steps.old + end) }
-    ensures most { steps.new + from ≤ steps.old + length rows.old.items }
+    ensures most { (gone : List Row) → IsGroupReady i.now limit counts.now phase from gone rows.old → steps.new + from ≤ steps.old + length (all_rows gone rows.old) }
 {
     let mut before = *counts;
     before[phase as usize] -= 1;
     let cluster = &i.list(phase)[before[phase as usize] as usize];
-    let (start, end) = cell(rows.as_slice(), from, &before);
-    let source = &rows.as_slice()[start..end];
-    reached.reach(i, source, phase, cluster, limit, steps)?;
-    reached.put_behind(rows)?;
-    Ok(end)
+    let base = rows.base(phase);
+    let source = rows.source(phase);
+    let (start, end) = cell(source, from.saturating_sub(base), &before);
+    reached.reach(i, &source[start..end], phase, cluster, limit, steps)?;
+    reached.put_behind(&mut rows.latest)?;
+    Ok(base + end)
 }
 
 /// Where the rows with these counts begin and end; they stand from a place on.

@@ -1,0 +1,213 @@
+-- The rows that are kept among all rows: where a group is reached from, and what its rows are put behind.
+use Rattle.std.proofs.Common.{◌≡◌, ℕ, zero, suc, ◌+◌, ◌-◌, ◌*◌, ◌<◌, ◌≤◌, List, [], ◌++◌, length, get_or, set, take, drop, All, Option, refl, sym, ap, subst, ◌∙◌, inl, inr, append_assoc, append-nil, length-append, length-drop, arith}
+use Rattle.std.proofs.Math.Seq.{drop-append-add, drop-append_seam}
+use Rattle.std.proofs.lemmas.Bool.{cases_lt}
+use Rattle.std.proofs.lemmas.List.{drop-append-le, get_or-append_right, get_or_append_left, get_or-set_other, take-append-le}
+use Rattle.std.proofs.lemmas.List.Elements.{All-append, All-nil}
+use Rattle.switch_rules.specs.declared.Cluster.{Cluster}
+use Rattle.schedule_meaning.specs.Instances.{Problem, IsInstance, list_at}
+use Rattle.flat_table.specs.Groups.{AreJoined, AreReachedBy, no_row}
+use Rattle.flat_table.specs.declared.groups.Reached.{Reached}
+use Rattle.flat_table.specs.declared.rows.Row.{Row}
+use Rattle.forward_dp.specs.Numbers.{counts_number}
+use Rattle.forward_dp.specs.Tables.{AreParted, CanFill, IsFrom, IsGroupFilled, IsGroupReady, all_rows, base_of, counts_number_at, source_of, unit_of}
+use Rattle.forward_dp.specs.declared.kept.Rows.{Rows}
+use Rattle.forward_dp.proofs.Few.{rows-few}
+use Rattle.forward_dp.proofs.Filling.{IsFound, filled, found, small-digits}
+use Rattle.forward_dp.proofs.Rows.{back, before-four, before-is, before_of, number-more}
+
+-- a source stands among all rows: those before it have lower counts than a number, and those behind it higher ones
+pub record IsAmid (front source behind all : List Row) (number : ℕ) : Type 0 where
+  pub is : all ≡ front ++ source ++ behind
+  pub low : All (λ r. counts_number r.entry.counts < number) front
+  pub high : All (λ r. number < counts_number r.entry.counts) behind
+
+module _ (front source behind all : List Row) (number : ℕ) (amid : IsAmid front source behind all number) where
+  long : length all ≡ length front + length source + length behind
+  long = omega (arith, ap length amid.is, length-append (front ++ source) behind, length-append front source)
+
+  in-front : (place : ℕ) → place < length front → counts_number_at all place < number
+  in-front place h =
+      let e : counts_number_at all place ≡ counts_number_at front place =
+      ap (λ rs. counts_number_at rs place) amid.is
+      ∙ ap (λ (r : Row). counts_number r.entry.counts) (get_or_append_left (front ++ source) behind no_row place (omega (arith, h, length-append front source)) ∙ get_or_append_left front source no_row place h) in
+      omega (arith, e, amid.low place no_row h)
+
+  in-source : (n : ℕ) → n < length source → counts_number_at all (length front + n) ≡ counts_number_at source n
+  in-source n h =
+      ap (λ rs. counts_number_at rs (length front + n)) amid.is
+      ∙ ap (λ (r : Row). counts_number r.entry.counts) (get_or_append_left (front ++ source) behind no_row (length front + n) (omega (arith, h, length-append front source))
+      ∙ get_or-append_right front source (length front) (length front + n) no_row refl (omega arith)
+      ∙ ap (λ m. get_or source m no_row) (let e : length front + n - length front ≡ n = omega arith in e))
+
+  in-behind : (place : ℕ) → length front + length source ≤ place → place < length all → number < counts_number_at all place
+  in-behind place h inside =
+      let both : length (front ++ source) ≡ length front + length source = length-append front source in
+      let e : counts_number_at all place ≡ counts_number_at behind (place - length (front ++ source)) =
+      ap (λ rs. counts_number_at rs place) amid.is
+      ∙ ap (λ (r : Row). counts_number r.entry.counts) (get_or-append_right (front ++ source) behind (length (front ++ source)) place no_row refl (omega (arith, h, both))) in
+      omega (arith, e, amid.high (place - length (front ++ source)) no_row (omega (arith, both, h, inside, long)))
+
+  -- a search in the source is one among all rows
+  pub from-all : (from least place : ℕ) → least ≤ number + 1 → IsFrom source from least place → IsFrom all (length front + from) least (length front + place)
+  from-all from least place few f = record {
+    rise = omega (arith, f.rise);
+    within = omega (arith, f.within, long);
+    below = λ more.
+        let same : length front + place - 1 ≡ length front + (place - 1) = omega (arith, more) in
+        let e : counts_number_at all (length front + place - 1) ≡ counts_number_at source (place - 1) = ap (counts_number_at all) same ∙ in-source (place - 1) (omega (arith, more, f.within)) in
+        omega (arith, e, f.below (omega (arith, more)));
+    here = λ inside. elim (cases_lt place (length source)) [
+      | inl some ↦ omega (arith, in-source place some, f.here some)
+      | inr none ↦ omega (arith, few, in-behind (length front + place) (omega (arith, none)) inside)
+    ];
+  }
+
+  pub slice-all : (start end : ℕ) → start ≤ end → end ≤ length source → take (length front + end - (length front + start)) (drop (length front + start) all) ≡ take (end - start) (drop start source)
+  slice-all start end rise within =
+      ap (λ n. take n (drop (length front + start) all)) (let e : length front + end - (length front + start) ≡ end - start = omega (arith, rise) in e)
+      ∙ ap (λ rs. take (end - start) (drop (length front + start) rs)) (amid.is ∙ append_assoc front source behind)
+      ∙ ap (take (end - start)) (drop-append-add front (source ++ behind) start ∙ drop-append-le start source behind (omega (arith, rise, within)))
+      ∙ take-append-le (end - start) (drop start source) behind (omega (arith, length-drop start source, within))
+
+  -- what has lower counts ends within the source, at the last
+  pub begins : (from : ℕ) → ((place : ℕ) → place < from → counts_number_at all place < number) → from ≤ length all → from ≤ length front + length source
+  begins from below known = elim (cases_lt (length front + length source) from) [
+    | inl past ↦ absurd (omega (arith, below (length front + length source) past, in-behind (length front + length source) (omega arith) (omega (arith, past, known))))
+    | inr not ↦ not
+  ]
+
+  pub lower : (from : ℕ) → ((place : ℕ) → place < from → counts_number_at all place < number) → (place : ℕ) → place < length front + (from - length front) → counts_number_at all place < number
+  lower from below place h = elim (cases_lt place (length front)) [ inl low ↦ in-front place low | inr high ↦ below place (omega (arith, h, high)) ]
+
+-- the counts with one less of a phase
+less-by : (counts : List ℕ) (k : ℕ) → length counts ≡ 4 → k < 4 → 0 < get_or counts k 0 → counts_number counts ≡ counts_number (set counts k (get_or counts k 0 - 1)) + unit_of k
+less-by counts k places small some = ap counts_number (sym (back counts k places small some)) ∙ number-more (before_of counts k) k (before-four counts k places) small ∙ ap (λ xs. counts_number xs + unit_of k) (before-is counts k)
+
+small-phase : (p : Problem) (k : ℕ) → IsInstance p → k < length p.plan → k < 4
+small-phase p k lawful h = omega (arith, h, lawful.plan.count.1)
+
+can-below : (p : Problem) (limit : Option ℕ) (counts : List ℕ) (k from : ℕ) (all : List Row) → CanFill p limit counts k from all → (place : ℕ) → place < from → counts_number_at all place < counts_number (set counts k (get_or counts k 0 - 1))
+can-below p limit counts k from all can place h = omega (arith, can.behind place h, less-by counts k can.places (small-phase p k can.lawful can.phase) can.some)
+
+-- a group is found by searches in the source
+found-amid : (p : Problem) (limit : Option ℕ) (counts : List ℕ) (k from start end : ℕ) (front source behind all : List Row) (list : List Cluster) (d : Cluster) → CanFill p limit counts k from all → IsAmid front source behind all (counts_number (set counts k (get_or counts k 0 - 1)))
+    → list ≡ list_at p.lists k → IsFrom source (from - length front) (counts_number (set counts k (get_or counts k 0 - 1))) start → IsFrom source start (counts_number (set counts k (get_or counts k 0 - 1)) + 1) end
+    → IsFound p counts k all (take (end - start) (drop start source)) (length front + start) (length front + end) (get_or list (get_or (set counts k (get_or counts k 0 - 1)) k 0) d)
+found-amid p limit counts k from start end front source behind all list d can amid is_list first second =
+    let number = counts_number (set counts k (get_or counts k 0 - 1)) in
+    let below = can-below p limit counts k from all can in
+    let within : from ≤ length front + length source = begins front source behind all number amid from below can.known in
+    let later : CanFill p limit counts k (length front + (from - length front)) all = record {
+      lawful = can.lawful;
+      places = can.places;
+      within = can.within;
+      phase = can.phase;
+      some = can.some;
+      table = can.table;
+      known = omega (arith, within, long front source behind all number amid);
+      behind = λ place h. omega (arith, lower front source behind all number amid from below place h, less-by counts k can.places (small-phase p k can.lawful can.phase) can.some);
+    } in
+    subst (λ xs. IsFound p counts k all xs (length front + start) (length front + end) (get_or list (get_or (set counts k (get_or counts k 0 - 1)) k 0) d)) (slice-all front source behind all number amid start end second.rise second.within)
+    (found p limit counts k (length front + (from - length front)) (length front + start) (length front + end) all all all list d later refl refl is_list
+    (from-all front source behind all number amid (from - length front) number start (omega arith) first) (from-all front source behind all number amid start (number + 1) end (omega arith) second))
+
+-- the rows from which a phase is served stand among all rows
+pub record IsBetween (k : ℕ) (gone : List Row) (rows : Rows) (number : ℕ) : Type 0 where
+  pub front : List Row
+  pub behind : List Row
+  pub base : base_of rows k ≡ length front
+  pub amid : IsAmid front (source_of rows k) behind (all_rows gone rows) number
+
+between : (k : ℕ) (counts : List ℕ) (gone : List Row) (rows : Rows) → AreParted (get_or counts 0 0) gone rows → ((j : ℕ) → get_or counts j 0 < 64) → counts_number counts ≡ counts_number (set counts k (get_or counts k 0 - 1)) + unit_of k → IsBetween k gone rows (counts_number (set counts k (get_or counts k 0 - 1)))
+between zero counts gone rows parted digits less = record {
+  front = gone;
+  behind = rows.latest.items;
+  base = parted.count;
+  amid = record {
+    is = refl;
+    low = λ i d h. omega (arith, parted.past i d h, less);
+    high = λ i d h. omega (arith, parted.latest i d h, less, digits 1, digits 2, digits 3);
+  };
+}
+between (suc k) counts gone rows parted digits less =
+    let first : get_or (set counts (suc k) (get_or counts (suc k) 0 - 1)) 0 0 ≡ get_or counts 0 0 = get_or-set_other counts (suc k) 0 (get_or counts (suc k) 0 - 1) 0 (λ same. absurd (omega (arith, same))) in
+    record {
+      front = gone ++ rows.earlier.items;
+      behind = [];
+      base = omega (arith, parted.count, length-append gone rows.earlier.items);
+      amid = record {
+        is = sym (append-nil (gone ++ rows.earlier.items ++ rows.latest.items));
+        low = All-append (λ r. counts_number r.entry.counts < counts_number (set counts (suc k) (get_or counts (suc k) 0 - 1))) gone rows.earlier.items (λ i d h. omega (arith, parted.past i d h, first)) (λ i d h. omega (arith, parted.earlier i d h, first));
+        high = All-nil (λ r. counts_number (set counts (suc k) (get_or counts (suc k) 0 - 1)) < counts_number r.entry.counts);
+      };
+    }
+
+ready-between : (p : Problem) (limit : Option ℕ) (counts : List ℕ) (k from : ℕ) (gone : List Row) (rows : Rows) → IsGroupReady p limit counts k from gone rows → IsBetween k gone rows (counts_number (set counts k (get_or counts k 0 - 1)))
+ready-between p limit counts k from gone rows ready =
+    let can = ready.can in
+    between k counts gone rows ready.parted (small-digits p counts can.lawful can.within) (less-by counts k can.places (small-phase p k can.lawful can.phase) can.some)
+
+-- the search begins within the source
+pub ready-within : (p : Problem) (limit : Option ℕ) (counts : List ℕ) (k from base : ℕ) (source : List Row) (gone : List Row) (rows : Rows) → IsGroupReady p limit counts k from gone rows → base ≡ base_of rows k → source ≡ source_of rows k → from - base ≤ length source
+ready-within p limit counts k from base source gone rows ready is_base is_source =
+    let b = ready-between p limit counts k from gone rows ready in
+    omega (arith, is_base, b.base, ap length is_source, begins b.front (source_of rows k) b.behind (all_rows gone rows) (counts_number (set counts k (get_or counts k 0 - 1))) b.amid from (can-below p limit counts k from (all_rows gone rows) ready.can) ready.can.known)
+
+-- and ends before the last row
+pub ready-long : (p : Problem) (limit : Option ℕ) (counts : List ℕ) (k from base : ℕ) (source : List Row) (gone : List Row) (rows : Rows) → IsGroupReady p limit counts k from gone rows → base ≡ base_of rows k → source ≡ source_of rows k → base + length source ≤ length (all_rows gone rows)
+ready-long p limit counts k from base source gone rows ready is_base is_source =
+    let b = ready-between p limit counts k from gone rows ready in
+    omega (arith, is_base, b.base, ap length is_source, long b.front (source_of rows k) b.behind (all_rows gone rows) (counts_number (set counts k (get_or counts k 0 - 1))) b.amid)
+
+pub ready-found : (p : Problem) (limit : Option ℕ) (counts : List ℕ) (k from base skip start end : ℕ) (source : List Row) (gone : List Row) (rows : Rows) (list : List Cluster) (d : Cluster) → IsGroupReady p limit counts k from gone rows → base ≡ base_of rows k → source ≡ source_of rows k
+    → list ≡ list_at p.lists k → skip ≡ from - base → IsFrom source skip (counts_number (set counts k (get_or counts k 0 - 1))) start → IsFrom source start (counts_number (set counts k (get_or counts k 0 - 1)) + 1) end
+    → IsFound p counts k (all_rows gone rows) (take (end - start) (drop start source)) (base + start) (base + end) (get_or list (get_or (set counts k (get_or counts k 0 - 1)) k 0) d)
+ready-found p limit counts k from base skip start end source gone rows list d ready is_base is_source is_list is_skip first second =
+    let b = ready-between p limit counts k from gone rows ready in
+    let at : length b.front ≡ base = sym (is_base ∙ b.base) in
+    let number = counts_number (set counts k (get_or counts k 0 - 1)) in
+    let one : IsFrom (source_of rows k) (from - length b.front) number start = subst (λ n. IsFrom (source_of rows k) (from - n) number start) (sym at) (subst (λ xs. IsFrom xs (from - base) number start) is_source (subst (λ n. IsFrom source n number start) is_skip first)) in
+    let two : IsFrom (source_of rows k) start (number + 1) end = subst (λ xs. IsFrom xs start (number + 1) end) is_source second in
+    let here = found-amid p limit counts k from start end b.front (source_of rows k) b.behind (all_rows gone rows) list d ready.can b.amid is_list one two in
+    subst (λ xs. IsFound p counts k (all_rows gone rows) (take (end - start) (drop start xs)) (base + start) (base + end) (get_or list (get_or (set counts k (get_or counts k 0 - 1)) k 0) d)) (sym is_source)
+    (subst (λ n. IsFound p counts k (all_rows gone rows) (take (end - start) (drop start (source_of rows k))) (n + start) (n + end) (get_or list (get_or (set counts k (get_or counts k 0 - 1)) k 0) d)) at here)
+
+cancel : (front xs ys : List Row) → front ++ xs ≡ front ++ ys → xs ≡ ys
+cancel front xs ys e = sym (drop-append_seam front xs) ∙ ap (drop (length front)) e ∙ drop-append_seam front ys
+
+-- rows behind the latest ones are behind all
+joined-all : (front old new : List Row) (reached : Reached) → AreJoined reached old new → AreJoined reached (front ++ old) (front ++ new)
+joined-all front old new reached joined = record { made = joined.made; is = ap (λ xs. front ++ xs) joined.is ∙ sym (append_assoc front old joined.made); later = joined.later; best = joined.best }
+
+pub ready-filled : (p : Problem) (limit : Option ℕ) (counts : List ℕ) (k from start end : ℕ) (gone source : List Row) (old new : Rows) (cluster : Cluster) (reached : Reached) → IsGroupReady p limit counts k from gone old → IsFound p counts k (all_rows gone old) source start end cluster
+    → AreReachedBy p limit k cluster source (length source) reached → AreJoined reached old.latest.items new.latest.items → new.gone ≡ old.gone → new.earlier.items ≡ old.earlier.items → IsGroupFilled p limit counts k gone old new end
+ready-filled p limit counts k from start end gone source old new cluster reached ready f by joined same_gone same_earlier =
+    let can = ready.can in
+    let parted = ready.parted in
+    let digits = small-digits p counts can.lawful can.within in
+    let behind : AreJoined reached (all_rows gone old) (all_rows gone new) =
+    subst (λ xs. AreJoined reached (all_rows gone old) (gone ++ xs ++ new.latest.items)) (sym same_earlier) (joined-all (gone ++ old.earlier.items) old.latest.items new.latest.items reached joined) in
+    let done = filled p limit counts k from start end (all_rows gone old) source (all_rows gone new) cluster reached can f by behind in
+    let latest : new.latest.items ≡ old.latest.items ++ done.made =
+    cancel (gone ++ old.earlier.items) new.latest.items (old.latest.items ++ done.made) (ap (λ xs. gone ++ xs ++ new.latest.items) (sym same_earlier) ∙ done.longer ∙ append_assoc (gone ++ old.earlier.items) old.latest.items done.made) in
+    record {
+      filled = done;
+      parted = record {
+        count = same_gone ∙ parted.count;
+        past = parted.past;
+        earlier = subst (All (λ r. counts_number r.entry.counts < get_or counts 0 0 * 262144)) (sym same_earlier) parted.earlier;
+        latest = subst (All (λ r. (get_or counts 0 0 * 262144 ≤ counts_number r.entry.counts) × (counts_number r.entry.counts < get_or counts 0 0 * 262144 + 262144))) (sym latest)
+            (All-append (λ r. (get_or counts 0 0 * 262144 ≤ counts_number r.entry.counts) × (counts_number r.entry.counts < get_or counts 0 0 * 262144 + 262144)) old.latest.items done.made parted.latest (λ i d h.
+            let same : counts_number (get_or done.made i d).entry.counts ≡ counts_number counts = ap counts_number (done.cell i d h) in
+            (omega (arith, same), omega (arith, same, digits 1, digits 2, digits 3))));
+      };
+    }
+
+-- how many rows there are
+pub ready-few : (p : Problem) (limit : Option ℕ) (counts : List ℕ) (k from : ℕ) (gone : List Row) (rows : Rows) → IsGroupReady p limit counts k from gone rows → length (all_rows gone rows) ≤ 2000001
+ready-few p limit counts k from gone rows ready = rows-few p ready.can.lawful (all_rows gone rows) ready.can.table.made
+
+pub ready-gone : (p : Problem) (limit : Option ℕ) (counts : List ℕ) (k from : ℕ) (gone : List Row) (rows : Rows) → IsGroupReady p limit counts k from gone rows → rows.gone + length rows.earlier.items ≤ 2000001
+ready-gone p limit counts k from gone rows ready =
+    omega (arith, ready.parted.count, ready-few p limit counts k from gone rows ready, length-append (gone ++ rows.earlier.items) rows.latest.items, length-append gone rows.earlier.items)
