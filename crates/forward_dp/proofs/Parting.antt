@@ -1,19 +1,22 @@
 -- The rows that are kept among all rows: where a group is reached from, and what its rows are put behind.
-use Rattle.std.proofs.Common.{◌≡◌, ℕ, zero, suc, ◌+◌, ◌-◌, ◌*◌, ◌<◌, ◌≤◌, List, [], ◌++◌, length, get_or, set, take, drop, All, Option, refl, sym, ap, subst, ◌∙◌, inl, inr, append_assoc, append-nil, length-append, length-drop, arith}
+use Rattle.std.proofs.Common.{◌≡◌, ℕ, zero, suc, ◌+◌, ◌-◌, ◌*◌, ◌<◌, ◌≤◌, List, [], ◌∷◌, ◌++◌, length, get_or, set, take, drop, All, Option, refl, sym, ap, subst, ◌∙◌, inl, inr, append_assoc, append-nil, length-append, length-drop, arith}
 use Rattle.std.proofs.Math.Seq.{drop-append-add, drop-append_seam}
 use Rattle.std.proofs.lemmas.Bool.{cases_lt}
 use Rattle.std.proofs.lemmas.List.{drop-append-le, get_or-append_right, get_or_append_left, get_or-set_other, take-append-le}
-use Rattle.std.proofs.lemmas.List.Elements.{All-append, All-nil}
+use Rattle.std.proofs.lemmas.List.Elements.{All-append, All-cons, All-nil}
 use Rattle.switch_rules.specs.declared.Cluster.{Cluster}
 use Rattle.schedule_meaning.specs.Instances.{Problem, IsInstance, list_at}
+use Rattle.dp_certificate.specs.Limits.{IsSomeDelay}
+use Rattle.dp_certificate.specs.Numbers.{AreLengths}
 use Rattle.flat_table.specs.Groups.{AreJoined, AreReachedBy, no_row}
 use Rattle.flat_table.specs.declared.groups.Reached.{Reached}
 use Rattle.flat_table.specs.declared.rows.Row.{Row}
 use Rattle.forward_dp.specs.Numbers.{counts_number}
-use Rattle.forward_dp.specs.Tables.{AreParted, CanFill, IsFrom, IsGroupFilled, IsGroupReady, all_rows, base_of, counts_number_at, source_of, unit_of}
+use Rattle.forward_dp.specs.Tables.{AreEnds, AreParted, CanFill, IsCellMade, IsCellReady, IsEntered, IsFrom, IsGroupFilled, IsGroupReady, IsNextCounts, IsTable, IsTableMade, all_rows, base_of, counts_number_at, source_of, unit_of}
 use Rattle.forward_dp.specs.declared.kept.Rows.{Rows}
 use Rattle.forward_dp.proofs.Few.{rows-few}
-use Rattle.forward_dp.proofs.Filling.{IsFound, filled, found, small-digits}
+use Rattle.forward_dp.proofs.Filling.{IsFound, can-fill, cell-filled, cell-ready, ends-filled, ends-passed, ends-start, filled, found, small-digits, small-last, table-filled, table-passed}
+use Rattle.forward_dp.proofs.Growing.{table-first, table-whole}
 use Rattle.forward_dp.proofs.Rows.{back, before-four, before-is, before_of, number-more}
 
 -- a source stands among all rows: those before it have lower counts than a number, and those behind it higher ones
@@ -211,3 +214,94 @@ ready-few p limit counts k from gone rows ready = rows-few p ready.can.lawful (a
 pub ready-gone : (p : Problem) (limit : Option ℕ) (counts : List ℕ) (k from : ℕ) (gone : List Row) (rows : Rows) → IsGroupReady p limit counts k from gone rows → rows.gone + length rows.earlier.items ≤ 2000001
 ready-gone p limit counts k from gone rows ready =
     omega (arith, ready.parted.count, ready-few p limit counts k from gone rows ready, length-append (gone ++ rows.earlier.items) rows.latest.items, length-append gone rows.earlier.items)
+
+-- ---- a cell
+
+-- the groups of the phases so far are made
+pub record IsUnderWay (p : Problem) (limit : Option ℕ) (counts : List ℕ) (k : ℕ) (gone : List Row) (rows : Rows) (ends : List ℕ) : Type 0 where
+  pub table : IsTable p limit (counts_number counts * 4 + k) (all_rows gone rows)
+  pub ends_are : AreEnds (length p.plan) (all_rows gone rows) (counts_number counts + 1) k ends
+  pub parted : AreParted (get_or counts 0 0) gone rows
+
+pub cell-starts : (p : Problem) (limit : Option ℕ) (counts : List ℕ) (gone : List Row) (rows : Rows) (ends : List ℕ) → IsCellReady p limit counts gone rows ends → IsUnderWay p limit counts 0 gone rows ends
+cell-starts p limit counts gone rows ends ready = record {
+  table = subst (λ n. IsTable p limit n (all_rows gone rows)) (let e : counts_number counts * 4 ≡ counts_number counts * 4 + 0 = omega arith in e) ready.can.table;
+  ends_are = ready.can.known;
+  parted = ready.parted;
+}
+
+pub group-ready : (p : Problem) (limit : Option ℕ) (counts : List ℕ) (k : ℕ) (gone : List Row) (first rows : Rows) (initial ends : List ℕ) → IsCellReady p limit counts gone first initial → k < length p.plan → 0 < get_or counts k 0 → IsUnderWay p limit counts k gone rows ends → IsGroupReady p limit counts k (get_or ends k 0) gone rows
+group-ready p limit counts k gone first rows initial ends ready inside some way = record {
+  can = can-fill p limit counts k (all_rows gone first) (all_rows gone rows) initial ends ready.can inside some way.table way.ends_are;
+  parted = way.parted;
+}
+
+pub cell-goes-on : (p : Problem) (limit : Option ℕ) (counts : List ℕ) (k end : ℕ) (gone : List Row) (rows new : Rows) (ends : List ℕ) → IsUnderWay p limit counts k gone rows ends → k < length p.plan → length p.plan ≤ 4 → IsGroupFilled p limit counts k gone rows new end → IsUnderWay p limit counts (k + 1) gone new (set ends k end)
+cell-goes-on p limit counts k end gone rows new ends way inside few made = record {
+  table = table-filled p limit counts k end (all_rows gone rows) (all_rows gone new) made.filled;
+  ends_are = ends-filled p limit counts k end (all_rows gone rows) (all_rows gone new) ends inside few way.ends_are made.filled;
+  parted = made.parted;
+}
+
+pub cell-passes : (p : Problem) (limit : Option ℕ) (counts : List ℕ) (k : ℕ) (gone : List Row) (first rows : Rows) (initial ends : List ℕ) → IsCellReady p limit counts gone first initial → k < length p.plan → get_or counts k 0 ≤ 0 → IsUnderWay p limit counts k gone rows ends → IsUnderWay p limit counts (k + 1) gone rows ends
+cell-passes p limit counts k gone first rows initial ends ready inside none way = record {
+  table = table-passed p limit counts k (all_rows gone first) (all_rows gone rows) initial ready.can inside none way.table;
+  ends_are = ends-passed (length p.plan) (all_rows gone rows) (counts_number counts + 1) k ends way.ends_are;
+  parted = way.parted;
+}
+
+pub cell-ends : (p : Problem) (limit : Option ℕ) (counts : List ℕ) (n : ℕ) (gone : List Row) (first rows : Rows) (initial ends : List ℕ) → IsCellReady p limit counts gone first initial → n ≡ length p.plan → IsUnderWay p limit counts n gone rows ends → IsCellMade p limit counts gone rows ends
+cell-ends p limit counts n gone first rows initial ends ready all way = record {
+  filled = cell-filled p limit counts n (all_rows gone first) (all_rows gone rows) initial ends ready.can all way.table way.ends_are;
+  parted = way.parted;
+}
+
+-- ---- the table
+
+-- a row of no places
+pub table-starts : (p : Problem) (limit : Option ℕ) → IsInstance p → IsSomeDelay p limit → (r : Row) (rows : Rows) → r ≡ record { entry = record { counts = 0 ∷ 0 ∷ 0 ∷ 0 ∷ []; phase = p.head.phase; since = p.head.since; at = p.head.at; delay = 0 }; order = 0 }
+    → rows.gone ≡ 0 → rows.earlier.items ≡ [] → rows.latest.items ≡ r ∷ [] → IsUnderWay p limit (0 ∷ 0 ∷ 0 ∷ 0 ∷ []) 4 [] rows (0 ∷ 0 ∷ 0 ∷ 0 ∷ [])
+table-starts p limit lawful delay r rows is none earlier latest =
+    let all : all_rows [] rows ≡ r ∷ [] = ap (λ xs. let ys : List Row = [] ++ xs ++ rows.latest.items in ys) earlier ∙ latest in
+    let low : counts_number r.entry.counts ≡ 0 = ap (λ (x : Row). counts_number x.entry.counts) is in
+    record {
+      table = subst (IsTable p limit 4) (sym all) (table-first p limit lawful delay r is);
+      ends_are = ends-start (length p.plan) (all_rows [] rows);
+      parted = record {
+        count = none;
+        past = All-nil (λ r. counts_number r.entry.counts + 262144 < 0);
+        earlier = subst (All (λ r. counts_number r.entry.counts < 0)) (sym earlier) (All-nil (λ r. counts_number r.entry.counts < 0));
+        latest = subst (All (λ r. (0 ≤ counts_number r.entry.counts) × (counts_number r.entry.counts < 262144))) (sym latest)
+            (All-cons (λ r. (0 ≤ counts_number r.entry.counts) × (counts_number r.entry.counts < 262144)) r [] (omega arith, omega (arith, low)) (All-nil (λ r. (0 ≤ counts_number r.entry.counts) × (counts_number r.entry.counts < 262144))));
+      };
+    }
+
+pub way-gone : (p : Problem) (limit : Option ℕ) (counts : List ℕ) (k : ℕ) (gone : List Row) (rows : Rows) (ends : List ℕ) → IsInstance p → IsUnderWay p limit counts k gone rows ends → rows.gone + length rows.earlier.items ≤ 2000001
+way-gone p limit counts k gone rows ends lawful way =
+    omega (arith, way.parted.count, rows-few p lawful (all_rows gone rows) way.table.made, length-append (gone ++ rows.earlier.items) rows.latest.items, length-append gone rows.earlier.items)
+
+-- the next cell can be filled
+pub entered-ready : (p : Problem) (limit : Option ℕ) → IsInstance p → (last counts next : List ℕ) (gone : List Row) (rows new : Rows) (ends : List ℕ) (Holds : List Row → Type 0) → AreLengths p.lists last → IsNextCounts last counts next → ((k : ℕ) → get_or counts k 0 ≤ get_or last k 0) → IsUnderWay p limit counts 4 gone rows ends
+    → (e : IsEntered Holds (get_or counts 0 0) (get_or next 0 0) gone rows new) → IsCellReady p limit next e.past new ends
+entered-ready p limit lawful last counts next gone rows new ends Holds lengths is within way e =
+    let small = small-last p last lawful lengths in
+    let above = is.above in
+    let rise : get_or counts 0 0 ≤ get_or next 0 0 = omega (arith, above, within 0, within 1, within 2, within 3, is.within 0, is.within 1, is.within 2, is.within 3, small 0, small 1, small 2, small 3) in
+    record {
+      can = cell-ready p limit lawful last counts next (all_rows e.past new) ends lengths is (subst (IsTable p limit (counts_number counts * 4 + 4)) (sym e.same) way.table) (subst (λ rs. AreEnds (length p.plan) rs (counts_number counts + 1) 4 ends) (sym e.same) way.ends_are);
+      parted = e.parted way.parted rise;
+    }
+
+pub way-made : (p : Problem) (limit : Option ℕ) (counts : List ℕ) (gone : List Row) (rows : Rows) (ends : List ℕ) → IsCellMade p limit counts gone rows ends → IsUnderWay p limit counts 4 gone rows ends
+way-made p limit counts gone rows ends made = record { table = made.filled.table; ends_are = made.filled.known; parted = made.parted }
+
+-- the last cell is made
+pub table-ends : (p : Problem) (limit : Option ℕ) → IsInstance p → (last counts : List ℕ) (gone : List Row) (rows : Rows) (ends : List ℕ) → AreLengths p.lists last → ((k : ℕ) → get_or counts k 0 ≤ get_or last k 0) → ((c : List ℕ) → ((k : ℕ) → get_or c k 0 ≤ get_or last k 0) → counts_number c ≤ counts_number counts)
+    → IsUnderWay p limit counts 4 gone rows ends → IsTableMade p limit gone rows
+table-ends p limit lawful last counts gone rows ends lengths within least way =
+    let whole : counts_number last ≤ counts_number counts = least last (λ k. omega arith) in
+    let first : get_or counts 0 0 ≡ length (list_at p.lists 0) = omega (arith, whole, within 0, within 1, within 2, within 3, lengths.each 0) in
+    record {
+      table = table-whole p limit lawful last counts (all_rows gone rows) lengths.each least way.table;
+      parted = subst (λ n. AreParted n gone rows) first way.parted;
+    }
