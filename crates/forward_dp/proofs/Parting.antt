@@ -14,6 +14,7 @@ use Rattle.flat_table.specs.declared.rows.Row.{Row}
 use Rattle.forward_dp.specs.Numbers.{counts_number}
 use Rattle.forward_dp.specs.Tables.{AreEnds, AreParted, CanFill, IsCellMade, IsCellReady, IsEntered, IsFrom, IsGroupFilled, IsGroupReady, IsNextCounts, IsTable, IsTableMade, all_rows, base_of, counts_number_at, source_of, unit_of}
 use Rattle.forward_dp.specs.declared.kept.Rows.{Rows}
+use Rattle.forward_dp.proofs.Cells.{IsCell, cell-is}
 use Rattle.forward_dp.proofs.Few.{rows-few}
 use Rattle.forward_dp.proofs.Filling.{IsFound, can-fill, cell-filled, cell-ready, ends-filled, ends-passed, ends-start, filled, found, small-digits, small-last, table-filled, table-passed}
 use Rattle.forward_dp.proofs.Growing.{table-first, table-whole}
@@ -305,3 +306,22 @@ table-ends p limit lawful last counts gone rows ends lengths within least way =
       table = table-whole p limit lawful last counts (all_rows gone rows) lengths.each least way.table;
       parted = subst (λ n. AreParted n gone rows) first way.parted;
     }
+
+-- the rows with the last counts are among the latest ones
+pub latest-cell : (p : Problem) (limit : Option ℕ) → IsInstance p → (gone : List Row) (rows : Rows) (last : List ℕ) (start end : ℕ) → IsTableMade p limit gone rows → AreLengths p.lists last → IsFrom rows.latest.items 0 (counts_number last) start → IsFrom rows.latest.items start (counts_number last + 1) end
+    → IsCell (all_rows gone rows) (take (end - start) (drop start rows.latest.items)) (length (gone ++ rows.earlier.items) + start) last
+latest-cell p limit lawful gone rows last start end made lengths first second =
+    let front = gone ++ rows.earlier.items in
+    let all = all_rows gone rows in
+    let source = rows.latest.items in
+    let parted = made.parted in
+    let number = counts_number last in
+    let amid : IsAmid front source [] all number = record {
+      is = sym (append-nil all);
+      low = All-append (λ r. counts_number r.entry.counts < number) gone rows.earlier.items (λ i d h. omega (arith, parted.past i d h, lengths.each 0)) (λ i d h. omega (arith, parted.earlier i d h, lengths.each 0));
+      high = All-nil (λ r. number < counts_number r.entry.counts);
+    } in
+    subst (λ xs. IsCell all xs (length front + start) last) (slice-all front source [] all number amid start end second.rise second.within)
+    (cell-is p lawful all last (length front + 0) (length front + start) (length front + end) made.table.made lengths.places (small-last p last lawful lengths)
+    (from-all front source [] all number amid 0 number start (omega arith) first) (from-all front source [] all number amid start (number + 1) end (omega arith) second)
+    (λ place h. in-front front source [] all number amid place (omega (arith, h))))
