@@ -292,14 +292,17 @@ pub record AreParts (p : Problem) (limit : Option ℕ) (entries : List Entry) (a
   pub best : IsBest p answer
   pub few : length entries ≤ 2000001
 
-pub parts : (p : Problem) (limit : Option ℕ) (gone : List Row) (rows : Rows) (entries : List Entry) (answer : Answer) → IsInstance p → IsSomeDelay p limit → IsTableMade p limit gone rows → entries ≡ map (λ r. r.entry) (all_rows gone rows) → IsBest p answer → AreParts p limit entries answer
-parts p limit gone rows entries answer lawful delay made are best = record {
-  lawful = lawful;
-  delay = delay;
-  table = subst (IsLimited p limit) (sym are) (whole-rows p limit lawful (all_rows gone rows) made.table);
-  best = best;
-  few = omega (arith, ap length are, length-map (all_rows gone rows) (λ (r : Row). r.entry), rows-few p lawful (all_rows gone rows) made.table.made);
-}
+pub parts : (p : Problem) (limit : Option ℕ) (gone : List Row) (rows : Rows) (earlier latest : List Row) (entries : List Entry) (answer : Answer) → IsInstance p → IsSomeDelay p limit → IsTableMade p limit gone rows → earlier ≡ rows.earlier.items → latest ≡ rows.latest.items
+    → entries ≡ map (λ r. r.entry) (gone ++ earlier ++ latest) → IsBest p answer → AreParts p limit entries answer
+parts p limit gone rows earlier latest entries answer lawful delay made first second taken best =
+    let are : entries ≡ map (λ (r : Row). r.entry) (all_rows gone rows) = taken ∙ ap (λ xs. map (λ (r : Row). r.entry) (gone ++ xs ++ latest)) first ∙ ap (λ xs. map (λ (r : Row). r.entry) (gone ++ rows.earlier.items ++ xs)) second in
+    record {
+      lawful = lawful;
+      delay = delay;
+      table = subst (IsLimited p limit) (sym are) (whole-rows p limit lawful (all_rows gone rows) made.table);
+      best = best;
+      few = omega (arith, ap length are, length-map (all_rows gone rows) (λ (r : Row). r.entry), rows-few p lawful (all_rows gone rows) made.table.made);
+    }
 
 -- a best answer has at most 40 places
 pub best-few : (p : Problem) (answer : Answer) → IsInstance p → IsBest p answer → length (sequence_of answer) ≤ 40
