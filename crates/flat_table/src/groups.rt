@@ -11,7 +11,7 @@ ghost use Rattle.dp_certificate.specs.Prefixes.{stage_after};
 ghost use Rattle.dp_certificate.specs.Proves.{stage_of_entry};
 
 use crate::greens::Greens;
-use crate::rows::{Row, merge, push_row};
+use crate::rows::{FIRST_ROOM, Row, merge, push_row};
 use dp_certificate::{Entry, Rests, serve_next};
 use foundation::steps::Steps;
 use schedule_meaning::Instance;
@@ -35,17 +35,17 @@ impl Reached {
     ghost use Rattle.flat_table.specs.Groups.{AreJoined, AreReachedBy, IsEmpty, IsSource};
     ghost use Rattle.flat_table.specs.Rows.{AreBestOf, AreLater, AreRisingPlaces, AreUpTo, IsOffered, time_of};
 
-    /// Nothing is reached.
+    /// Nothing is reached. An `Err` comes where memory runs out.
     ///
     /// docs/RULES.md, "Table".
-    pub fn new(alloc: Global) -> Reached
-        ensures { IsEmpty result }
+    pub fn new(alloc: Global) -> Result<Reached, AllocError>
+        ensures { IfOk result IsEmpty }
     {
-        Reached {
-            greens: Greens::new(alloc),
-            fresh: Vec::new(alloc),
-            kept: Vec::new(alloc),
-        }
+        Ok(Reached {
+            greens: Greens::new(alloc)?,
+            fresh: Vec::with_capacity(alloc, FIRST_ROOM)?,
+            kept: Vec::with_capacity(alloc, FIRST_ROOM)?,
+        })
     }
 
     /// Takes in all that is reached from rows by a cluster of a phase, which is the next one behind each of them, and is

@@ -12,6 +12,7 @@ use crate::answer_of;
 use crate::kept::Past;
 use crate::table::table;
 use dp_certificate::Certificate;
+use flat_table::FIRST_ROOM;
 use foundation::steps::Steps;
 use schedule_meaning::Instance;
 use std::alloc::{AllocError, Global};
@@ -59,7 +60,7 @@ pub fn certify_within<L: Ledger>(
     ensures few { IfOk result (λ c. (length c.entries ≤ 2000001) × (length (sequence_of c.answer) ≤ 40)) }
     ensures servings { (keys : List Key) → HasKeysWithin i.now limit keys → steps.new ≤ steps.old + length i.now.plan * length keys }
 {
-    let mut entries = Vec::new(alloc);
+    let mut entries = Vec::with_capacity(alloc, 2 * FIRST_ROOM)?;
     let rows = table(alloc, i, limit, &mut entries, steps)?;
     let answer = answer_of(alloc, i, &rows)?;
     entries.take(rows.earlier.as_slice())?;

@@ -1,10 +1,10 @@
 //! The rows of a table that can still be served on.
 
-ghost use Rattle.std.specs.Prelude.{◌≡◌, ◌+◌, ◌^◌, ◌<◌, List, [], length, slice_index, OnOk};
+ghost use Rattle.std.specs.Prelude.{◌≡◌, ◌+◌, ◌^◌, ◌<◌, List, [], length, slice_index, IfOk, OnOk};
 ghost use Rattle.forward_dp.specs.Tables.{IsEntered, base_of, source_of};
 
 use dp_certificate::Entry;
-use flat_table::Row;
+use flat_table::{FIRST_ROOM, Row};
 use std::alloc::{AllocError, Global};
 use std::mem::swap;
 
@@ -60,17 +60,17 @@ impl Past for Vec<Entry> {
 }
 
 impl Rows {
-    /// No rows.
-    pub(crate) fn new(alloc: Global) -> Rows
-        ensures gone { result.gone ≡ 0 }
-        ensures earlier { result.earlier.items ≡ [] }
-        ensures latest { result.latest.items ≡ [] }
+    /// No rows. An `Err` comes where memory runs out.
+    pub(crate) fn new(alloc: Global) -> Result<Rows, AllocError>
+        ensures gone { IfOk result (λ rows. rows.gone ≡ 0) }
+        ensures earlier { IfOk result (λ rows. rows.earlier.items ≡ []) }
+        ensures latest { IfOk result (λ rows. rows.latest.items ≡ []) }
     {
-        Rows {
+        Ok(Rows {
             gone: 0,
-            earlier: Vec::new(alloc),
-            latest: Vec::new(alloc),
-        }
+            earlier: Vec::with_capacity(alloc, FIRST_ROOM)?,
+            latest: Vec::with_capacity(alloc, FIRST_ROOM)?,
+        })
     }
 
     /// The rows from which a phase can be served.

@@ -32,8 +32,8 @@ pub(crate) fn table<L: Ledger, P: Past>(
     ensures servings { (keys : List Key) → HasKeysWithin i.now limit keys → steps.new ≤ steps.old + length i.now.plan * length keys }
 {
     let last = list_lengths(i);
-    let mut reached = Reached::new(alloc);
-    let mut rows = Rows::new(alloc);
+    let mut reached = Reached::new(alloc)?;
+    let mut rows = Rows::new(alloc)?;
     rows.latest.push(first_row(i))?;
     let mut counts = [0; 4];
     let mut ends = [0; 4];
@@ -88,6 +88,7 @@ fn next_counts(counts: &[u8; 4], last: &[u8; 4]) -> Option<[u8; 4]>
 
 /// Puts the rows with these counts behind the others. For each phase it is known where the last rows end from which the
 /// phase was served.
+#[inline(always)]
 fn fill_cell<L: Ledger>(
     i: &Instance,
     limit: Option<u64>,
@@ -123,6 +124,7 @@ fn fill_cell<L: Ledger>(
 
 /// Puts the rows with these counts and this phase behind the others, and tells where the rows end from which they are
 /// reached; these stand from a place on.
+#[inline(always)]
 fn fill_group<L: Ledger>(
     i: &Instance,
     limit: Option<u64>,

@@ -11,9 +11,9 @@ pub loop-next-init : goal.loop-next-init
 loop-next-init g c = record {
   gone = [];
   held = c.requires.past;
-  way = table-starts c.args.i.now c.args.limit c.first_row.ensures.instance c.requires.delay c.first_row.result _ c.first_row.ensures.row c.new-rows.ensures.gone c.new-rows.ensures.earlier (c.in_ok-push.ensures.items ∙ ap (λ xs. xs ++ c.first_row.result ∷ []) c.new-rows.ensures.latest);
+  way = table-starts c.args.i.now c.args.limit c.first_row.ensures.instance c.requires.delay c.first_row.result _ c.first_row.ensures.row c.in_ok-rows.ensures.gone c.in_ok-rows.ensures.earlier (c.in_ok-push.ensures.items ∙ ap (λ xs. xs ++ c.first_row.result ∷ []) c.in_ok-rows.ensures.latest);
   within = λ k. omega (arith, none-counted k);
-  empty = c.new-reached.ensures;
+  empty = c.in_ok-reached.ensures;
   cost = omega arith;
 }
 
