@@ -325,3 +325,21 @@ latest-cell p limit lawful gone rows last start end made lengths first second =
     (cell-is p lawful all last (length front + 0) (length front + start) (length front + end) made.table.made lengths.places (small-last p last lawful lengths)
     (from-all front source [] all number amid 0 number start (omega arith) first) (from-all front source [] all number amid start (number + 1) end (omega arith) second)
     (λ place h. in-front front source [] all number amid place (omega (arith, h))))
+
+-- ---- the next number of clusters of the first phase
+
+-- the earlier rows are let go, and the latest ones are earlier now
+pub turned : (Holds : List Row → Type 0) (first next : ℕ) (gone slice : List Row) (old new : Rows) → Holds (gone ++ slice) → slice ≡ old.earlier.items → first < next → new.gone ≡ old.gone + length old.earlier.items → new.earlier.items ≡ old.latest.items → new.latest.items ≡ []
+    → IsEntered Holds first next gone old new
+turned Holds first next gone slice old new held is less count earlier latest = record {
+  past = gone ++ old.earlier.items;
+  held = subst (λ xs. Holds (gone ++ xs)) is held;
+  parted = λ parted rise. record {
+    count = omega (arith, count, parted.count, length-append gone old.earlier.items);
+    past = All-append (λ r. counts_number r.entry.counts + 262144 < next * 262144) gone old.earlier.items (λ i d h. omega (arith, parted.past i d h, less)) (λ i d h. omega (arith, parted.earlier i d h, less));
+    earlier = subst (All (λ r. counts_number r.entry.counts < next * 262144)) (sym earlier) (λ i d h. omega (arith, parted.latest i d h, less));
+    latest = subst (All (λ r. (next * 262144 ≤ counts_number r.entry.counts) × (counts_number r.entry.counts < next * 262144 + 262144))) (sym latest)
+        (All-nil (λ r. (next * 262144 ≤ counts_number r.entry.counts) × (counts_number r.entry.counts < next * 262144 + 262144)));
+  };
+  same = ap (λ xs. gone ++ old.earlier.items ++ xs ++ new.latest.items) earlier ∙ ap (λ xs. gone ++ old.earlier.items ++ old.latest.items ++ xs) latest ∙ append-nil (all_rows gone old);
+}

@@ -1,5 +1,5 @@
 -- The table: its rows, and how far it is made.
-use Rattle.std.specs.Prelude.{◌≡◌, ℕ, zero, suc, ◌+◌, ◌-◌, ◌*◌, ◌<◌, ◌≤◌, ◌++◌, List, length, slice_index, AllPairs, All, Contains, Option, Some}
+use Rattle.std.specs.Prelude.{◌≡◌, ℕ, zero, suc, ◌+◌, ◌-◌, ◌*◌, ◌<◌, ◌≤◌, ◌++◌, true, List, length, map, slice_index, AllPairs, All, Contains, Option, Some}
 use Rattle.schedule_meaning.specs.Instances.{Problem, IsInstance, list_at}
 use Rattle.dp_certificate.specs.Limits.{IsSomeDelay, IsWithin}
 use Rattle.dp_certificate.specs.Prefixes.{Stage, key_of, stage_of}
@@ -8,6 +8,7 @@ use Rattle.flat_table.specs.Groups.{row_at}
 use Rattle.flat_table.specs.Rows.{IsNoWorse, time_of}
 use Rattle.flat_table.specs.declared.rows.Row.{Row}
 use Rattle.forward_dp.specs.Numbers.{counts_number, order_number}
+use Rattle.forward_dp.specs.declared.kept.Past.{Past}
 use Rattle.forward_dp.specs.declared.kept.Rows.{Rows}
 
 -- the counts and the phase of a row as one number: its group
@@ -152,6 +153,10 @@ pub record AreParted (first : ℕ) (gone : List Row) (rows : Rows) : Type 0 wher
   pub past : All (λ r. counts_number r.entry.counts + 262144 < first * 262144) gone
   pub earlier : All (λ r. counts_number r.entry.counts < first * 262144) rows.earlier.items
   pub latest : All (λ r. (first * 262144 ≤ counts_number r.entry.counts) × (counts_number r.entry.counts < first * 262144 + 262144)) rows.latest.items
+
+-- what is kept of the rows that are let go are their entries, where they are wanted
+abbrev pub HasEntries : Past → List Row → Type 0
+HasEntries past gone = past.wanted ≡ true → past.entries.items ≡ map (λ r. r.entry) gone
 
 -- rows that were parted by one number of clusters of the first phase are parted by another one, and are all the same
 pub record IsEntered (Holds : List Row → Type 0) (first next : ℕ) (gone : List Row) (old new : Rows) : Type 0 where

@@ -60,11 +60,14 @@ pub fn certify_within<L: Ledger>(
     ensures few { IfOk result (λ c. (length c.entries ≤ 2000001) × (length (sequence_of c.answer) ≤ 40)) }
     ensures servings { (keys : List Key) → HasKeysWithin i.now limit keys → steps.new ≤ steps.old + length i.now.plan * length keys }
 {
-    let mut entries = Vec::with_capacity(alloc, 2 * FIRST_ROOM)?;
-    let rows = table(alloc, i, limit, &mut entries, steps)?;
+    let mut past = Past {
+        wanted: true,
+        entries: Vec::with_capacity(alloc, 2 * FIRST_ROOM)?,
+    };
+    let rows = table(alloc, i, limit, &mut past, steps)?;
     let answer = answer_of(alloc, i, &rows)?;
-    entries.take(rows.earlier.as_slice())?;
-    entries.take(rows.latest.as_slice())?;
+    past.take(rows.earlier.as_slice())?;
+    past.take(rows.latest.as_slice())?;
     let instance = i.copy(alloc)?;
-    Ok(Certificate::new(instance, entries, answer).unwrap())
+    Ok(Certificate::new(instance, past.entries, answer).unwrap())
 }

@@ -1,7 +1,8 @@
 //! The rows of a table that can still be served on.
 
-ghost use Rattle.std.specs.Prelude.{◌≡◌, ◌+◌, ◌^◌, ◌<◌, List, [], length, slice_index, IfOk, OnOk};
-ghost use Rattle.forward_dp.specs.Tables.{IsEntered, base_of, source_of};
+ghost use Rattle.std.specs.Prelude.{◌≡◌, ◌+◌, ◌^◌, ◌<◌, ◌++◌, List, [], length, map, slice_index, IfOk, OnOk};
+ghost use Rattle.flat_table.specs.declared.rows.Row.{Row};
+ghost use Rattle.forward_dp.specs.Tables.{HasEntries, IsEntered, base_of, source_of};
 
 use dp_certificate::Entry;
 use flat_table::{FIRST_ROOM, Row};
@@ -20,43 +21,34 @@ pub(crate) struct Rows {
     pub(crate) latest: Vec<Row>,
 }
 
-/// What becomes of the rows that are let go.
-pub(crate) trait Past {
-    ghost use Rattle.std.specs.Prelude.{◌++◌, List, OnOk};
-    ghost use Rattle.flat_table.specs.declared.rows.Row.{Row};
-
-    /// It holds what is wanted of these rows.
-    ghost holds: { Self → List Row → Type 0 };
-
-    /// Takes what is wanted of further rows. An `Err` comes where memory runs out.
-    fn take(&mut self, rows: &[Row]) -> Result<(), AllocError>
-        ensures { (gone : List Row) → holds self.old gone → OnOk result (holds self.new (gone ++ rows.now)) };
-}
-
-/// Nothing is wanted of rows that are let go.
+/// What is kept of the rows that are let go: their entries, where they are wanted.
 #[derive(Drop)]
-pub(crate) struct Forgotten;
-
-impl Past for Forgotten {
-    ghost holds = { λ f gone. Unit {0} };
-
-    fn take(&mut self, rows: &[Row]) -> Result<(), AllocError> {
-        Ok(())
-    }
+pub(crate) struct Past {
+    pub(crate) wanted: bool,
+    pub(crate) entries: Vec<Entry>,
 }
 
-/// Their entries are.
-impl Past for Vec<Entry> {
-    ghost use Rattle.std.specs.Prelude.{◌≡◌, map};
-
-    ghost holds = { λ entries gone. entries.items ≡ map (λ r. r.entry) gone };
-
-    fn take(&mut self, rows: &[Row]) -> Result<(), AllocError> {
-        for row in rows {
-            self.push(row.entry)?;
+impl Past {
+    /// Takes further rows. An `Err` comes where memory runs out.
+    pub(crate) fn take(&mut self, rows: &[Row]) -> Result<(), AllocError>
+        ensures wanted { self.new.wanted ≡ self.old.wanted }
+        ensures taken { (gone : List Row) → HasEntries self.old gone → OnOk result (HasEntries self.new (gone ++ rows.now)) }
+    {
+        if self.wanted {
+            push_entries(&mut self.entries, rows)?;
         }
         Ok(())
     }
+}
+
+/// Puts the entries of rows behind others.
+fn push_entries(entries: &mut Vec<Entry>, rows: &[Row]) -> Result<(), AllocError>
+    ensures { OnOk result (entries.new.items ≡ entries.old.items ++ map (λ r. r.entry) rows.now) }
+{
+    for row in rows {
+        entries.push(row.entry)?;
+    }
+    Ok(())
 }
 
 impl Rows {
@@ -98,14 +90,15 @@ impl Rows {
 
     /// Goes on from the cell with these counts to the next ones. Where these have more clusters of the first phase, the
     /// earlier rows are let go.
-    pub(crate) fn enter<P: Past>(
+    pub(crate) fn enter(
         &mut self,
         counts: &[u8; 4],
         next: &[u8; 4],
-        past: &mut P,
+        past: &mut Past,
     ) -> Result<(), AllocError>
         requires { self.old.gone + length self.old.earlier.items < 2 ^ 64 }
-        ensures { (gone : List Row) → P.holds past.old gone → OnOk result (IsEntered (P.holds past.new) (slice_index counts.now 0) (slice_index next.now 0) gone self.old self.new) }
+        ensures wanted { past.new.wanted ≡ past.old.wanted }
+        ensures entered { (gone : List Row) → HasEntries past.old gone → OnOk result (IsEntered (HasEntries past.new) (slice_index counts.now 0) (slice_index next.now 0) gone self.old self.new) }
     {
         if next[0] <= counts[0] {
             return Ok(());

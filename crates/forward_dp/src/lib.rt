@@ -23,7 +23,7 @@ use flat_table::{Row, better_of};
 use foundation::items::Items;
 use foundation::steps::Steps;
 use foundation::threads::CrossesThreads;
-use kept::{Forgotten, Rows};
+use kept::{Past, Rows};
 use schedule_meaning::{Answer, Instance, Planner};
 use std::alloc::{AllocError, Global};
 use std::sync::ledger::Ledger;
@@ -67,7 +67,11 @@ pub fn layered_within<L: Ledger>(
     ensures least { IfOk result (IsLeast i.now) }
     ensures servings { (keys : List Key) → HasKeysWithin i.now limit keys → steps.new ≤ steps.old + length i.now.plan * length keys }
 {
-    let rows = table(alloc, i, limit, &mut Forgotten, steps)?;
+    let mut past = Past {
+        wanted: false,
+        entries: Vec::new(alloc),
+    };
+    let rows = table(alloc, i, limit, &mut past, steps)?;
     answer_of(alloc, i, &rows)
 }
 

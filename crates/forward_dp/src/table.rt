@@ -6,7 +6,7 @@ ghost use Rattle.dp_certificate.specs.Limits.{HasKeysWithin, IsSomeDelay};
 ghost use Rattle.dp_certificate.specs.Prefixes.{Key};
 ghost use Rattle.flat_table.specs.Groups.{IsEmpty};
 ghost use Rattle.forward_dp.specs.Numbers.{counts_number};
-ghost use Rattle.forward_dp.specs.Tables.{IsCellMade, IsCellReady, IsFrom, IsGroupFilled, IsGroupReady, IsNextCounts, IsTableMade, all_rows};
+ghost use Rattle.forward_dp.specs.Tables.{HasEntries, IsCellMade, IsCellReady, IsFrom, IsGroupFilled, IsGroupReady, IsNextCounts, IsTableMade, all_rows};
 ghost use Rattle.flat_table.specs.declared.rows.Row.{Row};
 
 use crate::kept::{Past, Rows};
@@ -19,16 +19,17 @@ use std::sync::ledger::Ledger;
 
 /// The whole table: a row for each key that a fit prefix reaches. Where there is a limit, which is the delay of a feasible
 /// sequence, only with what is within it.
-pub(crate) fn table<L: Ledger, P: Past>(
+pub(crate) fn table<L: Ledger>(
     alloc: Global,
     i: &Instance,
     limit: Option<u64>,
-    past: &mut P,
+    past: &mut Past,
     steps: &mut Steps<L>,
 ) -> Result<Rows, AllocError>
     requires delay { IsSomeDelay i.now limit }
-    requires past { P.holds past.old [] }
-    ensures whole { IfOk result (λ rows. (gone : List Row) × P.holds past.new gone × IsTableMade i.now limit gone rows) }
+    requires past { HasEntries past.old [] }
+    ensures whole { IfOk result (λ rows. (gone : List Row) × HasEntries past.new gone × IsTableMade i.now limit gone rows) }
+    ensures wanted { past.new.wanted ≡ past.old.wanted }
     ensures servings { (keys : List Key) → HasKeysWithin i.now limit keys → steps.new ≤ steps.old + length i.now.plan * length keys }
 {
     let last = list_lengths(i);
@@ -88,7 +89,6 @@ fn next_counts(counts: &[u8; 4], last: &[u8; 4]) -> Option<[u8; 4]>
 
 /// Puts the rows with these counts behind the others. For each phase it is known where the last rows end from which the
 /// phase was served.
-#[inline(always)]
 fn fill_cell<L: Ledger>(
     i: &Instance,
     limit: Option<u64>,
@@ -124,7 +124,6 @@ fn fill_cell<L: Ledger>(
 
 /// Puts the rows with these counts and this phase behind the others, and tells where the rows end from which they are
 /// reached; these stand from a place on.
-#[inline(always)]
 fn fill_group<L: Ledger>(
     i: &Instance,
     limit: Option<u64>,

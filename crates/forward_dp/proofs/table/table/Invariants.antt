@@ -1,7 +1,8 @@
-use Rattle.std.proofs.Common.{ℕ, ◌+◌, ◌-◌, ◌≤◌, List, sum, get_or}
+use Rattle.std.proofs.Common.{◌≡◌, ℕ, ◌+◌, ◌-◌, ◌≤◌, List, sum, get_or}
 use Rattle.flat_table.specs.Groups.{IsEmpty}
 use Rattle.flat_table.specs.declared.rows.Row.{Row}
 use Rattle.forward_dp.specs.Numbers.{counts_number}
+use Rattle.forward_dp.specs.Tables.{HasEntries}
 use Rattle.forward_dp.proofs.Parting.{IsUnderWay}
 use Rattle.forward_dp.proofs.table.table.Given as goal
 
@@ -9,7 +10,8 @@ use Rattle.forward_dp.proofs.table.table.Given as goal
 abbrev pub invariant-loop-next : goal.invariant-loop-next
 invariant-loop-next g l = record {
   gone : List Row;
-  held : g.P.Past.holds l.past gone;
+  held : HasEntries l.past gone;
+  wanted : l.past.wanted ≡ l.initial.past.wanted;
   way : IsUnderWay l.i l.limit l.counts 4 gone l.rows l.ends;
   within : (k : ℕ) → get_or l.counts k 0 ≤ get_or l.last k 0;
   empty : IsEmpty l.reached;
