@@ -4,9 +4,7 @@
 
 mod greens;
 mod groups;
-mod orders;
 mod rows;
 
 pub use groups::Reached;
-pub use orders::Order;
 pub use rows::{FIRST_ROOM, Row, better_of};
