@@ -1,6 +1,9 @@
+pub mod Along
+pub mod Over
 pub mod Playing
 pub mod Prefixes
 pub mod Put
+pub mod Queues
 pub mod Rounds
 pub mod Running
 pub mod Standing

@@ -1,5 +1,6 @@
 //! A run under way.
 use crate::faults::StepFault;
+use crate::finishing::{Room, record_of_parts, room_of};
 use crate::loops::{begin_round, go_on, is_done, play};
 use crate::making::parts_of;
 use crate::parts::Parts;
@@ -7,6 +8,7 @@ use arrivals::Arrivals;
 use foundation::threads::CrossesThreads;
 use intersection_actor::Want;
 use road_net::Network;
+use runs::{RunRecord, law_of_runs};
 use schedule_meaning::Planner;
 use std::alloc::{AllocError, Global};
 use std::marker::Model;
@@ -20,6 +22,8 @@ pub struct Core<'a> {
     net: &'a Network,
     arrivals: &'a Arrivals,
     parts: Parts,
+    /// Room for the record of the run.
+    room: Room,
     /// Whether an earlier step ran out of memory.
     spent: bool,
 }
@@ -29,11 +33,11 @@ impl<'a> Model for Core<'a> {
 
     ghost Value = { Course };
 
-    ghost use Rattle.net_core.specs.Going.{IsSound};
+    ghost use Rattle.net_core.specs.Ending.{IsReady};
 
     ghost view = { λ core. record { net = core.net.now; arrivals = core.arrivals.now; steps = core.parts.history.items; spent = core.spent } };
 
-    ghost invariant = { λ core. IsSound core.net.now core.arrivals.now core.parts core.spent };
+    ghost invariant = { λ core. IsReady core.net.now core.arrivals.now core.parts core.spent core.room };
 }
 
 impl<'a> CrossesThreads for Core<'a> {}
@@ -43,6 +47,7 @@ impl<'a> Core<'a> {
     ghost use Rattle.arrivals.specs.Amounts.{AreArrivals};
     ghost use Rattle.histories.specs.Histories.{IsLawful};
     ghost use Rattle.net_core.specs.Cores.{IsStepFault, IsWanted, MayStep, Stays};
+    ghost use Rattle.runs.specs.Kept.{IsKeptRun};
 
     /// Begins a run: the nodes begin the first round, and rounds in which no node has a board step run at once. The arrivals are
     /// those of the network.
@@ -59,6 +64,7 @@ impl<'a> Core<'a> {
         requires { AreArrivals net.now arrivals.now }
         ensures { IfOk result (λ core. core ≡ record { net = net.now; arrivals = arrivals.now; steps = []; spent = false }) }
     {
+        let room = room_of(alloc, net)?;
         let mut parts = parts_of(alloc, net)?;
         begin_round(alloc, net, arrivals, &mut parts, planner)?;
         go_on(alloc, net, arrivals, &mut parts, planner)?;
@@ -66,6 +72,7 @@ impl<'a> Core<'a> {
             net,
             arrivals,
             parts,
+            room,
             spent: false,
         })
     }
@@ -158,5 +165,24 @@ impl<'a> Core<'a> {
                 Err(StepFault::NoMemory)
             }
         }
+    }
+    /// The record of the run, all of whose rounds are done: it is over. It takes no memory.
+    ///
+    /// docs/RULES.md, "Core".
+    pub fn finish(self) -> RunRecord
+        requires fresh { self.spent ≡ false }
+        requires lawful { IsLawful self.net self.steps }
+        ensures { IsKeptRun self.entry.net self.entry.arrivals self.entry.steps result }
+    {
+        // What it says of the network is wanted here, and not the count.
+        let _ = self.net.nodes();
+        law_of_runs(self.net);
+        let Core {
+            net,
+            parts,
+            room,
+            ..
+        } = self;
+        record_of_parts(net, parts, room)
     }
 }

@@ -4,9 +4,14 @@
 mod acts;
 mod cores;
 mod faults;
+mod finishing;
 mod loops;
 mod making;
 mod parts;
+mod whole_run;
 
 pub use cores::Core;
 pub use faults::StepFault;
+pub use histories::{History, lawful, merge, turn_order};
+pub use runs::RunRecord;
+pub use whole_run::run;

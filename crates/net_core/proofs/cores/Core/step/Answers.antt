@@ -11,18 +11,18 @@ returns-then-is_done-clause-fault g c =
     let below : c.args.node < length c.self.inside.net.now.node_names = omega (arith, c.nodes.ensures.value) in
     let other : c.self.inside.parts.round ≢ c.self.inside.net.now.run.rounds = λ e. c.if-self-run.false (e ∙ sym (ap (λ (r : Run). r.rounds) c.run.ensures.value)) in
     subst (λ (course : Course). HasNoTurn course c.args.node) c.self.view_is
-    (no-turn c.self.inside.net.now c.nodes.ensures.network c.self.inside.arrivals.now c.self.inside.parts c.self.inside.spent c.self.invariant c.if-self.false c.args.node c.index.result.now below c.index.ensures other (sym c.want.ensures ∙ c.is_done.ensures.0 c.if-is_done.true))
+    (no-turn c.self.inside.net.now c.nodes.ensures.network c.self.inside.arrivals.now c.self.inside.parts c.self.inside.spent c.self.invariant.sound c.if-self.false c.args.node c.index.result.now below c.index.ensures other (sym c.want.ensures ∙ c.is_done.ensures.0 c.if-is_done.true))
 
 pub returns-in-Ok-clause-may : goal.returns-in-Ok-clause-may
 returns-in-Ok-clause-may g c =
     let below : c.args.node < length c.self.inside.net.now.node_names = omega (arith, c.nodes.ensures.value) in
     let more : c.index.result.now.want ≢ Done = λ e. false≢true (sym c.if-is_done.false ∙ c.is_done.ensures.1 (c.want.ensures ∙ e)) in
     subst (λ (course : Course). MayStep course c.args.node) c.self.view_is
-    (may-step c.self.inside.net.now c.nodes.ensures.network c.self.inside.arrivals.now c.self.inside.parts c.self.inside.spent c.self.invariant c.if-self.false c.args.node c.index.result.now below c.index.ensures more)
+    (may-step c.self.inside.net.now c.nodes.ensures.network c.self.inside.arrivals.now c.self.inside.parts c.self.inside.spent c.self.invariant.sound c.if-self.false c.args.node c.index.result.now below c.index.ensures more)
 
 pub returns-in-Err-clause-fault : goal.returns-in-Err-clause-fault
 returns-in-Err-clause-fault g c =
     let below : c.args.node < length c.self.inside.net.now.node_names = omega (arith, c.nodes.ensures.value) in
     let more : c.index.result.now.want ≢ Done = λ e. false≢true (sym c.if-is_done.false ∙ c.is_done.ensures.1 (c.want.ensures ∙ e)) in
     subst (λ (course : Course). MayStep course c.args.node) c.self.view_is
-    (may-step c.self.inside.net.now c.nodes.ensures.network c.self.inside.arrivals.now c.self.inside.parts c.self.inside.spent c.self.invariant c.if-self.false c.args.node c.index.result.now below c.index.ensures more)
+    (may-step c.self.inside.net.now c.nodes.ensures.network c.self.inside.arrivals.now c.self.inside.parts c.self.inside.spent c.self.invariant.sound c.if-self.false c.args.node c.index.result.now below c.index.ensures more)

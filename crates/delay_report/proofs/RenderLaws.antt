@@ -1,0 +1,61 @@
+-- The parts of a report, one after another.
+use Rattle.std.proofs.Common.{◌≡◌, ℕ, ◌<◌, List, [], ◌∷◌, length, map, filter, nat_lt, slice_index_or, get_or, All, Vec, sym, ap, ◌∙◌, subst, arith}
+use Rattle.std.specs.List.{flat_map, range_with_len}
+use Rattle.std.proofs.lemmas.List.{get_or-map, length-map}
+use Rattle.std.proofs.lemmas.List.Elements.{All-append, All-map, All-nil}
+use Rattle.std.proofs.lemmas.List.FromFn.{get_or-range_with_len, length-range_with_len}
+use Rattle.csv.specs.declared.writer.Writer.{Writer}
+use Rattle.control_flow.specs.declared.greens.Green.{Green}
+use Rattle.intersection_actor.specs.declared.records.PlanRecord.{PlanRecord}
+use Rattle.net_simulator.specs.declared.totals.LinkTotals.{LinkTotals}
+use Rattle.net_numbers.specs.Numbers.{Net}
+use Rattle.runs.specs.Runs.{end_of_run}
+use Rattle.runs.specs.Whole.{IsWhole, rounds_and_nodes}
+use Rattle.runs.specs.declared.records.RunRecord.{RunRecord}
+use Rattle.delay_report.specs.Entries.{header}
+use Rattle.delay_report.specs.Reports.{green_record, link_record, no_totals, plan_record, report_records, report_text, step_record_at, total_record}
+use Rattle.delay_report.specs.Written.{Adds, HasWritten}
+use Rattle.delay_report.proofs.WrittenLaws.{adds-then}
+
+-- the greens of a node that begin before the run ends
+pub greens-of : {Z : Type 0} (net : Net) (lines : List (List Green)) (node end : ℕ) (rows : List Green) (old new : Writer (Vec ℕ Z)) → end ≡ end_of_run net → rows ≡ slice_index_or lines node []
+    → Adds old new (map (green_record net node) (filter (λ (green : Green). nat_lt green.from end) rows))
+    → Adds old new (map (green_record net node) (filter (λ (green : Green). nat_lt green.from (end_of_run net)) (slice_index_or lines node [])))
+greens-of net lines node end rows old new ends are adds =
+    subst (Adds old new) (ap (λ e. map (green_record net node) (filter (λ (green : Green). nat_lt green.from e) rows)) ends ∙ ap (λ l. map (green_record net node) (filter (λ (green : Green). nat_lt green.from (end_of_run net)) l)) are) adds
+
+-- all parts of a report
+pub all-parts : {Z : Type 0} (net : Net) (run : RunRecord) (h nodes : List ℕ) (plans : List PlanRecord) (lines : List (List Green)) (links : List LinkTotals) (o0 o1 o2 o3 o4 o5 o6 : Writer (Vec ℕ Z))
+    → nodes ≡ h → plans ≡ run.plans → lines ≡ run.timelines → links ≡ run.links → HasWritten o0 [] → Adds o0 o1 (header ∷ []) → Adds o1 o2 (map (step_record_at net nodes) (range_with_len 0 (length nodes)))
+    → Adds o2 o3 (map (plan_record net) plans)
+    → Adds o3 o4 (flat_map (λ node. map (green_record net node) (filter (λ (green : Green). nat_lt green.from (end_of_run net)) (slice_index_or lines node []))) (range_with_len 0 (length net.node_names)))
+    → Adds o4 o5 (map (λ link. link_record net link (slice_index_or links link no_totals)) (range_with_len 0 (length net.link_names)))
+    → Adds o5 o6 (total_record run.totals ∷ []) → HasWritten o6 (report_text net run h)
+unfolding report_records
+all-parts net run h nodes plans lines links o0 o1 o2 o3 o4 o5 o6 is_history are_plans are_lines are_links start first steps planned shown counted last =
+    let b = subst (λ l. Adds o1 o2 (map (step_record_at net l) (range_with_len 0 (length l)))) is_history steps in
+    let c = subst (λ l. Adds o2 o3 (map (plan_record net) l)) are_plans planned in
+    let d = subst (λ l. Adds o3 o4 (flat_map (λ node. map (green_record net node) (filter (λ (green : Green). nat_lt green.from (end_of_run net)) (slice_index_or l node []))) (range_with_len 0 (length net.node_names)))) are_lines shown in
+    let e = subst (λ l. Adds o4 o5 (map (λ link. link_record net link (slice_index_or l link no_totals)) (range_with_len 0 (length net.link_names)))) are_links counted in
+    (adds-then o0 o1 o6 _ _ first (adds-then o1 o2 o6 _ _ b (adds-then o2 o3 o6 _ _ c (adds-then o3 o4 o6 _ _ d (adds-then o4 o5 o6 _ _ e last))))).adds [] start
+
+all-flat : {X Y : Type 0} (P : Y → Type 0) (f : X → List Y) → ((x : X) → All P (f x)) → (xs : List X) → All P (flat_map f xs)
+all-flat P f each [] = All-nil P
+all-flat P f each (x ∷ xs) = All-append P (f x) (flat_map f xs) (each x) (all-flat P f each xs)
+
+range-below : (n : ℕ) → All (λ k. k < n) (range_with_len 0 n)
+range-below n k d inside =
+    let below : k < n = omega (arith, inside, length-range_with_len 0 n) in
+    let at = get_or-range_with_len 0 n k d below in
+    omega (arith, at, below)
+
+-- the nodes of the plans of a whole record are there
+pub nodes-exist : (net : Net) (run : RunRecord) → IsWhole net run → All (λ (p : PlanRecord). p.node < length net.node_names) run.plans
+nodes-exist net run whole k d inside =
+    let nodes : ℕ = length net.node_names in
+    let below : All (λ (pair : ℕ × ℕ). pair.1 < nodes) (rounds_and_nodes net.run.rounds nodes) =
+    all-flat (λ (pair : ℕ × ℕ). pair.1 < nodes) _ (λ round. All-map (λ (pair : ℕ × ℕ). pair.1 < nodes) (λ (node : ℕ). (round, node)) (range_with_len 0 nodes) (range-below nodes)) (range_with_len 0 net.run.rounds) in
+    let seen : PlanRecord → ℕ × ℕ = λ p. (p.round, p.node) in
+    let there : k < length (rounds_and_nodes net.run.rounds nodes) = omega (arith, inside, length-map run.plans seen, ap length whole.plans) in
+    let at : get_or (rounds_and_nodes net.run.rounds nodes) k (seen d) ≡ seen (get_or run.plans k d) = ap (λ l. get_or l k (seen d)) (sym whole.plans) ∙ get_or-map seen run.plans k d (seen d) inside in
+    subst (λ (pair : ℕ × ℕ). pair.1 < nodes) at (below k (seen d) there)

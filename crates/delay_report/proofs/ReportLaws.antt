@@ -1,0 +1,142 @@
+-- A report is a text of its history.
+use Rattle.std.proofs.Common.{◌≡◌, ℕ, ◌+◌, ◌<◌, codes, List, [], ◌∷◌, ◌++◌, length, get_or, map, filter, Option, Some, All, refl, sym, ap, ◌∙◌, subst, inl, inr, arith, append-nil, nat_lt}
+use Rattle.std.specs.List.{concat, flat_map, range_with_len}
+use Rattle.std.proofs.lemmas.Bool.{cases_Bool}
+use Rattle.std.proofs.lemmas.List.Folds.{concat-append}
+use Rattle.std.proofs.lemmas.List.Elements.{All-cons, All-head, All-tail}
+use Rattle.std.proofs.lemmas.List.FromFn.{fill_by_all, get_or-range_with_len, length-range_with_len}
+use Rattle.std.proofs.lemmas.Option.{same_Some}
+use Rattle.std.proofs.lemmas.Slice.Eq.{bytes_eq-Decides}
+use Rattle.std.specs.Str.{bytes_eq}
+use Rattle.foundation.specs.Options.{each}
+use Rattle.foundation.proofs.EachLaws.{each-cons, each-good}
+use Rattle.foundation.proofs.PositionLaws.{position-first}
+use Rattle.histories.specs.Histories.{IsLawful, round_at, step_at, version_at}
+use Rattle.histories.specs.Steps.{board_steps}
+use Rattle.histories.specs.declared.steps.BoardStep.{BoardStep}
+use Rattle.histories.specs.declared.steps.BoardStep.TheVariants.{Read, Publish}
+use Rattle.net_numbers.specs.Numbers.{Net, AreDistinct, number_of}
+use Rattle.net_numbers.specs.Outline.{node_name_at}
+use Rattle.road_net.specs.Network.{IsNetwork}
+use Rattle.runs.specs.Kept.{last_line}
+use Rattle.runs.specs.Runs.{end_of_run}
+use Rattle.runs.specs.declared.records.RunRecord.{RunRecord}
+use Rattle.schedule_meaning.specs.declared.planners.Answer.{Answer}
+use Rattle.schedule_meaning.specs.declared.planners.Answer.TheVariants.{Plan, NoPlan}
+use Rattle.delay_report.specs.Entries.{header, steps_of}
+use Rattle.delay_report.specs.Reports.{answer_fields, green_record, green_records, link_record_of, plan_record, report_records, report_text, step_record, step_record_at, total_record}
+use Rattle.delay_report.specs.Texts.{AreHistoryRecords, IsHistoryText}
+use Rattle.delay_report.proofs.RecordLaws.{HasField, header-first, read-records}
+use Rattle.delay_report.proofs.WalkLaws.{node-below}
+
+each-both : {X Y : Type 0} (f : X → Option Y) (xs xs' : List X) (ys ys' : List Y) → each f xs ≡ Some ys → each f xs' ≡ Some ys' → each f (xs ++ xs') ≡ Some (ys ++ ys')
+each-both f [] xs' ys ys' first second = second ∙ ap (λ l. Some (l ++ ys')) (same_Some [] ys first)
+each-both f (x ∷ xs) xs' ys ys' first second =
+    let (y, zs, here, more, last) = each-cons f x xs ys first in
+    rw (here, each-both f xs xs' zs ys' more second) (ap (λ l. Some (l ++ ys')) (sym last))
+
+-- the steps that records tell are this history
+record Tells (net : Net) (records : List (List (List ℕ))) (history : List ℕ) : Type 0 where
+  steps : List (List ℕ)
+  reads : each (steps_of net) records ≡ Some steps
+  are : concat steps ≡ history
+
+tells-both : (net : Net) (xs ys : List (List (List ℕ))) (h g : List ℕ) → Tells net xs h → Tells net ys g → Tells net (xs ++ ys) (h ++ g)
+tells-both net xs ys h g a b = record {
+  steps = a.steps ++ b.steps;
+  reads = each-both (steps_of net) xs ys a.steps b.steps a.reads b.reads;
+  are = concat-append a.steps b.steps ∙ ap (λ l. l ++ concat b.steps) a.are ∙ ap (λ l. h ++ l) b.are;
+}
+
+-- a record that tells something has a field
+has-field : (net : Net) (fields : List (List ℕ)) (steps : List ℕ) → steps_of net fields ≡ Some steps → HasField fields
+unfolding steps_of
+has-field net [] steps told = cc
+has-field net (field ∷ fields) steps told = omega arith
+
+module _ (net : Net) where
+  tells-nothing : {X : Type 0} (f : X → List (List ℕ)) → ((x : X) → steps_of net (f x) ≡ Some []) → (xs : List X) → Tells net (map f xs) []
+  tells-nothing f passed [] = record { steps = []; reads = refl; are = refl }
+  tells-nothing f passed (x ∷ xs) =
+      let rest = tells-nothing f passed xs in
+      record { steps = [] ∷ rest.steps; reads = rw (passed x, rest.reads) refl; are = rest.are }
+
+  tells-parts : {X : Type 0} (f : X → List (List (List ℕ))) → ((x : X) → Tells net (f x) []) → (xs : List X) → Tells net (flat_map f xs) []
+  tells-parts f none [] = record { steps = []; reads = refl; are = refl }
+  tells-parts f none (x ∷ xs) = tells-both net (f x) (flat_map f xs) [] [] (none x) (tells-parts f none xs)
+
+  tells-nodes : (f : ℕ → List (List ℕ)) (node : ℕ → ℕ) (places : List ℕ) → All (λ place. steps_of net (f place) ≡ Some (node place ∷ [])) places → Tells net (map f places) (map node places)
+  tells-nodes f node [] told = record { steps = []; reads = refl; are = refl }
+  tells-nodes f node (place ∷ places) told =
+      let here = All-head (λ place. steps_of net (f place) ≡ Some (node place ∷ [])) place places told in
+      let rest = tells-nodes f node places (All-tail (λ place. steps_of net (f place) ≡ Some (node place ∷ [])) place places told) in
+      record { steps = (node place ∷ []) ∷ rest.steps; reads = rw (here, rest.reads) refl; are = ap (λ l. node place ∷ l) rest.are }
+
+  plan-passed : (a b c : List ℕ) (answer : Answer) → steps_of net (codes "plan" ∷ a ∷ b ∷ c ∷ answer_fields answer) ≡ Some []
+  unfolding steps_of
+  plan-passed a b c (Plan sequence delay) = refl
+  plan-passed a b c NoPlan = refl
+
+  green-passed : (a b c d e f : List ℕ) → steps_of net (codes "green" ∷ a ∷ b ∷ c ∷ d ∷ e ∷ f ∷ []) ≡ Some []
+  unfolding steps_of
+  green-passed a b c d e f = refl
+
+  link-passed : (a b c d e f : List ℕ) → steps_of net (codes "link" ∷ a ∷ b ∷ c ∷ d ∷ e ∷ f ∷ []) ≡ Some []
+  unfolding steps_of
+  link-passed a b c d e f = refl
+
+  total-passed : (a b c d e f : List ℕ) → steps_of net (codes "total" ∷ a ∷ b ∷ c ∷ d ∷ e ∷ f ∷ []) ≡ Some []
+  unfolding steps_of
+  total-passed a b c d e f = refl
+
+  -- the record of a step tells its node
+  step-told : (round node : ℕ) (versions : ℕ → ℕ) (step : BoardStep) → number_of net.node_names (node_name_at net node) ≡ Some node → steps_of net (step_record net round node versions step) ≡ Some (node ∷ [])
+  unfolding steps_of
+  step-told round node versions (Read link) number = rw number refl
+  step-told round node versions (Publish link) number = rw number refl
+
+-- a name has the number of its place
+own-number : (names : List (List ℕ)) (k : ℕ) → AreDistinct names → k < length names → number_of names (get_or names k []) ≡ Some k
+own-number names k differ inside =
+    let name : List ℕ = get_or names k [] in
+    position-first (bytes_eq name) names [] k inside
+    (λ j below. elim (cases_Bool (bytes_eq name (get_or names j []))) [
+      | inl same ↦ absurd (differ j k [] below inside (sym ((bytes_eq-Decides name (get_or names j [])).0 same)))
+      | inr other ↦ other
+    ])
+    ((bytes_eq-Decides name name).1 refl)
+
+module _ (net : Net) (network : IsNetwork net) (run : RunRecord) (h : List ℕ) (lawful : IsLawful net h) where
+  steps-tell : Tells net (map (step_record_at net h) (range_with_len 0 (length h))) h
+  steps-tell = subst (Tells net (map (step_record_at net h) (range_with_len 0 (length h)))) (sym (fill_by_all (λ place. get_or h place 0) h (length h) 0 refl (λ place below. refl)))
+      (tells-nodes net (step_record_at net h) (λ place. get_or h place 0) (range_with_len 0 (length h)) (λ k d inside.
+      let long = length-range_with_len 0 (length h) in
+      let below : k < length h = omega (arith, inside, long) in
+      let at : get_or (range_with_len 0 (length h)) k d ≡ k = get_or-range_with_len 0 (length h) k d below ∙ (let e : 0 + k ≡ k = omega arith in e) in
+      subst (λ place. steps_of net (step_record_at net h place) ≡ Some (get_or h place 0 ∷ [])) (sym at)
+      (step-told net (round_at (board_steps net) h k) (get_or h k 0) (λ link. version_at (board_steps net) h link k) (step_at (board_steps net) h k)
+      (own-number net.node_names (get_or h k 0) network.outline.nodes_differ (node-below net network h lawful k below)))))
+
+  plans-tell : Tells net (map (plan_record net) run.plans) []
+  plans-tell = tells-nothing net (plan_record net) (λ plan. plan-passed net _ _ _ plan.answer) run.plans
+
+  greens-tell : (nodes : List ℕ) → Tells net (flat_map (green_records net run) nodes) []
+  greens-tell nodes = tells-parts net (green_records net run) (λ node. tells-nothing net (green_record net node) (λ green. green-passed net _ _ _ _ _ _) (filter (λ green. nat_lt green.from (end_of_run net)) (last_line run node))) nodes
+
+  links-tell : (links : List ℕ) → Tells net (map (link_record_of net run) links) []
+  links-tell links = tells-nothing net (link_record_of net run) (λ link. link-passed net _ _ _ _ _ _) links
+
+  totals-tell : Tells net (total_record run.totals ∷ []) []
+  totals-tell = record { steps = [] ∷ []; reads = rw (total-passed net _ _ _ _ _ _) refl; are = refl }
+
+  -- the report tells the history
+  pub reads-back : IsHistoryText net (report_text net run h) h
+  unfolding report_records
+  reads-back =
+      let greens = greens-tell (range_with_len 0 (length net.node_names)) in
+      let links = links-tell (range_with_len 0 (length net.link_names)) in
+      let told = tells-both net _ _ h [] steps-tell (tells-both net _ _ [] [] plans-tell (tells-both net _ _ [] [] greens (tells-both net _ _ [] [] links totals-tell))) in
+      let are : AreHistoryRecords net (report_records net run h) h = record { records = _; are = refl; steps = told.steps; reads = told.reads; history_is = sym (told.are ∙ append-nil h); lawful = lawful } in
+      let (rest, begins) = header-first are.records in
+      let some : All HasField (report_records net run h) = All-cons HasField header are.records (omega arith) (each-good (steps_of net) HasField (has-field net) are.records are.steps are.reads) in
+      subst (λ (l : List (List (List ℕ))). AreHistoryRecords net l h) (sym (read-records (report_records net run h) rest begins some)) are

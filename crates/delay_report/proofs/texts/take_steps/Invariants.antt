@@ -1,0 +1,16 @@
+use Rattle.std.proofs.Common.{◌∷◌, length}
+use Rattle.record_text.specs.Reading.{IsReading, left_of}
+use Rattle.delay_report.specs.Entries.{header}
+use Rattle.delay_report.proofs.TextLaws.{IsUnder}
+use Rattle.delay_report.proofs.texts.take_steps.Given as goal
+
+-- the reader stands behind the records that were read, which tell the steps so far
+abbrev pub invariant-loop-number : goal.invariant-loop-number
+invariant-loop-number l = record {
+  reading : IsReading l.reader;
+  under : IsUnder l.net (header ∷ left_of l.fn.reader) l.number (left_of l.reader) l.steps.items l.progress;
+}
+
+-- how many records are left
+abbrev pub decreases-loop-number : goal.decreases-loop-number
+decreases-loop-number l = length (left_of l.reader)

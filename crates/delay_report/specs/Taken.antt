@@ -1,0 +1,38 @@
+-- What the steps of the code answer. No public clause names these words.
+use Rattle.std.specs.Prelude.{◌≡◌, ℕ, List, [], ◌∷◌, ◌++◌, Option, Some, None}
+use Rattle.std.specs.List.{concat}
+use Rattle.foundation.specs.Options.{each}
+use Rattle.net_numbers.specs.Numbers.{Net}
+use Rattle.histories.specs.Progress.{Course, HasCome}
+use Rattle.delay_report.specs.declared.faults.HistoryFault.{HistoryFault}
+use Rattle.delay_report.specs.declared.faults.HistoryFault.TheVariants.{NoMemory, Row, Node, Extra, Turn}
+use Rattle.delay_report.specs.Entries.{steps_of}
+use Rattle.delay_report.specs.Faults.{IsAtExtra, IsAtNode, IsAtRow, IsAtTurn}
+
+-- the steps of a node that may be absent
+abbrev pub steps_if : Option ℕ → List ℕ
+steps_if None = []
+steps_if (Some node) = node ∷ []
+
+-- why the record with this number is at fault behind a history
+abbrev pub IsEntryFault : Net → List ℕ → List (List ℕ) → ℕ → HistoryFault → Type 0
+IsEntryFault net history fields number NoMemory = Unit {0}
+IsEntryFault net history fields number (Row n) = (n ≡ number) × IsAtRow fields
+IsEntryFault net history fields number (Node n) = (n ≡ number) × IsAtNode net fields
+IsEntryFault net history fields number (Extra n) = (n ≡ number) × IsAtExtra net history fields
+IsEntryFault net history fields number (Turn n) = (n ≡ number) × IsAtTurn net history fields
+IsEntryFault net history fields number _ = ⊥
+
+-- the steps of a record were taken behind a history
+pub record AreTaken (net : Net) (fields : List (List ℕ)) (old new : List ℕ) (p : Course) : Type 0 where
+  pub more : List ℕ
+  pub told : steps_of net fields ≡ Some more
+  pub new_is : new ≡ old ++ more
+  pub come : HasCome net new p
+
+-- the steps of all these records were taken, and they are this history
+pub record AreAllTaken (net : Net) (records : List (List (List ℕ))) (history : List ℕ) (p : Course) : Type 0 where
+  pub steps : List (List ℕ)
+  pub reads : each (steps_of net) records ≡ Some steps
+  pub history_is : history ≡ concat steps
+  pub come : HasCome net history p

@@ -1,0 +1,16 @@
+//! The report of a run: what was read and published, planned, shown and counted, as a file of records; and the file of a history,
+//! which a report is too.
+#![tactic(auto)]
+
+mod entries;
+mod faults;
+mod plans;
+mod records;
+mod reports;
+mod steps;
+mod texts;
+mod world;
+
+pub use faults::HistoryFault;
+pub use reports::{law_of_reports, render};
+pub use texts::read_history;

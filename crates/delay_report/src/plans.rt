@@ -1,0 +1,116 @@
+//! The records of plans.
+ghost use Rattle.std.specs.Prelude.{◌≡◌, ◌==◌, ◌++◌, ◌<◌, [], ◌∷◌, All, IfOk, OnOk, if◌then◌else◌, length, map};
+ghost use Rattle.std.specs.Fmt.{decimal};
+ghost use Rattle.std.specs.List.{flat_map, join_with_byte};
+ghost use Rattle.road_net.specs.Network.{heard_links};
+ghost use Rattle.delay_report.specs.Reports as report;
+ghost use Rattle.delay_report.specs.Reports.{plan_record};
+ghost use Rattle.delay_report.specs.Written.{Adds};
+
+use crate::records::{number, write_record};
+use csv::Writer;
+use intersection_actor::{PlanRecord, Used};
+use number_text::push_number;
+use road_net::Network;
+use schedule_meaning::Answer;
+use std::alloc::{AllocError, Global};
+
+/// Writes the records of plans.
+pub(crate) fn write_plans(
+    alloc: Global,
+    net: &Network,
+    plans: &[PlanRecord],
+    out: &mut Writer<Vec<u8>>,
+) -> Result<(), AllocError>
+    requires nodes { All (λ p. p.node < length net.now.node_names) plans.now }
+    requires used { All (λ p. map (λ u. u.link) p.used ≡ heard_links net.now p.node) plans.now }
+    ensures { OnOk result (Adds out.old out.new (map (plan_record net.now) plans.now)) }
+{
+    for plan in plans {
+        write_plan(alloc, net, plan, out)?;
+    }
+    Ok(())
+}
+
+/// Writes the record of a plan.
+fn write_plan(
+    alloc: Global,
+    net: &Network,
+    plan: &PlanRecord,
+    out: &mut Writer<Vec<u8>>,
+) -> Result<(), AllocError>
+    requires node { plan.now.node < length net.now.node_names }
+    requires used { map (λ u. u.link) plan.now.used ≡ heard_links net.now plan.now.node }
+    ensures { OnOk result (Adds out.old out.new (plan_record net.now plan.now ∷ [])) }
+{
+    let round = number(u64::from(plan.round));
+    let node = net.node_name(plan.node).as_bytes();
+    let used = used_text(alloc, net, plan.used.as_slice())?;
+    match &plan.answer {
+        Answer::NoPlan => write_record(
+            out,
+            &[b"plan", round.as_bytes(), node, &used, b"none", b"", b""],
+        ),
+        Answer::Plan { sequence, delay } => {
+            let delay = number(*delay);
+            let phases = digits(alloc, sequence.as_slice())?;
+            write_record(
+                out,
+                &[
+                    b"plan",
+                    round.as_bytes(),
+                    node,
+                    &used,
+                    b"plan",
+                    delay.as_bytes(),
+                    &phases,
+                ],
+            )
+        }
+    }
+}
+
+/// The versions that a plan used, with a semicolon between each two.
+fn used_text(alloc: Global, net: &Network, used: &[Used]) -> Result<Vec<u8>, AllocError>
+    requires { All (λ u. u.link < length net.now.link_names) used.now }
+    ensures { IfOk result (λ text. text.items ≡ join_with_byte 59 (map (report.used_text net.now) used.now)) }
+{
+    let mut text = Vec::new(alloc);
+    for (place, version) in used.iter().enumerate() {
+        push_semicolon(place, &mut text)?;
+        push_version(net, *version, &mut text)?;
+    }
+    Ok(text)
+}
+
+/// Writes a semicolon behind a text, unless nothing stands before this place.
+fn push_semicolon(place: usize, text: &mut Vec<u8>) -> Result<(), AllocError>
+    ensures { OnOk result (text.new.items ≡ text.old.items ++ (if place == 0 then [] else 59 ∷ [])) }
+{
+    if place == 0 {
+        return Ok(());
+    }
+    text.push(b';')?;
+    Ok(())
+}
+
+/// Writes a version behind a text.
+fn push_version(net: &Network, used: Used, text: &mut Vec<u8>) -> Result<(), AllocError>
+    requires { used.link < length net.now.link_names }
+    ensures { OnOk result (text.new.items ≡ text.old.items ++ report.used_text net.now used) }
+{
+    text.extend_from_slice(net.link_name(used.link).as_bytes())?;
+    text.push(b'=')?;
+    push_number(text, u64::from(used.version))
+}
+
+/// Phases one after another.
+fn digits(alloc: Global, phases: &[u8]) -> Result<Vec<u8>, AllocError>
+    ensures { IfOk result (λ text. text.items ≡ flat_map decimal phases.now) }
+{
+    let mut text = Vec::new(alloc);
+    for phase in phases {
+        push_number(&mut text, u64::from(*phase))?;
+    }
+    Ok(text)
+}

@@ -1,0 +1,143 @@
+//! The records of what the signals showed and the world counted.
+ghost use Rattle.std.specs.Prelude.{◌≡◌, ◌<◌, [], ◌∷◌, OnOk, filter, if◌then◌else◌, length, map, nat_lt, slice_index_or};
+ghost use Rattle.std.specs.List.{flat_map, range_with_len};
+ghost use Rattle.runs.specs.Runs.{end_of_run};
+ghost use Rattle.delay_report.specs.Reports.{green_record, link_record, no_totals, total_record};
+ghost use Rattle.delay_report.specs.Written.{Adds};
+
+use crate::records::{number, write_record};
+use control_flow::greens::{Green, Timeline};
+use csv::Writer;
+use net_simulator::{LinkTotals, Totals};
+use road_net::Network;
+use std::alloc::AllocError;
+
+/// Writes the records of the greens of each node's line that begin before the run ends.
+pub(crate) fn write_greens(
+    net: &Network,
+    lines: &[Timeline],
+    out: &mut Writer<Vec<u8>>,
+) -> Result<(), AllocError>
+    requires { length lines.now ≡ length net.now.node_names }
+    ensures { OnOk result (Adds out.old out.new (flat_map (λ node. map (green_record net.now node) (filter (λ green. nat_lt green.from (end_of_run net.now)) (slice_index_or lines.now node []))) (range_with_len 0 (length net.now.node_names)))) }
+{
+    let end = net.run().rounds * net.run().step;
+    for node in 0..net.nodes() {
+        write_greens_of(net, node, lines[node as usize].rows(), end, out)?;
+    }
+    Ok(())
+}
+
+/// Writes the records of those greens of a node that begin before a second.
+fn write_greens_of(
+    net: &Network,
+    node: u32,
+    greens: &[Green],
+    end: u32,
+    out: &mut Writer<Vec<u8>>,
+) -> Result<(), AllocError>
+    requires { node < length net.now.node_names }
+    ensures { OnOk result (Adds out.old out.new (map (green_record net.now node) (filter (λ green. nat_lt green.from end) greens.now))) }
+{
+    for green in greens {
+        write_green(net, node, *green, end, out)?;
+    }
+    Ok(())
+}
+
+/// Writes the record of a green, if it begins before a second.
+fn write_green(
+    net: &Network,
+    node: u32,
+    green: Green,
+    end: u32,
+    out: &mut Writer<Vec<u8>>,
+) -> Result<(), AllocError>
+    requires { node < length net.now.node_names }
+    ensures { OnOk result (Adds out.old out.new (if nat_lt green.from end then green_record net.now node green ∷ [] else [])) }
+{
+    if green.from >= end {
+        return Ok(());
+    }
+    let phase = number(u64::from(green.phase));
+    let from = number(u64::from(green.from));
+    let to = number(u64::from(green.to));
+    let name = net.node_name(node).as_bytes();
+    write_record(
+        out,
+        &[
+            b"green",
+            b"",
+            name,
+            phase.as_bytes(),
+            from.as_bytes(),
+            to.as_bytes(),
+            b"",
+        ],
+    )
+}
+
+/// Writes the records of the totals of each link.
+pub(crate) fn write_links(
+    net: &Network,
+    totals: &[LinkTotals],
+    out: &mut Writer<Vec<u8>>,
+) -> Result<(), AllocError>
+    requires { length totals.now ≡ length net.now.link_names }
+    ensures { OnOk result (Adds out.old out.new (map (λ link. link_record net.now link (slice_index_or totals.now link no_totals)) (range_with_len 0 (length net.now.link_names)))) }
+{
+    for link in 0..net.links() {
+        write_link(net, link, totals[link as usize], out)?;
+    }
+    Ok(())
+}
+
+/// Writes the record of the totals of a link.
+fn write_link(
+    net: &Network,
+    link: u32,
+    totals: LinkTotals,
+    out: &mut Writer<Vec<u8>>,
+) -> Result<(), AllocError>
+    requires { link < length net.now.link_names }
+    ensures { OnOk result (Adds out.old out.new (link_record net.now link totals ∷ [])) }
+{
+    let entered = number(totals.entered);
+    let left = number(totals.left);
+    let delay = number(totals.delay);
+    let name = net.link_name(link).as_bytes();
+    write_record(
+        out,
+        &[
+            b"link",
+            b"",
+            b"",
+            name,
+            entered.as_bytes(),
+            left.as_bytes(),
+            delay.as_bytes(),
+        ],
+    )
+}
+
+/// Writes the record of all totals.
+pub(crate) fn write_totals(totals: Totals, out: &mut Writer<Vec<u8>>) -> Result<(), AllocError>
+    ensures { OnOk result (Adds out.old out.new (total_record totals ∷ [])) }
+{
+    let entered = number(totals.entered);
+    let left = number(totals.left);
+    let on = number(totals.on);
+    let delay = number(totals.delay);
+    write_record(
+        out,
+        &[
+            b"total",
+            b"",
+            b"",
+            entered.as_bytes(),
+            left.as_bytes(),
+            on.as_bytes(),
+            delay.as_bytes(),
+        ],
+    )
+}
