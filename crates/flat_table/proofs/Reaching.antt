@@ -77,11 +77,11 @@ best-same : (C D : Row → Type 0) (xs : List Row) → AreBestOf C xs → ((r : 
 best-same C D xs best wider only = record { from = λ k d h. wider (get_or xs k d) (best.from k d h); all = λ r h. best.all r (only r h) }
 
 -- a row behind which nothing can be served that is within the limit
-pub reached-none : (p : Problem) (limit : Option ℕ) (k : ℕ) (cluster : Cluster) (source : List Row) (n : ℕ) (reached : Reached) (from : Entry) → (row_at source n).entry ≡ from → IfSome (stage_after p (stage_of_entry p from) k) (λ s. ¬ IsWithin p limit s)
+pub reached-none : (p : Problem) (limit : Option ℕ) (k : ℕ) (cluster : Cluster) (source : List Row) (n : ℕ) (reached : Reached) (row : Row) → row_at source n ≡ row → IfSome (stage_after p (stage_of_entry p row.entry) k) (λ s. ¬ IsWithin p limit s)
     → AreReachedBy p limit k cluster source n reached → AreReachedBy p limit k cluster source (n + 1) reached
-reached-none p limit k cluster source n reached from at left h =
+reached-none p limit k cluster source n reached row at left h =
     let gone : (kept : Bool) (c : Row) → IsArrival p limit k cluster source (n + 1) kept c → IsArrival p limit k cluster source n kept c = λ kept c a. arrival-last p limit k cluster source n kept c a (λ old. old) (λ last.
-    absurd (if-some (λ s. ¬ IsWithin p limit s) (stage_after p (stage_of_entry p from) k) (stage_behind c.entry) (ap (λ e. stage_after p (stage_of_entry p e) k) (sym at) ∙ ap (λ i. stage_after p (stage_of_entry p (row_at source i).entry) k) (sym last) ∙ a.leads) left a.within)) in
+    absurd (if-some (λ s. ¬ IsWithin p limit s) (stage_after p (stage_of_entry p row.entry) k) (stage_behind c.entry) (ap (λ (r : Row). stage_after p (stage_of_entry p r.entry) k) (sym at) ∙ ap (λ i. stage_after p (stage_of_entry p (row_at source i).entry) k) (sym last) ∙ a.leads) left a.within)) in
     record {
       kept_later = h.kept_later;
       kept_best = best-same (IsArrival p limit k cluster source n true) (IsArrival p limit k cluster source (n + 1) true) reached.kept.items h.kept_best (arrival-wider p limit k cluster source n true) (gone true);
@@ -97,25 +97,25 @@ pub record ArrivesBy (p : Problem) (limit : Option ℕ) (k : ℕ) (cluster : Clu
   pub by : arrival.served ≡ served
 
 -- what is reached from the next row
-pub arrives : (p : Problem) (limit : Option ℕ) (k : ℕ) (cluster : Cluster) (source : List Row) (n : ℕ) (from : Entry) (served : Served) (entry : Entry) (m : ℕ) (made : Row) → (row_at source n).entry ≡ from → n < length source
-    → serving p.plan (stage_of_entry p from).head k cluster ≡ Ok (served, head_of entry false) → Some (stage_behind entry) ≡ stage_after p (stage_of_entry p from) k → m ≡ (row_at source n).order * 4 + k → made ≡ record { entry = entry; order = m } → entry.at ≤ 104000 → IsWithin p limit (stage_behind entry)
-    → ArrivesBy p limit k cluster source n served made
-arrives p limit k cluster source n from served entry m made at inside serves leads is by reach within = subst (ArrivesBy p limit k cluster source n served) (sym by) (record {
+pub arrives : (p : Problem) (limit : Option ℕ) (k : ℕ) (cluster : Cluster) (source : List Row) (n : ℕ) (row : Row) (served : Served) (entry : Entry) (m : ℕ) → row_at source n ≡ row → n < length source
+    → serving p.plan (stage_of_entry p row.entry).head k cluster ≡ Ok (served, head_of entry false) → Some (stage_behind entry) ≡ stage_after p (stage_of_entry p row.entry) k → m ≡ row.order * 4 + k → entry.at ≤ 104000 → IsWithin p limit (stage_behind entry)
+    → ArrivesBy p limit k cluster source n served (record { entry = entry; order = m })
+arrives p limit k cluster source n row served entry m at inside serves leads is reach within = record {
   arrival = record {
     place = n;
     first = omega arith;
     inside = inside;
     served = served;
-    serves = ap (λ e. serving p.plan (stage_of_entry p e).head k cluster) at ∙ serves;
+    serves = ap (λ (r : Row). serving p.plan (stage_of_entry p r.entry).head k cluster) at ∙ serves;
     on = refl;
-    leads = ap (λ e. stage_after p (stage_of_entry p e) k) at ∙ sym leads;
-    order = is;
+    leads = ap (λ (r : Row). stage_after p (stage_of_entry p r.entry) k) at ∙ sym leads;
+    order = is ∙ ap (λ (r : Row). r.order * 4 + k) (sym at);
     reach = reach;
     within = within;
   };
   at = refl;
   by = refl;
-})
+}
 
 -- a green that goes on is no earlier than those before it
 kept-up : (p : Problem) (limit : Option ℕ) (k : ℕ) (cluster : Cluster) (source : List Row) (n : ℕ) (reached : Reached) (c : Row) (a : IsArrival p limit k cluster source (n + 1) true c) → a.place ≡ n → IsSource p k cluster source → AreReachedBy p limit k cluster source n reached → AreUpTo (time_of c) reached.kept.items

@@ -28,7 +28,7 @@ row_at rows place = slice_index_or rows place no_row
 pub record IsSource (p : Problem) (k : ℕ) (cluster : Cluster) (source : List Row) : Type 0 where
   pub lawful : IsInstance p
   pub entries : All (λ r. IsEntry p r.entry) source
-  pub orders : All (λ r. r.order < 4 ^ 39) source
+  pub orders : All (λ r. r.order < 4 ^ 40) source
   pub next : All (λ r. slice_get (list_at p.lists k) (slice_index r.entry.counts k) ≡ Some cluster) source
   pub later : AllPairs (λ a b. a.entry.phase ≡ b.entry.phase → time_of a < time_of b) source
   pub fresh : AllPairs (λ a b. (stage_of_entry p a.entry).head.fresh ≡ (stage_of_entry p b.entry).head.fresh) source

@@ -71,16 +71,10 @@ impl Reached {
         let mut rests = Rests::new();
         for row in source {
             if let Some((served, entry)) = serve_within(
-                i,
-                &row.entry(),
-                phase,
-                cluster,
-                limit,
-                &mut rests,
-                steps,
+                i, &row.entry, phase, cluster, limit, &mut rests, steps,
             ) {
-                let order = row.order() * 4 + u128::from(phase);
-                self.take_in(&served, cluster, Row::new(&entry, order))?;
+                let order = row.order.followed_by(phase);
+                self.take_in(&served, cluster, Row { entry, order })?;
             }
         }
         Ok(())

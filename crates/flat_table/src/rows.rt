@@ -2,114 +2,35 @@
 ghost use Rattle.std.specs.Prelude.{◌≡◌, ◌⊎◌, ◌↔◌, ◌<◌, ◌≤◌, ◌++◌, Contains, IsTrue, List, OnOk};
 ghost use Rattle.flat_table.specs.Rows.{AreBestOf, AreLater, AreUpTo, IsNoWorse, time_of};
 
+use crate::orders::Order;
 use dp_certificate::Entry;
 use foundation::threads::CrossesThreads;
 use std::alloc::AllocError;
-use std::marker::Model;
 
 /// For so many rows there is room from the start: enough that a list lies in pages of its own, which are taken as they are
 /// filled, and that it moves none of its rows when it grows.
 pub const FIRST_ROOM: usize = 4096;
 
-/// A key with the least delay so far, and of several sequences with that delay the first. It is an entry, and the number of a
-/// sequence: its phases as digits to the base 4. It takes half a line of the cache.
+/// A key with the least delay so far, and of several sequences with that delay the first.
 ///
 /// docs/RULES.md, "Table".
 #[derive(Debug, Clone, Copy, PartialEq, Eq)]
 pub struct Row {
-    counts: [u8; 4],
-    phase: u8,
-    high: u16,
-    since: u32,
-    at: u32,
-    delay: u64,
-    low: u64,
-}
-
-impl Model for Row {
-    ghost use Rattle.std.specs.Prelude.{◌+◌, ◌*◌, ◌/◌, ◌%◌, ◌<◌};
-    ghost use Rattle.flat_table.specs.Halves.{Reach, halves-ok};
-
-    ghost Value = { Reach };
-
-    ghost view = { λ r. record { entry = record { counts = r.counts; phase = r.phase; since = r.since; at = r.at; delay = r.delay }; order = r.high * 18446744073709551616 + r.low } };
-
-    ghost invariant = { λ r. r.low < 18446744073709551616 };
-
-    ghost inverse = { λ v. record { counts = v.entry.counts; phase = v.entry.phase; high = v.order / 18446744073709551616; since = v.entry.since; at = v.entry.at; delay = v.entry.delay; low = v.order % 18446744073709551616 } };
-
-    ghost inverse_ok = { λ r h. λ i. record { counts = r.counts; phase = r.phase; high = (halves-ok r.high r.low h).0 i; since = r.since; at = r.at; delay = r.delay; low = (halves-ok r.high r.low h).1 i } };
-}
-
-impl Row {
-    ghost use Rattle.std.specs.Prelude.{◌≡◌, ◌^◌, ◌<◌, ◌↔◌, IsTrue};
-    ghost use Rattle.flat_table.specs.Rows.{IsNoWorse, time_of};
-
-    /// The row with an entry and the number of a sequence.
-    #[inline]
-    pub fn new(entry: &Entry, order: u128) -> Row
-        requires { order < 4 ^ 40 }
-        ensures { result ≡ record { entry = entry.now; order = order } }
-    {
-        Row {
-            counts: entry.counts,
-            phase: entry.phase,
-            high: (order / 18_446_744_073_709_551_616) as u16,
-            since: entry.since,
-            at: entry.at,
-            delay: entry.delay,
-            low: (order % 18_446_744_073_709_551_616) as u64,
-        }
-    }
-
     /// The key with its delay.
-    #[inline]
-    pub fn entry(&self) -> Entry
-        ensures { result ≡ self.now.entry }
-    {
-        Entry {
-            counts: self.counts,
-            phase: self.phase,
-            since: self.since,
-            at: self.at,
-            delay: self.delay,
-        }
-    }
-
-    /// The number of the sequence.
-    #[inline]
-    pub fn order(&self) -> u128
-        ensures { result ≡ self.now.order }
-    {
-        u128::from(self.high) * 18_446_744_073_709_551_616 + u128::from(self.low)
-    }
-
-    /// The counts of the key.
-    #[inline]
-    pub fn counts(&self) -> &[u8; 4]
-        ensures { result.now ≡ self.now.entry.counts }
-    {
-        &self.counts
-    }
-
-    /// Whether it has less delay than another, or the same and no later order.
-    #[inline]
-    pub(crate) fn is_no_worse(&self, other: &Row) -> bool
-        ensures { IsTrue result ↔ IsNoWorse self.now other.now.entry.delay other.now.order }
-    {
-        self.delay < other.delay || self.delay == other.delay && self.order() <= other.order()
-    }
-
-    /// Since when its green lasts, and then up to when its time is spent.
-    #[inline]
-    fn time(&self) -> u64
-        ensures { result ≡ time_of self.now }
-    {
-        u64::from(self.since) * 4_294_967_296 + u64::from(self.at)
-    }
+    pub entry: Entry,
+    /// The sequence, as digits to the base 4.
+    pub order: Order,
 }
 
 impl CrossesThreads for Row {}
+
+/// Whether a row has less delay than another, or the same and no later order.
+pub(crate) fn is_no_worse(row: &Row, other: &Row) -> bool
+    ensures { IsTrue result ↔ IsNoWorse row.now other.now.entry.delay other.now.order }
+{
+    row.entry.delay < other.entry.delay
+        || row.entry.delay == other.entry.delay && row.order.is_up_to(&other.order)
+}
 
 /// The better of two rows.
 pub fn better_of(row: &Row, other: &Row) -> Row
@@ -117,15 +38,20 @@ pub fn better_of(row: &Row, other: &Row) -> Row
     ensures first { IsNoWorse result row.now.entry.delay row.now.order }
     ensures second { IsNoWorse result other.now.entry.delay other.now.order }
 {
-    if row.is_no_worse(other) { *row } else { *other }
+    if is_no_worse(row, other) {
+        *row
+    } else {
+        *other
+    }
 }
 
 /// Since when the green of a row lasts, and then up to when its time is spent.
-#[inline]
 fn time_of(row: &Row) -> u64
     ensures { result ≡ time_of row.now }
 {
-    row.time()
+    let since = row.entry.since;
+    let at = row.entry.at;
+    u64::from(since) * 4_294_967_296 + u64::from(at)
 }
 
 /// Puts a row behind rows none of which is later; of two with one time the better stays.

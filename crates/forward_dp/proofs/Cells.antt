@@ -1,22 +1,17 @@
 -- The rows with the same counts stand together, and can be served on.
-use Rattle.std.proofs.Common.{◌≡◌, ℕ, ◌+◌, ◌-◌, ◌*◌, ◌<◌, ◌≤◌, ◌==◌, ◌&&◌, List, length, sum, get_or, set, take, drop, Some, sym, ap, subst, ◌∙◌, inl, inr, arith}
+use Rattle.std.proofs.Common.{◌≡◌, ℕ, ◌+◌, ◌-◌, ◌*◌, ◌<◌, ◌≤◌, ◌==◌, ◌&&◌, List, length, sum, get_or, take, drop, Some, sym, ap, subst, ◌∙◌, inl, inr, arith}
 use Rattle.std.specs.Prelude.{slice_get}
 use Rattle.std.proofs.lemmas.Bool.{cases_eq, cases_lt}
-use Rattle.std.proofs.lemmas.List.{get_or-drop, get_or-set_other, get_or-set_same, get_or-take, get_or_default, length-drop, length-take}
-use Rattle.std.proofs.lemmas.List.Sums.{sum_by-set}
-use Rattle.std.proofs.lemmas.Option.{slice_get_within}
+use Rattle.std.proofs.lemmas.List.{get_or-drop, get_or-take, get_or_default, length-drop, length-take}
 use Rattle.switch_rules.specs.declared.Cluster.{Cluster}
-use Rattle.schedule_meaning.specs.Instances.{Problem, IsInstance, counts_of, list_at}
-use Rattle.schedule_meaning.proofs.Sequences.{get_or-counts}
+use Rattle.schedule_meaning.specs.Instances.{Problem, IsInstance, list_at}
 use Rattle.dp_certificate.specs.Proves.{stage_of_entry}
 use Rattle.flat_table.specs.Groups.{IsSource, no_row, row_at}
 use Rattle.flat_table.specs.Rows.{time_of}
 use Rattle.flat_table.specs.declared.rows.Row.{Row}
 use Rattle.forward_dp.specs.Numbers.{counts_number}
 use Rattle.forward_dp.specs.Tables.{AreRows, IsFrom, IsReached, counts_number_at, row_number}
-use Rattle.forward_dp.proofs.Bounds.{sum-le}
-use Rattle.forward_dp.proofs.Orders.{order-below}
-use Rattle.forward_dp.proofs.Rows.{IsLed, counts-same, pow-few, reached-entry, reached-led}
+use Rattle.forward_dp.proofs.Rows.{IsLed, counts-same, reached-entry, reached-led}
 
 -- a slice of the rows from a place on
 pub record IsSlice (rows source : List Row) (start : ℕ) : Type 0 where
@@ -96,20 +91,9 @@ cell-is p lawful rows counts from start end are four digits first second before 
           );
     }
 
--- where one more of a phase can be served, at most 39 are
-fewer : (p : Problem) → IsInstance p → (counts : List ℕ) (k : ℕ) → length counts ≡ 4 → k < 4 → ((j : ℕ) → get_or counts j 0 ≤ length (list_at p.lists j)) → get_or counts k 0 < length (list_at p.lists k) → sum counts ≤ 39
-fewer p lawful counts k four small within less =
-    let more = set counts k (get_or counts k 0 + 1) in
-    let inside : k < length counts = omega (arith, four, small) in
-    let all : sum more ≤ sum (counts_of p.lists) = sum-le more (counts_of p.lists) (λ j. elim (cases_eq j k) [
-      | inl same ↦ omega (arith, ap (λ i. get_or more i 0) same, get_or-set_same counts k (get_or counts k 0 + 1) 0 inside, less, get_or-counts p.lists k, ap (λ i. get_or (counts_of p.lists) i 0) same)
-      | inr other ↦ omega (arith, get_or-set_other counts k j (get_or counts k 0 + 1) 0 other, within j, get_or-counts p.lists j)
-    ]) in
-    omega (arith, all, sum_by-set (λ x. x) counts k (get_or counts k 0 + 1) 0 inside, lawful.few)
-
 -- they can be served on by the next cluster of a phase
-pub cell-source : (p : Problem) → IsInstance p → (rows source : List Row) (start : ℕ) (counts : List ℕ) (k : ℕ) (cluster : Cluster) → AreRows p rows → IsCell rows source start counts → k < 4 → slice_get (list_at p.lists k) (get_or counts k 0) ≡ Some cluster → IsSource p k cluster source
-cell-source p lawful rows source start counts k cluster are cell small next =
+pub cell-source : (p : Problem) → IsInstance p → (rows source : List Row) (start : ℕ) (counts : List ℕ) (k : ℕ) (cluster : Cluster) → AreRows p rows → IsCell rows source start counts → slice_get (list_at p.lists k) (get_or counts k 0) ≡ Some cluster → IsSource p k cluster source
+cell-source p lawful rows source start counts k cluster are cell next =
     let inside : (n : ℕ) → n < length source → start + n < length rows = λ n h. omega (arith, h, cell.slice.inside) in
     let at : (n : ℕ) (d : Row) → n < length source → get_or source n d ≡ row_at rows (start + n) = λ n d h. get_or_default source n d no_row h ∙ cell.slice.at n h in
     let reached : (n : ℕ) (d : Row) → n < length source → IsReached p (get_or source n d) = λ n d h. subst (IsReached p) (sym (at n d h)) (are.each (start + n) no_row (inside n h)) in
@@ -117,13 +101,7 @@ cell-source p lawful rows source start counts k cluster are cell small next =
     record {
       lawful = lawful;
       entries = λ n d h. reached-entry p lawful (get_or source n d) (reached n d h);
-      orders = λ n d h.
-          let r = reached n d h in
-          let l = reached-led p lawful (get_or source n d) r in
-          let less : get_or (get_or source n d).entry.counts k 0 < length (list_at p.lists k) = omega (arith, ap (λ xs. get_or xs k 0) (same n d h), slice_get_within (list_at p.lists k) (get_or counts k 0) cluster next) in
-          let few : sum (get_or source n d).entry.counts ≤ 39 = fewer p lawful (get_or source n d).entry.counts k l.stage.places small l.stage.counts less in
-          let long : length r.prefix ≤ 39 = omega (arith, few, l.stage.total) in
-          omega (arith, r.order, order-below r.prefix l.phases, pow-few (length r.prefix) 39 long);
+      orders = λ n d h. (let r = reached n d h in omega (arith, r.order, (reached-led p lawful (get_or source n d) r).order));
       next = λ n d h. ap (λ xs. slice_get (list_at p.lists k) (get_or xs k 0)) (same n d h) ∙ next;
       later = λ i j d less h phases.
           let rise = are.rising (start + i) (start + j) no_row (omega arith) (inside j h) in

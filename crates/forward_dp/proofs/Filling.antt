@@ -71,7 +71,7 @@ module _ (p : Problem) (limit : Option ℕ) (counts : List ℕ) (k from start en
   found-here : (d : Cluster) → IsFound p counts k rows (take (end - start) (drop start rows)) start end (get_or (list_at p.lists k) (get_or (before_of counts k) k 0) d)
   found-here d = record {
     cell = the-cell;
-    is = cell-source p can.lawful rows (take (end - start) (drop start rows)) start (before_of counts k) k (get_or (list_at p.lists k) (get_or (before_of counts k) k 0) d) can.table.made the-cell small (the-next d);
+    is = cell-source p can.lawful rows (take (end - start) (drop start rows)) start (before_of counts k) k (get_or (list_at p.lists k) (get_or (before_of counts k) k 0) d) can.table.made the-cell (the-next d);
     behind = the-behind;
     known = second.within;
     rise = second.rise;

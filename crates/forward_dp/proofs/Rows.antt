@@ -106,8 +106,8 @@ pow-some (suc n) = omega (arith, pow-suc 4 n, pow-some n)
 pow-up : (n m : ℕ) → 4 ^ n ≤ 4 ^ (n + m)
 pow-up n m = omega (arith, pow-add 4 n m, mul-le-mul_left (4 ^ n) (pow-some m))
 
-pub pow-few : (n most : ℕ) → n ≤ most → 4 ^ n ≤ 4 ^ most
-pow-few n most h = subst (λ m. 4 ^ n ≤ 4 ^ m) (let e : n + (most - n) ≡ most = omega arith in e) (pow-up n (most - n))
+pow-four : (n : ℕ) → n ≤ 40 → 4 ^ n ≤ 4 ^ 40
+pow-four n h = subst (λ m. 4 ^ n ≤ 4 ^ m) (let e : n + (40 - n) ≡ 40 = omega arith in e) (pow-up n (40 - n))
 
 -- what a fit prefix leads to
 pub record IsLed (p : Problem) (u : List ℕ) (s : Stage) : Type 0 where
@@ -132,7 +132,7 @@ led p lawful u s e =
       phase = omega (arith, b.head.phase, lawful.plan.count.1);
       since = omega (arith, b.head.begun, b.reach);
       at = omega (arith, b.reach);
-      order = omega (arith, order-below u below, pow-few (length u) 40 few);
+      order = omega (arith, order-below u below, pow-four (length u) few);
       phases = below;
     }
 

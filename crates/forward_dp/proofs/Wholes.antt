@@ -29,9 +29,8 @@ use Rattle.flat_table.proofs.Keeping.{no-worse-trans}
 use Rattle.forward_dp.specs.Numbers.{counts_number, order_number}
 use Rattle.forward_dp.specs.Tables.{HasAnswers, IsFrom, IsReached, IsTableMade, IsWholeTable, all_rows}
 use Rattle.forward_dp.proofs.Bounds.{IsStage, stage-bounds, stage-few, sum-le}
-use Rattle.forward_dp.proofs.Cells.{IsCell, cell-is, led-at}
+use Rattle.forward_dp.proofs.Cells.{IsCell, led-at}
 use Rattle.forward_dp.proofs.Few.{rows-few}
-use Rattle.forward_dp.proofs.Filling.{small-last}
 use Rattle.forward_dp.proofs.Growing.{no-more}
 use Rattle.forward_dp.proofs.KeyOrder.{keys-rise}
 use Rattle.forward_dp.proofs.Orders.{best-none, best-plan}

@@ -46,7 +46,7 @@ fn push_entries(entries: &mut Vec<Entry>, rows: &[Row]) -> Result<(), AllocError
     ensures { OnOk result (entries.new.items ≡ entries.old.items ++ map (λ r. r.entry) rows.now) }
 {
     for row in rows {
-        entries.push(row.entry())?;
+        entries.push(row.entry)?;
     }
     Ok(())
 }

@@ -88,10 +88,10 @@ fn answer_of(alloc: Global, i: &Instance, rows: &Rows) -> Result<Answer, AllocEr
     let Some(best) = best_of(&latest[start..end]) else {
         return Ok(Answer::NoPlan);
     };
-    let sequence = sequence_of(alloc, best.order(), places)?;
+    let sequence = sequence_of(alloc, best.order.value(), places)?;
     Ok(Answer::Plan {
         sequence: Items::from_vec(sequence),
-        delay: best.entry().delay,
+        delay: best.entry.delay,
     })
 }
 

@@ -11,7 +11,7 @@ ghost use Rattle.flat_table.specs.declared.rows.Row.{Row};
 
 use crate::kept::{Past, Rows};
 use dp_certificate::{Entry, list_lengths};
-use flat_table::{Reached, Row};
+use flat_table::{Order, Reached, Row};
 use foundation::steps::Steps;
 use schedule_meaning::Instance;
 use std::alloc::{AllocError, Global};
@@ -52,14 +52,16 @@ fn first_row(i: &Instance) -> Row
     ensures instance { IsInstance i.now }
 {
     let head = i.head();
-    let entry = Entry {
-        counts: [0; 4],
-        phase: head.phase,
-        since: head.since,
-        at: head.at,
-        delay: 0,
-    };
-    Row::new(&entry, 0)
+    Row {
+        entry: Entry {
+            counts: [0; 4],
+            phase: head.phase,
+            since: head.since,
+            at: head.at,
+            delay: 0,
+        },
+        order: Order::none(),
+    }
 }
 
 /// The next counts, in their order, none of which is above the last; none behind the last.
@@ -170,7 +172,7 @@ fn first_from(rows: &[Row], from: usize, least: u32) -> usize
     let mut high = rows.len();
     while low < high {
         let middle = low + (high - low) / 2;
-        if number(rows[middle].counts()) < least {
+        if number(&rows[middle].entry.counts) < least {
             low = middle + 1;
         } else {
             high = middle;

@@ -1,7 +1,7 @@
-use Rattle.std.proofs.Common.{◌+◌, ◌++◌, ◌∷◌, [], length, sum, get_or, refl, ap, ◌∙◌, arith}
+use Rattle.std.proofs.Common.{◌+◌, ◌++◌, ◌∷◌, [], length, sum, refl, ap, ◌∙◌, arith}
 use Rattle.dp_certificate.proofs.Stages.{none-counted}
 use Rattle.forward_dp.specs.Numbers.{counts_number}
-use Rattle.forward_dp.specs.Tables.{HasEntries, IsEntered, all_rows}
+use Rattle.forward_dp.specs.Tables.{HasEntries, all_rows}
 use Rattle.forward_dp.proofs.Few.{rows-keys}
 use Rattle.forward_dp.proofs.Filling.{all-steps, ends-sum, small-last}
 use Rattle.forward_dp.proofs.Parting.{entered-ready, table-ends, table-starts, way-gone, way-made}

@@ -1,7 +1,6 @@
-use Rattle.std.proofs.Common.{◌≡◌, ◌+◌, length, sym, ap, subst, ◌∙◌, arith}
+use Rattle.std.proofs.Common.{◌≡◌, ◌+◌, length, sym, subst, ◌∙◌, arith}
 use Rattle.std.proofs.lemmas.List.{get_or_default}
-use Rattle.flat_table.specs.Groups.{AreReachedBy, no_row, row_at}
-use Rattle.flat_table.specs.declared.rows.Row.{Row}
+use Rattle.flat_table.specs.Groups.{AreReachedBy, no_row}
 use Rattle.flat_table.proofs.Reaching.{arrives, kept-may, reached-more, reached-none, reached-start, waits-may}
 use Rattle.flat_table.proofs.groups.Reached.reach.Goals as goal
 use Rattle.flat_table.proofs.groups.Reached.reach.Goals.{in-Some+in_ok-take_in, in_default}
@@ -13,22 +12,18 @@ pub take_in-requires-clause-kept : goal.take_in-requires-clause-kept
 take_in-requires-clause-kept g c =
     let source = c.args.source.now in
     let n = c.loop-row.row-index in
-    let same : row_at source n ≡ c.row-item.result = get_or_default source n no_row _ c.loop-row-test.true ∙ sym c.row-item.is in
-    let at : (row_at source n).entry ≡ c.entry.result = ap (λ (r : Row). r.entry) same ∙ sym c.entry.ensures in
     kept-may c.args.i.now c.args.limit c.args.phase c.args.cluster.now source n c.loop-row.self c.in-Some.served _
-    (arrives c.args.i.now c.args.limit c.args.phase c.args.cluster.now source n c.entry.result c.in-Some.served c.in-Some.entry _ c.new.result at c.loop-row-test.true c.in-Some.ensures.served c.in-Some.ensures.leads
-    (omega (arith, ap (λ (r : Row). r.order) same, c.order.ensures, c.from.ensures)) c.new.ensures c.in-Some.ensures.bounds.reach c.in-Some.ensures.within)
+    (arrives c.args.i.now c.args.limit c.args.phase c.args.cluster.now source n _ c.in-Some.served c.in-Some.entry c.followed_by-order.result (get_or_default source n no_row _ c.loop-row-test.true ∙ sym c.row-item.is) c.loop-row-test.true c.in-Some.ensures.served c.in-Some.ensures.leads
+    c.followed_by-order.ensures c.in-Some.ensures.bounds.reach c.in-Some.ensures.within)
     c.requires.source c.loop-row.invariant.reached
 
 pub take_in-requires-clause-wait : goal.take_in-requires-clause-wait
 take_in-requires-clause-wait g c =
     let source = c.args.source.now in
     let n = c.loop-row.row-index in
-    let same : row_at source n ≡ c.row-item.result = get_or_default source n no_row _ c.loop-row-test.true ∙ sym c.row-item.is in
-    let at : (row_at source n).entry ≡ c.entry.result = ap (λ (r : Row). r.entry) same ∙ sym c.entry.ensures in
     waits-may c.args.i.now c.args.limit c.args.phase c.args.cluster.now source n c.in-Some.served _
-    (arrives c.args.i.now c.args.limit c.args.phase c.args.cluster.now source n c.entry.result c.in-Some.served c.in-Some.entry _ c.new.result at c.loop-row-test.true c.in-Some.ensures.served c.in-Some.ensures.leads
-    (omega (arith, ap (λ (r : Row). r.order) same, c.order.ensures, c.from.ensures)) c.new.ensures c.in-Some.ensures.bounds.reach c.in-Some.ensures.within)
+    (arrives c.args.i.now c.args.limit c.args.phase c.args.cluster.now source n _ c.in-Some.served c.in-Some.entry c.followed_by-order.result (get_or_default source n no_row _ c.loop-row-test.true ∙ sym c.row-item.is) c.loop-row-test.true c.in-Some.ensures.served c.in-Some.ensures.leads
+    c.followed_by-order.ensures c.in-Some.ensures.bounds.reach c.in-Some.ensures.within)
     c.requires.source.lawful c.requires.phase
 
 pub loop-row-preserved : goal.loop-row-preserved
@@ -38,19 +33,17 @@ loop-row-preserved g c =
     let cluster = c.args.cluster.now in
     let source = c.args.source.now in
     let n = c.loop-row.row-index in
-    let same : row_at source n ≡ c.row-item.result = get_or_default source n no_row _ c.loop-row-test.true ∙ sym c.row-item.is in
-    let at : (row_at source n).entry ≡ c.entry.result = ap (λ (r : Row). r.entry) same ∙ sym c.entry.ensures in
     record {
       reached = elim c.match-serve_within.branch [
         | in-Some+in_ok-take_in w ↦
             subst (AreReachedBy p c.args.limit k cluster source (n + 1)) (sym w.self-is)
             (reached-more p c.args.limit k cluster source n c.loop-row.self w.take_in.new.self w.in-Some.served _
-            (arrives p c.args.limit k cluster source n c.entry.result w.in-Some.served w.in-Some.entry _ w.new.result at c.loop-row-test.true w.in-Some.ensures.served w.in-Some.ensures.leads
-            (omega (arith, ap (λ (r : Row). r.order) same, w.order.ensures, w.from.ensures)) w.new.ensures w.in-Some.ensures.bounds.reach w.in-Some.ensures.within)
+            (arrives p c.args.limit k cluster source n _ w.in-Some.served w.in-Some.entry w.followed_by-order.result (get_or_default source n no_row _ c.loop-row-test.true ∙ sym c.row-item.is) c.loop-row-test.true w.in-Some.ensures.served w.in-Some.ensures.leads
+            w.followed_by-order.ensures w.in-Some.ensures.bounds.reach w.in-Some.ensures.within)
             c.loop-row.invariant.reached w.in_ok-take_in.ensures.kept w.in_ok-take_in.ensures.anew w.in_ok-take_in.ensures.fresh)
         | in_default w ↦
             subst (AreReachedBy p c.args.limit k cluster source (n + 1)) (sym w.self-is)
-            (reached-none p c.args.limit k cluster source n c.loop-row.self c.entry.result at w.in_default.ensures.left c.loop-row.invariant.reached)
+            (reached-none p c.args.limit k cluster source n c.loop-row.self _ (get_or_default source n no_row _ c.loop-row-test.true ∙ sym c.row-item.is) w.in_default.ensures.left c.loop-row.invariant.reached)
       ];
       rests = c.serve_within.ensures.rests;
       cost = omega (arith, c.loop-row.invariant.cost, c.serve_within.ensures.steps);
