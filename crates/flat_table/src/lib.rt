@@ -9,4 +9,4 @@ mod rows;
 
 pub use groups::Reached;
 pub use orders::Order;
-pub use rows::{FIRST_ROOM, Row, better_of};
+pub use rows::{Row, better_of};

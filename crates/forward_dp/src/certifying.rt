@@ -9,10 +9,9 @@ ghost use Rattle.dp_certificate.specs.Proves.{Proves};
 ghost use Rattle.dp_certificate.specs.Whole.{IsWhole};
 
 use crate::answer_of;
-use crate::kept::Past;
+use crate::kept::{Past, ROOM};
 use crate::table::table;
 use dp_certificate::Certificate;
-use flat_table::FIRST_ROOM;
 use foundation::steps::Steps;
 use schedule_meaning::Instance;
 use std::alloc::{AllocError, Global};
@@ -62,7 +61,7 @@ pub fn certify_within<L: Ledger>(
 {
     let mut past = Past {
         wanted: true,
-        entries: Vec::with_capacity(alloc, 2 * FIRST_ROOM)?,
+        entries: Vec::with_capacity(alloc, 2 * ROOM)?,
     };
     let rows = table(alloc, i, limit, &mut past, steps)?;
     let answer = answer_of(alloc, i, &rows)?;

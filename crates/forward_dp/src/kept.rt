@@ -5,9 +5,12 @@ ghost use Rattle.flat_table.specs.declared.rows.Row.{Row};
 ghost use Rattle.forward_dp.specs.Tables.{HasEntries, IsEntered, base_of, source_of};
 
 use dp_certificate::Entry;
-use flat_table::{FIRST_ROOM, Row};
+use flat_table::Row;
 use std::alloc::{AllocError, Global};
 use std::mem::swap;
+
+/// For so many rows there is room from the start, so that the lists seldom move when they grow. Only what is filled takes memory.
+pub(crate) const ROOM: usize = 32_768;
 
 /// The last rows of a table: those with as many clusters of the first phase as the cell under way has, and those with fewer
 /// from which such cells are reached.
@@ -60,8 +63,8 @@ impl Rows {
     {
         Ok(Rows {
             gone: 0,
-            earlier: Vec::with_capacity(alloc, FIRST_ROOM)?,
-            latest: Vec::with_capacity(alloc, FIRST_ROOM)?,
+            earlier: Vec::with_capacity(alloc, ROOM)?,
+            latest: Vec::with_capacity(alloc, ROOM)?,
         })
     }
 
