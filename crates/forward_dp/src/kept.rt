@@ -27,7 +27,9 @@ pub(crate) struct Rows {
 /// What is kept of the rows that are let go: their entries, where they are wanted.
 #[derive(Drop)]
 pub(crate) struct Past {
+    /// Whether they are.
     pub(crate) wanted: bool,
+    /// The entries of these rows, in their order.
     pub(crate) entries: Vec<Entry>,
 }
 
