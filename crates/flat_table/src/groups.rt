@@ -11,7 +11,7 @@ ghost use Rattle.dp_certificate.specs.Prefixes.{stage_after};
 ghost use Rattle.dp_certificate.specs.Proves.{stage_of_entry};
 
 use crate::greens::Greens;
-use crate::rows::{FIRST_ROOM, Row, merge, push_row};
+use crate::rows::{Row, merge, push_row};
 use dp_certificate::{Entry, Rests, serve_next};
 use foundation::steps::Steps;
 use schedule_meaning::Instance;
@@ -35,16 +35,16 @@ impl Reached {
     ghost use Rattle.flat_table.specs.Groups.{AreJoined, AreReachedBy, IsEmpty, IsSource};
     ghost use Rattle.flat_table.specs.Rows.{AreBestOf, AreLater, AreRisingPlaces, AreUpTo, IsOffered, time_of};
 
-    /// Nothing is reached. An `Err` comes where memory runs out.
+    /// Nothing is reached. There is room for so many rows of each kind. An `Err` comes where memory runs out.
     ///
     /// docs/RULES.md, "Table".
-    pub fn new(alloc: Global) -> Result<Reached, AllocError>
+    pub fn new(alloc: Global, room: usize) -> Result<Reached, AllocError>
         ensures { IfOk result IsEmpty }
     {
         Ok(Reached {
-            greens: Greens::new(alloc)?,
-            fresh: Vec::with_capacity(alloc, FIRST_ROOM)?,
-            kept: Vec::with_capacity(alloc, FIRST_ROOM)?,
+            greens: Greens::new(alloc, room)?,
+            fresh: Vec::with_capacity(alloc, room)?,
+            kept: Vec::with_capacity(alloc, room)?,
         })
     }
 

@@ -7,10 +7,6 @@ use dp_certificate::Entry;
 use foundation::threads::CrossesThreads;
 use std::alloc::AllocError;
 
-/// For so many rows there is room from the start: enough that a list lies in pages of its own, which are taken as they are
-/// filled, and that it moves none of its rows when it grows.
-pub(crate) const FIRST_ROOM: usize = 4096;
-
 /// A key with the least delay so far, and of several sequences with that delay the first.
 ///
 /// docs/RULES.md, "Table".

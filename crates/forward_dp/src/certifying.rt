@@ -9,8 +9,8 @@ ghost use Rattle.dp_certificate.specs.Proves.{Proves};
 ghost use Rattle.dp_certificate.specs.Whole.{IsWhole};
 
 use crate::answer_of;
-use crate::kept::{Past, ROOM};
-use crate::table::table;
+use crate::kept::Past;
+use crate::table::{room, table};
 use dp_certificate::Certificate;
 use foundation::steps::Steps;
 use schedule_meaning::Instance;
@@ -61,7 +61,7 @@ pub fn certify_within<L: Ledger>(
 {
     let mut past = Past {
         wanted: true,
-        entries: Vec::with_capacity(alloc, 2 * ROOM)?,
+        entries: Vec::with_capacity(alloc, 2 * room(i))?,
     };
     let rows = table(alloc, i, limit, &mut past, steps)?;
     let answer = answer_of(alloc, i, &rows)?;

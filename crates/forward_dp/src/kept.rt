@@ -9,9 +9,6 @@ use flat_table::Row;
 use std::alloc::{AllocError, Global};
 use std::mem::swap;
 
-/// For so many rows there is room from the start, so that the lists seldom move when they grow. Only what is filled takes memory.
-pub(crate) const ROOM: usize = 32_768;
-
 /// The last rows of a table: those with as many clusters of the first phase as the cell under way has, and those with fewer
 /// from which such cells are reached.
 #[derive(Drop)]
@@ -57,16 +54,16 @@ fn push_entries(entries: &mut Vec<Entry>, rows: &[Row]) -> Result<(), AllocError
 }
 
 impl Rows {
-    /// No rows. An `Err` comes where memory runs out.
-    pub(crate) fn new(alloc: Global) -> Result<Rows, AllocError>
+    /// No rows, and room for so many of either kind. An `Err` comes where memory runs out.
+    pub(crate) fn new(alloc: Global, room: usize) -> Result<Rows, AllocError>
         ensures gone { IfOk result (λ rows. rows.gone ≡ 0) }
         ensures earlier { IfOk result (λ rows. rows.earlier.items ≡ []) }
         ensures latest { IfOk result (λ rows. rows.latest.items ≡ []) }
     {
         Ok(Rows {
             gone: 0,
-            earlier: Vec::with_capacity(alloc, ROOM)?,
-            latest: Vec::with_capacity(alloc, ROOM)?,
+            earlier: Vec::with_capacity(alloc, room)?,
+            latest: Vec::with_capacity(alloc, room)?,
         })
     }
 

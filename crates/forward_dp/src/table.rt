@@ -16,6 +16,10 @@ use foundation::steps::Steps;
 use schedule_meaning::Instance;
 use std::alloc::{AllocError, Global};
 use std::sync::ledger::Ledger;
+use switch_rules::ways;
+
+/// The greatest room for rows from the start.
+const MOST_ROOM: u32 = 32_768;
 
 /// The whole table: a row for each key that a fit prefix reaches. Where there is a limit, which is the delay of a feasible
 /// sequence, only with what is within it.
@@ -33,8 +37,9 @@ pub(crate) fn table<L: Ledger>(
     ensures servings { (keys : List Key) → HasKeysWithin i.now limit keys → steps.new ≤ steps.old + length i.now.plan * length keys }
 {
     let last = list_lengths(i);
-    let mut reached = Reached::new(alloc)?;
-    let mut rows = Rows::new(alloc)?;
+    let room = room(i);
+    let mut reached = Reached::new(alloc, room / 8)?;
+    let mut rows = Rows::new(alloc, room)?;
     rows.latest.push(first_row(i))?;
     let mut counts = [0; 4];
     let mut ends = [0; 4];
@@ -44,6 +49,17 @@ pub(crate) fn table<L: Ledger>(
         counts = next;
     }
     Ok(rows)
+}
+
+/// For how many rows there is room from the start, so that the lists of a large table lie in pages of their own and seldom move:
+/// for as many as there are orders, up to a bound. Only what is filled takes memory.
+pub(crate) fn room(i: &Instance) -> usize
+    ensures { result ≤ 32768 }
+{
+    let mut counts = [0; 4];
+    let counts = &mut counts[..i.plan().count() as usize];
+    i.count(counts);
+    ways(counts).min(MOST_ROOM) as usize
 }
 
 /// The row of the sequence of no places.
