@@ -98,8 +98,8 @@ pub record ArrivesBy (p : Problem) (limit : Option ℕ) (k : ℕ) (cluster : Clu
 
 -- what is reached from the next row
 pub arrives : (p : Problem) (limit : Option ℕ) (k : ℕ) (cluster : Cluster) (source : List Row) (n : ℕ) (row : Row) (served : Served) (entry : Entry) (m : ℕ) → row_at source n ≡ row → n < length source
-    → serving p.plan (stage_of_entry p row.entry).head k cluster ≡ Ok (served, head_of entry false) → Some (stage_behind entry) ≡ stage_after p (stage_of_entry p row.entry) k → m ≡ k → entry.at ≤ 104000 → IsWithin p limit (stage_behind entry)
-    → ArrivesBy p limit k cluster source n served (record { entry = entry; order = row.order * 4 + m })
+    → serving p.plan (stage_of_entry p row.entry).head k cluster ≡ Ok (served, head_of entry false) → Some (stage_behind entry) ≡ stage_after p (stage_of_entry p row.entry) k → m ≡ row.order * 4 + k → entry.at ≤ 104000 → IsWithin p limit (stage_behind entry)
+    → ArrivesBy p limit k cluster source n served (record { entry = entry; order = m })
 arrives p limit k cluster source n row served entry m at inside serves leads is reach within = record {
   arrival = record {
     place = n;
@@ -109,7 +109,7 @@ arrives p limit k cluster source n row served entry m at inside serves leads is 
     serves = ap (λ (r : Row). serving p.plan (stage_of_entry p r.entry).head k cluster) at ∙ serves;
     on = refl;
     leads = ap (λ (r : Row). stage_after p (stage_of_entry p r.entry) k) at ∙ sym leads;
-    order = ap (λ i. row.order * 4 + i) is ∙ ap (λ (r : Row). r.order * 4 + k) (sym at);
+    order = is ∙ ap (λ (r : Row). r.order * 4 + k) (sym at);
     reach = reach;
     within = within;
   };

@@ -35,17 +35,17 @@ impl Reached {
     ghost use Rattle.flat_table.specs.Groups.{AreJoined, AreReachedBy, IsEmpty, IsSource};
     ghost use Rattle.flat_table.specs.Rows.{AreBestOf, AreLater, AreRisingPlaces, AreUpTo, IsOffered, time_of};
 
-    /// Nothing is reached.
+    /// Nothing is reached. There is room for so many rows of each kind. An `Err` comes where memory runs out.
     ///
     /// docs/RULES.md, "Table".
-    pub fn new(alloc: Global) -> Reached
-        ensures { IsEmpty result }
+    pub fn new(alloc: Global, room: usize) -> Result<Reached, AllocError>
+        ensures { IfOk result IsEmpty }
     {
-        Reached {
-            greens: Greens::new(alloc),
-            fresh: Vec::new(alloc),
-            kept: Vec::new(alloc),
-        }
+        Ok(Reached {
+            greens: Greens::new(alloc, room)?,
+            fresh: Vec::with_capacity(alloc, room)?,
+            kept: Vec::with_capacity(alloc, room)?,
+        })
     }
 
     /// Takes in all that is reached from rows by a cluster of a phase, which is the next one behind each of them, and is
@@ -73,7 +73,7 @@ impl Reached {
             if let Some((served, entry)) = serve_within(
                 i, &row.entry, phase, cluster, limit, &mut rests, steps,
             ) {
-                let order = row.order * 4 + u128::from(phase);
+                let order = row.order.followed_by(phase);
                 self.take_in(&served, cluster, Row { entry, order })?;
             }
         }

@@ -4,7 +4,9 @@
 
 mod greens;
 mod groups;
+mod orders;
 mod rows;
 
 pub use groups::Reached;
+pub use orders::Order;
 pub use rows::{Row, better_of};

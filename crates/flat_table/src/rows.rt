@@ -2,6 +2,7 @@
 ghost use Rattle.std.specs.Prelude.{◌≡◌, ◌⊎◌, ◌↔◌, ◌<◌, ◌≤◌, ◌++◌, Contains, IsTrue, List, OnOk};
 ghost use Rattle.flat_table.specs.Rows.{AreBestOf, AreLater, AreUpTo, IsNoWorse, time_of};
 
+use crate::orders::Order;
 use dp_certificate::Entry;
 use foundation::threads::CrossesThreads;
 use std::alloc::AllocError;
@@ -14,7 +15,7 @@ pub struct Row {
     /// The key with its delay.
     pub entry: Entry,
     /// The sequence, as digits to the base 4.
-    pub order: u128,
+    pub order: Order,
 }
 
 impl CrossesThreads for Row {}
@@ -24,7 +25,7 @@ pub(crate) fn is_no_worse(row: &Row, other: &Row) -> bool
     ensures { IsTrue result ↔ IsNoWorse row.now other.now.entry.delay other.now.order }
 {
     row.entry.delay < other.entry.delay
-        || row.entry.delay == other.entry.delay && row.order <= other.order
+        || row.entry.delay == other.entry.delay && row.order.is_up_to(&other.order)
 }
 
 /// The better of two rows.

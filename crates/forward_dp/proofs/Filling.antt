@@ -18,7 +18,7 @@ use Rattle.flat_table.proofs.Reaching.{joined-made}
 use Rattle.forward_dp.specs.Numbers.{counts_number}
 use Rattle.forward_dp.specs.Tables.{AreBelow, AreEnds, CanFill, CanFillCell, IsCellFilled, IsFilled, IsFrom, IsNextCounts, IsTable, counts_number_at, unit_of}
 use Rattle.forward_dp.proofs.Cells.{IsCell, cell-is, cell-source, counts-rise, slice-is}
-use Rattle.forward_dp.proofs.Growing.{grown, none-between, none-of-phase, none-past, table-on}
+use Rattle.forward_dp.proofs.Growing.{grown, made-counts, none-between, none-of-phase, none-past, table-on}
 use Rattle.forward_dp.proofs.Rows.{back, before-four, before-is, before_of, number-more}
 
 -- the rows from which a group is reached
@@ -30,7 +30,7 @@ pub record IsFound (p : Problem) (counts : List ℕ) (k : ℕ) (rows source : Li
   pub rise : start ≤ end
   pub long : length source ≡ end - start
 
-small-digits : (p : Problem) (counts : List ℕ) → IsInstance p → ((j : ℕ) → get_or counts j 0 ≤ length (list_at p.lists j)) → (j : ℕ) → get_or counts j 0 < 64
+pub small-digits : (p : Problem) (counts : List ℕ) → IsInstance p → ((j : ℕ) → get_or counts j 0 ≤ length (list_at p.lists j)) → (j : ℕ) → get_or counts j 0 < 64
 small-digits p counts lawful within j = omega (arith, within j, few-listed p lawful j)
 
 module _ (p : Problem) (limit : Option ℕ) (counts : List ℕ) (k from start end : ℕ) (rows : List Row) (can : CanFill p limit counts k from rows) (first : IsFrom rows from (counts_number (before_of counts k)) start) (second : IsFrom rows start (counts_number (before_of counts k) + 1) end) where
@@ -101,6 +101,7 @@ filled p limit counts k from start end rows source new cluster reached can f by 
       table = grown p limit can.lawful counts k can.places (small-digits p counts can.lawful can.within) (omega (arith, can.phase, can.lawful.plan.count.1)) can.some rows source new start cluster can.table f.cell f.is made;
       made = made.made;
       longer = made.is;
+      cell = made-counts p limit can.lawful counts k can.places (small-digits p counts can.lawful can.within) (omega (arith, can.phase, can.lawful.plan.count.1)) can.some rows source new start cluster can.table f.cell f.is made;
       known = f.known;
       behind = f.behind;
     }

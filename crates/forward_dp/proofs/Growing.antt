@@ -99,6 +99,9 @@ module _ (p : Problem) (limit : Option ℕ) (lawful : IsInstance p) (t : List �
   made-new : (i : ℕ) (d : Row) → i < length made.made → IsNew (get_or made.made i d)
   made-new i d h = (let a = made.best.from i d h in arrived-new (get_or made.made i d) a.0 a.1)
 
+  pub made-counts : All (λ r. r.entry.counts ≡ t) made.made
+  made-counts i d h = (made-new i d h).counts
+
   made-group : (i : ℕ) (d : Row) → i < length made.made → row_group (get_or made.made i d) ≡ counts_number t * 4 + k
   made-group i d h = (let x = made-new i d h in omega (arith, ap counts_number x.counts, x.phase))
 

@@ -7,5 +7,6 @@ mod Filling
 mod Growing
 mod KeyOrder
 mod Orders
+mod Parting
 mod Rows
 mod Wholes

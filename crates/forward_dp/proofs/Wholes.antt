@@ -27,14 +27,15 @@ use Rattle.flat_table.specs.Rows.{IsNoWorse}
 use Rattle.flat_table.specs.declared.rows.Row.{Row}
 use Rattle.flat_table.proofs.Keeping.{no-worse-trans}
 use Rattle.forward_dp.specs.Numbers.{counts_number, order_number}
-use Rattle.forward_dp.specs.Tables.{HasAnswers, IsFrom, IsReached, IsWholeTable}
+use Rattle.forward_dp.specs.Tables.{HasAnswers, IsFrom, IsReached, IsTableMade, IsWholeTable, all_rows}
 use Rattle.forward_dp.proofs.Bounds.{IsStage, stage-bounds, stage-few, sum-le}
-use Rattle.forward_dp.proofs.Cells.{IsCell, cell-is, led-at}
+use Rattle.forward_dp.proofs.Cells.{IsCell, led-at}
 use Rattle.forward_dp.proofs.Few.{rows-few}
-use Rattle.forward_dp.proofs.Filling.{small-last}
 use Rattle.forward_dp.proofs.Growing.{no-more}
 use Rattle.forward_dp.proofs.KeyOrder.{keys-rise}
 use Rattle.forward_dp.proofs.Orders.{best-none, best-plan}
+use Rattle.forward_dp.specs.declared.kept.Rows.{Rows}
+use Rattle.forward_dp.proofs.Parting.{latest-cell}
 use Rattle.forward_dp.proofs.Rows.{entry_for, entry-stage, four, led, reached-led, same-parts}
 
 if-some : {X : Type 0} (P : X → Type 0) (o : Option X) (x : X) → o ≡ Some x → IfSome o P → P x
@@ -276,10 +277,11 @@ some-best p limit lawful source best answer delay last among no_worse is =
     subst (λ n. (best.entry.delay < d) ⊎ ((best.entry.delay ≡ d) × (n ≤ order_number w))) order (best-below p limit source best delay last no_worse w d e))))
 
 -- the cell of the last counts
-pub last-cell : (p : Problem) → IsInstance p → (rows : List Row) (last : List ℕ) (start end : ℕ) (table : HasAnswers p rows) → AreLengths p.lists last → IsFrom rows 0 (counts_number last) start → IsFrom rows start (counts_number last + 1) end → IsLast p table.limit (take (end - start) (drop start rows))
-last-cell p lawful rows last start end table lengths first second =
-    last-rows p table.limit lawful rows (take (end - start) (drop start rows)) start last table.table lengths
-    (cell-is p lawful rows last 0 start end table.table.made lengths.places (small-last p last lawful lengths) first second (λ place h. absurd (omega arith)))
+pub last-cell : (p : Problem) → IsInstance p → (rows : Rows) (latest : List Row) (last : List ℕ) (start end : ℕ) (has : HasAnswers p rows) → latest ≡ rows.latest.items → AreLengths p.lists last → IsFrom latest 0 (counts_number last) start → IsFrom latest start (counts_number last + 1) end → IsLast p has.limit (take (end - start) (drop start latest))
+last-cell p lawful rows latest last start end has same lengths first second =
+    subst (λ xs. IsLast p has.limit (take (end - start) (drop start xs))) (sym same)
+    (last-rows p has.limit lawful (all_rows has.gone rows) (take (end - start) (drop start rows.latest.items)) (length (has.gone ++ rows.earlier.items) + start) last has.made.table lengths
+    (latest-cell p has.limit lawful has.gone rows last start end has.made lengths (subst (λ xs. IsFrom xs 0 (counts_number last) start) same first) (subst (λ xs. IsFrom xs start (counts_number last + 1) end) same second)))
 
 -- a table within a limit, and the best answer of an instance
 pub record AreParts (p : Problem) (limit : Option ℕ) (entries : List Entry) (answer : Answer) : Type 0 where
@@ -289,14 +291,17 @@ pub record AreParts (p : Problem) (limit : Option ℕ) (entries : List Entry) (a
   pub best : IsBest p answer
   pub few : length entries ≤ 2000001
 
-pub parts : (p : Problem) (limit : Option ℕ) (rows slice : List Row) (entries : List Entry) (answer : Answer) → IsInstance p → IsSomeDelay p limit → IsWholeTable p limit rows → slice ≡ rows → entries ≡ map (λ r. r.entry) slice → IsBest p answer → AreParts p limit entries answer
-parts p limit rows slice entries answer lawful delay table same made best = record {
-  lawful = lawful;
-  delay = delay;
-  table = subst (IsLimited p limit) (sym (made ∙ ap (map (λ (r : Row). r.entry)) same)) (whole-rows p limit lawful rows table);
-  best = best;
-  few = omega (arith, ap length (made ∙ ap (map (λ (r : Row). r.entry)) same), length-map rows (λ (r : Row). r.entry), rows-few p lawful rows table.made);
-}
+pub parts : (p : Problem) (limit : Option ℕ) (gone : List Row) (rows : Rows) (earlier latest : List Row) (entries : List Entry) (answer : Answer) → IsInstance p → IsSomeDelay p limit → IsTableMade p limit gone rows → earlier ≡ rows.earlier.items → latest ≡ rows.latest.items
+    → entries ≡ map (λ r. r.entry) (gone ++ earlier ++ latest) → IsBest p answer → AreParts p limit entries answer
+parts p limit gone rows earlier latest entries answer lawful delay made first second taken best =
+    let are : entries ≡ map (λ (r : Row). r.entry) (all_rows gone rows) = taken ∙ ap (λ xs. map (λ (r : Row). r.entry) (gone ++ xs ++ latest)) first ∙ ap (λ xs. map (λ (r : Row). r.entry) (gone ++ rows.earlier.items ++ xs)) second in
+    record {
+      lawful = lawful;
+      delay = delay;
+      table = subst (IsLimited p limit) (sym are) (whole-rows p limit lawful (all_rows gone rows) made.table);
+      best = best;
+      few = omega (arith, ap length are, length-map (all_rows gone rows) (λ (r : Row). r.entry), rows-few p lawful (all_rows gone rows) made.table.made);
+    }
 
 -- a best answer has at most 40 places
 pub best-few : (p : Problem) (answer : Answer) → IsInstance p → IsBest p answer → length (sequence_of answer) ≤ 40

@@ -1,5 +1,5 @@
 -- The table: its rows, and how far it is made.
-use Rattle.std.specs.Prelude.{◌≡◌, ℕ, zero, suc, ◌+◌, ◌-◌, ◌*◌, ◌<◌, ◌≤◌, ◌++◌, List, length, slice_index, AllPairs, All, Contains, Option, Some}
+use Rattle.std.specs.Prelude.{◌≡◌, ℕ, zero, suc, ◌+◌, ◌-◌, ◌*◌, ◌<◌, ◌≤◌, ◌++◌, true, List, length, map, slice_index, AllPairs, All, Contains, Option, Some}
 use Rattle.schedule_meaning.specs.Instances.{Problem, IsInstance, list_at}
 use Rattle.dp_certificate.specs.Limits.{IsSomeDelay, IsWithin}
 use Rattle.dp_certificate.specs.Prefixes.{Stage, key_of, stage_of}
@@ -8,6 +8,8 @@ use Rattle.flat_table.specs.Groups.{row_at}
 use Rattle.flat_table.specs.Rows.{IsNoWorse, time_of}
 use Rattle.flat_table.specs.declared.rows.Row.{Row}
 use Rattle.forward_dp.specs.Numbers.{counts_number, order_number}
+use Rattle.forward_dp.specs.declared.kept.Past.{Past}
+use Rattle.forward_dp.specs.declared.kept.Rows.{Rows}
 
 -- the counts and the phase of a row as one number: its group
 abbrev pub row_group : Row → ℕ
@@ -61,12 +63,6 @@ pub record IsWholeTable (p : Problem) (limit : Option ℕ) (rows : List Row) : T
   pub within : AreWithin p limit rows
   pub all : (prefix : List ℕ) (s : Stage) → stage_of p prefix ≡ Some s → IsWithin p limit s → HasRowFor rows s (order_number prefix)
 
--- a table that has a row of each least sequence: one with no limit, or with one that a feasible sequence keeps
-pub record HasAnswers (p : Problem) (rows : List Row) : Type 0 where
-  pub limit : Option ℕ
-  pub delay : IsSomeDelay p limit
-  pub table : IsWholeTable p limit rows
-
 -- the first place, from one on, of a row whose counts have at least this number: what stands before it has less
 pub record IsFrom (rows : List Row) (from least place : ℕ) : Type 0 where
   pub rise : from ≤ place
@@ -108,6 +104,7 @@ pub record IsFilled (p : Problem) (limit : Option ℕ) (counts : List ℕ) (k : 
   pub table : IsTable p limit (counts_number counts * 4 + k + 1) new
   pub made : List Row
   pub longer : new ≡ old ++ made
+  pub cell : All (λ r. r.entry.counts ≡ counts) made
   pub known : end ≤ length old
   pub behind : AreBelow old k (counts_number counts + 1) end
 
@@ -133,3 +130,69 @@ pub record CanFillCell (p : Problem) (limit : Option ℕ) (counts : List ℕ) (r
 pub record IsCellFilled (p : Problem) (limit : Option ℕ) (counts : List ℕ) (new : List Row) (ends : List ℕ) : Type 0 where
   pub table : IsTable p limit (counts_number counts * 4 + 4) new
   pub known : AreEnds (length p.plan) new (counts_number counts + 1) 4 ends
+
+-- ---- the rows that are kept
+
+-- all rows: those that are let go, and the others
+abbrev pub all_rows : List Row → Rows → List Row
+all_rows gone rows = gone ++ rows.earlier.items ++ rows.latest.items
+
+-- the rows from which a phase is served: for the first one those with fewer clusters of it
+abbrev pub source_of : Rows → ℕ → List Row
+source_of rows zero = rows.earlier.items
+source_of rows (suc k) = rows.latest.items
+
+-- how many rows stand before them
+abbrev pub base_of : Rows → ℕ → ℕ
+base_of rows zero = rows.gone
+base_of rows (suc k) = rows.gone + length rows.earlier.items
+
+-- the latest rows have so many clusters of the first phase, the earlier ones fewer, and those that are let go at least two fewer
+pub record AreParted (first : ℕ) (gone : List Row) (rows : Rows) : Type 0 where
+  pub count : rows.gone ≡ length gone
+  pub past : All (λ r. counts_number r.entry.counts + 262144 < first * 262144) gone
+  pub earlier : All (λ r. counts_number r.entry.counts < first * 262144) rows.earlier.items
+  pub latest : All (λ r. (first * 262144 ≤ counts_number r.entry.counts) × (counts_number r.entry.counts < first * 262144 + 262144)) rows.latest.items
+
+-- what is kept of the rows that are let go are their entries, where they are wanted
+abbrev pub HasEntries : Past → List Row → Type 0
+HasEntries past gone = past.wanted ≡ true → past.entries.items ≡ map (λ r. r.entry) gone
+
+-- rows that were parted by one number of clusters of the first phase are parted by another one, and are all the same
+pub record IsEntered (Holds : List Row → Type 0) (first next : ℕ) (gone : List Row) (old new : Rows) : Type 0 where
+  pub past : List Row
+  pub held : Holds past
+  pub parted : AreParted first gone old → first ≤ next → AreParted next past new
+  pub same : all_rows past new ≡ all_rows gone old
+
+-- the group with these counts and this phase can be filled
+pub record IsGroupReady (p : Problem) (limit : Option ℕ) (counts : List ℕ) (k from : ℕ) (gone : List Row) (rows : Rows) : Type 0 where
+  pub can : CanFill p limit counts k from (all_rows gone rows)
+  pub parted : AreParted (slice_index counts 0) gone rows
+
+-- and is
+pub record IsGroupFilled (p : Problem) (limit : Option ℕ) (counts : List ℕ) (k : ℕ) (gone : List Row) (old new : Rows) (end : ℕ) : Type 0 where
+  pub filled : IsFilled p limit counts k (all_rows gone old) (all_rows gone new) end
+  pub parted : AreParted (slice_index counts 0) gone new
+
+-- the cell with these counts can be filled
+pub record IsCellReady (p : Problem) (limit : Option ℕ) (counts : List ℕ) (gone : List Row) (rows : Rows) (ends : List ℕ) : Type 0 where
+  pub can : CanFillCell p limit counts (all_rows gone rows) ends
+  pub parted : AreParted (slice_index counts 0) gone rows
+
+-- and is
+pub record IsCellMade (p : Problem) (limit : Option ℕ) (counts : List ℕ) (gone : List Row) (rows : Rows) (ends : List ℕ) : Type 0 where
+  pub filled : IsCellFilled p limit counts (all_rows gone rows) ends
+  pub parted : AreParted (slice_index counts 0) gone rows
+
+-- the whole table, of which some rows are let go
+pub record IsTableMade (p : Problem) (limit : Option ℕ) (gone : List Row) (rows : Rows) : Type 0 where
+  pub table : IsWholeTable p limit (all_rows gone rows)
+  pub parted : AreParted (length (list_at p.lists 0)) gone rows
+
+-- a table that has a row of each least sequence: one with no limit, or with one that a feasible sequence keeps
+pub record HasAnswers (p : Problem) (rows : Rows) : Type 0 where
+  pub limit : Option ℕ
+  pub gone : List Row
+  pub delay : IsSomeDelay p limit
+  pub made : IsTableMade p limit gone rows

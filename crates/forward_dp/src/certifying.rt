@@ -1,6 +1,6 @@
 //! The whole table as a certificate.
 
-ghost use Rattle.std.specs.Prelude.{◌≡◌, ◌+◌, ◌*◌, ◌≤◌, List, length, map, IfOk};
+ghost use Rattle.std.specs.Prelude.{◌≡◌, ◌+◌, ◌*◌, ◌≤◌, List, length, IfOk};
 ghost use Rattle.schedule_meaning.specs.Best.{IsBest};
 ghost use Rattle.dp_certificate.specs.Limits.{HasKeysWithin, IsLimited, IsSomeDelay};
 ghost use Rattle.dp_certificate.specs.Numbers.{sequence_of};
@@ -9,9 +9,9 @@ ghost use Rattle.dp_certificate.specs.Proves.{Proves};
 ghost use Rattle.dp_certificate.specs.Whole.{IsWhole};
 
 use crate::answer_of;
-use crate::table::table;
-use dp_certificate::{Certificate, Entry};
-use flat_table::Row;
+use crate::kept::Past;
+use crate::table::{room, table};
+use dp_certificate::Certificate;
 use foundation::steps::Steps;
 use schedule_meaning::Instance;
 use std::alloc::{AllocError, Global};
@@ -59,20 +59,14 @@ pub fn certify_within<L: Ledger>(
     ensures few { IfOk result (λ c. (length c.entries ≤ 2000001) × (length (sequence_of c.answer) ≤ 40)) }
     ensures servings { (keys : List Key) → HasKeysWithin i.now limit keys → steps.new ≤ steps.old + length i.now.plan * length keys }
 {
-    let rows = table(alloc, i, limit, steps)?;
-    let answer = answer_of(alloc, i, rows.as_slice())?;
-    let entries = entries_of(alloc, rows.as_slice())?;
+    let mut past = Past {
+        wanted: true,
+        entries: Vec::with_capacity(alloc, 2 * room(i))?,
+    };
+    let rows = table(alloc, i, limit, &mut past, steps)?;
+    let answer = answer_of(alloc, i, &rows)?;
+    past.take(rows.earlier.as_slice())?;
+    past.take(rows.latest.as_slice())?;
     let instance = i.copy(alloc)?;
-    Ok(Certificate::new(instance, entries, answer).unwrap())
-}
-
-/// The entries of rows, in their order.
-fn entries_of(alloc: Global, rows: &[Row]) -> Result<Vec<Entry>, AllocError>
-    ensures { IfOk result (λ v. v.items ≡ map (λ r. r.entry) rows.now) }
-{
-    let mut entries = Vec::with_capacity(alloc, rows.len())?;
-    for row in rows {
-        entries.push(row.entry)?;
-    }
-    Ok(entries)
+    Ok(Certificate::new(instance, past.entries, answer).unwrap())
 }

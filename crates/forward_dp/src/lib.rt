@@ -13,6 +13,7 @@ ghost use Rattle.forward_dp.specs.Tables.{HasAnswers};
 
 mod answers;
 mod certifying;
+mod kept;
 mod table;
 
 use answers::sequence_of;
@@ -22,6 +23,7 @@ use flat_table::{Row, better_of};
 use foundation::items::Items;
 use foundation::steps::Steps;
 use foundation::threads::CrossesThreads;
+use kept::{Past, Rows};
 use schedule_meaning::{Answer, Instance, Planner};
 use std::alloc::{AllocError, Global};
 use std::sync::ledger::Ledger;
@@ -65,23 +67,28 @@ pub fn layered_within<L: Ledger>(
     ensures least { IfOk result (IsLeast i.now) }
     ensures servings { (keys : List Key) → HasKeysWithin i.now limit keys → steps.new ≤ steps.old + length i.now.plan * length keys }
 {
-    let rows = table(alloc, i, limit, steps)?;
-    answer_of(alloc, i, rows.as_slice())
+    let mut past = Past {
+        wanted: false,
+        entries: Vec::new(alloc),
+    };
+    let rows = table(alloc, i, limit, &mut past, steps)?;
+    answer_of(alloc, i, &rows)
 }
 
 /// The answer of the best of the rows of whole sequences.
-fn answer_of(alloc: Global, i: &Instance, rows: &[Row]) -> Result<Answer, AllocError>
+fn answer_of(alloc: Global, i: &Instance, rows: &Rows) -> Result<Answer, AllocError>
     requires { HasAnswers i.now rows.now }
     ensures best { IfOk result (IsBest i.now) }
     ensures instance { IsInstance i.now }
 {
     let last = list_lengths(i);
     let places = places(i);
-    let (start, end) = cell(rows, 0, &last);
-    let Some(best) = best_of(&rows[start..end]) else {
+    let latest = rows.latest.as_slice();
+    let (start, end) = cell(latest, 0, &last);
+    let Some(best) = best_of(&latest[start..end]) else {
         return Ok(Answer::NoPlan);
     };
-    let sequence = sequence_of(alloc, best.order, places)?;
+    let sequence = sequence_of(alloc, best.order.value(), places)?;
     Ok(Answer::Plan {
         sequence: Items::from_vec(sequence),
         delay: best.entry.delay,

@@ -6,14 +6,20 @@ ghost use Rattle.dp_certificate.specs.Limits.{HasKeysWithin, IsSomeDelay};
 ghost use Rattle.dp_certificate.specs.Prefixes.{Key};
 ghost use Rattle.flat_table.specs.Groups.{IsEmpty};
 ghost use Rattle.forward_dp.specs.Numbers.{counts_number};
-ghost use Rattle.forward_dp.specs.Tables.{CanFill, CanFillCell, IsCellFilled, IsFilled, IsFrom, IsNextCounts, IsWholeTable};
+ghost use Rattle.forward_dp.specs.Tables.{HasEntries, IsCellMade, IsCellReady, IsFrom, IsGroupFilled, IsGroupReady, IsNextCounts, IsTableMade, all_rows};
+ghost use Rattle.flat_table.specs.declared.rows.Row.{Row};
 
+use crate::kept::{Past, Rows};
 use dp_certificate::{Entry, list_lengths};
-use flat_table::{Reached, Row};
+use flat_table::{Order, Reached, Row};
 use foundation::steps::Steps;
 use schedule_meaning::Instance;
 use std::alloc::{AllocError, Global};
 use std::sync::ledger::Ledger;
+use switch_rules::ways;
+
+/// The greatest room for rows from the start.
+const MOST_ROOM: u32 = 32_768;
 
 /// The whole table: a row for each key that a fit prefix reaches. Where there is a limit, which is the delay of a feasible
 /// sequence, only with what is within it.
@@ -21,23 +27,39 @@ pub(crate) fn table<L: Ledger>(
     alloc: Global,
     i: &Instance,
     limit: Option<u64>,
+    past: &mut Past,
     steps: &mut Steps<L>,
-) -> Result<Vec<Row>, AllocError>
-    requires { IsSomeDelay i.now limit }
-    ensures whole { IfOk result (λ rows. IsWholeTable i.now limit rows.items) }
+) -> Result<Rows, AllocError>
+    requires delay { IsSomeDelay i.now limit }
+    requires past { HasEntries past.old [] }
+    ensures whole { IfOk result (λ rows. (gone : List Row) × HasEntries past.new gone × IsTableMade i.now limit gone rows) }
+    ensures wanted { past.new.wanted ≡ past.old.wanted }
     ensures servings { (keys : List Key) → HasKeysWithin i.now limit keys → steps.new ≤ steps.old + length i.now.plan * length keys }
 {
     let last = list_lengths(i);
-    let mut reached = Reached::new(alloc);
-    let mut rows = Vec::new(alloc);
-    rows.push(first_row(i))?;
+    let room = room(i);
+    let mut reached = Reached::new(alloc, room / 8)?;
+    let mut rows = Rows::new(alloc, room)?;
+    rows.latest.push(first_row(i))?;
     let mut counts = [0; 4];
     let mut ends = [0; 4];
     while let Some(next) = next_counts(&counts, &last) {
+        rows.enter(&counts, &next, past)?;
         fill_cell(i, limit, &next, &mut ends, &mut reached, &mut rows, steps)?;
         counts = next;
     }
     Ok(rows)
+}
+
+/// For how many rows there is room from the start, so that the lists of a large table lie in pages of their own and seldom move:
+/// for as many as there are orders, up to a bound. Only what is filled takes memory.
+pub(crate) fn room(i: &Instance) -> usize
+    ensures { result ≤ 32768 }
+{
+    let mut counts = [0; 4];
+    let counts = &mut counts[..i.plan().count() as usize];
+    i.count(counts);
+    ways(counts).min(MOST_ROOM) as usize
 }
 
 /// The row of the sequence of no places.
@@ -54,7 +76,7 @@ fn first_row(i: &Instance) -> Row
             at: head.at,
             delay: 0,
         },
-        order: 0,
+        order: Order::none(),
     }
 }
 
@@ -89,12 +111,12 @@ fn fill_cell<L: Ledger>(
     counts: &[u8; 4],
     ends: &mut [usize; 4],
     reached: &mut Reached,
-    rows: &mut Vec<Row>,
+    rows: &mut Rows,
     steps: &mut Steps<L>,
 ) -> Result<(), AllocError>
-    requires cell { CanFillCell i.now limit counts.now rows.old.items ends.old }
+    requires cell { (gone : List Row) × IsCellReady i.now limit counts.now gone rows.old ends.old }
     requires empty { IsEmpty reached.old }
-    ensures filled { OnOk result (IsCellFilled i.now limit counts.now rows.new.items ends.new) }
+    ensures filled { (gone : List Row) → IsCellReady i.now limit counts.now gone rows.old ends.old → OnOk result (IsCellMade i.now limit counts.now gone rows.new ends.new) }
     ensures empty { OnOk result (IsEmpty reached.new) }
     ensures steps { OnOk result (steps.new + sum ends.old ≤ steps.old + sum ends.new) }
     ensures most { (keys : List Key) → HasKeysWithin i.now limit keys → steps.new + sum ends.old ≤ steps.old + length i.now.plan * length keys }
@@ -125,24 +147,25 @@ fn fill_group<L: Ledger>(
     phase: u8,
     from: usize,
     reached: &mut Reached,
-    rows: &mut Vec<Row>,
+    rows: &mut Rows,
     steps: &mut Steps<L>,
 ) -> Result<usize, AllocError>
-    requires group { CanFill i.now limit counts.now phase from rows.old.items }
+    requires group { (gone : List Row) × IsGroupReady i.now limit counts.now phase from gone rows.old }
     requires empty { IsEmpty reached.old }
-    ensures filled { IfOk result (λ end. IsFilled i.now limit counts.now phase rows.old.items rows.new.items end) }
+    ensures filled { (gone : List Row) → IsGroupReady i.now limit counts.now phase from gone rows.old → IfOk result (IsGroupFilled i.now limit counts.now phase gone rows.old rows.new) }
     ensures empty { OnOk result (IsEmpty reached.new) }
     ensures steps { IfOk result (λ end. steps.new + from ≤ steps.old + end) }
-    ensures most { steps.new + from ≤ steps.old + length rows.old.items }
+    ensures most { (gone : List Row) → IsGroupReady i.now limit counts.now phase from gone rows.old → steps.new + from ≤ steps.old + length (all_rows gone rows.old) }
 {
     let mut before = *counts;
     before[phase as usize] -= 1;
     let cluster = &i.list(phase)[before[phase as usize] as usize];
-    let (start, end) = cell(rows.as_slice(), from, &before);
-    let source = &rows.as_slice()[start..end];
-    reached.reach(i, source, phase, cluster, limit, steps)?;
-    reached.put_behind(rows)?;
-    Ok(end)
+    let base = rows.base(phase);
+    let source = rows.source(phase);
+    let (start, end) = cell(source, from.saturating_sub(base), &before);
+    reached.reach(i, &source[start..end], phase, cluster, limit, steps)?;
+    reached.put_behind(&mut rows.latest)?;
+    Ok(base + end)
 }
 
 /// Where the rows with these counts begin and end; they stand from a place on.

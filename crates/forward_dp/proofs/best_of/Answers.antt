@@ -1,4 +1,4 @@
-use Rattle.std.proofs.Common.{All, Contains, take, inl, inr, subst, sym, arith}
+use Rattle.std.proofs.Common.{All, Contains, take, inl, inr, subst, sym, ◌∙◌, arith}
 use Rattle.std.proofs.lemmas.List.{take_all}
 use Rattle.std.proofs.lemmas.List.Elements.{All-more, All-weaker, Contains-get_or}
 use Rattle.flat_table.specs.Rows.{IsNoWorse}
@@ -13,11 +13,11 @@ loop-row-preserved c =
     record {
       among = elim c.better_of-best.ensures.from [
         | inl e ↦ subst (Contains rows) (sym e) c.loop-row.invariant.among
-        | inr e ↦ subst (Contains rows) (sym e) (Contains-get_or rows c.loop-row.row-index _ c.loop-row-test.true)
+        | inr e ↦ subst (Contains rows) (sym (e ∙ c.row-item.is)) (Contains-get_or rows c.loop-row.row-index _ c.loop-row-test.true)
       ];
       best = All-more (λ (r : Row). IsNoWorse now r.entry.delay r.order) rows c.loop-row.row-index _ c.loop-row-test.true
           (All-weaker (λ (r : Row). IsNoWorse c.loop-row.best r.entry.delay r.order) (λ (r : Row). IsNoWorse now r.entry.delay r.order) (λ r h. no-worse-trans now c.loop-row.best r.entry.delay r.order c.better_of-best.ensures.first h) (take c.loop-row.row-index rows) c.loop-row.invariant.best)
-          c.better_of-best.ensures.second;
+          (subst (λ (r : Row). IsNoWorse now r.entry.delay r.order) c.row-item.is c.better_of-best.ensures.second);
     }
 
 pub returns-clause-best : goal.returns-clause-best

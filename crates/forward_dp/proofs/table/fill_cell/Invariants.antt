@@ -1,14 +1,14 @@
-use Rattle.std.proofs.Common.{◌+◌, ◌*◌, ◌≤◌, length, sum}
+use Rattle.std.proofs.Common.{◌+◌, ◌≤◌, List, sum}
 use Rattle.flat_table.specs.Groups.{IsEmpty}
-use Rattle.forward_dp.specs.Numbers.{counts_number}
-use Rattle.forward_dp.specs.Tables.{AreEnds, IsTable}
+use Rattle.flat_table.specs.declared.rows.Row.{Row}
+use Rattle.forward_dp.specs.Tables.{IsCellReady}
+use Rattle.forward_dp.proofs.Parting.{IsUnderWay}
 use Rattle.forward_dp.proofs.table.fill_cell.Given as goal
 
--- the groups of the phases so far are made
+-- the groups of the phases so far are made, whichever rows are let go
 abbrev pub invariant-loop-phase : goal.invariant-loop-phase
 invariant-loop-phase g l = record {
-  table : IsTable l.i l.limit (counts_number l.counts * 4 + l.phase) l.rows.items;
-  ends : AreEnds (length l.i.plan) l.rows.items (counts_number l.counts + 1) l.phase l.ends;
+  made : (gone : List Row) → IsCellReady l.i l.limit l.counts gone l.initial.rows l.initial.ends → IsUnderWay l.i l.limit l.counts l.phase gone l.rows l.ends;
   empty : IsEmpty l.reached;
   cost : l.steps + sum l.initial.ends ≤ l.initial.steps + sum l.ends;
 }

@@ -1,18 +1,27 @@
+use Rattle.std.proofs.Common.{◌+◌, refl, arith}
 use Rattle.flat_table.proofs.Reaching.{reached-rising}
-use Rattle.forward_dp.proofs.Filling.{filled, found}
+use Rattle.forward_dp.proofs.Parting.{ready-few, ready-filled, ready-found, ready-gone, ready-long, ready-within}
 use Rattle.forward_dp.proofs.table.fill_group.Goals as goal
+
+pub base-base-requires : goal.base-base-requires
+base-base-requires g c = omega (arith, ready-gone c.args.i.now c.args.limit c.args.counts.now c.args.phase c.args.from c.requires.group.0 c.args.rows.now c.requires.group.1)
+
+pub cell-start-requires : goal.cell-start-requires
+cell-start-requires g c = omega (arith, c.saturating_sub.ensures, ready-within c.args.i.now c.args.limit c.args.counts.now c.args.phase c.args.from c.base-base.result c.source-source.result.now c.requires.group.0 c.args.rows.now c.requires.group.1 c.base-base.ensures c.source-source.ensures)
 
 pub reach-requires-clause-source : goal.reach-requires-clause-source
 reach-requires-clause-source g c =
-    (found c.args.i.now c.args.limit c.args.counts.now c.args.phase c.args.from c.cell-start.result.0 c.cell-start.result.1 c.args.rows.now.items c.as_slice.result.now c.as_slice-2.result.now c.list.result.now _ c.requires.group c.as_slice.ensures.value c.as_slice-2.ensures.value c.list.ensures.value
-    c.cell-start.ensures.start c.cell-start.ensures.end).is
+    (ready-found c.args.i.now c.args.limit c.args.counts.now c.args.phase c.args.from c.base-base.result c.saturating_sub.result c.cell-start.result.0 c.cell-start.result.1 c.source-source.result.now c.requires.group.0 c.args.rows.now c.list.result.now _ c.requires.group.1 c.base-base.ensures c.source-source.ensures c.list.ensures.value c.saturating_sub.ensures c.cell-start.ensures.start c.cell-start.ensures.end).is
 
 pub put_behind-requires-clause-rising : goal.put_behind-requires-clause-rising
 put_behind-requires-clause-rising g c = reached-rising c.args.i.now c.args.limit c.args.phase _ _ _ c.reach.new.self c.in_ok-reach.ensures.reached
 
+pub overflow_add-result : goal.overflow_add-result
+overflow_add-result g c =
+    omega (arith, c.cell-start.ensures.end.within, ready-long c.args.i.now c.args.limit c.args.counts.now c.args.phase c.args.from c.base-base.result c.source-source.result.now c.requires.group.0 c.args.rows.now c.requires.group.1 c.base-base.ensures c.source-source.ensures, ready-few c.args.i.now c.args.limit c.args.counts.now c.args.phase c.args.from c.requires.group.0 c.args.rows.now c.requires.group.1)
+
 pub returns-clause-filled : goal.returns-clause-filled
-returns-clause-filled g c =
-    filled c.args.i.now c.args.limit c.args.counts.now c.args.phase c.args.from c.cell-start.result.0 c.cell-start.result.1 c.args.rows.now.items _ c.put_behind.new.rows.items _ c.reach.new.self c.requires.group
-    (found c.args.i.now c.args.limit c.args.counts.now c.args.phase c.args.from c.cell-start.result.0 c.cell-start.result.1 c.args.rows.now.items c.as_slice.result.now c.as_slice-2.result.now c.list.result.now _ c.requires.group c.as_slice.ensures.value c.as_slice-2.ensures.value c.list.ensures.value
-    c.cell-start.ensures.start c.cell-start.ensures.end)
-    c.in_ok-reach.ensures.reached c.in_ok-put_behind.ensures.joined
+returns-clause-filled g c gone ready =
+    ready-filled c.args.i.now c.args.limit c.args.counts.now c.args.phase c.args.from (c.base-base.result + c.cell-start.result.0) (c.base-base.result + c.cell-start.result.1) gone _ c.args.rows.now _ _ c.reach.new.self ready
+    (ready-found c.args.i.now c.args.limit c.args.counts.now c.args.phase c.args.from c.base-base.result c.saturating_sub.result c.cell-start.result.0 c.cell-start.result.1 c.source-source.result.now gone c.args.rows.now c.list.result.now _ ready c.base-base.ensures c.source-source.ensures c.list.ensures.value c.saturating_sub.ensures c.cell-start.ensures.start c.cell-start.ensures.end)
+    c.in_ok-reach.ensures.reached c.in_ok-put_behind.ensures.joined refl refl

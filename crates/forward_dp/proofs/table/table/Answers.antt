@@ -1,32 +1,65 @@
-use Rattle.std.proofs.Common.{◌+◌, ◌++◌, ◌∷◌, [], length, sum, subst, sym, arith}
+use Rattle.std.proofs.Common.{◌+◌, ◌++◌, ◌∷◌, [], length, sum, refl, ap, ◌∙◌, arith}
 use Rattle.dp_certificate.proofs.Stages.{none-counted}
 use Rattle.forward_dp.specs.Numbers.{counts_number}
-use Rattle.forward_dp.specs.Tables.{IsTable}
+use Rattle.forward_dp.specs.Tables.{HasEntries, all_rows}
 use Rattle.forward_dp.proofs.Few.{rows-keys}
-use Rattle.forward_dp.proofs.Filling.{all-steps, cell-ready, ends-start, ends-sum, small-last}
-use Rattle.forward_dp.proofs.Growing.{table-first, table-whole}
+use Rattle.forward_dp.proofs.Filling.{all-steps, ends-sum, small-last}
+use Rattle.forward_dp.proofs.Parting.{entered-ready, table-ends, table-starts, way-gone, way-made}
 use Rattle.forward_dp.proofs.table.table.Goals as goal
 
 pub loop-next-init : goal.loop-next-init
 loop-next-init g c = record {
-  table = subst (IsTable c.args.i.now c.args.limit 4) (sym c.in_ok-push.ensures.items) (subst (λ xs. IsTable c.args.i.now c.args.limit 4 (xs ++ c.first_row.result ∷ [])) (sym c.new-rows.ensures.items) (table-first c.args.i.now c.args.limit c.first_row.ensures.instance c.requires c.first_row.result c.first_row.ensures.row));
-  ends = ends-start (length c.args.i.now.plan) _;
+  gone = [];
+  held = c.requires.past;
+  wanted = refl;
+  way = table-starts c.args.i.now c.args.limit c.first_row.ensures.instance c.requires.delay c.first_row.result _ c.first_row.ensures.row c.in_ok-rows.ensures.gone c.in_ok-rows.ensures.earlier (c.in_ok-push.ensures.items ∙ ap (λ xs. xs ++ c.first_row.result ∷ []) c.in_ok-rows.ensures.latest);
   within = λ k. omega (arith, none-counted k);
-  empty = c.new-reached.ensures;
+  empty = c.in_ok-reached.ensures;
   cost = omega arith;
 }
 
 pub next_counts-requires-clause-small : goal.next_counts-requires-clause-small
 next_counts-requires-clause-small g c = small-last c.args.i.now c.list_lengths-last.result c.first_row.ensures.instance c.list_lengths-last.ensures
 
+pub enter-requires : goal.enter-requires
+enter-requires g c = omega (arith, way-gone c.args.i.now c.args.limit c.loop-next.counts 4 c.loop-next.invariant.gone c.loop-next.rows c.loop-next.ends c.first_row.ensures.instance c.loop-next.invariant.way)
+
 pub fill_cell-requires-clause-cell : goal.fill_cell-requires-clause-cell
 fill_cell-requires-clause-cell g c =
-    cell-ready c.args.i.now c.args.limit c.first_row.ensures.instance c.list_lengths-last.result c.loop-next.counts c.in-Some.next c.loop-next.rows.items c.loop-next.ends c.list_lengths-last.ensures c.in-Some.ensures.some c.loop-next.invariant.table c.loop-next.invariant.ends
+    let e = c.in_ok-enter.ensures.entered c.loop-next.invariant.gone c.loop-next.invariant.held in
+    (e.past, entered-ready c.args.i.now c.args.limit c.first_row.ensures.instance c.list_lengths-last.result c.loop-next.counts c.in-Some.next c.loop-next.invariant.gone c.loop-next.rows c.enter.new.self c.loop-next.ends (HasEntries c.enter.new.past) c.list_lengths-last.ensures c.in-Some.ensures.some c.loop-next.invariant.within c.loop-next.invariant.way e)
+
+pub loop-next-preserved : goal.loop-next-preserved
+loop-next-preserved g c =
+    let e = c.in_ok-enter.ensures.entered c.loop-next.invariant.gone c.loop-next.invariant.held in
+    record {
+      gone = e.past;
+      held = e.held;
+      wanted = c.enter.ensures.wanted ∙ c.loop-next.invariant.wanted;
+      way = way-made c.args.i.now c.args.limit c.in-Some.next e.past c.fill_cell.new.rows c.fill_cell.new.ends (c.in_ok-fill_cell.ensures.filled e.past
+          (entered-ready c.args.i.now c.args.limit c.first_row.ensures.instance c.list_lengths-last.result c.loop-next.counts c.in-Some.next c.loop-next.invariant.gone c.loop-next.rows c.enter.new.self c.loop-next.ends (HasEntries c.enter.new.past) c.list_lengths-last.ensures c.in-Some.ensures.some c.loop-next.invariant.within c.loop-next.invariant.way e));
+      within = c.in-Some.ensures.some.within;
+      empty = c.in_ok-fill_cell.ensures.empty;
+      cost = omega (arith, c.loop-next.invariant.cost, c.in_ok-fill_cell.ensures.steps);
+    }
 
 pub returns-clause-whole : goal.returns-clause-whole
-returns-clause-whole g c = table-whole c.args.i.now c.args.limit c.first_row.ensures.instance c.list_lengths-last.result c.loop-next.counts c.loop-next.rows.items c.list_lengths-last.ensures.each c.in_default.ensures.none c.loop-next.invariant.table
+returns-clause-whole g c = (
+  c.loop-next.invariant.gone,
+  c.loop-next.invariant.held,
+  table-ends c.args.i.now c.args.limit c.first_row.ensures.instance c.list_lengths-last.result c.loop-next.counts c.loop-next.invariant.gone c.loop-next.rows c.loop-next.ends c.list_lengths-last.ensures c.loop-next.invariant.within c.in_default.ensures.none c.loop-next.invariant.way,
+)
+
+pub returns-in_err-enter-clause-servings : goal.returns-in_err-enter-clause-servings
+returns-in_err-enter-clause-servings g c keys all =
+    let way = c.loop-next.invariant.way in
+    let rows = all_rows c.loop-next.invariant.gone c.loop-next.rows in
+    all-steps (length c.args.i.now.plan) c.args.steps.now c.loop-next.steps (sum c.loop-next.ends) (length rows) (length keys) c.loop-next.invariant.cost
+    (ends-sum (length c.args.i.now.plan) rows (counts_number c.loop-next.counts + 1) 4 c.loop-next.ends way.ends_are) (rows-keys c.args.i.now c.args.limit rows keys way.table.made way.table.within all)
 
 pub returns-clause-servings : goal.returns-clause-servings
 returns-clause-servings g c keys all =
-    all-steps (length c.args.i.now.plan) c.args.steps.now c.loop-next.steps (sum c.loop-next.ends) (length c.loop-next.rows.items) (length keys) c.loop-next.invariant.cost
-    (ends-sum (length c.args.i.now.plan) c.loop-next.rows.items (counts_number c.loop-next.counts + 1) 4 c.loop-next.ends c.loop-next.invariant.ends) (rows-keys c.args.i.now c.args.limit c.loop-next.rows.items keys c.loop-next.invariant.table.made c.loop-next.invariant.table.within all)
+    let way = c.loop-next.invariant.way in
+    let rows = all_rows c.loop-next.invariant.gone c.loop-next.rows in
+    all-steps (length c.args.i.now.plan) c.args.steps.now c.loop-next.steps (sum c.loop-next.ends) (length rows) (length keys) c.loop-next.invariant.cost
+    (ends-sum (length c.args.i.now.plan) rows (counts_number c.loop-next.counts + 1) 4 c.loop-next.ends way.ends_are) (rows-keys c.args.i.now c.args.limit rows keys way.table.made way.table.within all)

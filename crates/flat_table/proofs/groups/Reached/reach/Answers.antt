@@ -1,4 +1,4 @@
-use Rattle.std.proofs.Common.{◌≡◌, ◌+◌, length, sym, subst, arith}
+use Rattle.std.proofs.Common.{◌≡◌, ◌+◌, length, sym, subst, ◌∙◌, arith}
 use Rattle.std.proofs.lemmas.List.{get_or_default}
 use Rattle.flat_table.specs.Groups.{AreReachedBy, no_row}
 use Rattle.flat_table.proofs.Reaching.{arrives, kept-may, reached-more, reached-none, reached-start, waits-may}
@@ -13,8 +13,8 @@ take_in-requires-clause-kept g c =
     let source = c.args.source.now in
     let n = c.loop-row.row-index in
     kept-may c.args.i.now c.args.limit c.args.phase c.args.cluster.now source n c.loop-row.self c.in-Some.served _
-    (arrives c.args.i.now c.args.limit c.args.phase c.args.cluster.now source n _ c.in-Some.served c.in-Some.entry c.from.result (get_or_default source n no_row _ c.loop-row-test.true) c.loop-row-test.true c.in-Some.ensures.served c.in-Some.ensures.leads
-    c.from.ensures c.in-Some.ensures.bounds.reach c.in-Some.ensures.within)
+    (arrives c.args.i.now c.args.limit c.args.phase c.args.cluster.now source n _ c.in-Some.served c.in-Some.entry c.followed_by-order.result (get_or_default source n no_row _ c.loop-row-test.true ∙ sym c.row-item.is) c.loop-row-test.true c.in-Some.ensures.served c.in-Some.ensures.leads
+    c.followed_by-order.ensures c.in-Some.ensures.bounds.reach c.in-Some.ensures.within)
     c.requires.source c.loop-row.invariant.reached
 
 pub take_in-requires-clause-wait : goal.take_in-requires-clause-wait
@@ -22,8 +22,8 @@ take_in-requires-clause-wait g c =
     let source = c.args.source.now in
     let n = c.loop-row.row-index in
     waits-may c.args.i.now c.args.limit c.args.phase c.args.cluster.now source n c.in-Some.served _
-    (arrives c.args.i.now c.args.limit c.args.phase c.args.cluster.now source n _ c.in-Some.served c.in-Some.entry c.from.result (get_or_default source n no_row _ c.loop-row-test.true) c.loop-row-test.true c.in-Some.ensures.served c.in-Some.ensures.leads
-    c.from.ensures c.in-Some.ensures.bounds.reach c.in-Some.ensures.within)
+    (arrives c.args.i.now c.args.limit c.args.phase c.args.cluster.now source n _ c.in-Some.served c.in-Some.entry c.followed_by-order.result (get_or_default source n no_row _ c.loop-row-test.true ∙ sym c.row-item.is) c.loop-row-test.true c.in-Some.ensures.served c.in-Some.ensures.leads
+    c.followed_by-order.ensures c.in-Some.ensures.bounds.reach c.in-Some.ensures.within)
     c.requires.source.lawful c.requires.phase
 
 pub loop-row-preserved : goal.loop-row-preserved
@@ -38,12 +38,12 @@ loop-row-preserved g c =
         | in-Some+in_ok-take_in w ↦
             subst (AreReachedBy p c.args.limit k cluster source (n + 1)) (sym w.self-is)
             (reached-more p c.args.limit k cluster source n c.loop-row.self w.take_in.new.self w.in-Some.served _
-            (arrives p c.args.limit k cluster source n _ w.in-Some.served w.in-Some.entry w.from.result (get_or_default source n no_row _ c.loop-row-test.true) c.loop-row-test.true w.in-Some.ensures.served w.in-Some.ensures.leads
-            w.from.ensures w.in-Some.ensures.bounds.reach w.in-Some.ensures.within)
+            (arrives p c.args.limit k cluster source n _ w.in-Some.served w.in-Some.entry w.followed_by-order.result (get_or_default source n no_row _ c.loop-row-test.true ∙ sym c.row-item.is) c.loop-row-test.true w.in-Some.ensures.served w.in-Some.ensures.leads
+            w.followed_by-order.ensures w.in-Some.ensures.bounds.reach w.in-Some.ensures.within)
             c.loop-row.invariant.reached w.in_ok-take_in.ensures.kept w.in_ok-take_in.ensures.anew w.in_ok-take_in.ensures.fresh)
         | in_default w ↦
             subst (AreReachedBy p c.args.limit k cluster source (n + 1)) (sym w.self-is)
-            (reached-none p c.args.limit k cluster source n c.loop-row.self _ (get_or_default source n no_row _ c.loop-row-test.true) w.in_default.ensures.left c.loop-row.invariant.reached)
+            (reached-none p c.args.limit k cluster source n c.loop-row.self _ (get_or_default source n no_row _ c.loop-row-test.true ∙ sym c.row-item.is) w.in_default.ensures.left c.loop-row.invariant.reached)
       ];
       rests = c.serve_within.ensures.rests;
       cost = omega (arith, c.loop-row.invariant.cost, c.serve_within.ensures.steps);

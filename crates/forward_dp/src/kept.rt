@@ -1,0 +1,124 @@
+//! The rows of a table that can still be served on.
+
+ghost use Rattle.std.specs.Prelude.{◌≡◌, ◌+◌, ◌^◌, ◌<◌, ◌++◌, List, [], length, map, slice_index, IfOk, OnOk};
+ghost use Rattle.flat_table.specs.declared.rows.Row.{Row};
+ghost use Rattle.forward_dp.specs.Tables.{HasEntries, IsEntered, base_of, source_of};
+
+use dp_certificate::Entry;
+use flat_table::Row;
+use std::alloc::{AllocError, Global};
+use std::mem::swap;
+
+/// The last rows of a table: those with as many clusters of the first phase as the cell under way has, and those with fewer
+/// from which such cells are reached.
+#[derive(Drop)]
+pub(crate) struct Rows {
+    /// How many rows stood before these, and are let go.
+    pub(crate) gone: usize,
+    /// The rows with fewer clusters of the first phase.
+    pub(crate) earlier: Vec<Row>,
+    /// The rows with as many.
+    pub(crate) latest: Vec<Row>,
+}
+
+/// What is kept of the rows that are let go: their entries, where they are wanted.
+#[derive(Drop)]
+pub(crate) struct Past {
+    /// Whether they are.
+    pub(crate) wanted: bool,
+    /// The entries of these rows, in their order.
+    pub(crate) entries: Vec<Entry>,
+}
+
+impl Past {
+    /// Takes further rows. An `Err` comes where memory runs out.
+    pub(crate) fn take(&mut self, rows: &[Row]) -> Result<(), AllocError>
+        ensures wanted { self.new.wanted ≡ self.old.wanted }
+        ensures taken { (gone : List Row) → HasEntries self.old gone → OnOk result (HasEntries self.new (gone ++ rows.now)) }
+    {
+        if self.wanted {
+            push_entries(&mut self.entries, rows)?;
+        }
+        Ok(())
+    }
+}
+
+/// Puts the entries of rows behind others.
+fn push_entries(entries: &mut Vec<Entry>, rows: &[Row]) -> Result<(), AllocError>
+    ensures { OnOk result (entries.new.items ≡ entries.old.items ++ map (λ r. r.entry) rows.now) }
+{
+    for row in rows {
+        entries.push(row.entry)?;
+    }
+    Ok(())
+}
+
+impl Rows {
+    /// No rows, and room for so many of either kind. An `Err` comes where memory runs out.
+    pub(crate) fn new(alloc: Global, room: usize) -> Result<Rows, AllocError>
+        ensures gone { IfOk result (λ rows. rows.gone ≡ 0) }
+        ensures earlier { IfOk result (λ rows. rows.earlier.items ≡ []) }
+        ensures latest { IfOk result (λ rows. rows.latest.items ≡ []) }
+    {
+        Ok(Rows {
+            gone: 0,
+            earlier: Vec::with_capacity(alloc, room)?,
+            latest: Vec::with_capacity(alloc, room)?,
+        })
+    }
+
+    /// The rows from which a phase can be served.
+    pub(crate) fn source(&self, phase: u8) -> &[Row]
+        ensures { result.now ≡ source_of self.now phase }
+    {
+        if phase == 0 {
+            self.earlier.as_slice()
+        } else {
+            self.latest.as_slice()
+        }
+    }
+
+    /// How many rows stand before those.
+    pub(crate) fn base(&self, phase: u8) -> usize
+        requires { self.now.gone + length self.now.earlier.items < 2 ^ 64 }
+        ensures { result ≡ base_of self.now phase }
+    {
+        if phase == 0 {
+            self.gone
+        } else {
+            self.gone + self.earlier.len()
+        }
+    }
+
+    /// Goes on from the cell with these counts to the next ones. Where these have more clusters of the first phase, the
+    /// earlier rows are let go.
+    pub(crate) fn enter(
+        &mut self,
+        counts: &[u8; 4],
+        next: &[u8; 4],
+        past: &mut Past,
+    ) -> Result<(), AllocError>
+        requires { self.old.gone + length self.old.earlier.items < 2 ^ 64 }
+        ensures wanted { past.new.wanted ≡ past.old.wanted }
+        ensures entered { (gone : List Row) → HasEntries past.old gone → OnOk result (IsEntered (HasEntries past.new) (slice_index counts.now 0) (slice_index next.now 0) gone self.old self.new) }
+    {
+        if next[0] <= counts[0] {
+            return Ok(());
+        }
+        past.take(self.earlier.as_slice())?;
+        self.turn();
+        Ok(())
+    }
+
+    /// Lets the earlier rows go. The latest ones become the earlier.
+    fn turn(&mut self)
+        requires { self.old.gone + length self.old.earlier.items < 2 ^ 64 }
+        ensures gone { self.new.gone ≡ self.old.gone + length self.old.earlier.items }
+        ensures earlier { self.new.earlier.items ≡ self.old.latest.items }
+        ensures latest { self.new.latest.items ≡ [] }
+    {
+        self.gone += self.earlier.len();
+        swap(&mut self.earlier, &mut self.latest);
+        self.latest.clear();
+    }
+}
