@@ -1,5 +1,5 @@
 -- What logs tell of a run.
-use Rattle.std.specs.Prelude.{ℕ, ◌×◌, List}
+use Rattle.std.specs.Prelude.{ℕ, List}
 use Rattle.arrivals.specs.Amounts.{Amounts}
 use Rattle.board_model.specs.Boards.{Log}
 use Rattle.histories.specs.Histories.{IsLawful}

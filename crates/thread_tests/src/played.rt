@@ -1,5 +1,5 @@
 //! A run in threads, and what it leaves.
-ghost use Rattle.std.specs.Prelude.{◌≡◌, ◌*◌, ◌≤◌, IfOk, IfSome, OnOk};
+ghost use Rattle.std.specs.Prelude.{◌≡◌, ◌*◌, ◌≤◌, IfOk, IfSome, OnOk, length};
 ghost use Rattle.arrivals.specs.Amounts.{AreArrivals};
 ghost use Rattle.board_rule.specs.Passes.{AreAllPasses, AreLogsOfPasses, calls_in, fresh_passes};
 ghost use Rattle.histories.specs.Histories.{IsLawful};
@@ -39,11 +39,7 @@ fn calls_for(net: &Network) -> u32
 fn planners_for(alloc: Global, net: &Network) -> Result<Vec<BoundPlanner>, AllocError>
     ensures { IfOk result (λ planners. length planners.items ≡ length net.now.node_names) }
 {
-    let mut planners = Vec::with_capacity(alloc, net.nodes() as usize)?;
-    for _ in 0..net.nodes() {
-        planners.push(BoundPlanner)?;
-    }
-    Ok(planners)
+    vec![in alloc; BoundPlanner; net.nodes() as usize]
 }
 
 /// The run in threads, by new passes.

@@ -52,16 +52,16 @@ fn is_told(
     net: &Network,
     arrivals: &Arrivals,
     logs: &[BoardLog],
-    record: &RunRecord,
+    threaded: &RunRecord,
 ) -> Result<bool, AllocError>
     requires arrivals { AreArrivals net.now arrivals.now }
-    requires told { IsToldBy net.now arrivals.now logs.now record.now }
+    requires told { IsToldBy net.now arrivals.now logs.now threaded.now }
 {
     law_of_runs(net);
     let h = merge(alloc, logs)?;
-    let threaded = render(alloc, net, record, &h)?;
+    let report = render(alloc, net, threaded, &h)?;
     let again = replayed(alloc, net, arrivals, &h)?;
-    Ok(threaded == again)
+    Ok(report == again)
 }
 
 /// Whether a run in threads loses no call, and its record is that of the history that its boards tell. `None`: memory ran out, and
