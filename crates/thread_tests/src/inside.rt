@@ -11,7 +11,7 @@ use std::test::Fail;
 use std::thread;
 use std::thread::Threads;
 
-/// How often a node that reads looks out for the other one before it goes on: so many times so many looks.
+/// A node that reads looks out for the other one at most so many times so many times, and then goes on.
 const TURNS: u32 = 200_000;
 const LOOKS: u32 = 1_000;
 
@@ -24,6 +24,8 @@ struct Meeting {
     second: AtomicU64,
     /// How often a node looked out in vain.
     missed: AtomicU64,
+    /// How many board steps were told before they came, with their node, round and link.
+    told: AtomicU64,
 }
 
 impl CrossesThreads for Meeting {}
@@ -36,6 +38,11 @@ fn is_reached(counter: &AtomicU64, number: u64) -> bool {
         }
     }
     false
+}
+
+/// Whether the next board step of a node, which was inside so many readings, is one of this round: a reading, or the publishing behind it.
+fn is_due(readings: &AtomicU64, round: u32, publish: bool) -> bool {
+    readings.load(Ordering::SeqCst) == u64::from(round) + u64::from(publish)
 }
 
 /// Raises a node's own counter, and looks at that of the other node until it is as high. Whether it was.
@@ -54,11 +61,20 @@ impl Gate for Meeting {
     fn before<R: Threads + Wait + Sync>(
         &self,
         _rt: &R,
-        _node: u32,
-        _round: u32,
-        _link: u32,
-        _publish: bool,
-    ) {}
+        node: u32,
+        round: u32,
+        link: u32,
+        publish: bool,
+    ) {
+        let is_told = match (node, link, publish) {
+            (0, 2, false) | (0, 1, true) => is_due(&self.first, round, publish),
+            (1, 1, false) | (1, 2, true) => is_due(&self.second, round, publish),
+            _ => false,
+        };
+        if is_told {
+            self.told.fetch_add(1, Ordering::SeqCst);
+        }
+    }
 
     fn inside<R: Threads + Wait + Sync>(&self, _rt: &R, node: u32, link: u32, publish: bool) {
         let is_met = match (node, link, publish) {
@@ -72,20 +88,21 @@ impl Gate for Meeting {
     }
 }
 
-/// The counters of the gate behind a run that is the run of its history.
-fn counted<R: Threads + Wait + Sync>(rt: &R, alloc: Global, net: &Network) -> Option<(bool, u64, u64, u64)> {
+/// Whether a run is that of its history, and then the counters of its gate. `None`: memory ran out, and no call was lost.
+fn counted<R: Threads + Wait + Sync>(
+    rt: &R,
+    alloc: Global,
+    net: &Network,
+) -> Option<(bool, [u64; 4])> {
     let gate = Meeting {
         first: AtomicU64::new(0),
         second: AtomicU64::new(0),
         missed: AtomicU64::new(0),
+        told: AtomicU64::new(0),
     };
     let is_so = replays(rt, alloc, net, ONE, &gate)?;
-    Some((
-        is_so,
-        gate.first.load(Ordering::SeqCst),
-        gate.second.load(Ordering::SeqCst),
-        gate.missed.load(Ordering::SeqCst),
-    ))
+    let counters = [&gate.first, &gate.second, &gate.missed, &gate.told];
+    Some((is_so, counters.map(|counter| counter.load(Ordering::SeqCst))))
 }
 
 #[test]
@@ -96,6 +113,6 @@ fn two_reads_inside(rt: HostRuntime) -> Result<(), Fail> {
         Some(found) => Some(found),
         None => counted(&rt, alloc, &net),
     };
-    assert_eq!(rt; found, Some((true, 4, 4, 0)));
+    assert_eq!(rt; found, Some((true, [4, 4, 0, 16])));
     Ok(())
 }

@@ -78,7 +78,10 @@ pub(crate) const MANY: &str = "second,link,amount
 12,sb,500
 ";
 
-/// The worked network.
+/// The worked network, read once more where memory was refused.
 pub(crate) fn network(alloc: Global) -> Result<Network, NetFault> {
-    read_network(alloc, NETWORK.as_bytes())
+    match read_network(alloc, NETWORK.as_bytes()) {
+        Ok(net) => Ok(net),
+        Err(_) => read_network(alloc, NETWORK.as_bytes()),
+    }
 }
