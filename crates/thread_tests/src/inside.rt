@@ -13,6 +13,7 @@ use std::thread::Threads;
 
 /// A node that reads looks out for the other one at most so many times so many times, and then goes on.
 const TURNS: u32 = 200_000;
+
 const LOOKS: u32 = 1_000;
 
 /// A gate in which each node's reading looks out for that of the other node in the same round, while both hold a turn.
@@ -102,7 +103,10 @@ fn counted<R: Threads + Wait + Sync>(
     };
     let is_so = replays(rt, alloc, net, ONE, &gate)?;
     let counters = [&gate.first, &gate.second, &gate.missed, &gate.told];
-    Some((is_so, counters.map(|counter| counter.load(Ordering::SeqCst))))
+    Some((
+        is_so,
+        counters.map(|counter| counter.load(Ordering::SeqCst)),
+    ))
 }
 
 #[test]
