@@ -1,6 +1,6 @@
 // What `certify` and `certify_bound` write, and what `check` says of worked certificates.
 
-use super::support::{SECOND_FETCH_FAILS, TWO_CLUSTERS, run};
+use command_calls::{SECOND_FETCH_FAILS, TWO_CLUSTERS, run};
 use signal_cli::Status;
 use std::test::Fail;
 

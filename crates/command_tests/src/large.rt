@@ -1,6 +1,6 @@
 // Large texts: instances with almost as many orders as there may be, and texts as long as they may be.
 
-use super::support::{NO_FAULTS, run, run_with_room};
+use command_calls::{NO_FAULTS, run, run_with_room};
 use signal_cli::Status;
 use std::alloc::{AllocError, Global};
 use std::test::Fail;

@@ -16,5 +16,3 @@ mod process;
 mod refusals;
 #[cfg(test)]
 mod spellings;
-#[cfg(test)]
-mod support;

@@ -1,6 +1,6 @@
 // What `plan` answers for worked instances.
 
-use super::support::{NO_FAULTS, TWO_CLUSTERS, TWO_CLUSTERS_PLAN, TWO_PHASES, job, plan, run};
+use command_calls::{NO_FAULTS, TWO_CLUSTERS, TWO_CLUSTERS_PLAN, TWO_PHASES, job, plan, run};
 use signal_cli::Status;
 use std::test::Fail;
 

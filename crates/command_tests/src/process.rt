@@ -1,6 +1,6 @@
 // The words of a command line, and the exit status that they end with.
 
-use super::support::{TWO_CLUSTERS, TWO_CLUSTERS_PLAN};
+use command_calls::{TWO_CLUSTERS, TWO_CLUSTERS_PLAN};
 use signal_process::run;
 use std::env::FillError;
 use std::fs;

@@ -1,6 +1,6 @@
 // The program's refusals, and its faults in mid-work.
 
-use super::support::{Faults, NO_FAULTS, SECOND_FETCH_FAILS, TWO_CLUSTERS, TWO_CLUSTERS_PLAN, run};
+use command_calls::{Faults, NO_FAULTS, SECOND_FETCH_FAILS, TWO_CLUSTERS, TWO_CLUSTERS_PLAN, run};
 use outside_world::SinkFail;
 use signal_cli::Status;
 use std::alloc::{AllocError, Global};

@@ -1,6 +1,6 @@
 // Texts one byte away from an instance's: which of them are read, and what `plan` then writes.
 
-use super::support::plan;
+use command_calls::plan;
 use signal_cli::Status;
 use std::alloc::{AllocError, Global};
 use std::test::Fail;

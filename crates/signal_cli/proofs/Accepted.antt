@@ -4,8 +4,8 @@ use Rattle.dp_certificate.specs.Certificates.{Claim, IsCertificate}
 use Rattle.dp_certificate.specs.Proves.{Proves}
 use Rattle.certificate_form.specs.Answers as cert
 use Rattle.certificate_form.specs.CertificateText.{HasText, certificate_text}
-use Rattle.signal_cli.specs.Commands.{IsAcceptedText}
-use Rattle.signal_cli.specs.Limits.{most_bytes}
+use Rattle.commands.specs.Commands.{IsAcceptedText}
+use Rattle.command_texts.specs.Limits.{most_bytes}
 
 -- so many entries and places make a text within the limit
 few-bytes : (bytes entries places : ℕ) → bytes ≤ 48 * entries + 4 * places + 3000 → entries ≤ 2000001 → places ≤ 40 → bytes ≤ most_bytes

@@ -1,6 +1,6 @@
 //! The text that `plan` writes.
 ghost use Rattle.std.specs.Prelude.{◌≡◌, IfOk};
-ghost use Rattle.signal_cli.specs.Answers.{answer_text};
+ghost use Rattle.commands.specs.Answers.{answer_text};
 
 use number_text::{push_number, push_numbers};
 use schedule_meaning::Answer;

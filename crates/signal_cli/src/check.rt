@@ -3,16 +3,14 @@ ghost use Rattle.std.specs.Prelude.{◌≡◌, ◌↔◌, ◌<◌, ℕ, List, If
 ghost use Rattle.schedule_meaning.specs.Best.{IsLeast};
 ghost use Rattle.dp_certificate.specs.Proves.{Proves};
 ghost use Rattle.cert_checker.specs.Verdicts.{IfRejected, IsWhy};
-ghost use Rattle.signal_cli.specs.Commands.{Check};
-ghost use Rattle.signal_cli.specs.Ending.{IsMadeOf, Makes};
-ghost use Rattle.signal_cli.specs.Outcome.{Outcome};
+ghost use Rattle.commands.specs.Commands.{Check};
+ghost use Rattle.commands.specs.Ending.{IsMadeOf, Makes};
+ghost use Rattle.commands.specs.Outcome.{Outcome};
 
-use super::ending::{Made, end};
-use super::refusals::{Place, Refusal};
-use super::status::Status;
-use super::texts::fetch_certificate;
 use super::verdicts::rejected_line;
 use cert_checker::Verdict;
+use command_texts::{Place, Refusal, Status, fetch_certificate};
+use commands::{Made, end};
 use dp_certificate::Certificate;
 use foundation::steps::Steps;
 use outside_world::{Shelf, Sink};

@@ -1,13 +1,11 @@
 //! The command `plan FILE`.
-ghost use Rattle.signal_cli.specs.Commands.{Plan};
-ghost use Rattle.signal_cli.specs.Ending.{Makes};
-ghost use Rattle.signal_cli.specs.Outcome.{Outcome};
+ghost use Rattle.commands.specs.Commands.{Plan};
+ghost use Rattle.commands.specs.Ending.{Makes};
+ghost use Rattle.commands.specs.Outcome.{Outcome};
 
 use super::answers::answer_text;
-use super::ending::{Made, end};
-use super::refusals::{Place, Refusal};
-use super::status::Status;
-use super::texts::fetch_instance;
+use command_texts::{Place, Refusal, Status, fetch_instance};
+use commands::{Made, end};
 use forward_dp::LayerPlanner;
 use outside_world::{Shelf, Sink};
 use schedule_meaning::best_answer;

@@ -1,18 +1,18 @@
 //! The top call: the words of the command line, and what is done.
 ghost use Rattle.std.specs.Prelude.{◌≡◌, ◌≢◌, ◌↔◌};
-ghost use Rattle.signal_cli.specs.Commands.{Call, IsCall, seen};
-ghost use Rattle.signal_cli.specs.Outcome.{Outcome};
-ghost use Rattle.signal_cli.specs.Refusals.{Says};
-ghost use Rattle.signal_cli.specs.declared.refusals.Refusal.TheVariants as refusal;
+ghost use Rattle.commands.specs.Commands.{Call, IsCall, IsWithin, seen};
+ghost use Rattle.commands.specs.Outcome.{Outcome};
+ghost use Rattle.command_texts.specs.Refusals.{Says};
+ghost use Rattle.command_texts.specs.declared.refusals.Refusal.TheVariants as refusal;
 
 use super::certify::certify_job;
 use super::certify_bound::certify_bound_job;
 use super::check::check_job;
-use super::commands::{Command, command_of};
 use super::plan::plan_job;
-use super::refusals::{Refusal, refuse};
-use super::status::Status;
+use command_texts::{Refusal, Status, refuse};
+use commands::{Command, command_of};
 use foundation::text::Text;
+use network_jobs::{grid_job, instance_job, replay_job, turns_job};
 use outside_world::{Shelf, Sink};
 use std::alloc::Global;
 
@@ -52,6 +52,7 @@ fn run<S: Shelf, O: Sink, E: Sink>(
     out: &mut O,
     err: &mut E,
 ) -> Status
+    requires { IsWithin (seen command) }
     ensures { Outcome (seen command.entry)
         (record { shelf = S.state shelf.old; out = O.state out.old; err = E.state err.old })
         (record { shelf = S.state shelf.new; out = O.state out.new; err = E.state err.new }) result }
@@ -61,5 +62,19 @@ fn run<S: Shelf, O: Sink, E: Sink>(
         Command::Certify { file } => certify_job(alloc, file, shelf, out, err),
         Command::CertifyBound { file } => certify_bound_job(alloc, file, shelf, out, err),
         Command::Check { file } => check_job(alloc, file, shelf, out, err),
+        Command::Turns { net, arr } => turns_job(alloc, net, arr, shelf, out, err),
+        Command::Replay { net, arr, hist } => replay_job(alloc, net, arr, hist, shelf, out, err),
+        Command::Instance {
+            net,
+            arr,
+            hist,
+            node,
+            round,
+        } => instance_job(alloc, net, arr, hist, node, round, shelf, out, err),
+        Command::Grid {
+            number,
+            side,
+            rounds,
+        } => grid_job(alloc, number, side, rounds, out, err),
     }
 }

@@ -1,9 +1,9 @@
 //! The lines that `check` writes.
 ghost use Rattle.std.specs.Prelude.{◌≡◌, ◌∷◌, ◌++◌, IfOk, OnOk};
-ghost use Rattle.signal_cli.specs.Verdicts.{rejected_line, sequence_text, unfit_name, why_text};
+ghost use Rattle.commands.specs.Verdicts.{rejected_line, sequence_text, unfit_name, why_text};
 
-use super::pieces::{push_one, push_two};
 use cert_checker::Why;
+use command_texts::{push_one, push_two};
 use schedule_meaning::SeqFault;
 use std::alloc::{AllocError, Global};
 use switch_rules::Unfit;

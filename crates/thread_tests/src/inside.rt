@@ -11,10 +11,11 @@ use std::test::Fail;
 use std::thread;
 use std::thread::Threads;
 
-/// A node that reads looks out for the other one at most so many times so many times, and then goes on.
-const TURNS: u32 = 200_000;
-
+/// How many looks a node that reads takes at the other one's counter before it lets other threads run.
 const LOOKS: u32 = 1_000;
+
+/// How often it does so before it goes on: 200,000,000 looks in all.
+const TURNS: u32 = 200_000;
 
 /// A gate in which each node's reading looks out for that of the other node in the same round, while both hold a turn.
 #[derive(Drop)]

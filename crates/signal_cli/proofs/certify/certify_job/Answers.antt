@@ -1,4 +1,4 @@
-use Rattle.signal_cli.proofs.Outcomes.{outcome}
+use Rattle.commands.proofs.Outcomes.{outcome}
 use Rattle.signal_cli.proofs.certify.certify_job.Goals as goal
 
 pub returns : goal.returns

@@ -1,0 +1,149 @@
+//! Calls of the program over files and sinks in memory, for the tests of its commands.
+#![tactic(auto)]
+
+use foundation::items::Items;
+use foundation::text::Text;
+use outside_world::{MemoryShelf, MemorySink, SinkFail};
+use signal_cli::{Status, plan_job, signal};
+use std::alloc::{AllocError, Global};
+
+/// The lines of two phases alike, up to the head's.
+pub const TWO_PHASES: &str = "instance 1\nphases 2\nphase 5 30 3 2 2 120\nphase 5 30 3 2 2 120\n";
+
+/// The whole text of two clusters that meet: the plan is 0 1, with delay 24000.
+pub const TWO_CLUSTERS: &str =
+    "instance 1\nphases 2\nphase 5 30 3 2 2 120\nphase 5 30 3 2 2 120\nhead 0 0 0 kept\ncluster 0 4000 0 8\ncluster 1 2000 3 4\nend\n";
+
+/// What `plan` writes for the two clusters.
+pub const TWO_CLUSTERS_PLAN: &str = "delay 24000\norder 0 1\n";
+
+/// Which calls of the shelf and of the two sinks fail.
+#[derive(Clone, Copy)]
+pub struct Faults<'a> {
+    pub fetches: &'a [u32],
+    pub out: &'a [SinkFail],
+    pub err: &'a [SinkFail],
+}
+
+/// Nothing fails.
+pub const NO_FAULTS: Faults<'static> = Faults {
+    fetches: &[],
+    out: &[],
+    err: &[],
+};
+
+/// The first fetch gives the text, and a second would fail.
+pub const SECOND_FETCH_FAILS: Faults<'static> = Faults {
+    fetches: &[2],
+    out: &[],
+    err: &[],
+};
+
+/// How a call of the program ended.
+#[derive(Drop)]
+pub struct Ending {
+    status: Status,
+    out: MemorySink,
+    err: MemorySink,
+}
+
+impl Ending {
+    /// Whether it ended with this status, and these texts in `out` and `err`.
+    pub fn is(&self, status: Status, out: &str, err: &str) -> bool {
+        self.status == status
+            && self.out.bytes() == out.as_bytes()
+            && self.err.bytes() == err.as_bytes()
+    }
+
+    /// What stands in `out`.
+    pub fn out(&self) -> &[u8] {
+        self.out.bytes()
+    }
+}
+
+/// Calls the program with these words. Its shelf has one file, `file`, with this text, and 1000 bytes may be written.
+pub fn run(
+    alloc: Global,
+    words: &[&str],
+    text: &[u8],
+    faults: Faults<'_>,
+) -> Result<Ending, AllocError> {
+    run_with_room(alloc, words, text.to_vec(alloc)?, faults, 1000)
+}
+
+/// The same, where so many bytes may be written.
+pub fn run_with_room(
+    alloc: Global,
+    words: &[&str],
+    text: Vec<u8>,
+    faults: Faults<'_>,
+    room: usize,
+) -> Result<Ending, AllocError> {
+    let words = texts(alloc, words)?;
+    let mut shelf = shelf_of(alloc, text, faults.fetches)?;
+    let mut out = MemorySink::new(alloc, room, faults.out.to_vec(alloc)?)?;
+    let mut err = MemorySink::new(alloc, 1000, faults.err.to_vec(alloc)?)?;
+    let status = signal(alloc, &words, &mut shelf, &mut out, &mut err);
+    Ok(Ending { status, out, err })
+}
+
+/// Calls the program with these words over a shelf with these files; 10,000 bytes may be written.
+pub fn run_over(
+    alloc: Global,
+    words: &[&str],
+    files: &[(&str, &[u8])],
+    faults: Faults<'_>,
+) -> Result<Ending, AllocError> {
+    let words = texts(alloc, words)?;
+    let mut shelf = shelf_with(alloc, files, faults.fetches)?;
+    let mut out = MemorySink::new(alloc, 10_000, faults.out.to_vec(alloc)?)?;
+    let mut err = MemorySink::new(alloc, 1000, faults.err.to_vec(alloc)?)?;
+    let status = signal(alloc, &words, &mut shelf, &mut out, &mut err);
+    Ok(Ending { status, out, err })
+}
+
+/// Calls the program with the words `plan file` over this text. Nothing fails.
+pub fn plan(alloc: Global, text: &[u8]) -> Result<Ending, AllocError> {
+    run(alloc, &["plan", "file"], text, NO_FAULTS)
+}
+
+/// Calls the job of `plan` by itself over the file `file` with this text. Nothing fails.
+pub fn job(alloc: Global, text: &[u8]) -> Result<Ending, AllocError> {
+    let mut shelf = shelf_of(alloc, text.to_vec(alloc)?, &[])?;
+    let mut out = MemorySink::new(alloc, 1000, Vec::new(alloc))?;
+    let mut err = MemorySink::new(alloc, 1000, Vec::new(alloc))?;
+    let status = plan_job(alloc, "file", &mut shelf, &mut out, &mut err);
+    Ok(Ending { status, out, err })
+}
+
+fn texts(alloc: Global, words: &[&str]) -> Result<Vec<Text>, AllocError> {
+    let mut texts = Vec::new(alloc);
+    for word in words {
+        texts.push(Text::from_string(String::from_str(alloc, word)?))?;
+    }
+    Ok(texts)
+}
+
+fn shelf_of(alloc: Global, text: Vec<u8>, fails: &[u32]) -> Result<MemoryShelf, AllocError> {
+    let name = Text::from_string(String::from_str(alloc, "file")?);
+    let content = Items::from_vec(text);
+    let files = vec![in alloc; (name, content)]?;
+    Ok(MemoryShelf::new(alloc, files, fails.to_vec(alloc)?))
+}
+
+fn shelf_with(
+    alloc: Global,
+    contents: &[(&str, &[u8])],
+    fails: &[u32],
+) -> Result<MemoryShelf, AllocError> {
+    let mut files = Vec::new(alloc);
+    for &(name, content) in contents {
+        files.push(file_of(alloc, name, content)?)?;
+    }
+    Ok(MemoryShelf::new(alloc, files, fails.to_vec(alloc)?))
+}
+
+fn file_of(alloc: Global, name: &str, content: &[u8]) -> Result<(Text, Items<u8>), AllocError> {
+    let name = Text::from_string(String::from_str(alloc, name)?);
+    Ok((name, Items::from_vec(content.to_vec(alloc)?)))
+}

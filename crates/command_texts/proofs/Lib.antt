@@ -1,0 +1,4 @@
+pub mod Fetching
+pub mod NoReading
+pub mod Stopping
+pub mod TextLaws

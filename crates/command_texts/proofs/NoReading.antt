@@ -1,0 +1,26 @@
+-- A fault that is no want of memory says that a text is read as nothing of its kind.
+use Rattle.std.proofs.Common.{◌≢◌, refl}
+use Rattle.net_draft.specs.Faults.{Unless}
+use Rattle.net_draft.specs.declared.faults.NetFault.{NetFault}
+use Rattle.net_draft.specs.declared.faults.NetFault.TheVariants as net
+use Rattle.arrivals.specs.Faults as arrivals
+use Rattle.arrivals.specs.declared.rows.RowFault.{RowFault}
+use Rattle.arrivals.specs.declared.rows.RowFault.TheVariants as row
+use Rattle.delay_report.specs.Faults as histories
+use Rattle.delay_report.specs.declared.faults.HistoryFault.{HistoryFault}
+use Rattle.delay_report.specs.declared.faults.HistoryFault.TheVariants as history
+
+-- of a network
+pub no_network : (fault : NetFault) (fact : Type 0) → Unless fault fact → fault ≢ net.NoMemory → fact
+no_network net.NoMemory fact unless other = absurd (other refl)
+no_network _ fact unless other = unless
+
+-- of arrivals
+pub no_arrivals : (fault : RowFault) (fact : Type 0) → arrivals.Refuses fault fact → fault ≢ row.NoMemory → fact
+no_arrivals row.NoMemory fact refuses other = absurd (other refl)
+no_arrivals _ fact refuses other = refuses
+
+-- of a history
+pub no_history : (fault : HistoryFault) (fact : Type 0) → histories.Refuses fault fact → fault ≢ history.NoMemory → fact
+no_history history.NoMemory fact refuses other = absurd (other refl)
+no_history _ fact refuses other = refuses

@@ -1,0 +1,5 @@
+pub mod Codes
+pub mod Limits
+pub mod Refusals
+pub mod Stops
+pub mod Texts

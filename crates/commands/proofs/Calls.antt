@@ -1,0 +1,42 @@
+-- Words are those of one command at most.
+use Rattle.std.proofs.Common.{rules, ◌≡◌, ℕ, List, [], ◌∷◌, true, sym, ap, ◌∙◌, arith}
+use Rattle.std.proofs.lemmas.Fmt.{decimal_injective}
+use Rattle.std.specs.Str.{bytes_eq}
+use Rattle.commands.specs.Commands.{Call, IsCall, Certify, CertifyBound, Check, Grid, Instance, Plan, Replay, Turns, words_of}
+
+-- the first word
+first : List (List ℕ) → List ℕ
+first [] = []
+first (word ∷ words) = word
+
+-- bytes are the same as themselves
+bytes_same : (bs : List ℕ) → bytes_eq bs bs ≡ true
+bytes_same bs = search rules
+
+-- the first words of two commands with the same words are the same
+same_word : (words : List (List ℕ)) (a b : Call) → IsCall words a → IsCall words b → bytes_eq (first (words_of a)) (first (words_of b)) ≡ true
+same_word words a b is other =
+    let same : first (words_of a) ≡ first (words_of b) = ap first (sym is.spelled ∙ other.spelled) in
+    rw same (bytes_same (first (words_of b)))
+
+-- of two commands with the same words both are the same
+pub one_call : (words : List (List ℕ)) (a b : Call) → IsCall words a → IsCall words b → a ≡ b
+one_call words (Plan f) (Plan g) is other = let e = is.spelled in let d = other.spelled in cc
+one_call words (Certify f) (Certify g) is other = let e = is.spelled in let d = other.spelled in cc
+one_call words (CertifyBound f) (CertifyBound g) is other = let e = is.spelled in let d = other.spelled in cc
+one_call words (Check f) (Check g) is other = let e = is.spelled in let d = other.spelled in cc
+one_call words (Turns n a) (Turns m b) is other = let e = is.spelled in let d = other.spelled in cc
+one_call words (Replay n a h) (Replay m b i) is other = let e = is.spelled in let d = other.spelled in cc
+one_call words (Instance n a h k r) (Instance m b i l q) is other =
+    let e = is.spelled in
+    let d = other.spelled in
+    let round : r ≡ q = decimal_injective r q (omega (arith, is.within)) (omega (arith, other.within)) (cc) in
+    cc
+one_call words (Grid n s r) (Grid m t q) is other =
+    let e = is.spelled in
+    let d = other.spelled in
+    let number : n ≡ m = decimal_injective n m is.within.0 other.within.0 (cc) in
+    let side : s ≡ t = decimal_injective s t (omega (arith, is.within.1.most)) (omega (arith, other.within.1.most)) (cc) in
+    let rounds : r ≡ q = decimal_injective r q (omega (arith, is.within.2.most)) (omega (arith, other.within.2.most)) (cc) in
+    cc
+one_call words a b is other = let e = same_word words a b is other in absurd (cc)

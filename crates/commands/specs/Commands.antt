@@ -1,0 +1,120 @@
+-- The commands: their words, the texts that they read, and what they write.
+use Rattle.std.specs.Prelude.{◌≡◌, ℕ, ◌^◌, ◌<◌, ◌≤◌, List, [], ◌∷◌, None, IsSome, codes, length}
+use Rattle.std.specs.Fmt.{decimal}
+use Rattle.schedule_meaning.specs.Best.{IsBest, IsLeast}
+use Rattle.schedule_meaning.specs.declared.planners.Answer.{Answer}
+use Rattle.dp_certificate.specs.Certificates.{Claim}
+use Rattle.dp_certificate.specs.Proves.{Proves}
+use Rattle.dp_certificate.specs.Whole.{IsWhole}
+use Rattle.pruned_dp.specs.Bounded.{IsBounded}
+use Rattle.certificate_form.specs.CertificateText.{certificate_text}
+use Rattle.cert_checker.specs.Verdicts.{IsWhy}
+use Rattle.cert_checker.specs.declared.Why.{Why}
+use Rattle.histories.specs.Histories.{turn_order}
+use Rattle.net_numbers.specs.Numbers.{number_of}
+use Rattle.scenario_gen.specs.Grids.{AreRounds}
+use Rattle.scenario_gen.specs.Layout.{IsSide}
+use Rattle.commands.specs.Answers.{answer_text}
+use Rattle.commands.specs.Headline.{Headline, IsGridSummary, IsPlannedText}
+use Rattle.command_texts.specs.Limits.{most_bytes}
+use Rattle.command_texts.specs.Texts.{AllSaid, CertificateText, InstanceText, Next, NoMore, Spells, Texts, history_texts, network_texts}
+use Rattle.commands.specs.Verdicts.{accepted_line, rejected_line}
+use Rattle.commands.specs.declared.words.Command.{Command as Told}
+use Rattle.commands.specs.declared.words.Command.TheVariants as told
+use Rattle.command_texts.specs.declared.refusals.Named.{Named}
+use Rattle.command_texts.specs.declared.refusals.Named.TheVariants.{Node, Round}
+
+-- a command with its further words
+pub data Call : Type 0 where
+  Plan : (file : List ℕ) → Call
+  Certify : (file : List ℕ) → Call
+  CertifyBound : (file : List ℕ) → Call
+  Check : (file : List ℕ) → Call
+  Turns : (net arr : List ℕ) → Call
+  Replay : (net arr hist : List ℕ) → Call
+  Instance : (net arr hist node : List ℕ) → (round : ℕ) → Call
+  Grid : (number side rounds : ℕ) → Call
+
+-- the words of a command; a number stands in its one form, in decimal
+abbrev pub words_of : Call → List (List ℕ)
+words_of (Plan file) = codes "plan" ∷ file ∷ []
+words_of (Certify file) = codes "certify" ∷ file ∷ []
+words_of (CertifyBound file) = codes "certify_bound" ∷ file ∷ []
+words_of (Check file) = codes "check" ∷ file ∷ []
+words_of (Turns net arr) = codes "turns" ∷ net ∷ arr ∷ []
+words_of (Replay net arr hist) = codes "replay" ∷ net ∷ arr ∷ hist ∷ []
+words_of (Instance net arr hist node round) = codes "instance" ∷ net ∷ arr ∷ hist ∷ node ∷ decimal round ∷ []
+words_of (Grid number side rounds) = codes "grid" ∷ decimal number ∷ decimal side ∷ decimal rounds ∷ []
+
+-- the numbers of a command are within their bounds
+abbrev pub IsWithin : Call → Type 0
+IsWithin (Instance net arr hist node round) = round < 2 ^ 32
+IsWithin (Grid number side rounds) = (number < 2 ^ 64) × IsSide side × AreRounds rounds
+IsWithin _ = Unit {0}
+
+-- these are the words of this command
+pub record IsCall (words : List (List ℕ)) (call : Call) : Type 0 where
+  pub spelled : words ≡ words_of call
+  pub within : IsWithin call
+
+-- the texts that it reads, in the order of its words
+abbrev pub texts_of : Call → Texts
+texts_of (Plan file) = Next InstanceText file (λ said. NoMore)
+texts_of (Certify file) = Next InstanceText file (λ said. NoMore)
+texts_of (CertifyBound file) = Next InstanceText file (λ said. NoMore)
+texts_of (Check file) = Next CertificateText file (λ said. NoMore)
+texts_of (Turns net arr) = network_texts net arr (λ network. NoMore)
+texts_of (Replay net arr hist) = history_texts net arr hist
+texts_of (Instance net arr hist node round) = history_texts net arr hist
+texts_of (Grid number side rounds) = NoMore
+
+-- These bytes are a certificate's text that `check` accepts: the text is within the limit, and spells this certificate and no
+-- other; and the certificate proves its answer.
+pub record IsAcceptedText (bytes : List ℕ) (c : Claim) : Type 0 where
+  pub short : length bytes ≤ most_bytes
+  pub spells : Spells CertificateText bytes c
+  pub only : (other : Claim) → Spells CertificateText bytes other → other ≡ c
+  pub proves : Proves c
+
+-- what is written where the work is done; of the texts of a network `said.0` is the network, `said.1.0` what enters it, and
+-- `said.1.1.0` the history
+abbrev pub IsTextOf : (call : Call) → AllSaid (texts_of call) → List ℕ → Type 0
+IsTextOf (Plan file) said bytes = (answer : Answer) × IsBest said.0 answer × IsLeast said.0 answer × (bytes ≡ answer_text answer)
+IsTextOf (Certify file) said bytes = (c : Claim) × (c.problem ≡ said.0) × IsWhole c.problem c.entries × IsBest c.problem c.answer × (bytes ≡ certificate_text c) × IsAcceptedText bytes c
+IsTextOf (CertifyBound file) said bytes = (c : Claim) × (c.problem ≡ said.0) × IsBounded c.problem c.entries × IsBest c.problem c.answer × (bytes ≡ certificate_text c) × IsAcceptedText bytes c
+IsTextOf (Check file) said bytes = Proves said.0 × IsLeast said.0.problem said.0.answer × (bytes ≡ accepted_line)
+IsTextOf (Turns net arr) said bytes = Headline said.0 said.1.0 (turn_order said.0) bytes
+IsTextOf (Replay net arr hist) said bytes = Headline said.0 said.1.0 said.1.1.0 bytes
+IsTextOf (Instance net arr hist node round) said bytes = IsPlannedText said.0 said.1.0 said.1.1.0 node round bytes
+IsTextOf (Grid number side rounds) said bytes = IsGridSummary number side rounds bytes
+
+-- the verdict of a command goes against its texts; only `check` judges
+abbrev pub IsAgainst : (call : Call) → AllSaid (texts_of call) → Type 0
+IsAgainst (Check file) said = ¬ Proves said.0
+IsAgainst _ said = ⊥
+
+-- what is written where the verdict goes against the texts
+abbrev pub IsRejectionOf : (call : Call) → AllSaid (texts_of call) → List ℕ → Type 0
+IsRejectionOf (Check file) said bytes = (why : Why) × (¬ Proves said.0) × IsWhy said.0 why × (bytes ≡ rejected_line why)
+IsRejectionOf _ said bytes = ⊥
+
+-- what a word of the command names is not in its texts: the network has no such node, or it has, and not so many rounds
+abbrev pub IsMissing : (call : Call) → AllSaid (texts_of call) → Named → Type 0
+IsMissing (Instance net arr hist node round) said Node = number_of said.0.node_names node ≡ None
+IsMissing (Instance net arr hist node round) said Round = IsSome (number_of said.0.node_names node) × (said.0.run.rounds ≤ round)
+IsMissing _ said what = ⊥
+
+-- whatever the words of a command name is in its texts
+abbrev pub MissesNothing : (call : Call) → AllSaid (texts_of call) → Type 0
+MissesNothing call said = (what : Named) → ¬ IsMissing call said what
+
+-- a command of the program, as contracts see it
+abbrev pub seen : Told → Call
+seen (told.Plan file) = Plan file.now
+seen (told.Certify file) = Certify file.now
+seen (told.CertifyBound file) = CertifyBound file.now
+seen (told.Check file) = Check file.now
+seen (told.Turns net arr) = Turns net.now arr.now
+seen (told.Replay net arr hist) = Replay net.now arr.now hist.now
+seen (told.Instance net arr hist node round) = Instance net.now arr.now hist.now node.now round
+seen (told.Grid number side rounds) = Grid number side rounds

@@ -1,0 +1,56 @@
+-- What a command makes of its texts, and how that is delivered. No public clause names anything here.
+use Rattle.std.specs.Prelude.{◌≡◌, ℕ, List, Result, Ok, Err, ◌⊎◌}
+use Rattle.outside_world.specs.Shelf.{ShelfState}
+use Rattle.outside_world.specs.Sink.{Breaks, Gains, SinkState}
+use Rattle.commands.specs.Commands.{Call, IsAgainst, IsRejectionOf, IsTextOf, MissesNothing, texts_of}
+use Rattle.commands.specs.Outcome.{IsBadInput, Read}
+use Rattle.command_texts.specs.Refusals.{Refuses, Says}
+use Rattle.command_texts.specs.Stops.{StopsIn}
+use Rattle.command_texts.specs.Texts.{AllSaid}
+use Rattle.commands.specs.declared.ending.Made.{Made}
+use Rattle.commands.specs.declared.ending.Made.TheVariants as made
+use Rattle.command_texts.specs.declared.refusals.Refusal.{Refusal}
+use Rattle.command_texts.specs.declared.refusals.Refusal.TheVariants as refusal
+use Rattle.command_texts.specs.declared.status.Status.{Status}
+use Rattle.command_texts.specs.declared.status.Status.TheVariants.{Done, Rejected, WriteFault}
+
+-- why a command made nothing: its texts could not be had, or its words name what is not in them
+abbrev pub Explains : Call → ShelfState → ShelfState → Refusal → Type 0
+Explains call old new (refusal.Missing what) = (new ≡ old) × IsBadInput call old.files (refusal.Missing what)
+Explains call old new why = StopsIn (texts_of call) old new why
+
+-- what was made is what the command writes for texts that say this
+abbrev pub IsMadeOf : (call : Call) → Made → AllSaid (texts_of call) → Type 0
+IsMadeOf call (made.Done text) said = IsTextOf call said text.items × ¬ IsAgainst call said
+IsMadeOf call (made.Rejected text) said = IsRejectionOf call said text.items × IsAgainst call said
+
+-- what a command made of its texts, in which its words miss nothing, or why it made nothing
+abbrev pub Makes : Call → ShelfState → ShelfState → Result Made Refusal → Type 0
+Makes call old new (Ok made) = (new ≡ old) × Read call old.files (λ said. IsMadeOf call made said × MissesNothing call said)
+Makes call old new (Err why) = Explains call old new why
+
+-- the bytes that were made, and the status that goes with them
+abbrev pub bytes_of : Made → List ℕ
+bytes_of (made.Done text) = text.items
+bytes_of (made.Rejected text) = text.items
+
+abbrev pub made_status : Made → Status
+made_status (made.Done text) = Done
+made_status (made.Rejected text) = Rejected
+
+-- it was written whole
+pub record IsWritten (made : Made) (out out' err err' : SinkState) (status : Status) : Type 0 where
+  pub is : status ≡ made_status made
+  pub gains : Gains out out' (bytes_of made)
+  pub same : err' ≡ err
+
+-- it could not be written whole
+pub record IsBroken (made : Made) (out out' err err' : SinkState) (status : Status) : Type 0 where
+  pub is : status ≡ WriteFault
+  pub breaks : Breaks out out' (bytes_of made)
+  pub line : Says refusal.Unwritten err err'
+
+-- how what was made, or refused, is answered
+abbrev pub Ends : Result Made Refusal → SinkState → SinkState → SinkState → SinkState → Status → Type 0
+Ends (Ok made) out out' err err' status = IsWritten made out out' err err' status ⊎ IsBroken made out out' err err' status
+Ends (Err why) out out' err err' status = (out' ≡ out) × Refuses why err err' status

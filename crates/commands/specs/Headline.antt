@@ -1,0 +1,62 @@
+-- What the network commands write: reports of runs, and instances that were planned in them.
+use Rattle.std.specs.Prelude.{◌≡◌, ℕ, List, Contains, Some}
+use Rattle.arrivals.specs.Amounts.{Amounts, entering}
+use Rattle.delay_report.specs.Reports.{report_text}
+use Rattle.dp_certificate.specs.Certificates.{Claim}
+use Rattle.histories.specs.Histories.{IsLawful, turn_order}
+use Rattle.intersection_actor.specs.declared.records.PlanRecord.{PlanRecord}
+use Rattle.net_numbers.specs.Numbers.{Net, number_of}
+use Rattle.runs.specs.Kept.{IsKeptRun}
+use Rattle.runs.specs.declared.records.RunRecord.{RunRecord}
+use Rattle.scenario_gen.specs.Grids.{IsGrid}
+use Rattle.schedule_meaning.specs.Best.{IsBest}
+use Rattle.schedule_meaning.specs.Instances.{Problem}
+use Rattle.schedule_meaning.specs.declared.planners.Answer.{Answer}
+use Rattle.schedule_meaning.specs.declared.planners.Answer.TheVariants.{Plan, NoPlan}
+use Rattle.command_texts.specs.Texts.{InstanceText, Reads}
+use Rattle.commands.specs.Summary.{summary_text}
+
+-- The run of a lawful history, with arrivals that bring this. Whatever order the intersections' board steps take in it: every
+-- plan that was committed names the versions of its neighbours' forecasts that it used, none older than one that its intersection
+-- had seen; its delay is the least of all feasible sequences of exactly the clusters of the window, made from those versions and
+-- from what its own detectors told; there is no plan only where no sequence is feasible; links in conflict are never green
+-- together; and every signal interval keeps its bounds.
+pub record IsRunOf (net : Net) (enters : ℕ → ℕ → ℕ) (history : List ℕ) (run : RunRecord) : Type 0 where
+  pub lawful : IsLawful net history
+  pub arrivals : Amounts
+  pub bring : entering arrivals ≡ enters
+  pub kept : IsKeptRun net arrivals history run
+
+-- the bytes are the report of the run of this history
+pub record Headline (net : Net) (enters : ℕ → ℕ → ℕ) (history : List ℕ) (bytes : List ℕ) : Type 0 where
+  pub run : RunRecord
+  pub runs : IsRunOf net enters history run
+  pub report : bytes ≡ report_text net run history
+
+-- one answer says what the other says: both plan with one delay, or both plan nothing
+abbrev pub AgreesWith : Answer → Answer → Type 0
+AgreesWith (Plan sequence delay) (Plan other said) = delay ≡ said
+AgreesWith NoPlan NoPlan = Unit {0}
+AgreesWith _ _ = ⊥
+
+-- The bytes are the text of the instance of a plan of a run, that of the node with this name in this round. They are read as this
+-- instance and as no other, and the answer of each certificate of it agrees with the plan.
+pub record IsPlannedText (net : Net) (enters : ℕ → ℕ → ℕ) (history : List ℕ) (node : List ℕ) (round : ℕ) (bytes : List ℕ) : Type 0 where
+  pub run : RunRecord
+  pub runs : IsRunOf net enters history run
+  pub plan : PlanRecord
+  pub among : Contains run.plans plan
+  pub of_node : number_of net.node_names node ≡ Some plan.node
+  pub of_round : plan.round ≡ round
+  pub reads : Reads InstanceText bytes plan.instance
+  pub only : (other : Problem) → Reads InstanceText bytes other → other ≡ plan.instance
+  pub agrees : (c : Claim) → c.problem ≡ plan.instance → IsBest c.problem c.answer → AgreesWith c.answer plan.answer
+
+-- the bytes are the summary of the run of the turn order on the grid of a number
+pub record IsGridSummary (number side rounds : ℕ) (bytes : List ℕ) : Type 0 where
+  pub net : Net
+  pub arrivals : Amounts
+  pub grid : IsGrid number side rounds net arrivals
+  pub run : RunRecord
+  pub runs : IsRunOf net (entering arrivals) (turn_order net) run
+  pub summary : bytes ≡ summary_text number side rounds run

@@ -1,0 +1,38 @@
+-- The summary of a run.
+use Rattle.std.specs.Prelude.{ℕ, Bool, true, false, List, [], ◌∷◌, ◌++◌, codes, count_by, length, map, sum_by}
+use Rattle.std.specs.Fmt.{decimal}
+use Rattle.intersection_actor.specs.declared.records.PlanRecord.{PlanRecord}
+use Rattle.line_text.specs.Lines.{line}
+use Rattle.runs.specs.declared.records.RunRecord.{RunRecord}
+use Rattle.schedule_meaning.specs.declared.planners.Answer.{Answer}
+use Rattle.schedule_meaning.specs.declared.planners.Answer.TheVariants.{Plan, NoPlan}
+
+-- whether an answer is no plan, and the delay that it plans
+abbrev pub is_no_plan : Answer → Bool
+is_no_plan NoPlan = true
+is_no_plan (Plan sequence delay) = false
+
+abbrev pub planned_delay : Answer → ℕ
+planned_delay NoPlan = 0
+planned_delay (Plan sequence delay) = delay
+
+-- how many of the plans are none, and the delays of the others together
+abbrev pub plans_none : List PlanRecord → ℕ
+plans_none plans = count_by (λ (plan : PlanRecord). is_no_plan plan.answer) plans
+
+abbrev pub planned_delays : List PlanRecord → ℕ
+planned_delays plans = sum_by (λ (plan : PlanRecord). planned_delay plan.answer) plans
+
+-- A line of a word and numbers.
+abbrev pub number_line : List ℕ → List ℕ → List ℕ
+number_line word numbers = line (word ∷ map decimal numbers)
+
+-- The five lines: what was asked for, how many plans there are, how many of them are none, the delays that the others plan, and what
+-- was counted in all.
+abbrev pub summary_text : ℕ → ℕ → ℕ → RunRecord → List ℕ
+summary_text number side rounds run =
+    number_line (codes "grid") (number ∷ side ∷ rounds ∷ [])
+    ++ number_line (codes "plans") (length run.plans ∷ [])
+    ++ number_line (codes "none") (plans_none run.plans ∷ [])
+    ++ number_line (codes "delay") (planned_delays run.plans ∷ [])
+    ++ number_line (codes "total") (run.totals.entered ∷ run.totals.left ∷ run.totals.on ∷ run.totals.delay ∷ [])

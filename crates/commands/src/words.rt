@@ -1,0 +1,168 @@
+//! The commands, and the words that each has.
+ghost use Rattle.std.specs.Prelude.{◌≡◌, ◌≢◌, ◌^◌, ◌<◌, ◌≤◌, ℕ, List, [], ◌∷◌, IfSome, IfNone};
+ghost use Rattle.std.specs.Fmt.{decimal};
+ghost use Rattle.scenario_gen.specs.Grids.{AreRounds};
+ghost use Rattle.scenario_gen.specs.Layout.{IsSide};
+ghost use Rattle.commands.specs.Commands.{Call, IsCall, seen};
+
+use super::numbers::{number_u32, number_u64, number_within};
+use foundation::text::Text;
+
+/// What the program can be told to do, with the further words.
+///
+/// docs/FORMATS.md, "Words".
+#[derive(Clone, Copy)]
+pub enum Command<'a> {
+    /// Writes the best answer of an instance.
+    Plan {
+        file: &'a str,
+    },
+    /// Writes the certificate of an instance.
+    Certify {
+        file: &'a str,
+    },
+    /// Writes the certificate of an instance by its bounded table.
+    CertifyBound {
+        file: &'a str,
+    },
+    /// Writes the verdict on a certificate.
+    Check {
+        file: &'a str,
+    },
+    /// Writes the report of the run of the turn order.
+    Turns {
+        net: &'a str,
+        arr: &'a str,
+    },
+    /// Writes the report of the run of a history.
+    Replay {
+        net: &'a str,
+        arr: &'a str,
+        hist: &'a str,
+    },
+    /// Writes the instance that a node planned in a round of the run of a history.
+    Instance {
+        net: &'a str,
+        arr: &'a str,
+        hist: &'a str,
+        node: &'a str,
+        round: u32,
+    },
+    /// Writes the summary of the run of the turn order on the grid of a number.
+    Grid {
+        number: u64,
+        side: u32,
+        rounds: u32,
+    },
+}
+
+/// The command that the words are.
+pub fn command_of(words: &[Text]) -> Option<Command<'_>>
+    ensures some { IfSome result (λ command. IsCall words.now (seen command)) }
+    ensures none { IfNone result ((call : Call) → ¬ IsCall words.now call) }
+{
+    let (word, rest) = words.split_first()?;
+    match word.as_str() {
+        "plan" => Some(Command::Plan { file: one(rest)? }),
+        "certify" => Some(Command::Certify { file: one(rest)? }),
+        "certify_bound" => Some(Command::CertifyBound { file: one(rest)? }),
+        "check" => Some(Command::Check { file: one(rest)? }),
+        "turns" => {
+            let (net, arr) = two(rest)?;
+            Some(Command::Turns { net, arr })
+        }
+        "replay" => {
+            let (net, arr, hist) = three(rest)?;
+            Some(Command::Replay { net, arr, hist })
+        }
+        "instance" => {
+            let (net, arr, hist, node, round) = four_and_number(rest)?;
+            Some(Command::Instance {
+                net,
+                arr,
+                hist,
+                node,
+                round,
+            })
+        }
+        "grid" => {
+            let (number, side, rounds) = grid_numbers(rest)?;
+            Some(Command::Grid {
+                number,
+                side,
+                rounds,
+            })
+        }
+        _ => None,
+    }
+}
+
+// The word, where there is one.
+fn one(words: &[Text]) -> Option<&str>
+    ensures some { IfSome result (λ word. words.now ≡ word.now ∷ []) }
+    ensures none { IfNone result ((word : List ℕ) → words.now ≢ word ∷ []) }
+{
+    match words {
+        [word] => Some(word.as_str()),
+        _ => None,
+    }
+}
+
+// The two words, where there are just two.
+fn two(words: &[Text]) -> Option<(&str, &str)>
+    ensures some { IfSome result (λ w. words.now ≡ w.0.now ∷ w.1.now ∷ []) }
+    ensures none { IfNone result ((a b : List ℕ) → words.now ≢ a ∷ b ∷ []) }
+{
+    match words {
+        [first, second] => Some((first.as_str(), second.as_str())),
+        _ => None,
+    }
+}
+
+// The three words, where there are just three.
+fn three(words: &[Text]) -> Option<(&str, &str, &str)>
+    ensures some { IfSome result (λ w. words.now ≡ w.0.now ∷ w.1.now ∷ w.2.now ∷ []) }
+    ensures none { IfNone result ((a b c : List ℕ) → words.now ≢ a ∷ b ∷ c ∷ []) }
+{
+    match words {
+        [first, second, third] => Some((first.as_str(), second.as_str(), third.as_str())),
+        _ => None,
+    }
+}
+
+// The four words and the number behind them, where there are just these.
+fn four_and_number(words: &[Text]) -> Option<(&str, &str, &str, &str, u32)>
+    ensures some { IfSome result (λ w. (words.now ≡ w.0.now ∷ w.1.now ∷ w.2.now ∷ w.3.now ∷ decimal w.4 ∷ []) × (w.4 < 2 ^ 32)) }
+    ensures none { IfNone result ((a b c d : List ℕ) (n : ℕ) → n < 2 ^ 32 → words.now ≢ a ∷ b ∷ c ∷ d ∷ decimal n ∷ []) }
+{
+    match words {
+        [first, second, third, fourth, last] => {
+            let number = number_u32(last.as_str())?;
+            Some((
+                first.as_str(),
+                second.as_str(),
+                third.as_str(),
+                fourth.as_str(),
+                number,
+            ))
+        }
+        _ => None,
+    }
+}
+
+// The number of a grid, how many nodes a side it has, and for how many rounds, where the words are just these.
+fn grid_numbers(words: &[Text]) -> Option<(u64, u32, u32)>
+    ensures spelled { IfSome result (λ w. words.now ≡ decimal w.0 ∷ decimal w.1 ∷ decimal w.2 ∷ []) }
+    ensures within { IfSome result (λ w. (w.0 < 2 ^ 64) × IsSide w.1 × AreRounds w.2) }
+    ensures none { IfNone result ((number side rounds : ℕ) → number < 2 ^ 64 → IsSide side → AreRounds rounds → words.now ≢ decimal number ∷ decimal side ∷ decimal rounds ∷ []) }
+{
+    match words {
+        [number, side, rounds] => {
+            let number = number_u64(number.as_str())?;
+            let side = number_within(side.as_str(), 2, 8)?;
+            let rounds = number_within(rounds.as_str(), 1, 600)?;
+            Some((number, side, rounds))
+        }
+        _ => None,
+    }
+}

@@ -1,0 +1,6 @@
+//! Tests of the commands over a network, from their words to what they write: worked runs with their reports, planned instances that
+//! are certified and checked, grids, the refusals of each text, and faults in mid-work.
+#![tactic(auto)]
+
+#[cfg(test)]
+mod networks;

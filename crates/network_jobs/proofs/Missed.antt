@@ -1,0 +1,32 @@
+-- A node and a round that a network has, or has not.
+use Rattle.std.proofs.Common.{◌≡◌, ℕ, ◌<◌, List, Option, Some, None, IsSome, arith}
+use Rattle.outside_world.specs.Shelf.{ShelfState}
+use Rattle.net_numbers.specs.Numbers.{Net, number_of}
+use Rattle.command_texts.specs.Texts.{ArrivalsText, HistoryText, IsIn, NetworkText}
+use Rattle.command_texts.specs.declared.refusals.Named.TheVariants.{Node, Round}
+use Rattle.command_texts.specs.declared.refusals.Refusal.{Refusal}
+use Rattle.command_texts.specs.declared.refusals.Refusal.TheVariants as refusal
+use Rattle.commands.specs.Commands.{Instance, MissesNothing}
+use Rattle.commands.specs.Ending.{Explains}
+use Rattle.network_jobs.specs.Missing.{Misses}
+
+some_none : {X : Type 0} (o : Option X) → IsSome o → o ≡ None → ⊥
+some_none None some none = absurd (cc)
+some_none (Some x) some none = absurd (cc)
+
+module _ (net arr hist node : List ℕ) (round : ℕ) (network : Net) (enters : ℕ → ℕ → ℕ) (history : List ℕ) where
+  -- what is missing explains that nothing was made
+  pub missed : (old new : ShelfState) (why : Refusal) → new ≡ old → IsIn old.files net NetworkText network → IsIn old.files arr (ArrivalsText network) enters → IsIn old.files hist (HistoryText network) history
+      → Misses network node round why → Explains (Instance net arr hist node round) old new why
+  missed old new (refusal.Missing Node) same is bring tells misses = (same, ((network, (enters, (history, tt))), (is, (bring, (tells, tt))), misses))
+  missed old new (refusal.Missing Round) same is bring tells misses = (same, ((network, (enters, (history, tt))), (is, (bring, (tells, tt))), misses))
+  missed old new refusal.NoMemory same is bring tells misses = same
+  missed old new refusal.Usage same is bring tells misses = misses
+  missed old new (refusal.Bad text why) same is bring tells misses = absurd misses
+  missed old new (refusal.Unread text) same is bring tells misses = absurd misses
+  missed old new refusal.Unwritten same is bring tells misses = misses
+
+  -- and where both are there, nothing is missing
+  pub none_missed : IsSome (number_of network.node_names node) → round < network.run.rounds → MissesNothing (Instance net arr hist node round) (network, (enters, (history, tt)))
+  none_missed some within Node missing = some_none (number_of network.node_names node) some missing
+  none_missed some within Round missing = omega (arith, missing.1, within)

@@ -1,0 +1,139 @@
+-- The text of a planned instance.
+use Rattle.std.proofs.Common.{◌≡◌, ℕ, ◌*◌, ◌≤◌, List, [], ◌++◌, length, map, get_or, IfSome, Option, Some, Result, Ok, Err, IfOk, sym, ap, subst, ◌∙◌, arith}
+use Rattle.std.specs.Prelude.{Contains}
+use Rattle.std.proofs.lemmas.List.Elements.{All-contains}
+use Rattle.std.proofs.lemmas.List.{length-map}
+use Rattle.std.proofs.lemmas.List.Concat.{length-flat_map}
+use Rattle.std.proofs.lemmas.List.FromFn.{length-map-range_with_len, length-range_with_len}
+use Rattle.std.proofs.lemmas.List.Sums.{sum-map, sum_by-le}
+use Rattle.std.proofs.lemmas.Nat.{mul-le}
+use Rattle.std.specs.List.{range_with_len}
+use Rattle.histories.specs.Histories.{turn_order}
+use Rattle.road_net.specs.Network.{IsNetwork}
+use Rattle.arrivals.specs.Amounts.{Amounts, entering}
+use Rattle.instance_form.specs.InstanceText.{HasText, IsWritable, IsWritableCluster, instance_text}
+use Rattle.instance_form.proofs.FormLaws.{text_once}
+use Rattle.instance_form.proofs.LengthLaws.{text-le}
+use Rattle.intersection_actor.specs.declared.records.PlanRecord.{PlanRecord}
+use Rattle.net_numbers.specs.Numbers.{Net, number_of}
+use Rattle.phase_plan.specs.Phases.{IsPhase, no_phase}
+use Rattle.phase_plan.specs.declared.Phase.{Phase}
+use Rattle.runs.specs.Kept.{IsKeptRun}
+use Rattle.runs.specs.Runs.{IsRun}
+use Rattle.runs.specs.Whole.{IsWhole, rounds_and_nodes}
+use Rattle.runs.specs.declared.records.RunRecord.{RunRecord}
+use Rattle.scenario_gen.specs.Grids.{IsGrid}
+use Rattle.schedule_meaning.specs.Best.{IsLeast}
+use Rattle.schedule_meaning.specs.Instances.{Problem, IsInstance}
+use Rattle.schedule_meaning.specs.declared.planners.Answer.{Answer}
+use Rattle.schedule_meaning.specs.declared.planners.Answer.TheVariants.{Plan, NoPlan}
+use Rattle.schedule_meaning.proofs.Choosing.{best-least}
+use Rattle.switch_rules.specs.Serving.{IsCluster}
+use Rattle.switch_rules.specs.declared.Cluster.{Cluster}
+use Rattle.command_texts.specs.Limits.{most_bytes}
+use Rattle.command_texts.specs.Texts.{InstanceText, Reads}
+use Rattle.commands.specs.Headline.{AgreesWith, IsGridSummary, IsPlannedText, IsRunOf}
+use Rattle.commands.specs.Summary.{summary_text}
+
+-- two answers of an instance than which no sequence has less delay agree
+agree : (p : Problem) (a b : Answer) → IsLeast p a → IsLeast p b → AgreesWith a b
+agree p (Plan s d) (Plan t e) one other =
+    let first : IfSome (Some e) (λ x. d ≤ x) = subst (λ (o : Option ℕ). IfSome o (λ x. d ≤ x)) other.0 (one.1 t) in
+    let second : IfSome (Some d) (λ x. e ≤ x) = subst (λ (o : Option ℕ). IfSome o (λ x. e ≤ x)) one.0 (other.1 s) in
+    omega (arith, first, second)
+agree p (Plan s d) NoPlan one other = let e = sym one.0 ∙ other s in absurd (cc)
+agree p NoPlan (Plan t e) one other = let d = sym other.0 ∙ one t in absurd (cc)
+agree p NoPlan NoPlan one other = tt
+
+-- an instance has a text
+phase_fits : (p : Phase) → IsPhase p → IsWritable p
+phase_fits p h = record {
+  least = omega (arith, h.least);
+  greatest = omega (arith, h.greatest);
+  yellow = omega (arith, h.yellow);
+  clear = omega (arith, h.clear);
+  loss = omega (arith, h.loss);
+  wait = omega (arith, h.wait);
+}
+
+cluster_fits : (c : Cluster) → IsCluster c → IsWritableCluster c
+cluster_fits c h = record { size = omega (arith, h.size); arr = omega (arith, h.arr); len = omega (arith, h.len) }
+
+has_text : (p : Problem) → IsInstance p → HasText p.plan p.head p.lists
+has_text p h = record {
+  count = h.plan.count;
+  each = h.lists;
+  phases = λ i d inside. phase_fits (get_or p.plan i d) (h.plan.phases i d inside);
+  head = record { phase = omega (arith, h.head.phase, h.plan.count); since = omega (arith, h.since); at = omega (arith, h.head.within, h.since, (h.plan.phases p.head.phase no_phase h.head.phase).greatest) };
+  clusters = λ i d inside. λ j e within. cluster_fits (get_or (get_or p.lists i d) j e) (h.clusters i d inside j e within);
+}
+
+-- it is within the limit, and is read as this instance alone
+reads : (p : Problem) (bytes : List ℕ) → IsInstance p → bytes ≡ instance_text p.plan p.head p.lists → Reads InstanceText bytes p
+reads p bytes h is =
+    let text = text-le p.plan p.head p.lists (has_text p h) in
+    let few : length bytes ≤ most_bytes = omega (arith, ap length is, text, sum-map length p.lists, h.few) in
+    (few, (h, is))
+
+only : (p : Problem) (bytes : List ℕ) → IsInstance p → bytes ≡ instance_text p.plan p.head p.lists → (other : Problem) → Reads InstanceText bytes other → other ≡ p
+only p bytes h is other read =
+    let texts : instance_text other.plan other.head other.lists ++ [] ≡ instance_text p.plan p.head p.lists ++ [] = ap (λ (text : List ℕ). text ++ []) (sym read.1.1 ∙ is) in
+    let same = text_once other.plan p.plan other.head p.head other.lists p.lists [] [] (has_text other read.1.0) (has_text p h) texts in
+    λ i. record { plan = same.0 i; head = same.1 i; lists = same.2 i }
+
+-- the text of the instance of a plan of a run
+pub planned : (net : Net) (arrivals : Amounts) (history node : List ℕ) (number round : ℕ) (bytes : List ℕ) (run : RunRecord) (plan : PlanRecord) → IsRunOf net (entering arrivals) history run
+    → Contains run.plans plan → plan.node ≡ number → plan.round ≡ round → number_of net.node_names node ≡ Some number
+    → IsInstance plan.instance → bytes ≡ instance_text plan.instance.plan plan.instance.head plan.instance.lists → IsLeast plan.instance plan.answer
+    → IsPlannedText net (entering arrivals) history node round bytes
+planned net arrivals history node number round bytes run plan runs among of_node of_round named lawful is least = record {
+  run = run;
+  runs = runs;
+  plan = plan;
+  among = among;
+  of_node = named ∙ ap Some (sym of_node);
+  of_round = of_round;
+  reads = reads plan.instance bytes lawful is;
+  only = only plan.instance bytes lawful is;
+  agrees = λ c same best. agree plan.instance c.answer plan.answer (subst (λ (p : Problem). IsLeast p c.answer) same (best-least c.problem c.answer best)) least;
+}
+
+-- so is what is written of it, where the run keeps what it must
+pub all_planned : {X E : Type 0} (text_of : X → List ℕ) (net : Net) (arrivals : Amounts) (history : List ℕ) (number round : ℕ) (run : RunRecord) (plan : PlanRecord) (result : Result X E) → IsRunOf net (entering arrivals) history run
+    → Contains run.plans plan → plan.node ≡ number → plan.round ≡ round → IsInstance plan.instance
+    → IfOk result (λ x. text_of x ≡ instance_text plan.instance.plan plan.instance.head plan.instance.lists)
+    → IfOk result (λ x. (node : List ℕ) → number_of net.node_names node ≡ Some number → IsPlannedText net (entering arrivals) history node round (text_of x))
+all_planned text_of net arrivals history number round run plan (Ok x) runs among of_node of_round lawful is = λ node named.
+    planned net arrivals history node number round (text_of x) run plan runs among of_node of_round named lawful is (All-contains (λ (p : PlanRecord). IsLeast p.instance p.answer) run.plans plan runs.kept.kept.least among)
+all_planned text_of net arrivals history number round run plan (Err e) runs among of_node of_round lawful is = tt
+
+-- every run that is kept is whole
+pub all_whole : {E : Type 0} (net : Net) (arrivals : Amounts) (history : List ℕ) (result : Result RunRecord E) → ((run : RunRecord) → IsRun net arrivals history run → IsWhole net run)
+    → IfOk result (IsKeptRun net arrivals history) → IfOk result (IsWhole net)
+all_whole net arrivals history (Ok run) whole kept = whole run kept.run
+all_whole net arrivals history (Err e) whole kept = tt
+
+-- a network has so many rounds and nodes that a run of it has few plans
+few_pairs : (rounds nodes : ℕ) → length (rounds_and_nodes rounds nodes) ≤ rounds * nodes
+few_pairs rounds nodes =
+    let row : ℕ → List (ℕ × ℕ) = λ round. map (λ node. (round, node)) (range_with_len 0 nodes) in
+    let each : (round : ℕ) → length (row round) ≡ nodes = λ round. length-map-range_with_len (λ (node : ℕ). let pair : ℕ × ℕ = (round, node) in pair) 0 nodes in
+    let listed : length (rounds_and_nodes rounds nodes) ≤ length (range_with_len 0 rounds) * nodes
+    = omega (arith, length-flat_map row (range_with_len 0 rounds), sum_by-le (λ round. length (row round)) nodes (range_with_len 0 rounds) (λ i d inside. omega (arith, each (get_or (range_with_len 0 rounds) i d)))) in
+    subst (λ n. length (rounds_and_nodes rounds nodes) ≤ n * nodes) (length-range_with_len 0 rounds) listed
+
+few_plans : (net : Net) (run : RunRecord) → IsNetwork net → IsWhole net run → length run.plans ≤ 38400
+few_plans net run network whole =
+    let pairs = few_pairs net.run.rounds (length net.node_names) in
+    let most : net.run.rounds * length net.node_names ≤ 600 * 64 = mul-le net.run.rounds (length net.node_names) 600 64 network.outline.run.rounds.1 network.outline.node_count.1 in
+    omega (arith, length-map {B = ℕ × ℕ} run.plans (λ (p : PlanRecord). (p.round, p.node)), ap length whole.plans, pairs, most)
+
+pub all_few : {E : Type 0} (net : Net) (result : Result RunRecord E) → IsNetwork net → IfOk result (IsWhole net) → IfOk result (λ run. length run.plans ≤ 38400)
+all_few net (Ok run) network whole = few_plans net run network whole
+all_few net (Err e) network whole = tt
+
+-- the summary of a run of the turn order on a grid
+pub all_summed : {X E : Type 0} (text_of : X → List ℕ) (number side rounds : ℕ) (net : Net) (arrivals : Amounts) (run : RunRecord) (result : Result X E) → IsGrid number side rounds net arrivals
+    → IsRunOf net (entering arrivals) (turn_order net) run → IfOk result (λ x. text_of x ≡ summary_text number side rounds run) → IfOk result (λ x. IsGridSummary number side rounds (text_of x))
+all_summed text_of number side rounds net arrivals run (Ok x) grid runs summary = record { net = net; arrivals = arrivals; grid = grid; run = run; runs = runs; summary = summary }
+all_summed text_of number side rounds net arrivals run (Err e) grid runs summary = tt

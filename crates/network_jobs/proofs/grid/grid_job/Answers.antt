@@ -1,0 +1,5 @@
+use Rattle.commands.proofs.Outcomes.{outcome}
+use Rattle.network_jobs.proofs.grid.grid_job.Goals as goal
+
+pub returns : goal.returns
+returns g c = λ shelf. outcome _ _ _ _ _ (c.made.ensures shelf) c.end.ensures

@@ -1,0 +1,77 @@
+//! The command `grid NUMBER SIDE ROUNDS`.
+ghost use Rattle.std.specs.Prelude.{◌≤◌, IfOk, length};
+ghost use Rattle.arrivals.specs.Amounts.{AreArrivals, entering};
+ghost use Rattle.histories.specs.Histories as histories;
+ghost use Rattle.outside_world.specs.Shelf.{ShelfState};
+ghost use Rattle.scenario_gen.specs.Grids.{AreRounds};
+ghost use Rattle.scenario_gen.specs.Layout.{IsSide};
+ghost use Rattle.commands.specs.Commands.{Grid};
+ghost use Rattle.commands.specs.Ending.{Makes};
+ghost use Rattle.commands.specs.Headline.{IsGridSummary, IsRunOf};
+ghost use Rattle.commands.specs.Outcome.{Outcome};
+
+use super::runs_kept::kept_run;
+use super::summary::summary;
+use arrivals::Arrivals;
+use command_texts::{Refusal, Status};
+use commands::{Made, end};
+use histories::turn_order;
+use outside_world::Sink;
+use road_net::Network;
+use runs::RunRecord;
+use scenario_gen::grid;
+use std::alloc::{AllocError, Global};
+
+// The run of the turn order.
+fn run_of_turns(alloc: Global, net: &Network, arrivals: &Arrivals) -> Result<RunRecord, AllocError>
+    requires { AreArrivals net.now arrivals.now }
+    ensures kept { IfOk result (IsRunOf net.now (entering arrivals.now) (histories.turn_order net.now)) }
+    ensures few { IfOk result (λ run. length run.plans ≤ 38400) }
+{
+    let history = turn_order(alloc, net)?;
+    kept_run(alloc, net, arrivals, &history)
+}
+
+// The summary of the run of the turn order on the grid of a number.
+fn summed_up(alloc: Global, number: u64, side: u32, rounds: u32) -> Result<Vec<u8>, AllocError>
+    requires side { IsSide side }
+    requires rounds { AreRounds rounds }
+    ensures { IfOk result (λ text. IsGridSummary number side rounds text.items) }
+{
+    let (network, arrivals) = grid(alloc, number, side, rounds)?;
+    let run = run_of_turns(alloc, &network, &arrivals)?;
+    summary(alloc, number, side, rounds, &run)
+}
+
+// The same, as what the command makes of no text, whatever the shelf is.
+fn made(alloc: Global, number: u64, side: u32, rounds: u32) -> Result<Made, Refusal>
+    requires side { IsSide side }
+    requires rounds { AreRounds rounds }
+    ensures { (shelf : ShelfState) → Makes (Grid number side rounds) shelf shelf result }
+{
+    let text = summed_up(alloc, number, side, rounds)?;
+    Ok(Made::Done(text))
+}
+
+/// The command `grid NUMBER SIDE ROUNDS`: writes the summary of the run of the turn order on the grid of a number, with 2 to 8
+/// nodes a side and for 1 to 600 rounds. It reads no text.
+///
+/// Each status has its cause, and each refusal writes its line to `err`, as `signal` says.
+///
+/// docs/FORMATS.md, "Words".
+pub fn grid_job<O: Sink, E: Sink>(
+    alloc: Global,
+    number: u64,
+    side: u32,
+    rounds: u32,
+    out: &mut O,
+    err: &mut E,
+) -> Status
+    requires side { IsSide side }
+    requires rounds { AreRounds rounds }
+    ensures { (shelf : ShelfState) → Outcome (Grid number side rounds)
+        (record { shelf = shelf; out = O.state out.old; err = E.state err.old })
+        (record { shelf = shelf; out = O.state out.new; err = E.state err.new }) result }
+{
+    end(alloc, made(alloc, number, side, rounds), out, err)
+}

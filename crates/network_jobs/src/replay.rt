@@ -1,0 +1,49 @@
+//! The command `replay NET ARR HIST`.
+ghost use Rattle.commands.specs.Commands.{Replay};
+ghost use Rattle.commands.specs.Ending.{Makes};
+ghost use Rattle.commands.specs.Outcome.{Outcome};
+
+use super::runs_kept::report;
+use command_texts::{Place, Refusal, Status, fetch_history, fetch_scene};
+use commands::{Made, end};
+use outside_world::{Shelf, Sink};
+use std::alloc::Global;
+
+// The report of the run of the history that the third file's text spells, with the network and the arrivals of the first two.
+fn reported<S: Shelf>(
+    alloc: Global,
+    shelf: &mut S,
+    net: &str,
+    arr: &str,
+    hist: &str,
+) -> Result<Made, Refusal>
+    ensures { Makes (Replay net.now arr.now hist.now) (S.state shelf.old) (S.state shelf.new) result }
+{
+    let scene = fetch_scene(alloc, shelf, net, arr)?;
+    let history = fetch_history(alloc, shelf, Place::Third, hist, &scene.network)?;
+    let text = report(alloc, &scene.network, &scene.arrivals, &history)?;
+    Ok(Made::Done(text))
+}
+
+/// The command `replay NET ARR HIST`: writes the report of the run of the history that the third file's text spells, with the
+/// network and the arrivals that the other two spell. In it all is kept that is promised of runs, whatever the order of the
+/// history's board steps.
+///
+/// Each status has its cause, and each refusal writes its line to `err`, as `signal` says.
+///
+/// docs/FORMATS.md, "Words".
+pub fn replay_job<S: Shelf, O: Sink, E: Sink>(
+    alloc: Global,
+    net: &str,
+    arr: &str,
+    hist: &str,
+    shelf: &mut S,
+    out: &mut O,
+    err: &mut E,
+) -> Status
+    ensures { Outcome (Replay net.now arr.now hist.now)
+        (record { shelf = S.state shelf.old; out = O.state out.old; err = E.state err.old })
+        (record { shelf = S.state shelf.new; out = O.state out.new; err = E.state err.new }) result }
+{
+    end(alloc, reported(alloc, shelf, net, arr, hist), out, err)
+}

@@ -1,0 +1,85 @@
+//! The summary of a run.
+ghost use Rattle.std.specs.Prelude.{◌≡◌, ◌≤◌, All, IfOk, length};
+ghost use Rattle.commands.specs.Summary as summary;
+ghost use Rattle.commands.specs.Summary.{is_no_plan, planned_delay, plans_none, planned_delays, summary_text};
+ghost use Rattle.schedule_meaning.specs.Best.{IsLeast};
+
+use intersection_actor::PlanRecord;
+use number_text::push_line;
+use runs::RunRecord;
+use schedule_meaning::Answer;
+use std::alloc::{AllocError, Global};
+
+/// The summary of a run on the grid of a number, with so many nodes a side and for so many rounds.
+pub fn summary(
+    alloc: Global,
+    number: u64,
+    side: u32,
+    rounds: u32,
+    run: &RunRecord,
+) -> Result<Vec<u8>, AllocError>
+    requires few { length run.now.plans ≤ 38400 }
+    requires least { All (λ plan. IsLeast plan.instance plan.answer) run.now.plans }
+    ensures { IfOk result (λ text. text.items ≡ summary_text number side rounds run.now) }
+{
+    let plans = run.plans.as_slice();
+    let totals = run.totals;
+    let mut text = Vec::new(alloc);
+    push_line(
+        &mut text,
+        b"grid",
+        &[number, u64::from(side), u64::from(rounds)],
+    )?;
+    push_line(&mut text, b"plans", &[plans.len() as u64])?;
+    push_line(&mut text, b"none", &[plans_none(plans)])?;
+    push_line(&mut text, b"delay", &[planned_delays(plans)])?;
+    push_line(
+        &mut text,
+        b"total",
+        &[totals.entered, totals.left, totals.on, totals.delay],
+    )?;
+    Ok(text)
+}
+
+// How many of these plans are none.
+fn plans_none(plans: &[PlanRecord]) -> u64
+    ensures { result ≡ summary.plans_none plans.now }
+{
+    plans.iter().filter(|plan| is_no_plan(&plan.answer)).count() as u64
+}
+
+// Whether an answer is no plan.
+fn is_no_plan(answer: &Answer) -> bool
+    ensures { result ≡ is_no_plan answer.now }
+{
+    match answer {
+        Answer::NoPlan => true,
+        Answer::Plan { .. } => false,
+    }
+}
+
+// The delays of these plans together.
+fn planned_delays(plans: &[PlanRecord]) -> u64
+    requires few { length plans.now ≤ 38400 }
+    requires least { All (λ plan. IsLeast plan.instance plan.answer) plans.now }
+    ensures { result ≡ summary.planned_delays plans.now }
+{
+    let mut delays = 0;
+    for plan in plans {
+        delays += planned_delay(plan);
+    }
+    delays
+}
+
+// The delay of a plan, which its instance bounds.
+fn planned_delay(plan: &PlanRecord) -> u64
+    requires { IsLeast plan.now.instance plan.now.answer }
+    ensures value { result ≡ planned_delay plan.now.answer }
+    ensures bound { result ≤ 2880000000000 }
+{
+    let _plan = plan.instance.plan();
+    match &plan.answer {
+        Answer::NoPlan => 0,
+        Answer::Plan { delay, .. } => *delay,
+    }
+}

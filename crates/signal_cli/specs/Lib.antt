@@ -1,9 +1,0 @@
-pub mod Answers
-pub mod Codes
-pub mod Commands
-pub mod Ending
-pub mod Limits
-pub mod Outcome
-pub mod Refusals
-pub mod Texts
-pub mod Verdicts
