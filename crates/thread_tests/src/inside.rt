@@ -11,9 +11,11 @@ use std::test::Fail;
 use std::thread;
 use std::thread::Threads;
 
-/// A node that reads looks out for the other one at most so many times so many times, and then goes on.
-const TURNS: u32 = 2_000;
+/// How many looks a node that reads takes at the other one's counter before it lets other threads run.
 const LOOKS: u32 = 100_000;
+
+/// How often it does so before it goes on: 200,000,000 looks in all.
+const TURNS: u32 = 2_000;
 
 /// A gate in which each node's reading looks out for that of the other node in the same round, while both hold a turn.
 #[derive(Drop)]
@@ -102,7 +104,10 @@ fn counted<R: Threads + Wait + Sync>(
     };
     let is_so = replays(rt, alloc, net, ONE, &gate)?;
     let counters = [&gate.first, &gate.second, &gate.missed, &gate.told];
-    Some((is_so, counters.map(|counter| counter.load(Ordering::SeqCst))))
+    Some((
+        is_so,
+        counters.map(|counter| counter.load(Ordering::SeqCst)),
+    ))
 }
 
 #[test]

@@ -75,11 +75,7 @@ fn calls_made(passes: &[Pass], each: u32) -> u64 {
 }
 
 /// The logs of the boards; where memory is refused, it asks once more.
-fn closed(
-    alloc: Global,
-    boards: Boards,
-    passes: Vec<Pass>,
-) -> Result<Vec<BoardLog>, AllocError>
+fn closed(alloc: Global, boards: Boards, passes: Vec<Pass>) -> Result<Vec<BoardLog>, AllocError>
     requires { AreAllPasses boards passes.items }
     ensures { IfOk result (λ logs. AreLogsOfPasses boards.links passes.items logs.items) }
 {
@@ -102,7 +98,16 @@ pub(crate) fn play<R: Threads + Wait + Sync, G: Gate + Sync>(
 {
     let each = calls_for(net);
     let (boards, mut passes) = Boards::new(alloc, net.links(), net.nodes(), each)?;
-    let run = ran(rt, alloc, net, arrivals, &boards, passes.as_mut_slice(), gate).ok();
+    let run = ran(
+        rt,
+        alloc,
+        net,
+        arrivals,
+        &boards,
+        passes.as_mut_slice(),
+        gate,
+    )
+    .ok();
     let made = calls_made(passes.as_slice(), each);
     let logs = closed(alloc, boards, passes)?;
     Ok(Played { run, logs, made })

@@ -1,4 +1,4 @@
-use Rattle.std.proofs.Common.{◌++◌, List, length, drop, subst, sym, ◌∙◌}
+use Rattle.std.proofs.Common.{List, subst, sym, ◌∙◌}
 use Rattle.board_rule.specs.Passes.{PassView, AreLogsOfPasses}
 use Rattle.net_threads.proofs.Joining.{put-back}
 use Rattle.thread_tests.proofs.Beginning.{told-if-ran}
