@@ -1,7 +1,6 @@
 -- The fields of a record.
-use Rattle.std.proofs.Common.{◌≡◌, ◌≢◌, ℕ, ◌<◌, List, [], ◌∷◌, length, Some, None, refl, sym, arith}
+use Rattle.std.proofs.Common.{◌≡◌, ◌≢◌, ℕ, List, [], ◌∷◌, length, Some, None, refl, arith}
 use Rattle.csv.specs.Records.{field_at}
-use Rattle.csv.proofs.RecordFacts.{field-there}
 use Rattle.delay_report.specs.Entries.{told_of}
 
 -- seven fields that were read one after another are all of them
@@ -28,7 +27,3 @@ told-none (x0 ∷ x1 ∷ x2 ∷ x3 ∷ x4 ∷ []) other = refl
 told-none (x0 ∷ x1 ∷ x2 ∷ x3 ∷ x4 ∷ x5 ∷ []) other = refl
 told-none (x0 ∷ x1 ∷ x2 ∷ x3 ∷ x4 ∷ x5 ∷ x6 ∷ []) other = absurd (other (omega arith))
 told-none (x0 ∷ x1 ∷ x2 ∷ x3 ∷ x4 ∷ x5 ∷ x6 ∷ x7 ∷ more) other = refl
-
--- a field that is not there
-pub field-missing : (fs : List (List ℕ)) (i : ℕ) → i < length fs → None ≡ field_at fs i → ⊥
-field-missing fs i h none = field-there fs i h (sym none)

@@ -9,6 +9,7 @@ ghost use Rattle.ended_runs.specs.Ending.{HasRoom, IsRecordOf, lines_in, first_o
 
 use control_flow::greens::Timeline;
 use foundation::items::Items;
+use foundation::threads::CrossesThreads;
 use intersection_actor::{Actor, PlanRecord};
 use net_simulator::{LinkTotals, World};
 use road_net::Network;
@@ -16,9 +17,11 @@ use runs::RunRecord;
 use std::alloc::{AllocError, Global};
 use std::collections::VecDeque;
 
-/// Room for the record of a run: it is taken before the first round.
+/// Room for the record of a run: it is taken before the first round, so that the record itself takes no memory.
+///
+/// docs/RULES.md, "Run".
 #[derive(Drop)]
-struct Room {
+pub struct Room {
     /// The plans of all rounds.
     plans: Vec<PlanRecord>,
     /// The plans of each node that are still to be moved there.
@@ -27,8 +30,14 @@ struct Room {
     links: Vec<LinkTotals>,
 }
 
+impl CrossesThreads for Room {}
+
 /// Takes room for the record of a run of a network.
-fn room_of(alloc: Global, net: &Network) -> Result<Room, AllocError>
+///
+/// An `Err` comes only where memory runs out.
+///
+/// docs/RULES.md, "Run".
+pub fn room_of(alloc: Global, net: &Network) -> Result<Room, AllocError>
     ensures { IfOk result (HasRoom net.now) }
 {
     let nodes = net.nodes() as usize;
@@ -44,28 +53,11 @@ fn room_of(alloc: Global, net: &Network) -> Result<Room, AllocError>
     })
 }
 
-/// The record of actors and a world behind the last round: the plans of all nodes, round by round, the line of each, and what was
-/// counted.
-///
-/// An `Err` comes only where memory runs out.
+/// The record of actors and a world behind the last round, moved into the room that was taken for it: the plans of all nodes, round
+/// by round, the line of each, and what was counted. It takes no memory.
 ///
 /// docs/RULES.md, "Run".
-pub fn record_of(
-    alloc: Global,
-    net: &Network,
-    actors: Vec<Actor>,
-    world: &World,
-) -> Result<RunRecord, AllocError>
-    requires actors { length actors.items ≡ length net.now.node_names }
-    requires counts { length world.now.counts ≡ length net.now.link_names }
-    ensures { IfOk result (IsRecordOf net.now actors.items world.now) }
-{
-    let room = room_of(alloc, net)?;
-    Ok(recorded(net, actors, world, room))
-}
-
-/// The record, moved into the room that was taken for it.
-fn recorded(net: &Network, actors: Vec<Actor>, world: &World, room: Room) -> RunRecord
+pub fn record_of(net: &Network, actors: Vec<Actor>, world: &World, room: Room) -> RunRecord
     requires actors { length actors.items ≡ length net.now.node_names }
     requires counts { length world.now.counts ≡ length net.now.link_names }
     requires room { HasRoom net.now room }

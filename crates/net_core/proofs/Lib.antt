@@ -3,7 +3,6 @@ pub mod Over
 pub mod Playing
 pub mod Prefixes
 pub mod Put
-pub mod Queues
 pub mod Rounds
 pub mod Running
 pub mod Standing

@@ -17,17 +17,15 @@ use Rattle.intersection_actor.specs.Rounds.{IsCommitted, IsOf, KeepsPast}
 use Rattle.intersection_actor.specs.declared.records.PlanRecord.{PlanRecord}
 use Rattle.net_numbers.specs.Numbers.{Net}
 use Rattle.net_numbers.specs.Outline.{link_at}
-use Rattle.net_numbers.specs.declared.roads.Link.{Link}
-use Rattle.road_net.specs.Joins as joins
-use Rattle.road_net.specs.Joins.{links_of_node, node_at}
-use Rattle.road_net.proofs.AtSide.{links_of_node-are}
 use Rattle.road_net.specs.Network.{IsNetwork, exit_links, heard_links, told_links}
 use Rattle.road_net.specs.declared.senses.Sensed.{Sensed}
 use Rattle.runs.specs.Runs.{Commits, line_before, sensed_in}
 use Rattle.runs.proofs.Agree.{SameBefore, commit-moved, commits-moved, lines-same, sensed-same}
-use Rattle.runs.proofs.Past.{map-range-same}
+use Rattle.runs.proofs.Heard.{have-at, rise-at}
 use Rattle.runs.proofs.PlanLaws.{used-links}
-use Rattle.net_core.specs.Going.{Hears, Plays, Rests, Tells, records_of, telling_first}
+use Rattle.round_calls.specs.Resting.{Rests, records_of}
+use Rattle.round_calls.proofs.Resting.{records-same}
+use Rattle.net_core.specs.Going.{Listens, Plays, Tells, telling_first}
 use Rattle.net_core.proofs.Put.{put, put-here, put-round}
 
 -- the first of some links from a number on
@@ -37,28 +35,28 @@ find-from v [] (suc j) low high = refl
 find-from v (x ∷ xs) zero low high = ap (λ b. telling (cond b (Some x) (find (λ k. nat_le v k) xs))) (le-leb v x (high 0 (omega arith) (omega arith)))
 find-from v (x ∷ xs) (suc j) low high = ap (λ b. telling (cond b (Some x) (find (λ k. nat_le v k) xs))) (lt-leb v x (low 0 (omega arith) (omega arith))) ∙ find-from v xs j (λ i less inside. low (suc i) (omega arith) (omega arith)) (λ i more inside. high (suc i) (omega arith) (omega arith))
 
-records-same : (heard seen : ℕ → ℕ → List Heard) (made other : ℕ → ℕ → Commitment) (n r : ℕ) → ((s : ℕ) → s < r → heard s n ≡ seen s n) → ((s : ℕ) → s < r → made s n ≡ other s n) → records_of heard made n r ≡ records_of seen other n r
-records-same heard seen made other n r h m = map-range-same (λ s. record_of n s (heard s n) (made s n)) (λ s. record_of n s (seen s n) (other s n)) 0 r (λ s least less. ap (λ (x : List Heard). record_of n s x (made s n)) (h s (omega arith)) ∙ ap (record_of n s (seen s n)) (m s (omega arith)))
-
 module _ (net : Net) (network : IsNetwork net) (arrivals : Amounts) (heard seen : ℕ → ℕ → List Heard) (made other : ℕ → ℕ → Commitment) (round n : ℕ) (below : n < length net.node_names)
     (before : SameBefore net network arrivals made other round) (h : (s : ℕ) → s ≤ round → heard s n ≡ seen s n) (m : (s : ℕ) → s ≤ round → made s n ≡ other s n) where
+  listens-moved : {c : ℕ} {a : Acting} → Listens net arrivals heard made round c n a → Listens net arrivals seen other round c n a
+  listens-moved x = record {
+    node_is = x.node_is;
+    round_is = x.round_is;
+    sensed = x.sensed ∙ sensed-same net network arrivals made other round n before;
+    so_far = x.so_far ∙ h round (omega arith);
+    count = x.count;
+    left = x.left;
+    want = x.want;
+    line = x.line ∙ lines-same net network arrivals made other round n before below;
+    records = x.records ∙ records-same heard seen made other n round (λ s less. h s (omega arith)) (λ s less. m s (omega arith));
+  }
+
   -- a node that others leave alone
   pub plays-moved : (c : ℕ) (a : Acting) → Plays net arrivals heard made round c n a → Plays net arrivals seen other round c n a
   plays-moved c a plays = record {
     node_is = plays.node_is;
     of = plays.of;
     stage = elim plays.stage [
-      | inl x ↦ inl (record {
-        more = x.more;
-        round_is = x.round_is;
-        sensed = x.sensed ∙ sensed-same net network arrivals made other round n before;
-        so_far = x.so_far ∙ h round (omega arith);
-        count = x.count;
-        left = x.left;
-        want = x.want;
-        line = x.line ∙ lines-same net network arrivals made other round n before below;
-        records = x.records ∙ records-same heard seen made other n round (λ s less. h s (omega arith)) (λ s less. m s (omega arith));
-      })
+      | inl x ↦ inl (record { more = x.more; listens = listens-moved x.listens })
       | inr x ↦ inr (record {
         enough = x.enough;
         commits = commits-moved net network arrivals made other heard seen round n before below (h round (omega arith)) (m round (omega arith)) x.commits;
@@ -74,32 +72,20 @@ module _ (net : Net) (network : IsNetwork net) (arrivals : Amounts) (heard seen 
     ];
   }
 
--- a node that has heard all of this in its round, so many readings, and has yet to commit where these are all
-pub record Listens (net : Net) (arrivals : Amounts) (heard : ℕ → ℕ → List Heard) (made : ℕ → ℕ → Commitment) (round done node : ℕ) (a : Acting) : Type 0 where
-  pub node_is : a.node ≡ node
-  pub round_is : a.round ≡ round
-  pub sensed : a.sensed ≡ sensed_in net arrivals made round node
-  pub so_far : a.heard ≡ heard round node
-  pub count : length a.heard ≡ done
-  pub left : a.left ≡ drop done (heard_links net node)
-  pub want : a.want ≡ reading (drop done (heard_links net node))
-  pub line : a.line ≡ line_before net made round node
-  pub records : a.records ≡ records_of heard made node round
-
 module _ (net : Net) (network : IsNetwork net) (arrivals : Amounts) (heard : ℕ → ℕ → List Heard) (made : ℕ → ℕ → Commitment) (round n : ℕ) (below : n < length net.node_names) where
   pub listens-on : (c : ℕ) (a : Acting) → IsOf net a → Listens net arrivals heard made round c n a → c < length (heard_links net n) → Plays net arrivals heard made round c n a
   listens-on c a of x more = record {
     node_is = x.node_is;
     of = of;
-    stage = inl (record { more = more; round_is = x.round_is; sensed = x.sensed; so_far = x.so_far; count = x.count; left = x.left; want = x.want; line = x.line; records = x.records });
+    stage = inl (record { more = more; listens = x });
   }
 
   -- one reading more
-  pub took : (c : ℕ) (a : Acting) (h : Heard) → a.node ≡ n → Hears net arrivals heard made round c n a → Listens net arrivals (put heard round n (heard round n ++ h ∷ [])) made round (c + 1) n (with_heard h a)
-  took c a h node x =
+  pub took : (c : ℕ) (a : Acting) (h : Heard) → Listens net arrivals heard made round c n a → Listens net arrivals (put heard round n (heard round n ++ h ∷ [])) made round (c + 1) n (with_heard h a)
+  took c a h x =
       let left : drop 1 a.left ≡ drop (c + 1) (heard_links net n) = ap (drop 1) x.left ∙ drop-drop 1 c (heard_links net n) in
       record {
-        node_is = node;
+        node_is = x.node_is;
         round_is = x.round_is;
         sensed = x.sensed;
         so_far = ap (λ l. l ++ h ∷ []) x.so_far ∙ sym (put-here heard round n (heard round n ++ h ∷ []));
@@ -170,12 +156,6 @@ pub record TellsTo (net : Net) (n link : ℕ) : Type 0 where
   pub exists : link < length net.links
   pub from : (link_at net link).from ≡ Some n
   pub to : (link_at net link).to ≡ Some hearer
-
-rise-at : (side : _) (links : List Link) (n : ℕ) → IsStrictlyIncreasing (links_of_node side links n)
-rise-at side links n = (links_of_node-are side n links).rising
-
-have-at : (side : _) (links : List Link) (n : ℕ) → All (λ l. (l < length links) × (node_at side (joins.link_at links l) ≡ Some n)) (links_of_node side links n)
-have-at side links n = (links_of_node-are side n links).have
 
 exit-rise : (net : Net) (n : ℕ) → IsStrictlyIncreasing (exit_links net n)
 exit-rise net n = search (rise-at)

@@ -1,9 +1,7 @@
 -- A round begins, node by node, and ends.
-use Rattle.std.proofs.Common.{◌≡◌, ℕ, ◌+◌, ◌*◌, ◌<◌, ◌≤◌, List, [], ◌∷◌, length, get_or, set, refl, sym, ap, subst, ◌∙◌, inl, inr, arith, append-nil, length-set, get_or-set_same, get_or-set_other}
+use Rattle.std.proofs.Common.{◌≡◌, ℕ, ◌+◌, ◌<◌, ◌≤◌, List, [], ◌∷◌, length, get_or, set, refl, sym, ap, subst, ◌∙◌, inl, inr, arith, append-nil, length-set, get_or-set_same, get_or-set_other}
 use Rattle.std.proofs.lemmas.Bool.{cases_eq}
-use Rattle.std.proofs.lemmas.Nat.{div_below}
 use Rattle.arrivals.specs.Amounts.{Amounts, AreArrivals}
-use Rattle.board_model.specs.declared.boards.Heard.{Heard}
 use Rattle.control_flow.specs.declared.greens.Green.{Green}
 use Rattle.intersection_actor.specs.Acting.{Acting, begun, reading}
 use Rattle.intersection_actor.specs.Commits.{Commitment}
@@ -11,44 +9,27 @@ use Rattle.intersection_actor.specs.Rounds.{IsCommitted, IsOf, KeepsPast}
 use Rattle.intersection_actor.specs.declared.records.Want.TheVariants.{Commit}
 use Rattle.net_numbers.specs.Numbers.{Net}
 use Rattle.net_simulator.specs.Arriving.{arriving_of}
-use Rattle.net_simulator.specs.Flow.{Passed, past_of}
+use Rattle.net_simulator.specs.Flow.{past_of}
 use Rattle.net_simulator.specs.Senses.{sense}
 use Rattle.net_simulator.specs.Worlds.{IsWorldOf, Kept, Stands, standing_by}
 use Rattle.road_net.specs.Network.{IsNetwork, heard_links}
-use Rattle.runs.specs.Runs.{AllCommit, line_before, sensed_in, shown_by}
+use Rattle.runs.specs.Runs.{line_before}
 use Rattle.runs.proofs.Agree.{SameBefore}
-use Rattle.runs.proofs.Keep.{all-keep}
-use Rattle.runs.proofs.Lines.{shows}
-use Rattle.runs.proofs.Past.{past-at-nodes}
+use Rattle.round_calls.specs.Resting.{Rests}
+use Rattle.round_calls.proofs.Resting.{before-stands, sense-is}
 use Rattle.net_core.specs.Acts.{Settles}
-use Rattle.net_core.specs.Going.{Begins, Between, InRound, IsRunning, Plays, Rests}
+use Rattle.net_core.specs.Going.{Begins, Between, InRound, Listens, Plays}
 use Rattle.net_core.specs.declared.parts.Board.{Board}
-use Rattle.net_core.proofs.Playing.{Listens, commits-on, listens-on, plays-moved, rests-moved}
+use Rattle.net_core.proofs.Playing.{commits-on, listens-on, plays-moved, rests-moved}
 use Rattle.net_core.proofs.Prefixes.{Begun}
 use Rattle.net_core.proofs.Put.{put, put-node, put-round}
-use Rattle.net_core.proofs.Running.{commit-on, stands-same}
+use Rattle.net_core.proofs.Running.{commit-on}
 
 module _ (net : Net) (network : IsNetwork net) (arrivals : Amounts) (history : List ℕ) (round : ℕ) (boards : List Board) (world : Kept) where
-  -- the lines before a round show what the world moved by
-  before-shows : (heard : ℕ → ℕ → List Heard) (made : ℕ → ℕ → Commitment) → round ≤ net.run.rounds → AllCommit net arrivals heard made round → (x node : ℕ) → x < round * net.run.step → node < length net.node_names
-      → shown_by net made x node ≡ standing_by (line_before net made round) x node
-  before-shows heard made most commits x node less below = sym (shows net network made round (all-keep net network arrivals heard made round most commits) round (omega arith) x node below (div_below x net.run.step round network.outline.run.step.0 less))
-
-  before-stands : (heard : ℕ → ℕ → List Heard) (made : ℕ → ℕ → Commitment) → round ≤ net.run.rounds → IsRunning net arrivals heard made history round boards world → Stands net (arriving_of arrivals) (standing_by (line_before net made round)) world
-  before-stands heard made most is = stands-same net network (arriving_of arrivals) (shown_by net made) (standing_by (line_before net made round)) world
-      (λ x node less below. before-shows heard made most is.commits x node (omega (arith, is.second)) below) is.stands
-
-  -- what a node senses of such a world
-  sense-is : (heard : ℕ → ℕ → List Heard) (made : ℕ → ℕ → Commitment) → round ≤ net.run.rounds → IsRunning net arrivals heard made history round boards world → (n : ℕ)
-      → sense net (past_of net (arriving_of arrivals) (standing_by (line_before net made round)) world.second) world.second n ≡ sensed_in net arrivals made round n
-  sense-is heard made most is n =
-      ap (λ s. sense net (past_of net (arriving_of arrivals) (standing_by (line_before net made round)) s) s n) is.second
-      ∙ ap (λ (p : ℕ → ℕ → Passed). sense net p (round * net.run.step) n) (past-at-nodes net network (arriving_of arrivals) (standing_by (line_before net made round)) (shown_by net made) (round * net.run.step) (λ x node less below. sym (before-shows heard made most is.commits x node less below)))
-
   -- a node begins the round
   module _ (actors : List Acting) (i : ℕ) (inside : i < length net.node_names) (b : Begins net arrivals history round actors boards world i) where
     pub begin-world : AreArrivals net arrivals → IsWorldOf net world
-    begin-world enter = record { arrivals = arrivals; lines = line_before net b.made round; enter = enter; stands = before-stands b.heard b.made (let less = b.below in omega arith) b.running }
+    begin-world enter = record { arrivals = arrivals; lines = line_before net b.made round; enter = enter; stands = before-stands net network arrivals round b.heard b.made (let less = b.below in omega arith) b.running.commits world b.running.second b.running.stands }
 
     pub begin-rests : (d : Acting) → Rests net b.heard b.made round i (get_or actors i d)
     begin-rests d = b.rests i d (omega arith) inside
@@ -57,7 +38,7 @@ module _ (net : Net) (network : IsNetwork net) (arrivals : Amounts) (history : L
     lines = line_before net b.made round
 
     pub begin-stands : Stands net (arriving_of arrivals) (standing_by lines) world
-    begin-stands = before-stands b.heard b.made (let less = b.below in omega arith) b.running
+    begin-stands = before-stands net network arrivals round b.heard b.made (let less = b.below in omega arith) b.running.commits world b.running.second b.running.stands
 
     abbrev begun-way : Begun net network round history
     begun-way = record { early = history; part = []; whole = sym (append-nil history); rounds_done = b.rounds_done; within = λ n. omega arith; most = (let less = b.below in omega arith); over = λ e. refl }
@@ -75,7 +56,7 @@ module _ (net : Net) (network : IsNetwork net) (arrivals : Amounts) (history : L
       listens L e = record {
         node_is = rests.node_is;
         round_is = refl;
-        sensed = sense-is b.heard b.made (let less = b.below in omega arith) b.running i;
+        sensed = sense-is net network arrivals round b.heard b.made (let less = b.below in omega arith) b.running.commits world b.running.second i;
         so_far = sym (b.fresh round i (omega arith));
         count = refl;
         left = ap (heard_links net) rests.node_is;

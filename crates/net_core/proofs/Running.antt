@@ -18,31 +18,16 @@ use Rattle.intersection_actor.specs.Commits.{Commitment}
 use Rattle.net_numbers.specs.Numbers.{Net}
 use Rattle.net_numbers.specs.Outline.{link_at}
 use Rattle.net_simulator.specs.Arriving.{arriving_of}
-use Rattle.net_simulator.specs.Flow.{Passed, past_of}
-use Rattle.net_simulator.specs.Sums.{link_totals, totals}
-use Rattle.net_simulator.specs.Worlds.{Keeps, Kept, Stands}
+use Rattle.net_simulator.specs.Worlds.{Kept}
 use Rattle.road_net.specs.Network.{IsNetwork, heard_links}
 use Rattle.runs.specs.Runs.{HearAlong, forecast_at, hearing, shown_by, told_in}
 use Rattle.runs.proofs.Agree.{SameBefore, commits-moved}
-use Rattle.runs.proofs.Past.{past-at-nodes}
 use Rattle.runs.proofs.Places.{first-small, read-step}
+use Rattle.round_calls.proofs.Resting.{stands-same}
 use Rattle.net_core.specs.Going.{IsRunning}
 use Rattle.net_core.specs.declared.parts.Board.{Board}
 use Rattle.net_core.proofs.Prefixes.{Begun, ends-at, last-node, last-version, not-yet, now-published, own-round, own-step, round-front, step-front, version-front}
 use Rattle.net_core.proofs.Put.{put, put-here, put-node, put-round}
-
--- a world counts what is shown only at the nodes of the network, and before its second
-pub stands-same : (net : Net) → IsNetwork net → (arriving : ℕ → ℕ → ℕ) (shown seen : ℕ → ℕ → Option (ℕ × ℕ)) (w : Kept)
-    → ((x node : ℕ) → x < w.second → node < length net.node_names → shown x node ≡ seen x node) → Stands net arriving shown w → Stands net arriving seen w
-stands-same net network arriving shown seen w same s =
-    let e : past_of net arriving shown w.second ≡ past_of net arriving seen w.second = past-at-nodes net network arriving shown seen w.second same in
-    record {
-      shape = s.shape;
-      by = s.by;
-      keeps = subst (λ (p : ℕ → ℕ → Passed). Keeps net p w.queues w.recent w.waits w.second) e s.keeps;
-      counts = λ l below. s.counts l below ∙ ap (λ (p : ℕ → ℕ → Passed). link_totals net p w.second l) e;
-      totals = s.totals ∙ ap (λ (p : ℕ → ℕ → Passed). totals net arriving p w.second) e;
-    }
 
 contains-moved : (heard : ℕ → ℕ → List Heard) (r s m n : ℕ) (x y : Heard) → r ≡ s → m ≡ n → x ≡ y → Contains (heard r m) x → Contains (heard s n) y
 contains-moved heard r s m n x y e f g c = subst (Contains (heard s n)) g (subst (λ k. Contains (heard s k) x) f (subst (λ k. Contains (heard k m) x) e c))

@@ -23,8 +23,10 @@ use Rattle.outflow.specs.Outflow.{departures, forecast_of}
 use Rattle.road_net.specs.Network.{IsNetwork, heard_links, told_links}
 use Rattle.runs.specs.Runs.{line_before}
 use Rattle.runs.proofs.Heard.{heard-ends}
+use Rattle.round_calls.specs.Resting.{Rests, lines_of}
+use Rattle.round_calls.proofs.Resting.{no_acting}
 use Rattle.net_core.specs.Acts.{Settles}
-use Rattle.net_core.specs.Going.{AllDone, AreBeginning, AreInRound, Begins, Between, InRound, Plays, Rests, Wants, lines_of, telling_first}
+use Rattle.net_core.specs.Going.{AllDone, AreBeginning, AreInRound, Begins, Between, InRound, Plays, Wants, telling_first}
 use Rattle.net_core.specs.declared.parts.Board.{Board}
 use Rattle.net_core.specs.declared.parts.Parts.{Parts}
 use Rattle.net_core.proofs.Playing.{told-ends}
@@ -35,10 +37,6 @@ use Rattle.net_core.proofs.Steps.{over-before, read-next, reading-next, round-ov
 -- an element, whatever the default
 pub at-any : {X : Type 0} (xs : List X) (n : ℕ) (x : X) → n < length xs → x ≡ get_or xs n x → (d : X) → get_or xs n d ≡ x
 at-any xs n x inside is d = get_or_default xs n d x inside ∙ sym is
-
--- some actor, to read a list by
-abbrev pub no_acting : Acting
-no_acting = record { node = 0; line = []; records = []; want = Done; round = 0; left = []; sensed = record { now = 0; links = [] }; heard = []; window = record { lists = []; waiting = 0 }; phases = []; served = [] }
 
 on-three : {E A B C D : Type 0} (r : Result (Unit {0}) E) → (A → B → C → D) → OnOk r A → OnOk r B → OnOk r C → OnOk r D
 on-three (Ok u) f a b c = f a b c
@@ -115,7 +113,7 @@ module _ (net : Net) (network : IsNetwork net) (arrivals : Amounts) (p : Parts) 
       -- it is not about to commit
       pub no-commit : (old : Acting) → old ≡ get_or p.actors.all.items n old → old.want ≡ Commit → ⊥
       no-commit old is want = elim (plays-at old is).stage [
-        | inl x ↦ (let e : Read (get_or (heard_links net n) c 0) ≡ Commit = sym (reading-next (heard_links net n) c x.more) ∙ sym x.want ∙ want in cc)
+        | inl x ↦ (let e : Read (get_or (heard_links net n) c 0) ≡ Commit = sym (reading-next (heard_links net n) c x.more) ∙ sym x.listens.want ∙ want in cc)
         | inr x ↦ not-commit (drop (c - length (heard_links net n)) (told_links net n)) (sym x.want ∙ want)
       ]
 
@@ -123,7 +121,7 @@ module _ (net : Net) (network : IsNetwork net) (arrivals : Amounts) (p : Parts) 
       read-there link wants = elim (i.plays n no_acting below).stage [
         | inr x ↦ absurd (not-read link (drop (c - length (heard_links net n)) (told_links net n)) (sym x.want ∙ wants no_acting))
         | inl x ↦
-            let e : Read (get_or (heard_links net n) c 0) ≡ Read link = sym (reading-next (heard_links net n) c x.more) ∙ sym x.want ∙ wants no_acting in
+            let e : Read (get_or (heard_links net n) c 0) ≡ Read link = sym (reading-next (heard_links net n) c x.more) ∙ sym x.listens.want ∙ wants no_acting in
             let same : get_or (heard_links net n) c 0 ≡ link = cc in
             let there = (heard-ends net n c network x.more).exists in
             omega (arith, same, there, network.outline.road_count, i.running.boards_are.all)
@@ -139,7 +137,7 @@ module _ (net : Net) (network : IsNetwork net) (arrivals : Amounts) (p : Parts) 
       -- it publishes the version of the round
       pub tell-there : (link : ℕ) → Wants p n (Publish link) → (link < length p.boards.items) × ((b : Board) → b ≡ get_or p.boards.items link b → b.version < 1000)
       tell-there link wants = elim (i.plays n no_acting below).stage [
-        | inl x ↦ absurd (let e : Read (get_or (heard_links net n) c 0) ≡ Publish link = sym (reading-next (heard_links net n) c x.more) ∙ sym x.want ∙ wants no_acting in cc)
+        | inl x ↦ absurd (let e : Read (get_or (heard_links net n) c 0) ≡ Publish link = sym (reading-next (heard_links net n) c x.more) ∙ sym x.listens.want ∙ wants no_acting in cc)
         | inr x ↦ elim (cases_lt (c - length (heard_links net n)) (length (told_links net n))) [
           | inr past ↦ absurd (let e : Done ≡ Publish link = sym (telling-none (told_links net n) (c - length (heard_links net n)) past) ∙ sym x.want ∙ wants no_acting in cc)
           | inl inside ↦

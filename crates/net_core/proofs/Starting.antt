@@ -1,14 +1,11 @@
 -- The parts of a core before the first round.
-use Rattle.std.proofs.Common.{◌≡◌, ℕ, ◌+◌, ◌*◌, ◌<◌, List, [], ◌∷◌, ◌++◌, Option, Some, None, false, length, get_or, refl, sym, ap, subst, ◌∙◌, inl, inr, arith}
+use Rattle.std.proofs.Common.{◌≡◌, ℕ, ◌+◌, ◌<◌, List, [], ◌∷◌, ◌++◌, Option, Some, None, length, get_or, refl, sym, ap, ◌∙◌, inl, inr, arith}
 use Rattle.std.proofs.lemmas.Bool.{cases_lt}
 use Rattle.std.proofs.lemmas.List.{get_or_append_left, get_or_push, get_or_past, length_push}
 use Rattle.arrivals.specs.Amounts.{Amounts}
-use Rattle.control_flow.specs.Greens.{end_of}
 use Rattle.histories.specs.Histories.{version_at}
 use Rattle.histories.specs.Steps.{board_steps}
 use Rattle.intersection_actor.specs.Acting.{Acting}
-use Rattle.intersection_actor.specs.Commits.{Commitment}
-use Rattle.intersection_actor.specs.Rounds.{IsNew, IsOf}
 use Rattle.net_numbers.specs.Numbers.{Net, no_link}
 use Rattle.net_numbers.specs.Outline.{link_at}
 use Rattle.net_numbers.specs.declared.roads.Link.{Link}
@@ -16,22 +13,10 @@ use Rattle.net_simulator.specs.Arriving.{arriving_of}
 use Rattle.net_simulator.specs.Worlds.{Kept, Stands}
 use Rattle.road_net.specs.Network.{IsNetwork}
 use Rattle.runs.specs.Runs.{forecast_at, shown_by}
-use Rattle.schedule_meaning.specs.declared.planners.Answer.TheVariants.{NoPlan}
-use Rattle.net_core.specs.Going.{AreBlank, AreNew, Between}
+use Rattle.round_calls.specs.Resting.{AreNew}
+use Rattle.round_calls.proofs.Resting.{new-rest, no_commitment, zero-times}
+use Rattle.net_core.specs.Going.{AreBlank, Between}
 use Rattle.net_core.specs.declared.parts.Board.{Board}
-
--- some commit; none is made before the first round
-abbrev no_commitment : Commitment
-no_commitment = record {
-  head = record { phase = 0; since = 0; at = 0; fresh = false };
-  platoons = [];
-  window = record { lists = []; waiting = 0 };
-  problem = record { plan = []; head = record { phase = 0; since = 0; at = 0; fresh = false }; lists = [] };
-  answer = NoPlan;
-  served = [];
-  next = [];
-  line = [];
-}
 
 -- a link that ends at a node exists
 link-there : (net : Net) (l t : ℕ) → (link_at net l).to ≡ Some t → l < length net.links
@@ -39,9 +24,6 @@ link-there net l t to = elim (cases_lt l (length net.links)) [
   | inl inside ↦ inside
   | inr past ↦ absurd (let e : None ≡ Some t = sym (ap (λ (k : Link). k.to) (get_or_past net.links l no_link past)) ∙ to in cc)
 ]
-
-zero-times : (s : ℕ) → 0 ≡ 0 * s
-zero-times s = omega arith
 
 pub at-first : (net : Net) → IsNetwork net → (arrivals : Amounts) (history : List ℕ) (actors : List Acting) (boards : List Board) (world : Kept) → history ≡ [] → AreNew net (length net.node_names) actors → AreBlank (length net.link_names) boards
     → world.second ≡ 0 → ((arriving : ℕ → ℕ → ℕ) (shown : ℕ → ℕ → Option (ℕ × ℕ)) → Stands net arriving shown world) → Between net arrivals history 0 actors boards world
@@ -63,16 +45,7 @@ at-first net network arrivals history actors boards world none new blank second 
   };
   all = new.all;
   fresh = λ later n most. refl;
-  rests = λ n d below.
-      let is = new.new n d below in
-      record {
-        node_is = is.node;
-        of = new.of n d below;
-        want = is.want;
-        line = is.line;
-        ahead = (let P : ℕ → Type 0 = λ z. z < end_of (get_or actors n d).line in subst P (zero-times net.run.step) is.ahead);
-        records = is.records;
-      };
+  rests = λ n d below. new-rest net (λ r m. []) (λ r m. no_commitment) actors (length net.node_names) n d new below;
 }
   where
     there : (link t : ℕ) → (link_at net link).to ≡ Some t → link < length net.link_names
@@ -84,23 +57,7 @@ at-first net network arrivals history actors boards world none new blank second 
     no-forecast : (link : ℕ) → forecast_at net (λ r n. no_commitment) link (version_at (board_steps net) history link (length history)) ≡ []
     no-forecast link = ap (forecast_at net (λ r n. no_commitment) link) (no-version link)
 
--- one more actor, and one more board
-pub new-none : (net : Net) (actors : List Acting) → actors ≡ [] → AreNew net 0 actors
-new-none net actors none = record { all = ap length none; new = λ k d less. absurd (omega arith); of = λ k d less. absurd (omega arith) }
-
-pub new-more : (net : Net) (n : ℕ) (actors : List Acting) (a : Acting) → AreNew net n actors → IsNew net n a → IsOf net a → AreNew net (n + 1) (actors ++ a ∷ [])
-new-more net n actors a were new of = record {
-  all = length_push actors a ∙ ap (λ k. k + 1) were.all;
-  new = λ k d less. elim (cases_lt k n) [
-    | inl before ↦ subst (IsNew net k) (sym (get_or_append_left actors (a ∷ []) d k (omega (arith, were.all)))) (were.new k d before)
-    | inr at ↦ (let e : k ≡ n = omega arith in subst (λ m. IsNew net m (get_or (actors ++ a ∷ []) m d)) (sym e) (subst (IsNew net n) (sym (get_or_push actors a d n were.all)) new))
-  ];
-  of = λ k d less. elim (cases_lt k n) [
-    | inl before ↦ subst (IsOf net) (sym (get_or_append_left actors (a ∷ []) d k (omega (arith, were.all)))) (were.of k d before)
-    | inr at ↦ (let e : k ≡ n = omega arith in subst (λ m. IsOf net (get_or (actors ++ a ∷ []) m d)) (sym e) (subst (IsOf net) (sym (get_or_push actors a d n were.all)) of))
-  ];
-}
-
+-- one more board
 pub blank-none : (boards : List Board) → boards ≡ [] → AreBlank 0 boards
 blank-none boards none = record { all = ap length none; versions = λ k d less. absurd (omega arith); forecasts = λ k d less. absurd (omega arith) }
 

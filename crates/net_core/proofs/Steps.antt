@@ -2,7 +2,6 @@
 use Rattle.std.proofs.Common.{◌≡◌, ℕ, suc, ◌+◌, ◌-◌, ◌*◌, ◌<◌, ◌≤◌, Bool, true, false, List, [], ◌∷◌, ◌++◌, length, map, drop, get_or, set, refl, sym, ap, subst, ◌∙◌, inl, inr, arith, append_assoc, length-set, get_or-set_same, get_or-set_other}
 use Rattle.std.proofs.lemmas.Bool.{cases_eq, cases_lt}
 use Rattle.std.proofs.lemmas.List.{drop_all, drop_more, get_or-append_right, get_or-map, length-map, length-drop}
-use Rattle.std.proofs.lemmas.Nat.{div_below}
 use Rattle.arrivals.specs.Amounts.{Amounts}
 use Rattle.board_model.specs.declared.boards.Heard.{Heard}
 use Rattle.board_model.specs.declared.forecasts.Row.{Row}
@@ -29,16 +28,16 @@ use Rattle.switch_rules.specs.declared.Served.{Served}
 use Rattle.runs.specs.Runs.{AllCommit, Commits, forecast_at, hearing, line_before, shown_by, told_in}
 use Rattle.runs.proofs.Agree.{SameBefore}
 use Rattle.runs.proofs.Heard.{heard-ends}
-use Rattle.runs.proofs.Keep.{all-keep}
-use Rattle.runs.proofs.Lines.{shows}
 use Rattle.runs.proofs.Places.{first-small}
+use Rattle.round_calls.specs.Resting.{lines_of}
+use Rattle.round_calls.proofs.Resting.{before-shows, stands-same}
 use Rattle.net_core.specs.Acts.{Settles}
-use Rattle.net_core.specs.Going.{AllDone, Between, Hears, InRound, IsRunning, Plays, Tells, lines_of, telling_first}
+use Rattle.net_core.specs.Going.{AllDone, Between, Hears, InRound, IsRunning, Listens, Plays, Tells, telling_first}
 use Rattle.net_core.specs.declared.parts.Board.{Board}
-use Rattle.net_core.proofs.Playing.{Listens, commits-on, listens-on, plays-moved, tells-on, told-ends, took}
+use Rattle.net_core.proofs.Playing.{commits-on, listens-on, plays-moved, tells-on, told-ends, took}
 use Rattle.net_core.proofs.Prefixes.{Begun}
 use Rattle.net_core.proofs.Put.{put, put-node, put-round}
-use Rattle.net_core.proofs.Running.{commit-on, read-on, stands-same, tell-on}
+use Rattle.net_core.proofs.Running.{commit-on, read-on, tell-on}
 
 -- what wants are
 is_read : Want → Bool
@@ -149,7 +148,7 @@ module _ (net : Net) (network : IsNetwork net) (arrivals : Amounts) (history : L
           (plays-moved net network arrivals i.heard seen i.made made round k inside before (λ s most. sym (put-node i.heard round n (i.heard round n ++ h ∷ []) s k other)) (λ s most. same s k other) (count k i.part) (get_or actors k d) (i.plays k d inside)))
 
       listens : Listens net arrivals seen i.made round (c + 1) n (with_heard h old)
-      listens = took net network arrivals i.heard i.made round n below c old h plays.node_is x
+      listens = took net network arrivals i.heard i.made round n below c old h x.listens
 
       built : (new : Acting) (made : ℕ → ℕ → Commitment) → SameBefore net network arrivals i.made made round → ((s k : ℕ) → (k ≡ n → ⊥) → i.made s k ≡ made s k) → IsRunning net arrivals seen made (history ++ n ∷ []) round boards world
           → Plays net arrivals seen made round (c + 1) n new → InRound net arrivals (history ++ n ∷ []) round (set actors n new) boards world
@@ -204,7 +203,7 @@ module _ (net : Net) (network : IsNetwork net) (arrivals : Amounts) (history : L
     read-next l b new want board of_new settles = elim plays.stage [
       | inr x ↦ absurd (not-read (drop (c - length (heard_links net n)) (told_links net n)) (sym x.want ∙ want))
       | inl x ↦
-          let same : get_or (heard_links net n) c 0 ≡ l = ap link_in (sym (reading-next (heard_links net n) c x.more) ∙ sym x.want ∙ want) in
+          let same : get_or (heard_links net n) c 0 ≡ l = ap link_in (sym (reading-next (heard_links net n) c x.more) ∙ sym x.listens.want ∙ want) in
           let ends = heard-ends net n c network x.more in
           let v : ℕ = version_at (board_steps net) history (get_or (heard_links net n) c 0) (length history) in
           let there : get_or boards (get_or (heard_links net n) c 0) b ≡ b = ap (λ k. get_or boards k b) same ∙ board b in
@@ -225,7 +224,7 @@ module _ (net : Net) (network : IsNetwork net) (arrivals : Amounts) (history : L
         → InRound net arrivals (history ++ n ∷ []) round (set actors n new) (set boards l nb) world
     unfolding is_publish link_in
     tell-next l b nb new want board of_new new_is version forecast = elim plays.stage [
-      | inl x ↦ absurd (apart (ap is_publish (sym want ∙ x.want ∙ reading-next (heard_links net n) c x.more)))
+      | inl x ↦ absurd (apart (ap is_publish (sym want ∙ x.listens.want ∙ reading-next (heard_links net n) c x.more)))
       | inr x ↦ elim (cases_lt (c - length (heard_links net n)) (length (told_links net n))) [
         | inr past ↦ absurd (apart (ap is_publish (sym want ∙ x.want ∙ telling-none (told_links net n) (c - length (heard_links net n)) past)))
         | inl inside ↦
@@ -277,7 +276,7 @@ module _ (net : Net) (network : IsNetwork net) (arrivals : Amounts) (history : L
     unfolding is_read
     over-tells n d below = elim (i.plays n d below).stage [
       | inr x ↦ x
-      | inl x ↦ absurd (apart (ap is_read (sym (reading-next (heard_links net n) (count n i.part) x.more) ∙ sym x.want ∙ done n d (omega (arith, i.all)))))
+      | inl x ↦ absurd (apart (ap is_read (sym (reading-next (heard_links net n) (count n i.part) x.more) ∙ sym x.listens.want ∙ done n d (omega (arith, i.all)))))
     ]
 
     over-count : (n : ℕ) (d : Acting) → n < length net.node_names → count n i.part ≡ length (board_steps net n)
@@ -313,7 +312,7 @@ module _ (net : Net) (network : IsNetwork net) (arrivals : Amounts) (history : L
     lines-show : Acting → (x n : ℕ) → x < (round + 1) * net.run.step → n < length net.node_names → standing (lines_of actors n) x ≡ shown_by net i.made x n
     lines-show d x n less below =
         ap (λ (l : List Green). standing l x) (line-is n d below)
-        ∙ shows net network i.made (round + 1) (all-keep net network arrivals i.heard i.made (round + 1) (let z = i.below in omega arith) (over-commits d)) (round + 1) (omega arith) x n below (div_below x net.run.step (round + 1) network.outline.run.step.0 less)
+        ∙ before-shows net network arrivals (round + 1) i.heard i.made (let z = i.below in omega arith) (over-commits d) x n less below
 
     pub over-before : Acting → Stands net (arriving_of arrivals) (standing_by (lines_of actors)) world
     over-before d = stands-same net network (arriving_of arrivals) (shown_by net i.made) (standing_by (lines_of actors)) world (λ x n less below. sym (lines-show d x n (earlier x less) below)) i.running.stands

@@ -80,7 +80,7 @@ module _ (net : Net) (network : IsNetwork net) (arrivals : Amounts) (p : Parts) 
     -- a node that plays wants its next step
     plays-wants : (n : ℕ) (a : Acting) → Plays net arrivals i.heard i.made p.round (count n i.part) n a → a.want ≡ wanted_step (slice_get (board_steps net n) (count n i.part))
     plays-wants n a plays = elim plays.stage [
-      | inl x ↦ x.want ∙ reading-next (heard_links net n) (count n i.part) x.more ∙ sym (ap wanted_step (read-step net n (count n i.part) x.more))
+      | inl x ↦ x.listens.want ∙ reading-next (heard_links net n) (count n i.part) x.more ∙ sym (ap wanted_step (read-step net n (count n i.part) x.more))
       | inr x ↦
           let enough = x.enough in
           elim (cases_lt (count n i.part - length (heard_links net n)) (length (told_links net n))) [

@@ -1,16 +1,13 @@
 -- No public clause names these: what a core keeps between two steps.
-use Rattle.std.specs.Prelude.{◌≡◌, ◌≢◌, ℕ, Bool, false, ◌+◌, ◌-◌, ◌*◌, ◌<◌, ◌≤◌, ◌⊎◌, List, [], ◌∷◌, ◌++◌, Some, drop, length, map, slice_index_or}
-use Rattle.std.specs.List.{range_with_len}
+use Rattle.std.specs.Prelude.{◌≡◌, ◌≢◌, ℕ, Bool, false, ◌+◌, ◌-◌, ◌*◌, ◌<◌, ◌≤◌, ◌⊎◌, List, [], ◌∷◌, ◌++◌, Some, drop, length, slice_index_or}
 use Rattle.arrivals.specs.Amounts.{Amounts, AreArrivals}
 use Rattle.board_model.specs.declared.boards.Heard.{Heard}
 use Rattle.control_flow.specs.Greens.{end_of}
-use Rattle.control_flow.specs.declared.greens.Green.{Green}
 use Rattle.histories.specs.Histories.{count, version_at, HasRounds}
 use Rattle.histories.specs.Steps.{board_steps}
 use Rattle.intersection_actor.specs.Acting.{Acting, reading}
-use Rattle.intersection_actor.specs.Commits.{Commitment, phases_of, record_of}
-use Rattle.intersection_actor.specs.Rounds.{IsNew, IsOf}
-use Rattle.intersection_actor.specs.declared.records.PlanRecord.{PlanRecord}
+use Rattle.intersection_actor.specs.Commits.{Commitment, phases_of}
+use Rattle.intersection_actor.specs.Rounds.{IsOf}
 use Rattle.intersection_actor.specs.declared.records.Want.{Want}
 use Rattle.intersection_actor.specs.declared.records.Want.TheVariants.{Publish, Done}
 use Rattle.net_numbers.specs.Numbers.{Net}
@@ -19,21 +16,20 @@ use Rattle.net_simulator.specs.Arriving.{arriving_of}
 use Rattle.net_simulator.specs.Worlds.{Kept, Stands}
 use Rattle.road_net.specs.Network.{heard_links, told_links}
 use Rattle.runs.specs.Runs.{AllCommit, Commits, HearAlong, forecast_at, line_before, sensed_in, shown_by}
+use Rattle.ended_runs.specs.Ending.{HasRoom}
+use Rattle.ended_runs.specs.declared.Room.{Room}
+use Rattle.round_calls.specs.Resting.{Rests, records_of}
 use Rattle.net_core.specs.declared.parts.Board.{Board}
 use Rattle.net_core.specs.declared.parts.Parts.{Parts}
-
--- the plan records of a node in so many rounds
-abbrev pub records_of : (ℕ → ℕ → List Heard) → (ℕ → ℕ → Commitment) → ℕ → ℕ → List PlanRecord
-records_of heard made node rounds = map (λ round. record_of node round (heard round node) (made round node)) (range_with_len 0 rounds)
 
 -- with these links yet to tell, a node publishes on the first; with none, it is done
 abbrev pub telling_first : List ℕ → Want
 telling_first [] = Done
 telling_first (link ∷ links) = Publish link
 
--- A node hears in a round, of whose board steps it has done so many: it has yet to commit.
-pub record Hears (net : Net) (arrivals : Amounts) (heard : ℕ → ℕ → List Heard) (made : ℕ → ℕ → Commitment) (round done node : ℕ) (a : Acting) : Type 0 where
-  pub more : done < length (heard_links net node)
+-- A node listens in a round: it has done so many readings, and has yet to commit.
+pub record Listens (net : Net) (arrivals : Amounts) (heard : ℕ → ℕ → List Heard) (made : ℕ → ℕ → Commitment) (round done node : ℕ) (a : Acting) : Type 0 where
+  pub node_is : a.node ≡ node
   pub round_is : a.round ≡ round
   pub sensed : a.sensed ≡ sensed_in net arrivals made round node
   pub so_far : a.heard ≡ heard round node
@@ -42,6 +38,11 @@ pub record Hears (net : Net) (arrivals : Amounts) (heard : ℕ → ℕ → List 
   pub want : a.want ≡ reading (drop done (heard_links net node))
   pub line : a.line ≡ line_before net made round node
   pub records : a.records ≡ records_of heard made node round
+
+-- It hears: readings are left to it.
+pub record Hears (net : Net) (arrivals : Amounts) (heard : ℕ → ℕ → List Heard) (made : ℕ → ℕ → Commitment) (round done node : ℕ) (a : Acting) : Type 0 where
+  pub more : done < length (heard_links net node)
+  pub listens : Listens net arrivals heard made round done node a
 
 -- It tells: it has committed.
 pub record Tells (net : Net) (arrivals : Amounts) (heard : ℕ → ℕ → List Heard) (made : ℕ → ℕ → Commitment) (round done node : ℕ) (a : Acting) : Type 0 where
@@ -61,15 +62,6 @@ pub record Plays (net : Net) (arrivals : Amounts) (heard : ℕ → ℕ → List 
   pub node_is : a.node ≡ node
   pub of : IsOf net a
   pub stage : Hears net arrivals heard made round done node a ⊎ Tells net arrivals heard made round done node a
-
--- A node rests before a round.
-pub record Rests (net : Net) (heard : ℕ → ℕ → List Heard) (made : ℕ → ℕ → Commitment) (round node : ℕ) (a : Acting) : Type 0 where
-  pub node_is : a.node ≡ node
-  pub of : IsOf net a
-  pub want : a.want ≡ Done
-  pub line : a.line ≡ line_before net made round node
-  pub ahead : round * net.run.step < end_of a.line
-  pub records : a.records ≡ records_of heard made node round
 
 -- There is a board for each link; that of a link between two nodes has its newest version, and the forecast of that version.
 pub record HasBoards (net : Net) (made : ℕ → ℕ → Commitment) (history : List ℕ) (boards : List Board) : Type 0 where
@@ -135,10 +127,6 @@ abbrev pub Goes : Net → Amounts → List ℕ → ℕ → List Acting → List 
 Goes net arrivals history round actors boards world =
     (InRound net arrivals history round actors boards world × IsOpen actors) ⊎ (Between net arrivals history round actors boards world × (round ≡ net.run.rounds))
 
--- the lines of actors by their place
-abbrev pub lines_of : List Acting → ℕ → List Green
-lines_of actors node = slice_index_or (map (λ (a : Acting). a.line) actors) node []
-
 -- each node is done
 abbrev pub AllDone : List Acting → Type 0
 AllDone actors = (node : ℕ) (d : Acting) → node < length actors → (slice_index_or actors node d).want ≡ Done
@@ -168,12 +156,7 @@ Wants p node want = (d : Acting) → (slice_index_or p.actors.all.items node d).
 abbrev pub WantsMore : Parts → ℕ → Type 0
 WantsMore p node = (d : Acting) → (slice_index_or p.actors.all.items node d).want ≢ Done
 
--- New actors of the first nodes, so many; and so many boards on which nothing is published.
-pub record AreNew (net : Net) (nodes : ℕ) (actors : List Acting) : Type 0 where
-  pub all : length actors ≡ nodes
-  pub new : (node : ℕ) (d : Acting) → node < nodes → IsNew net node (slice_index_or actors node d)
-  pub of : (node : ℕ) (d : Acting) → node < nodes → IsOf net (slice_index_or actors node d)
-
+-- so many boards on which nothing is published
 pub record AreBlank (links : ℕ) (boards : List Board) : Type 0 where
   pub all : length boards ≡ links
   pub versions : (link : ℕ) (d : Board) → link < links → (slice_index_or boards link d).version ≡ 0
@@ -189,3 +172,8 @@ pub record AreAtFirst (net : Net) (arrivals : Amounts) (p : Parts) : Type 0 wher
 pub record IsSound (net : Net) (arrivals : Amounts) (p : Parts) (spent : Bool) : Type 0 where
   pub enter : AreArrivals net arrivals
   pub going : spent ≡ false → AreGoing net arrivals p
+
+-- and with room for its record
+pub record IsReady (net : Net) (arrivals : Amounts) (p : Parts) (spent : Bool) (room : Room) : Type 0 where
+  pub sound : IsSound net arrivals p spent
+  pub room_for : HasRoom net room

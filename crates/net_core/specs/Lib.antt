@@ -1,4 +1,3 @@
 pub mod Acts
 pub mod Cores
-pub mod Ending
 pub mod Going

@@ -1,13 +1,14 @@
 //! A run under way.
 use crate::faults::StepFault;
-use crate::finishing::{Room, record_of_parts, room_of};
 use crate::loops::{begin_round, go_on, is_done, play};
 use crate::making::parts_of;
 use crate::parts::Parts;
 use arrivals::Arrivals;
+use ended_runs::{Room, record_of, room_of};
 use foundation::threads::CrossesThreads;
 use intersection_actor::Want;
 use road_net::Network;
+use round_calls::Actors;
 use runs::{RunRecord, law_of_runs};
 use schedule_meaning::Planner;
 use std::alloc::{AllocError, Global};
@@ -33,7 +34,7 @@ impl<'a> Model for Core<'a> {
 
     ghost Value = { Course };
 
-    ghost use Rattle.net_core.specs.Ending.{IsReady};
+    ghost use Rattle.net_core.specs.Going.{IsReady};
 
     ghost view = { λ core. record { net = core.net.now; arrivals = core.arrivals.now; steps = core.parts.history.items; spent = core.spent } };
 
@@ -183,6 +184,8 @@ impl<'a> Core<'a> {
             room,
             ..
         } = self;
-        record_of_parts(net, parts, room)
+        let Parts { actors, world, .. } = parts;
+        let Actors { all } = actors;
+        record_of(net, all, &world, room)
     }
 }

@@ -4,7 +4,6 @@
 mod acts;
 mod cores;
 mod faults;
-mod finishing;
 mod loops;
 mod making;
 mod parts;

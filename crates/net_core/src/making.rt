@@ -1,13 +1,13 @@
 //! What a core is made of at first.
 ghost use Rattle.std.specs.Prelude.{◌≡◌, ℕ, ◌<◌, [], IfOk, length};
 ghost use Rattle.arrivals.specs.Amounts.{Amounts};
-ghost use Rattle.net_core.specs.Going.{AreAtFirst, AreBlank, AreNew};
+ghost use Rattle.net_core.specs.Going.{AreAtFirst, AreBlank};
 
-use crate::parts::{Actors, Board, Parts};
+use crate::parts::{Board, Parts};
 use board_model::Forecast;
-use intersection_actor::Actor;
 use net_simulator::World;
 use road_net::Network;
+use round_calls::actors_of;
 use std::alloc::{AllocError, Global};
 
 /// The parts of a core before the first round.
@@ -23,21 +23,10 @@ pub(crate) fn parts_of(alloc: Global, net: &Network) -> Result<Parts, AllocError
     Ok(Parts {
         history: Vec::new(alloc),
         round: 0,
-        actors: Actors { all: actors },
+        actors,
         boards,
         world,
     })
-}
-
-/// The new actors of all nodes.
-fn actors_of(alloc: Global, net: &Network) -> Result<Vec<Actor>, AllocError>
-    ensures { IfOk result (λ actors. AreNew net.now (length net.now.node_names) actors.items) }
-{
-    let mut actors = Vec::with_capacity(alloc, net.nodes() as usize)?;
-    for node in 0..net.nodes() {
-        actors.push(Actor::new(alloc, net, node)?)?;
-    }
-    Ok(actors)
 }
 
 /// The boards of all links, on which nothing is published.

@@ -3,7 +3,7 @@
 #![tactic(auto)]
 
 mod joined;
-mod nodes;
 mod rounds;
+mod stages;
 
 pub use rounds::run_rounds;

@@ -2,18 +2,18 @@
 ghost use Rattle.std.specs.Prelude.{◌≡◌, ℕ, ◌+◌, ◌<◌, [], All, IfOk, OnOk, length};
 ghost use Rattle.arrivals.specs.Amounts.{AreArrivals};
 ghost use Rattle.board_rule.specs.Passes.{AreAllPasses, calls_in};
-ghost use Rattle.ended_runs.specs.Ending.{IsRecordOf};
 ghost use Rattle.net_threads.specs.Calls.{AreStepsOf, HaveCallsLeft, IsRunOfCalls, MergeToLawful};
 ghost use Rattle.round_calls.specs.Rounds.{AreSamePasses, Between};
 
 use crate::joined::play_all;
-use crate::nodes::{Nodes, Stage, stage_of};
+use crate::stages::{Stage, stage_of};
 use arrivals::Arrivals;
 use board_model::Gate;
-use ended_runs::record_of;
+use ended_runs::{record_of, room_of};
 use merged_calls::law_of_merged_calls;
 use plan_boards::{Boards, Pass};
 use road_net::Network;
+use round_calls::Actors;
 use runs::{RunRecord, law_of_runs};
 use schedule_meaning::Planner;
 use std::alloc::{AllocError, Global};
@@ -37,8 +37,8 @@ fn play_round<P: Planner + Send, R: Threads + Wait + Sync, G: Gate + Sync>(
     requires planners { length planners.old ≡ length net.now.node_names }
     requires links { boards.now.links ≡ length net.now.link_names }
     requires round { round < net.now.run.rounds }
-    requires between { Between net.now arrivals.now boards.now round passes.old stage.old.nodes.all.items stage.old.world }
-    ensures between { OnOk result (Between net.now arrivals.now boards.now (round + 1) passes.new stage.new.nodes.all.items stage.new.world) }
+    requires between { Between net.now arrivals.now boards.now round passes.old stage.old.actors.all.items stage.old.world }
+    ensures between { OnOk result (Between net.now arrivals.now boards.now (round + 1) passes.new stage.new.actors.all.items stage.new.world) }
     ensures same { AreSamePasses passes.old passes.new }
     ensures planners { length planners.new ≡ length planners.old }
 {
@@ -51,12 +51,12 @@ fn play_round<P: Planner + Send, R: Threads + Wait + Sync, G: Gate + Sync>(
         boards,
         round,
         gate,
-        stage.nodes.all.as_mut_slice(),
+        stage.actors.all.as_mut_slice(),
         planners,
         passes,
     )?;
     boards.meet(passes)?;
-    stage.world.advance(net, &stage.nodes, arrivals, step);
+    stage.world.advance(net, &stage.actors, arrivals, step);
     Ok(())
 }
 
@@ -75,8 +75,8 @@ fn play_rounds<P: Planner + Send, R: Threads + Wait + Sync, G: Gate + Sync>(
     requires arrivals { AreArrivals net.now arrivals.now }
     requires planners { length planners.old ≡ length net.now.node_names }
     requires links { boards.now.links ≡ length net.now.link_names }
-    requires between { Between net.now arrivals.now boards.now 0 passes.old stage.old.nodes.all.items stage.old.world }
-    ensures between { OnOk result (Between net.now arrivals.now boards.now net.now.run.rounds passes.new stage.new.nodes.all.items stage.new.world) }
+    requires between { Between net.now arrivals.now boards.now 0 passes.old stage.old.actors.all.items stage.old.world }
+    ensures between { OnOk result (Between net.now arrivals.now boards.now net.now.run.rounds passes.new stage.new.actors.all.items stage.new.world) }
     ensures same { AreSamePasses passes.old passes.new }
 {
     for round in 0..net.run().rounds {
@@ -85,17 +85,6 @@ fn play_rounds<P: Planner + Send, R: Threads + Wait + Sync, G: Gate + Sync>(
         )?;
     }
     Ok(())
-}
-
-/// The record that the nodes and the world leave.
-fn end(alloc: Global, net: &Network, stage: Stage) -> Result<RunRecord, AllocError>
-    requires actors { length stage.nodes.all.items ≡ length net.now.node_names }
-    requires counts { length stage.world.counts ≡ length net.now.link_names }
-    ensures { IfOk result (IsRecordOf net.now stage.nodes.all.items stage.world) }
-{
-    let Stage { nodes, world } = stage;
-    let Nodes { all } = nodes;
-    record_of(alloc, net, all, &world)
 }
 
 /// The run of a network in threads. In each round every node plays in a branch of its own: it senses, reads the boards of the links on
@@ -139,6 +128,7 @@ pub fn run_rounds<P: Planner + Send + Drop, R: Threads + Wait + Sync, G: Gate + 
     law_of_merged_calls(net);
     law_of_runs(net);
     let mut planners = planners;
+    let room = room_of(alloc, net)?;
     let mut stage = stage_of(alloc, net)?;
     play_rounds(
         rt,
@@ -151,5 +141,7 @@ pub fn run_rounds<P: Planner + Send + Drop, R: Threads + Wait + Sync, G: Gate + 
         planners.as_mut_slice(),
         passes,
     )?;
-    end(alloc, net, stage)
+    let Stage { actors, world } = stage;
+    let Actors { all } = actors;
+    Ok(record_of(net, all, &world, room))
 }

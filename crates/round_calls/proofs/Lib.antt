@@ -1,5 +1,6 @@
 pub mod Along
 pub mod Passes
+pub mod Resting
 pub mod Rounding
 pub mod Starting
 pub mod Told

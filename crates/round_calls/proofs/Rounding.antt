@@ -1,5 +1,5 @@
 -- A round of all nodes leads from between two rounds to between the next ones.
-use Rattle.std.proofs.Common.{◌≡◌, ℕ, suc, ◌+◌, ◌-◌, ◌*◌, ◌/◌, ◌<◌, ◌≤◌, max, cond, false, List, [], ◌∷◌, ◌++◌, Option, All, length, map, get_or, refl, sym, ap, subst, ◌∙◌, inl, inr, arith, eqb, eq-eqb, ne_eqb}
+use Rattle.std.proofs.Common.{◌≡◌, ℕ, suc, ◌+◌, ◌-◌, ◌*◌, ◌/◌, ◌<◌, ◌≤◌, max, cond, List, [], ◌∷◌, ◌++◌, All, length, map, get_or, refl, sym, ap, subst, ◌∙◌, inl, inr, arith, eqb, eq-eqb, ne_eqb}
 use Rattle.std.specs.Prelude.{◌⊎◌}
 use Rattle.std.proofs.lemmas.Bool.{cases_lt}
 use Rattle.std.proofs.lemmas.List.{get_or_default, get_or-map, length-map}
@@ -20,59 +20,23 @@ use Rattle.histories.proofs.StepLaws.{steps-beyond}
 use Rattle.intersection_actor.specs.Acting.{Acting}
 use Rattle.intersection_actor.specs.Commits.{Commitment, IsCommit, record_of}
 use Rattle.intersection_actor.specs.declared.records.PlanRecord.{PlanRecord}
-use Rattle.intersection_actor.specs.declared.records.Want.TheVariants.{Done}
 use Rattle.merged_calls.specs.Calls.{IsRising, step_of}
 use Rattle.net_numbers.specs.Numbers.{Net}
 use Rattle.net_simulator.specs.Arriving.{arriving_of}
-use Rattle.net_simulator.specs.Flow.{Passed, past_of}
+use Rattle.net_simulator.specs.Flow.{past_of}
 use Rattle.net_simulator.specs.Senses.{sense}
-use Rattle.net_simulator.specs.Sums.{link_totals, totals}
-use Rattle.net_simulator.specs.Worlds.{Keeps, Kept, Stands, standing_by}
+use Rattle.net_simulator.specs.Worlds.{Kept, Stands, standing_by}
 use Rattle.round_calls.specs.Nodes.{IsRoundOf, NodeRound}
 use Rattle.round_calls.specs.Told.{AreCallsOf}
 use Rattle.road_net.specs.Network.{IsNetwork}
 use Rattle.road_net.specs.declared.senses.Sensed.{Sensed}
 use Rattle.runs.specs.Runs.{AllCommit, Commits, line_before, sensed_in, shown_by}
 use Rattle.runs.proofs.Agree.{SameBefore, commit-moved, commits-moved}
-use Rattle.runs.proofs.Keep.{all-keep}
-use Rattle.runs.proofs.Lines.{shows}
-use Rattle.runs.proofs.Past.{map-range-same, past-at-nodes}
-use Rattle.schedule_meaning.specs.declared.planners.Answer.TheVariants.{NoPlan}
-use Rattle.round_calls.specs.Rounds.{AreCallsIn, AreSamePasses, Between, CanAllPlay, HaveAllPlayed, HaveLeft, Rests, lines_of, records_of}
+use Rattle.round_calls.specs.Resting.{Rests, lines_of, records_of}
+use Rattle.round_calls.specs.Rounds.{AreCallsIn, AreSamePasses, Between, CanAllPlay, HaveAllPlayed, HaveLeft}
 use Rattle.round_calls.proofs.Passes.{at-most-highest, calls-at, calls-past, no_pass, own-at, own-same, raised-at, raised-calls, raised-names}
+use Rattle.round_calls.proofs.Resting.{before-shows, before-stands, no_acting, no_commitment, records-same, sense-is, stands-same}
 use Rattle.round_calls.proofs.Told.{in-moved}
-
--- some actor, and some commit, where there is none
-abbrev pub no_acting : Acting
-no_acting = record { node = 0; line = []; records = []; want = Done; round = 0; left = []; sensed = record { now = 0; links = [] }; heard = []; window = record { lists = []; waiting = 0 }; phases = []; served = [] }
-
-abbrev pub no_commitment : Commitment
-no_commitment = record {
-  head = record { phase = 0; since = 0; at = 0; fresh = false };
-  platoons = [];
-  window = record { lists = []; waiting = 0 };
-  problem = record { plan = []; head = record { phase = 0; since = 0; at = 0; fresh = false }; lists = [] };
-  answer = NoPlan;
-  served = [];
-  next = [];
-  line = [];
-}
-
--- a world counts what is shown only at the nodes of the network, and before its second
-stands-same : (net : Net) → IsNetwork net → (arriving : ℕ → ℕ → ℕ) (shown seen : ℕ → ℕ → Option (ℕ × ℕ)) (w : Kept)
-    → ((x node : ℕ) → x < w.second → node < length net.node_names → shown x node ≡ seen x node) → Stands net arriving shown w → Stands net arriving seen w
-stands-same net network arriving shown seen w same s =
-    let e : past_of net arriving shown w.second ≡ past_of net arriving seen w.second = past-at-nodes net network arriving shown seen w.second same in
-    record {
-      shape = s.shape;
-      by = s.by;
-      keeps = subst (λ (p : ℕ → ℕ → Passed). Keeps net p w.queues w.recent w.waits w.second) e s.keeps;
-      counts = λ l below. s.counts l below ∙ ap (λ (p : ℕ → ℕ → Passed). link_totals net p w.second l) e;
-      totals = s.totals ∙ ap (λ (p : ℕ → ℕ → Passed). totals net arriving p w.second) e;
-    }
-
-records-same : (net : Net) (heard seen : ℕ → ℕ → List Heard) (made other : ℕ → ℕ → Commitment) (n r : ℕ) → ((s : ℕ) → s < r → heard s n ≡ seen s n) → ((s : ℕ) → s < r → made s n ≡ other s n) → records_of net heard made n r ≡ records_of net seen other n r
-records-same net heard seen made other n r h m = map-range-same (λ s. record_of n s (heard s n) (made s n)) (λ s. record_of n s (seen s n) (other s n)) 0 r (λ s least less. ap (λ (x : List Heard). record_of n s x (made s n)) (h s (omega arith)) ∙ ap (record_of n s (seen s n)) (m s (omega arith)))
 
 -- a function of rounds and nodes, with another round
 module _ {A : Type 0} (f : ℕ → ℕ → A) (round : ℕ) (g : ℕ → A) where
@@ -86,22 +50,6 @@ module _ {A : Type 0} (f : ℕ → ℕ → A) (round : ℕ) (g : ℕ → A) wher
   round-else r n other = ap (λ b. cond b (g n) (f r n)) (ne_eqb r round other)
 
 module _ (net : Net) (network : IsNetwork net) (arrivals : Amounts) (round : ℕ) where
-  -- the lines before a round show what the world moved by
-  module _ (heard : ℕ → ℕ → List Heard) (made : ℕ → ℕ → Commitment) (most : round ≤ net.run.rounds) (commits : AllCommit net arrivals heard made round) where
-    pub before-shows : (x node : ℕ) → x < round * net.run.step → node < length net.node_names → standing (line_before net made round node) x ≡ shown_by net made x node
-    before-shows x node less below = shows net network made round (all-keep net network arrivals heard made round most commits) round (omega arith) x node below (div_below x net.run.step round network.outline.run.step.0 less)
-
-    before-stands : (world : Kept) → world.second ≡ round * net.run.step → Stands net (arriving_of arrivals) (shown_by net made) world → Stands net (arriving_of arrivals) (standing_by (line_before net made round)) world
-    before-stands world second stands = stands-same net network (arriving_of arrivals) (shown_by net made) (standing_by (line_before net made round)) world
-        (λ x node less below. sym (before-shows x node (omega (arith, second)) below)) stands
-
-    -- what a node senses of such a world
-    sense-is : (world : Kept) → world.second ≡ round * net.run.step → (n : ℕ)
-        → sense net (past_of net (arriving_of arrivals) (standing_by (line_before net made round)) world.second) world.second n ≡ sensed_in net arrivals made round n
-    sense-is world second n =
-        ap (λ s. sense net (past_of net (arriving_of arrivals) (standing_by (line_before net made round)) s) s n) second
-        ∙ ap (λ (p : ℕ → ℕ → Passed). sense net p (round * net.run.step) n) (past-at-nodes net network (arriving_of arrivals) (standing_by (line_before net made round)) (shown_by net made) (round * net.run.step) (λ x node less below. before-shows x node less below))
-
   module _ (boards : BoardsView) (passes : List PassView) (actors : List Acting) (world : Kept) (b : Between net arrivals boards round passes actors world) (less : round < net.run.rounds) where
     -- each node may play the round
     pub can-play : AreArrivals net arrivals → (planners : ℕ) → planners ≡ length net.node_names → CanAllPlay net round world boards planners actors passes
@@ -120,7 +68,7 @@ module _ (net : Net) (network : IsNetwork net) (arrivals : Amounts) (round : ℕ
               record {
                 more = less;
                 second = b.second;
-                stands = record { arrivals = arrivals; lines = line_before net b.made round; enter = enter; stands = before-stands b.heard b.made b.most b.commits world b.second b.stands };
+                stands = record { arrivals = arrivals; lines = line_before net b.made round; enter = enter; stands = before-stands net network arrivals round b.heard b.made b.most b.commits world b.second b.stands };
                 of = rests.of;
                 want = rests.want;
                 ahead = rests.ahead;
@@ -188,9 +136,9 @@ module _ (net : Net) (network : IsNetwork net) (arrivals : Amounts) (round : ℕ
 
       sensed-is : (n : ℕ) → n < N → (did n).sensed ≡ sensed_in net arrivals b.made round n
       sensed-is n below =
-          (did-is n below).sensed (arriving_of arrivals) (line_before net b.made round) (before-stands b.heard b.made b.most b.commits world b.second b.stands)
+          (did-is n below).sensed (arriving_of arrivals) (line_before net b.made round) (before-stands net network arrivals round b.heard b.made b.most b.commits world b.second b.stands)
           ∙ ap (λ k. sense net (past_of net (arriving_of arrivals) (standing_by (line_before net b.made round)) world.second) world.second k) (node-is n below)
-          ∙ sense-is b.heard b.made b.most b.commits world b.second n
+          ∙ sense-is net network arrivals round b.heard b.made b.most b.commits world b.second n
 
       own-commits : (n : ℕ) → n < N → Commits net arrivals heard made round n
       own-commits n below =
@@ -226,8 +174,8 @@ module _ (net : Net) (network : IsNetwork net) (arrivals : Amounts) (round : ℕ
             ahead = is.ahead;
             records =
                 is.records
-                ∙ ap (λ (l : List PlanRecord). l ++ record_of (get_or actors n A).node round (did n).heard (did n).made ∷ []) (was.records ∙ records-same net b.heard heard b.made made n round (λ s first. heard-else s n first) (λ s first. made-else s n first))
-                ∙ ap (λ (p : PlanRecord). records_of net heard made n round ++ p ∷ [])
+                ∙ ap (λ (l : List PlanRecord). l ++ record_of (get_or actors n A).node round (did n).heard (did n).made ∷ []) (was.records ∙ records-same b.heard heard b.made made n round (λ s first. heard-else s n first) (λ s first. made-else s n first))
+                ∙ ap (λ (p : PlanRecord). records_of heard made n round ++ p ∷ [])
                 (ap (λ k. record_of k round (did n).heard (did n).made) was.node_is ∙ ap (λ (h : List Heard). record_of n round h (did n).made) (sym (heard-own n)) ∙ ap (record_of n round (heard round n)) (sym (made-own n)))
                 ∙ sym (map-range_with_len_more (λ s. record_of n s (heard s n) (made s n)) 0 round round (omega arith));
           }
@@ -331,7 +279,7 @@ module _ (net : Net) (network : IsNetwork net) (arrivals : Amounts) (round : ℕ
       lines-show : (x n : ℕ) → x < (round + 1) * net.run.step → n < N → standing (lines_of acted n) x ≡ shown_by net made x n
       lines-show x n less below =
           ap (λ (l : List Green). standing l x) (line-is n below)
-          ∙ shows net network made (round + 1) (all-keep net network arrivals heard made (round + 1) next-most commits) (round + 1) (omega arith) x n below (div_below x net.run.step (round + 1) network.outline.run.step.0 less)
+          ∙ before-shows net network arrivals (round + 1) heard made next-most commits x n less below
 
       next-second : (round + 1) * net.run.step ≡ round * net.run.step + net.run.step
       next-second = omega arith
@@ -342,13 +290,6 @@ module _ (net : Net) (network : IsNetwork net) (arrivals : Amounts) (round : ℕ
       pub over-before : Stands net (arriving_of arrivals) (standing_by (lines_of acted)) world
       over-before = stands-same net network (arriving_of arrivals) (shown_by net b.made) (standing_by (lines_of acted)) world
           (λ x n less below. shown-before x n (omega (arith, b.second)) ∙ sym (lines-show x n (omega (arith, next-second, b.second)) below)) b.stands
-
-      pub over-room : world.second + net.run.step ≤ 18000
-      over-room =
-          let few = network.outline.run.rounds.1 in
-          let short = network.outline.run.step.1 in
-          let all : (round + 1) * net.run.step ≤ 600 * net.run.step = mul-le-mul_right {m = round + 1} {n = 600} net.run.step (omega arith) in
-          omega (arith, all, next-second, b.second)
 
       -- so the next round can begin
       pub round-over : AreSamePasses passes called → (moved : Kept) → moved.second ≡ world.second + net.run.step → Stands net (arriving_of arrivals) (standing_by (lines_of acted)) moved

@@ -1,3 +1,4 @@
 pub mod Nodes
+pub mod Resting
 pub mod Rounds
 pub mod Told

@@ -1,25 +1,20 @@
 -- No public clause names these: how far the nodes are between the rounds.
 use Rattle.std.specs.Prelude.{◌≡◌, ℕ, zero, suc, ◌-◌, ◌*◌, ◌<◌, ◌≤◌, List, [], ◌++◌, All, length, map, slice_index_or}
-use Rattle.std.specs.List.{range_with_len}
 use Rattle.arrivals.specs.Amounts.{Amounts}
 use Rattle.atomic_table.specs.Seated.{TableId}
 use Rattle.board_model.specs.declared.boards.Heard.{Heard}
 use Rattle.board_model.specs.declared.calls.Call.{Call}
 use Rattle.board_rule.specs.Passes.{AreAllPasses, BoardsView, PassView, calls_in}
-use Rattle.control_flow.specs.Greens.{end_of}
-use Rattle.control_flow.specs.declared.greens.Green.{Green}
 use Rattle.histories.specs.Steps.{board_steps}
 use Rattle.intersection_actor.specs.Acting.{Acting}
-use Rattle.intersection_actor.specs.Commits.{Commitment, record_of}
-use Rattle.intersection_actor.specs.Rounds.{IsNew, IsOf}
-use Rattle.intersection_actor.specs.declared.records.PlanRecord.{PlanRecord}
-use Rattle.intersection_actor.specs.declared.records.Want.TheVariants.{Done}
+use Rattle.intersection_actor.specs.Commits.{Commitment}
 use Rattle.merged_calls.specs.Calls.{IsRising}
 use Rattle.net_numbers.specs.Numbers.{Net}
 use Rattle.net_simulator.specs.Arriving.{arriving_of}
 use Rattle.net_simulator.specs.Worlds.{Kept, Stands}
-use Rattle.runs.specs.Runs.{AllCommit, line_before, shown_by}
+use Rattle.runs.specs.Runs.{AllCommit, shown_by}
 use Rattle.round_calls.specs.Nodes.{CanPlay, HasPlayed}
+use Rattle.round_calls.specs.Resting.{Rests}
 use Rattle.round_calls.specs.Told.{AreCallsOf}
 
 -- the boards and the number of each pass
@@ -58,19 +53,6 @@ module _ (net : Net) (heard : ℕ → ℕ → List Heard) (made : ℕ → ℕ �
   AreCallsIn zero calls = (node : ℕ) → calls node ≡ []
   AreCallsIn (suc rounds) calls = (early last : ℕ → List Call) × (mark : ℕ) × AreRoundOf rounds mark calls early last × AreCallsIn rounds early
 
-  -- the plan records of a node in so many rounds
-  abbrev pub records_of : ℕ → ℕ → List PlanRecord
-  records_of node rounds = map (λ round. record_of node round (heard round node) (made round node)) (range_with_len 0 rounds)
-
-  -- a node rests before a round
-  pub record Rests (round node : ℕ) (a : Acting) : Type 0 where
-    pub node_is : a.node ≡ node
-    pub of : IsOf net a
-    pub want : a.want ≡ Done
-    pub line : a.line ≡ line_before net made round node
-    pub ahead : round * net.run.step < end_of a.line
-    pub records : a.records ≡ records_of node round
-
 -- The passes of all nodes, each with so many of so many rounds left: they are all passes of the boards, and no stamp that they may
 -- draw next is below a mark.
 pub record HaveLeft (net : Net) (boards : BoardsView) (round mark : ℕ) (passes : List PassView) : Type 0 where
@@ -95,13 +77,3 @@ pub record Between (net : Net) (arrivals : Amounts) (boards : BoardsView) (round
   pub calls : AreCallsIn net heard made round (calls_in passes)
   pub rising : (node : ℕ) → IsRising (calls_in passes node)
   pub below : (node : ℕ) → All (λ call. call.stamp < mark) (calls_in passes node)
-
--- the lines of actors by their place
-abbrev pub lines_of : List Acting → ℕ → List Green
-lines_of actors node = slice_index_or (map (λ (a : Acting). a.line) actors) node []
-
--- new actors of the first nodes, so many
-pub record AreNew (net : Net) (nodes : ℕ) (actors : List Acting) : Type 0 where
-  pub all : length actors ≡ nodes
-  pub new : (node : ℕ) (a : Acting) → node < nodes → IsNew net node (slice_index_or actors node a)
-  pub of : (node : ℕ) (a : Acting) → node < nodes → IsOf net (slice_index_or actors node a)

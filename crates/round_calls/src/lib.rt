@@ -12,6 +12,9 @@ ghost use Rattle.merged_calls.specs.Places.{AreTold};
 ghost use Rattle.runs.specs.Runs.{HearAlong};
 ghost use Rattle.round_calls.specs.Rounds.{AreCallsIn};
 
+mod making;
+
+pub use making::{Actors, actors_of};
 use road_net::Network;
 
 /// Where the calls of the nodes are those of all rounds, and stand in a lawful history with the versions of their places, the nodes

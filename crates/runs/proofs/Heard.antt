@@ -22,10 +22,10 @@ use Rattle.runs.specs.Runs.{AllCommit, HearAlong, hearing}
 use Rattle.runs.proofs.Places.{StandsAt, read-step}
 
 -- the links at a side of a node rise, and have the node at that side
-rise-at : (side : _) (links : List Link) (n : ℕ) → IsStrictlyIncreasing (links_of_node side links n)
+pub rise-at : (side : _) (links : List Link) (n : ℕ) → IsStrictlyIncreasing (links_of_node side links n)
 rise-at side links n = (links_of_node-are side n links).rising
 
-have-at : (side : _) (links : List Link) (n : ℕ) → All (λ l. (l < length links) × (node_at side (joins.link_at links l) ≡ Some n)) (links_of_node side links n)
+pub have-at : (side : _) (links : List Link) (n : ℕ) → All (λ l. (l < length links) × (node_at side (joins.link_at links l) ≡ Some n)) (links_of_node side links n)
 have-at side links n = (links_of_node-are side n links).have
 
 entry-rise : (net : Net) (n : ℕ) → IsStrictlyIncreasing (entry_links net n)

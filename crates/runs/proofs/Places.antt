@@ -90,21 +90,22 @@ comes-first n i j h less = elim (cases_lt i j) [
   | inr past ↦ absurd (omega (arith, count-grows n j i h past))
 ]
 
+-- in rows of one width, a place of an early row is not past the rows
+pub row-inside : (r s w k : ℕ) → r < s → k < w → r * w + k < s * w
+row-inside r s w k less small =
+    let d : ℕ = s - (r + 1) in
+    let e : s ≡ r + 1 + d = omega arith in
+    let z : (r + 1 + d) * w ≡ r * w + w + d * w = omega arith in
+    omega (arith, ap (λ t. t * w) e, z)
+
 module _ (net : Net) (network : IsNetwork net) (h : List ℕ) (lawful : IsLawful net h) where
   -- each step of a node in a round has a place
   pub place-of : (round node k : ℕ) → round < net.run.rounds → k < length (board_steps net node) → (place : ℕ) × StandsAt net h round node k place
   place-of round node k less small =
       let w : ℕ = length (board_steps net node) in
       let all : count node h ≡ net.run.rounds * w = rounds-count (board_steps net) net.run.rounds h lawful node in
-      let e = entry h node (round * w + k) (let z : round * w + k < net.run.rounds * w = room round net.run.rounds w k less small in omega arith) in
+      let e = entry h node (round * w + k) (let z : round * w + k < net.run.rounds * w = row-inside round net.run.rounds w k less small in omega arith) in
       (e.0, stands net h round node k e.0 small e.1)
-    where
-      room : (r s w k : ℕ) → r < s → k < w → r * w + k < s * w
-      room r s w k less small =
-          let d : ℕ = s - (r + 1) in
-          let e : s ≡ r + 1 + d = omega arith in
-          let z : (r + 1 + d) * w ≡ r * w + w + d * w = omega arith in
-          omega (arith, ap (λ t. t * w) e, z)
 
   -- and each place has a step
   pub step-of : (place : ℕ) → place < length h → (round : ℕ) × (k : ℕ) × (round < net.run.rounds) × StandsAt net h round (get_or h place 0) k place

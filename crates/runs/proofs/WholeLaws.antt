@@ -1,5 +1,5 @@
 -- The record of a run has a plan for each round and node.
-use Rattle.std.proofs.Common.{◌≡◌, ℕ, zero, suc, ◌+◌, ◌-◌, ◌*◌, ◌<◌, List, ◌∷◌, ◌++◌, All, length, map, get_or, refl, sym, ap, subst, ◌∙◌, arith, length-append}
+use Rattle.std.proofs.Common.{◌≡◌, ℕ, zero, suc, ◌+◌, ◌*◌, ◌<◌, List, ◌∷◌, ◌++◌, All, length, map, get_or, refl, sym, ap, subst, ◌∙◌, arith, length-append}
 use Rattle.std.specs.Prelude.{Contains}
 use Rattle.std.specs.List.{flat_map, range_with_len}
 use Rattle.std.proofs.lemmas.List.{get_or_append_left, get_or-append-add, get_or-map, length-map, map-append}
@@ -16,6 +16,7 @@ use Rattle.runs.specs.Plans.{NamesVersions}
 use Rattle.runs.specs.Runs.{IsRun, plans_in, plans_of}
 use Rattle.runs.specs.Whole.{IsWhole}
 use Rattle.runs.specs.declared.records.RunRecord.{RunRecord}
+use Rattle.runs.proofs.Places.{row-inside}
 use Rattle.runs.proofs.PlanLaws.{all-named}
 
 map-range : {X Y : Type 0} (g : X → Y) (f : ℕ → X) (s n : ℕ) → map g (map f (range_with_len s n)) ≡ map (λ k. g (f k)) (range_with_len s n)
@@ -71,7 +72,7 @@ at-place net run round node whole less below =
     let nodes : ℕ = length net.node_names in
     let pair : PlanRecord → ℕ × ℕ = λ p. (p.round, p.node) in
     let count : length run.plans ≡ net.run.rounds * nodes = sym (length-map run.plans pair) ∙ ap length whole.plans ∙ pairs-count nodes 0 net.run.rounds in
-    let inside : round * nodes + node < length run.plans = (let z = room round net.run.rounds nodes node less below in omega arith) in
+    let inside : round * nodes + node < length run.plans = (let z = row-inside round net.run.rounds nodes node less below in omega arith) in
     record {
       inside = inside;
       is = λ d.
@@ -79,13 +80,6 @@ at-place net run round node whole less below =
           sym (pairs-at nodes 0 net.run.rounds round node (0, 0) less below) ∙ ap (λ l. get_or l (round * nodes + node) (0, 0)) (sym whole.plans) ∙ get_or-map pair run.plans (round * nodes + node) d (0, 0) inside in
           (sym (ap (λ (x : ℕ × ℕ). x.0) e) ∙ (let z : 0 + round ≡ round = omega arith in z), sym (ap (λ (x : ℕ × ℕ). x.1) e));
     }
-  where
-    room : (r s w k : ℕ) → r < s → k < w → r * w + k < s * w
-    room r s w k less small =
-        let d : ℕ = s - (r + 1) in
-        let e : s ≡ r + 1 + d = omega arith in
-        let z : (r + 1 + d) * w ≡ r * w + w + d * w = omega arith in
-        omega (arith, ap (λ t. t * w) e, z)
 
 pub place-inside : (net : Net) (run : RunRecord) (round node nodes : ℕ) (xs : List PlanRecord) → IsWhole net run → round < net.run.rounds → node < length net.node_names → nodes ≡ length net.node_names → xs ≡ run.plans
     → round * nodes + node < length xs

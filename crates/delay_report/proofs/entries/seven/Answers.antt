@@ -1,5 +1,6 @@
 use Rattle.std.proofs.Common.{arith}
-use Rattle.delay_report.proofs.EntryLaws.{field-missing, seven-fields}
+use Rattle.arrivals.proofs.FieldLaws.{field-missing}
+use Rattle.delay_report.proofs.EntryLaws.{seven-fields}
 use Rattle.delay_report.proofs.entries.seven.Goals as goal
 
 pub returns-in_err-get : goal.returns-in_err-get
