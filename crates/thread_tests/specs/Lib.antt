@@ -1,0 +1,2 @@
+-- The crate has one definition, for its own functions.
+pub mod Told
