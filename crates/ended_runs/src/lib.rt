@@ -1,0 +1,153 @@
+//! The record of a run that is over: what its actors have planned and shown, and what its world has counted.
+#![tactic(auto)]
+
+ghost use Rattle.std.specs.Prelude.{◌≡◌, ℕ, ◌+◌, ◌*◌, ◌<◌, ◌≤◌, ◌++◌, [], drop, take, IfOk, length, map, vec_capacity, vec_len};
+ghost use Rattle.std.specs.List.{range_with_len};
+ghost use Rattle.std.specs.VecDeque.{deque_items};
+ghost use Rattle.net_simulator.specs.Counts.{counts_at};
+ghost use Rattle.ended_runs.specs.Ending.{HasRoom, IsRecordOf, lines_in, first_of_each, records_in, round_by_round, without_first};
+
+use control_flow::greens::Timeline;
+use foundation::items::Items;
+use intersection_actor::{Actor, PlanRecord};
+use net_simulator::{LinkTotals, World};
+use road_net::Network;
+use runs::RunRecord;
+use std::alloc::{AllocError, Global};
+use std::collections::VecDeque;
+
+/// Room for the record of a run: it is taken before the first round.
+#[derive(Drop)]
+struct Room {
+    /// The plans of all rounds.
+    plans: Vec<PlanRecord>,
+    /// The plans of each node that are still to be moved there.
+    queues: Vec<VecDeque<PlanRecord>>,
+    timelines: Vec<Timeline>,
+    links: Vec<LinkTotals>,
+}
+
+/// Takes room for the record of a run of a network.
+fn room_of(alloc: Global, net: &Network) -> Result<Room, AllocError>
+    ensures { IfOk result (HasRoom net.now) }
+{
+    let nodes = net.nodes() as usize;
+    let plans = Vec::with_capacity(alloc, net.run().rounds as usize * nodes)?;
+    let queues = Vec::with_capacity(alloc, nodes)?;
+    let timelines = Vec::with_capacity(alloc, nodes)?;
+    let links = Vec::with_capacity(alloc, net.links() as usize)?;
+    Ok(Room {
+        plans,
+        queues,
+        timelines,
+        links,
+    })
+}
+
+/// The record of actors and a world behind the last round: the plans of all nodes, round by round, the line of each, and what was
+/// counted.
+///
+/// An `Err` comes only where memory runs out.
+///
+/// docs/RULES.md, "Run".
+pub fn record_of(
+    alloc: Global,
+    net: &Network,
+    actors: Vec<Actor>,
+    world: &World,
+) -> Result<RunRecord, AllocError>
+    requires actors { length actors.items ≡ length net.now.node_names }
+    requires counts { length world.now.counts ≡ length net.now.link_names }
+    ensures { IfOk result (IsRecordOf net.now actors.items world.now) }
+{
+    let room = room_of(alloc, net)?;
+    Ok(recorded(net, actors, world, room))
+}
+
+/// The record, moved into the room that was taken for it.
+fn recorded(net: &Network, actors: Vec<Actor>, world: &World, room: Room) -> RunRecord
+    requires actors { length actors.items ≡ length net.now.node_names }
+    requires counts { length world.now.counts ≡ length net.now.link_names }
+    requires room { HasRoom net.now room }
+    ensures { IsRecordOf net.now actors.items world.now result }
+{
+    let Room {
+        mut plans,
+        mut queues,
+        mut timelines,
+        mut links,
+    } = room;
+    push_parts(actors, &mut queues, &mut timelines);
+    push_plans(net.run().rounds, &mut queues, &mut plans);
+    push_totals(net, world, &mut links);
+    RunRecord {
+        plans: Items::from_vec(plans),
+        timelines: Items::from_vec(timelines),
+        links: Items::from_vec(links),
+        totals: world.totals(),
+    }
+}
+
+/// Takes actors apart: the plans of each go to the queues, and its line to the timelines.
+fn push_parts(
+    actors: Vec<Actor>,
+    queues: &mut Vec<VecDeque<PlanRecord>>,
+    timelines: &mut Vec<Timeline>,
+)
+    requires queues { vec_len queues.old + length actors.items ≤ vec_capacity queues.old }
+    requires timelines { vec_len timelines.old + length actors.items ≤ vec_capacity timelines.old }
+    ensures queues { map deque_items queues.new.items ≡ map deque_items queues.old.items ++ records_in actors.items }
+    ensures timelines { timelines.new.items ≡ timelines.old.items ++ lines_in actors.items }
+{
+    for actor in actors {
+        let (line, records) = actor.into_parts();
+        queues.push_reserved(VecDeque::from(records));
+        timelines.push_reserved(line);
+    }
+}
+
+/// Moves the plans of so many rounds from the queues behind the plans, round by round.
+fn push_plans(rounds: u32, queues: &mut Vec<VecDeque<PlanRecord>>, plans: &mut Vec<PlanRecord>)
+    requires { vec_len plans.old + rounds * length queues.old.items ≤ vec_capacity plans.old }
+    ensures { plans.new.items ≡ plans.old.items ++ round_by_round rounds (map deque_items queues.old.items) }
+{
+    for round in 0..rounds {
+        push_round(queues.as_mut_slice(), plans);
+    }
+}
+
+/// Moves the next plan of each queue behind the plans.
+fn push_round(queues: &mut [VecDeque<PlanRecord>], plans: &mut Vec<PlanRecord>)
+    requires { vec_len plans.old + length queues.old ≤ vec_capacity plans.old }
+    ensures queues { map deque_items queues.new ≡ without_first (map deque_items queues.old) }
+    ensures plans { plans.new.items ≡ plans.old.items ++ first_of_each (map deque_items queues.old) }
+    ensures room { vec_capacity plans.new ≡ vec_capacity plans.old }
+{
+    for queue in queues.iter_mut() {
+        push_next(queue, plans);
+    }
+}
+
+/// Moves the next plan of a queue, where it has one, behind the plans.
+fn push_next(queue: &mut VecDeque<PlanRecord>, plans: &mut Vec<PlanRecord>)
+    requires { vec_len plans.old < vec_capacity plans.old }
+    ensures queue { queue.new.items ≡ drop 1 queue.old.items }
+    ensures plans { plans.new.items ≡ plans.old.items ++ take 1 queue.old.items }
+    ensures room { vec_capacity plans.new ≡ vec_capacity plans.old }
+{
+    if let Some(plan) = queue.pop_front() {
+        plans.push_reserved(plan);
+    }
+}
+
+/// Puts the totals of all links behind a list that is empty.
+fn push_totals(net: &Network, world: &World, links: &mut Vec<LinkTotals>)
+    requires counts { length world.now.counts ≡ length net.now.link_names }
+    requires empty { links.old.items ≡ [] }
+    requires room { length net.now.link_names ≤ vec_capacity links.old }
+    ensures { links.new.items ≡ map (counts_at world.now.counts) (range_with_len 0 (length net.now.link_names)) }
+{
+    for link in 0..net.links() {
+        links.push_reserved(world.link_totals(link));
+    }
+}

@@ -1,0 +1,37 @@
+use Rattle.board_rule.specs.Passes.{calls_in}
+use Rattle.ended_runs.specs.Ending.{IsRecordOf}
+use Rattle.histories.proofs.Ordered.{if-ok}
+use Rattle.round_calls.proofs.Passes.{own-same}
+use Rattle.round_calls.proofs.Starting.{at-first}
+use Rattle.net_threads.specs.Calls.{IsRunOfCalls}
+use Rattle.net_threads.proofs.Ending.{are-steps, is-run-of, merge-lawful, on-any}
+use Rattle.net_threads.proofs.Joining.{left-at}
+use Rattle.net_threads.proofs.rounds.run_rounds.Goals as goal
+
+pub play_rounds-requires-clause-between : goal.play_rounds-requires-clause-between
+play_rounds-requires-clause-between g c κs within =
+    let net = c.args.net.now in
+    let stage = c.in_ok-stage.stage in
+    at-first net c.args.arrivals.now c.args.boards.now c.args.passes.now stage.nodes.all.items stage.world c.in_ok-stage.ensures.new c.in_ok-stage.ensures.second c.in_ok-stage.ensures.stands c.requires.nodes c.requires.passes c.requires.fresh
+    (left-at net c.args.passes.now c.requires.left c.requires.nodes)
+
+pub returns-in_err-play_rounds-clause-passes : goal.returns-in_err-play_rounds-clause-passes
+returns-in_err-play_rounds-clause-passes g c = own-same c.args.boards.now c.args.passes.now c.play_rounds.new.passes c.in_err-play_rounds.ensures.same c.requires.passes
+
+pub returns-clause-steps : goal.returns-clause-steps
+returns-clause-steps g c =
+    let stage = c.play_rounds.new.stage in
+    let between = c.in_ok-play_rounds.ensures.between in
+    if-ok (IsRecordOf c.args.net.now stage.nodes.all.items stage.world) _ (λ run left. are-steps c.args.net.now c.nodes.ensures.network c.args.arrivals.now c.args.boards.now c.play_rounds.new.passes stage.nodes.all.items stage.world between run left) c.end.result c.end.ensures
+
+pub returns-clause-lawful : goal.returns-clause-lawful
+returns-clause-lawful g c =
+    let stage = c.play_rounds.new.stage in
+    on-any c.end.result (merge-lawful c.args.net.now c.nodes.ensures.network c.args.arrivals.now c.args.boards.now c.play_rounds.new.passes stage.nodes.all.items stage.world c.in_ok-play_rounds.ensures.between c.law_of_merged_calls.ensures.lawful)
+
+pub returns-clause-run : goal.returns-clause-run
+returns-clause-run g c =
+    let stage = c.play_rounds.new.stage in
+    if-ok (IsRecordOf c.args.net.now stage.nodes.all.items stage.world) (IsRunOfCalls c.args.net.now c.args.arrivals.now (calls_in c.play_rounds.new.passes))
+    (is-run-of c.args.net.now c.nodes.ensures.network c.args.arrivals.now c.args.boards.now c.play_rounds.new.passes stage.nodes.all.items stage.world c.in_ok-play_rounds.ensures.between
+    c.law_of_merged_calls.ensures.lawful c.law_of_merged_calls.ensures.stands c.law_of_runs.ensures.kept) c.end.result c.end.ensures

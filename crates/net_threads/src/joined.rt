@@ -1,0 +1,138 @@
+//! All nodes play a round, each in a branch of its own.
+ghost use Rattle.std.specs.Prelude.{◌≡◌, OnOk, length};
+ghost use denote.Param.Send.{IsSend, IsSync};
+ghost use Rattle.round_calls.specs.Rounds.{AreSamePasses, CanAllPlay, HaveAllPlayed};
+
+use board_model::Gate;
+use intersection_actor::Actor;
+use net_simulator::World;
+use node_rounds::play;
+use plan_boards::{Boards, Pass};
+use road_net::Network;
+use schedule_meaning::Planner;
+use std::alloc::{AllocError, Global};
+use std::sync::Wait;
+use std::thread::{Threads, join_mut};
+
+/// These nodes play a round, each with its actor, planner and pass: one half beside the other, down to single nodes. Where no thread
+/// can be started, the caller plays both halves.
+///
+/// An `Err` comes only where memory runs out; the other nodes still play to their ends.
+#[cycle(halves)]
+pub(crate) fn play_all<P: Planner + Send, R: Threads + Wait + Sync, G: Gate + Sync>(
+    rt: &R,
+    alloc: Global,
+    net: &Network,
+    world: &World,
+    boards: &Boards,
+    round: u32,
+    gate: &G,
+    actors: &mut [Actor],
+    planners: &mut [P],
+    passes: &mut [Pass],
+) -> Result<(), AllocError>
+    requires links { boards.now.links ≡ length net.now.link_names }
+    requires can { CanAllPlay net.now round world.now boards.now (length planners.old) actors.old passes.old }
+    ensures played { OnOk result (HaveAllPlayed net.now round world.now actors.old actors.new passes.old passes.new) }
+    ensures same { AreSamePasses passes.old passes.new }
+{
+    if passes.is_empty() {
+        return Ok(());
+    }
+    if passes.len() == 1 {
+        return play(
+            rt,
+            alloc,
+            net,
+            world,
+            boards,
+            round,
+            gate,
+            &mut actors[0],
+            &mut planners[0],
+            &mut passes[0],
+        );
+    }
+    let middle = passes.len() / 2;
+    let (front_passes, back_passes) = passes.split_at_mut(middle);
+    let (front_actors, back_actors) = actors.split_at_mut(middle);
+    let (front_planners, back_planners) = planners.split_at_mut(middle);
+    play_both(
+        rt,
+        alloc,
+        net,
+        world,
+        boards,
+        round,
+        gate,
+        front_actors,
+        back_actors,
+        front_planners,
+        back_planners,
+        front_passes,
+        back_passes,
+    )
+}
+
+/// Two halves of the nodes play a round at once.
+#[cycle(halves)]
+fn play_both<P: Planner + Send, R: Threads + Wait + Sync, G: Gate + Sync>(
+    rt: &R,
+    alloc: Global,
+    net: &Network,
+    world: &World,
+    boards: &Boards,
+    round: u32,
+    gate: &G,
+    front_actors: &mut [Actor],
+    back_actors: &mut [Actor],
+    front_planners: &mut [P],
+    back_planners: &mut [P],
+    front_passes: &mut [Pass],
+    back_passes: &mut [Pass],
+) -> Result<(), AllocError>
+    requires links { boards.now.links ≡ length net.now.link_names }
+    requires front { CanAllPlay net.now round world.now boards.now (length front_planners.old) front_actors.old front_passes.old }
+    requires back { CanAllPlay net.now round world.now boards.now (length back_planners.old) back_actors.old back_passes.old }
+    ensures front { OnOk result (HaveAllPlayed net.now round world.now front_actors.old front_actors.new front_passes.old front_passes.new) }
+    ensures back { OnOk result (HaveAllPlayed net.now round world.now back_actors.old back_actors.new back_passes.old back_passes.new) }
+    ensures same { AreSamePasses front_passes.old front_passes.new × AreSamePasses back_passes.old back_passes.new }
+{
+    let mut front = || -> Result<(), AllocError>
+        requires { IsSend P.row × IsSync R.row × IsSync G.row × (boards.now.links ≡ length net.now.link_names) × CanAllPlay net.now round world.now boards.now (length front_planners.now) front_actors.now front_passes.now }
+        ensures { OnOk result (HaveAllPlayed net.entry.now round world.entry.now front_actors.entry.now front_actors.exit.now front_passes.entry.now front_passes.exit.now) × AreSamePasses front_passes.entry.now front_passes.exit.now }
+    {
+        play_all(
+            rt,
+            alloc,
+            net,
+            world,
+            boards,
+            round,
+            gate,
+            front_actors,
+            front_planners,
+            front_passes,
+        )
+    };
+    let mut back = || -> Result<(), AllocError>
+        requires { IsSend P.row × IsSync R.row × IsSync G.row × (boards.now.links ≡ length net.now.link_names) × CanAllPlay net.now round world.now boards.now (length back_planners.now) back_actors.now back_passes.now }
+        ensures { OnOk result (HaveAllPlayed net.entry.now round world.entry.now back_actors.entry.now back_actors.exit.now back_passes.entry.now back_passes.exit.now) × AreSamePasses back_passes.entry.now back_passes.exit.now }
+    {
+        play_all(
+            rt,
+            alloc,
+            net,
+            world,
+            boards,
+            round,
+            gate,
+            back_actors,
+            back_planners,
+            back_passes,
+        )
+    };
+    let (first, second) = join_mut(rt, &mut front, &mut back);
+    first?;
+    second
+}

@@ -1,0 +1,4 @@
+pub mod HearLaws
+pub mod Made
+pub mod PlayLaws
+pub mod TellLaws

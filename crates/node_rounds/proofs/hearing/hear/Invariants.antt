@@ -1,0 +1,14 @@
+use Rattle.std.proofs.Common.{length}
+use Rattle.intersection_actor.specs.Rounds.{IsOf}
+use Rattle.round_calls.specs.Nodes.{HasHeard, IsSamePass}
+use Rattle.node_rounds.proofs.hearing.hear.Given as goal
+
+abbrev pub invariant-loop-link : goal.invariant-loop-link
+invariant-loop-link g l = record {
+  heard : HasHeard l.fn.actor l.actor l.fn.pass l.pass;
+  of : IsOf l.net l.actor;
+  same : IsSamePass l.fn.pass l.pass;
+}
+
+abbrev pub decreases-loop-link : goal.decreases-loop-link
+decreases-loop-link g l = length l.actor.left

@@ -1,0 +1,11 @@
+use Rattle.intersection_actor.specs.Rounds.{IsOf}
+use Rattle.round_calls.specs.Nodes.{HasTold, IsSamePass}
+use Rattle.node_rounds.proofs.TellLaws.{told_among}
+use Rattle.node_rounds.proofs.telling.tell.Given as goal
+
+abbrev pub invariant-loop-link : goal.invariant-loop-link
+invariant-loop-link g l = record {
+  told : HasTold l.net l.fn.actor l.actor l.fn.pass l.pass (told_among l.net l.link-items l.link-index);
+  of : IsOf l.net l.actor;
+  same : IsSamePass l.fn.pass l.pass;
+}

@@ -1,0 +1,76 @@
+-- Before the first round.
+use Rattle.std.proofs.Common.{◌≡◌, ℕ, ◌+◌, ◌-◌, ◌*◌, ◌<◌, ◌≤◌, List, [], ◌∷◌, ◌++◌, Option, All, length, get_or, sym, ap, subst, ◌∙◌, inl, inr, arith}
+use Rattle.std.proofs.lemmas.Bool.{cases_lt}
+use Rattle.std.proofs.lemmas.List.{get_or_append_left, get_or_push, length_push}
+use Rattle.std.proofs.lemmas.List.Elements.{All-nil}
+use Rattle.arrivals.specs.Amounts.{Amounts}
+use Rattle.board_model.specs.declared.calls.Call.{Call}
+use Rattle.board_rule.specs.Passes.{AreAllPasses, BoardsView, PassView, calls_in}
+use Rattle.control_flow.specs.Greens.{end_of}
+use Rattle.histories.specs.Steps.{board_steps}
+use Rattle.histories.proofs.Lists.{pairs-nil}
+use Rattle.intersection_actor.specs.Acting.{Acting}
+use Rattle.intersection_actor.specs.Rounds.{IsNew, IsOf}
+use Rattle.merged_calls.specs.Calls.{IsRising}
+use Rattle.net_numbers.specs.Numbers.{Net}
+use Rattle.net_simulator.specs.Arriving.{arriving_of}
+use Rattle.net_simulator.specs.Worlds.{Kept, Stands}
+use Rattle.runs.specs.Runs.{shown_by}
+use Rattle.round_calls.specs.Rounds.{AreNew, Between}
+use Rattle.round_calls.proofs.Passes.{calls-at, calls-past, no_pass}
+use Rattle.round_calls.proofs.Rounding.{no_commitment}
+
+zero-times : (s : ℕ) → 0 ≡ 0 * s
+zero-times s = omega arith
+
+-- passes without a call have none
+no-calls : (boards : BoardsView) (passes : List PassView) → All (λ (p : PassView). p.calls ≡ []) passes → (n : ℕ) → calls_in passes n ≡ []
+no-calls boards passes none n = elim (cases_lt n (length passes)) [
+  | inl inside ↦ calls-at passes n (no_pass boards) inside ∙ none n (no_pass boards) inside
+  | inr past ↦ calls-past passes n past
+]
+
+pub at-first : (net : Net) (arrivals : Amounts) (boards : BoardsView) (passes : List PassView) (actors : List Acting) (world : Kept) → AreNew net (length net.node_names) actors → world.second ≡ 0
+    → ((arriving : ℕ → ℕ → ℕ) (shown : ℕ → ℕ → Option (ℕ × ℕ)) → Stands net arriving shown world) → length passes ≡ length net.node_names → AreAllPasses boards passes → All (λ (p : PassView). p.calls ≡ []) passes
+    → ((node : ℕ) (p : PassView) → node < length net.node_names → net.run.rounds * length (board_steps net node) ≤ (get_or passes node p).left) → Between net arrivals boards 0 passes actors world
+at-first net arrivals boards passes actors world new second stands all own none left = record {
+  heard = λ r n. [];
+  made = λ r n. no_commitment;
+  mark = 0;
+  most = omega arith;
+  commits = λ r n less below. absurd (omega arith);
+  second = second ∙ zero-times net.run.step;
+  stands = stands (arriving_of arrivals) (shown_by net (λ r n. no_commitment));
+  all = new.all;
+  rests = λ n a below.
+      let is = new.new n a below in
+      record {
+        node_is = is.node;
+        of = new.of n a below;
+        want = is.want;
+        line = is.line;
+        ahead = (let P : ℕ → Type 0 = λ z. z < end_of (get_or actors n a).line in subst P (zero-times net.run.step) is.ahead);
+        records = is.records;
+      };
+  own = record { all = all; own = own; left = λ n p below. (let P : ℕ → Type 0 = λ r. r * length (board_steps net n) ≤ (get_or passes n p).left in subst P (let e : net.run.rounds ≡ net.run.rounds - 0 = omega arith in e) (left n p below)); known = λ n p below. omega arith };
+  calls = no-calls boards passes none;
+  rising = λ n. subst IsRising (sym (no-calls boards passes none n)) (pairs-nil (λ (early late : Call). early.stamp < late.stamp));
+  below = λ n. subst (All (λ (c : Call). c.stamp < 0)) (sym (no-calls boards passes none n)) (All-nil _);
+}
+
+-- one more actor
+pub new-none : (net : Net) (actors : List Acting) → actors ≡ [] → AreNew net 0 actors
+new-none net actors none = record { all = ap length none; new = λ k d less. absurd (omega arith); of = λ k d less. absurd (omega arith) }
+
+pub new-more : (net : Net) (n : ℕ) (actors : List Acting) (a : Acting) → AreNew net n actors → IsNew net n a → IsOf net a → AreNew net (n + 1) (actors ++ a ∷ [])
+new-more net n actors a were new of = record {
+  all = length_push actors a ∙ ap (λ k. k + 1) were.all;
+  new = λ k d less. elim (cases_lt k n) [
+    | inl before ↦ subst (IsNew net k) (sym (get_or_append_left actors (a ∷ []) d k (omega (arith, were.all)))) (were.new k d before)
+    | inr at ↦ (let e : k ≡ n = omega arith in subst (λ m. IsNew net m (get_or (actors ++ a ∷ []) m d)) (sym e) (subst (IsNew net n) (sym (get_or_push actors a d n were.all)) new))
+  ];
+  of = λ k d less. elim (cases_lt k n) [
+    | inl before ↦ subst (IsOf net) (sym (get_or_append_left actors (a ∷ []) d k (omega (arith, were.all)))) (were.of k d before)
+    | inr at ↦ (let e : k ≡ n = omega arith in subst (λ m. IsOf net (get_or (actors ++ a ∷ []) m d)) (sym e) (subst (IsOf net) (sym (get_or_push actors a d n were.all)) of))
+  ];
+}
