@@ -2,10 +2,11 @@
 """Compares the built program with a plain-Rust program for the same job.
 
 PEER is a folder with a Cargo package whose one binary understands the words `plan FILE`, `certify FILE`,
-`certify_bound FILE` and `check FILE`. It is built into a folder of its own. Both programs then run by turns on each instance of this folder,
-and what is printed is, for each command and instance, the best time of many runs and its ratio, and, where valgrind is
-there, the instructions that callgrind counts and their ratio. The answers must be equal. The exit status is 0 where
-they are, and 1 where any differs.
+`certify_bound FILE` and `check FILE`, and for networks `grid NUMBER SIDE ROUNDS`, `turns NET ARR`, `replay NET ARR HIST` and
+`grid_files NUMBER SIDE ROUNDS FOLDER`, which writes a grid as net.toml and arr.csv. It is built into a folder of its own. Both
+programs then run by turns on each instance of this folder, and on a grid of 64 nodes, and what is printed is, for each command
+and input, the best time of many runs and its ratio, and, where valgrind is there, the instructions that callgrind counts and
+their ratio. The answers must be equal. The exit status is 0 where they are, and 1 where any differs.
 """
 
 import argparse
@@ -75,24 +76,52 @@ def compare(name, words, programs, runs, work):
     return alike
 
 
+def compare_planners(programs, runs, work):
+    """The commands on one instance. Whether both answer alike."""
+    alike = True
+    for name in INSTANCES:
+        instance = str(HERE / name)
+        certificate = work / "certificate"
+        certificate.write_bytes(answer(programs[1], ("certify", instance))[1])
+        for command in COMMANDS:
+            file = str(certificate) if command == "check" else instance
+            alike &= compare(name, (command, file), programs, runs, work)
+    return alike
+
+
+def compare_networks(programs, runs, work):
+    """The commands on a grid of 64 nodes. Whether both answer alike."""
+    subprocess.run([programs[1], "grid_files", "7", "8", "120", work], check=True)
+    network, arrivals, report = str(work / "net.toml"), str(work / "arr.csv"), work / "report"
+    report.write_bytes(answer(programs[1], ("turns", network, arrivals))[1])
+    calls = (
+        ("120 rounds", ("grid", "7", "8", "120")),
+        ("600 rounds", ("grid", "7", "8", "600")),
+        ("120 rounds", ("turns", network, arrivals)),
+        ("120 rounds", ("replay", network, arrivals, str(report))),
+    )
+    alike = True
+    for name, words in calls:
+        alike &= compare(name, words, programs, runs, work)
+    return alike
+
+
 def main():
     parser = argparse.ArgumentParser(description=__doc__.split("\n", 1)[0])
     parser.add_argument("peer", type=Path, help="the folder with the peer's package")
     parser.add_argument("--program", type=Path, default=HERE.parent / "crates/signal_program/out/signal_program")
-    parser.add_argument("--runs", type=int, default=60)
+    parser.add_argument("--runs", type=int, default=60, help="of a command on an instance; a sixth of them on a network")
+    parser.add_argument("--only", choices=("instances", "networks"))
     options = parser.parse_args()
     with tempfile.TemporaryDirectory() as place:
         work = Path(place)
         programs = (options.program.resolve(), peer_built(options.peer, work / "target"))
         print(f"{'':32} {'ours':>11} {'peer':>11}  ratio   {'ours':>10} {'peer':>10}  ratio")
         alike = True
-        for name in INSTANCES:
-            instance = str(HERE / name)
-            certificate = work / "certificate"
-            certificate.write_bytes(answer(programs[1], ("certify", instance))[1])
-            for command in COMMANDS:
-                file = str(certificate) if command == "check" else instance
-                alike &= compare(name, (command, file), programs, options.runs, work)
+        if options.only != "networks":
+            alike &= compare_planners(programs, options.runs, work)
+        if options.only != "instances":
+            alike &= compare_networks(programs, max(options.runs // 6, 1), work)
     return 0 if alike else 1
 
 

@@ -1,8 +1,5 @@
 -- The first row at fault.
-use Rattle.std.proofs.Common.{◌≡◌, ℕ, ◌+◌, ◌<◌, ◌≤◌, List, [], ◌∷◌, ◌++◌, length, get_or, take, drop, sum, sum_by, Option, Some, Err, All, refl, add-one, sym, ap, ◌∙◌, subst, arith, length-take}
-use Rattle.std.proofs.Math.Seq.{drop-cons}
-use Rattle.std.proofs.lemmas.List.{take-append-drop}
-use Rattle.std.proofs.lemmas.List.Elements.{All-head, All-tail}
+use Rattle.std.proofs.Common.{◌≡◌, ℕ, ◌+◌, ◌<◌, ◌≤◌, List, ◌∷◌, ◌++◌, length, get_or, take, drop, sum, sum_by, Option, Some, Err, sym, ap, ◌∙◌, subst, arith, length-take}
 use Rattle.std.proofs.lemmas.List.Sums.{sum_by-append, sum_by-cons}
 use Rattle.std.proofs.lemmas.Option.{same_Some}
 use Rattle.foundation.specs.Options.{each}
@@ -47,6 +44,7 @@ module _ (net : Net) (rows : List ArrivalRow) (i : ℕ) (r : ArrivalRow) (inside
   row-fault (Link n) old new whole h = row-first n (λ before r. IsAtLink net r) h.0 h.1
   row-fault (Bound n) old new whole h = row-first n (λ before r. IsAtBound net r) h.0 h.1
   row-fault (Sum n) old new whole h = row-first n (λ before r. IsAtSum net before r) h.0 (h.1, omega (arith, h.2, whole))
+  row-fault NoMemory old new whole h = tt
   row-fault _ old new whole h = absurd h
 
 -- rows with a fault bring no arrivals

@@ -1,5 +1,5 @@
 -- The fields of a record.
-use Rattle.std.proofs.Common.{◌≡◌, ◌≢◌, ℕ, ◌<◌, List, [], ◌∷◌, length, Option, Some, None, refl, sym, arith}
+use Rattle.std.proofs.Common.{◌≡◌, ◌≢◌, ℕ, ◌<◌, List, [], ◌∷◌, length, Some, None, refl, sym, arith}
 use Rattle.csv.specs.Records.{field_at}
 use Rattle.csv.proofs.RecordFacts.{field-there}
 use Rattle.arrivals.specs.Records.{told_of}

@@ -4,26 +4,25 @@ use Rattle.std.proofs.lemmas.Bool.{cases_lt, cond_both, and_parts, ltb-true, lt-
 use Rattle.std.proofs.lemmas.List.{take_all, get_or_past}
 use Rattle.std.proofs.lemmas.List.Sums.{sum_by_more, sum_by-take-le}
 use Rattle.road_net.specs.Totals.{total}
-use Rattle.road_net.proofs.TotalLaws.{total-swap}
 use Rattle.arrivals.specs.Amounts.{Amounts, place, entering}
 use Rattle.arrivals.specs.Rows.{seconds, most_of_all}
 use Rattle.arrivals.specs.Stored.{IsStored}
 
 -- what enters where there is such a link and such a second, and elsewhere
-pub entering-within : (a : Amounts) (l x : ℕ) → l < a.links → x < seconds → entering a l x ≡ get_or a.amounts (place l x) 0
+pub entering-within : (a : Amounts) (l x : ℕ) → l < a.links → x < seconds → entering a l x ≡ get_or a.amounts (place a.links l x) 0
 entering-within a l x link second = rw (lt-ltb l a.links link, lt-ltb x seconds second) refl
 
 pub entering-beyond : (a : Amounts) (l x : ℕ) → (l < a.links → x < seconds → ⊥) → entering a l x ≡ 0
 entering-beyond a l x out =
-    cond_both (nat_lt l a.links && nat_lt x seconds) (get_or a.amounts (place l x) 0) 0 (λ n. n ≡ 0)
+    cond_both (nat_lt l a.links && nat_lt x seconds) (get_or a.amounts (place a.links l x) 0) 0 (λ n. n ≡ 0)
     (λ in_both.
     let both = and_parts (nat_lt l a.links) (nat_lt x seconds) in_both in
     absurd (out (ltb-true l a.links both.0) (ltb-true x seconds both.1)))
     (λ beyond. refl)
 
 -- never more than what stands at the place
-entering-most : (a : Amounts) (l x : ℕ) → entering a l x ≤ get_or a.amounts (place l x) 0
-entering-most a l x = cond_both (nat_lt l a.links && nat_lt x seconds) (get_or a.amounts (place l x) 0) 0 (λ n. n ≤ get_or a.amounts (place l x) 0) (λ e. omega arith) (λ e. omega arith)
+pub entering-most : (a : Amounts) (l x : ℕ) → entering a l x ≤ get_or a.amounts (place a.links l x) 0
+entering-most a l x = cond_both (nat_lt l a.links && nat_lt x seconds) (get_or a.amounts (place a.links l x) 0) 0 (λ n. n ≤ get_or a.amounts (place a.links l x) 0) (λ e. omega arith) (λ e. omega arith)
 
 -- one more amount
 one_more : (xs : List ℕ) (k : ℕ) → sum (take k xs) + get_or xs k 0 ≤ sum (take (k + 1) xs)
@@ -42,30 +41,30 @@ longer xs i (suc d) =
     omega (arith, longer xs i d, one_more xs (i + d), ap (λ k. sum (take k xs)) same)
 
 module _ (a : Amounts) where
-  -- the seconds of one link, behind all links before it
-  seconds_of : (l n : ℕ) → total (entering a l) n + sum (take (l * seconds) a.amounts) ≤ sum (take (l * seconds + min n seconds) a.amounts)
-  seconds_of l zero = let same : l * seconds ≡ l * seconds + min 0 seconds = omega arith in omega (arith, ap (λ k. sum (take k a.amounts)) same)
-  seconds_of l (suc n) = elim (cases_lt n seconds) [
+  -- the links of one second, behind all seconds before it
+  links_of : (x m : ℕ) → total (λ l. entering a l x) m + sum (take (x * a.links) a.amounts) ≤ sum (take (x * a.links + min m a.links) a.amounts)
+  links_of x zero = let same : x * a.links ≡ x * a.links + min 0 a.links = omega arith in omega (arith, ap (λ k. sum (take k a.amounts)) same)
+  links_of x (suc m) = elim (cases_lt m a.links) [
     | inl h ↦
-        let here : l * seconds + min n seconds ≡ place l n = omega arith in
-        let next : place l n + 1 ≡ l * seconds + min (suc n) seconds = omega arith in
-        omega (arith, seconds_of l n, entering-most a l n, one_more a.amounts (place l n), ap (λ k. sum (take k a.amounts)) here, ap (λ k. sum (take k a.amounts)) next)
+        let here : x * a.links + min m a.links ≡ place a.links m x = omega arith in
+        let next : place a.links m x + 1 ≡ x * a.links + min (suc m) a.links = omega arith in
+        omega (arith, links_of x m, entering-most a m x, one_more a.amounts (place a.links m x), ap (λ k. sum (take k a.amounts)) here, ap (λ k. sum (take k a.amounts)) next)
     | inr h ↦
-        let same : min n seconds ≡ min (suc n) seconds = omega arith in
-        omega (arith, seconds_of l n, entering-beyond a l n (λ link second. omega arith), ap (λ k. sum (take (l * seconds + k) a.amounts)) same)
+        let same : min m a.links ≡ min (suc m) a.links = omega arith in
+        omega (arith, links_of x m, entering-beyond a m x (λ link second. omega arith), ap (λ k. sum (take (x * a.links + k) a.amounts)) same)
   ]
 
-  -- all links
-  links_of : (m n : ℕ) → total (λ l. total (entering a l) n) m ≤ sum (take (m * seconds) a.amounts)
-  links_of zero n = omega arith
-  links_of (suc m) n =
-      let rest : m * seconds + min n seconds + (seconds - min n seconds) ≡ suc m * seconds = omega arith in
-      omega (arith, links_of m n, seconds_of m n, longer a.amounts (m * seconds + min n seconds) (seconds - min n seconds), ap (λ k. sum (take k a.amounts)) rest)
+  -- all seconds
+  seconds_of : (m n : ℕ) → total (λ x. total (λ l. entering a l x) m) n ≤ sum (take (n * a.links) a.amounts)
+  seconds_of m zero = omega arith
+  seconds_of m (suc n) =
+      let rest : n * a.links + min m a.links + (a.links - min m a.links) ≡ suc n * a.links = omega arith in
+      omega (arith, seconds_of m n, links_of n m, longer a.amounts (n * a.links + min m a.links) (a.links - min m a.links), ap (λ k. sum (take k a.amounts)) rest)
 
   -- over any links and seconds
   pub few : sum a.amounts ≤ most_of_all → (n m : ℕ) → total (λ x. total (λ l. entering a l x) m) n ≤ most_of_all
-  few whole n m = omega (arith, total-swap (λ x l. entering a l x) m n, links_of m n, sum_by-take-le (λ n. n) a.amounts (m * seconds))
+  few whole n m = omega (arith, seconds_of m n, sum_by-take-le (λ n. n) a.amounts (n * a.links))
 
 -- the same of what is stored
-pub few-stored : (a b : Amounts) (whole : ℕ) → a ≡ b → IsStored a.links a.amounts whole → (n m : ℕ) → total (λ x. total (λ l. entering b l x) m) n ≤ most_of_all
+pub few-stored : (a b : Amounts) (whole : ℕ) → a ≡ b → IsStored a.amounts whole → (n m : ℕ) → total (λ x. total (λ l. entering b l x) m) n ≤ most_of_all
 few-stored a b whole same stored = rw (← same) (few a (omega (arith, stored.adds, stored.few)))

@@ -1,9 +1,10 @@
 -- The amounts of the rows so far.
-use Rattle.std.proofs.Common.{◌≡◌, ◌≢◌, ℕ, ◌+◌, ◌*◌, ◌<◌, ◌≤◌, true, eqb, List, [], ◌∷◌, ◌++◌, length, get_or, filter, take, sum, sum_by, All, refl, sym, ap, ◌∙◌, subst, inl, inr, arith}
+use Rattle.std.proofs.Common.{◌≡◌, ◌≢◌, ℕ, ◌+◌, ◌-◌, ◌*◌, ◌<◌, ◌≤◌, true, eqb, List, [], ◌∷◌, ◌++◌, length, get_or, filter, replicate, take, sum, sum_by, All, refl, sym, ap, ◌∙◌, subst, inl, inr, arith}
 use Rattle.std.proofs.lemmas.Bool.{cases_lt, cond_both, and_parts, eqb-true, false≢true}
 use Rattle.std.specs.Cmp.Derive.{both_true}
 use Rattle.std.proofs.lemmas.Bool.Decides.{eqb_tells}
-use Rattle.std.proofs.lemmas.List.{get_or-set_same, get_or-set_other, get_or-replicate, length-replicate, length-set, take_more}
+use Rattle.std.proofs.lemmas.List.{get_or-set_same, get_or-set_other, get_or-replicate, get_or_append_left, get_or-append_right, get_or_past, length-append, length-replicate, take_more}
+use Rattle.std.proofs.lemmas.Nat.{mul-add-lt, same_from_place}
 use Rattle.std.proofs.lemmas.List.Elements.{All-nil, All-cons, All-append, All-head, All-tail, filter-append}
 use Rattle.std.proofs.lemmas.List.Folds.{sum_by-replicate}
 use Rattle.std.proofs.lemmas.List.Sums.{sum_by-append, sum_by-cons, sum_by-set}
@@ -11,23 +12,16 @@ use Rattle.net_numbers.specs.Numbers.{Net}
 use Rattle.arrivals.specs.declared.rows.ArrivalRow.{ArrivalRow}
 use Rattle.arrivals.specs.Amounts.{Amounts, place, entering, nothing, AreArrivalsOf, AreArrivals}
 use Rattle.arrivals.specs.Rows.{seconds, most_of_all, IsSource, IsRow, amount_of, is_at, entering_by}
-use Rattle.arrivals.specs.Stored.{added}
-use Rattle.arrivals.proofs.SumLaws.{entering-within, entering-beyond, few}
+use Rattle.arrivals.specs.Stored.{added, amounts_to, reaching}
+use Rattle.arrivals.proofs.SumLaws.{entering-within, entering-beyond, entering-most, few}
 
 -- the amounts are those of these rows, and so is their sum
 pub record IsTally (net : Net) (rows : List ArrivalRow) (a : Amounts) : Type 0 where
   pub of_rows : AreArrivalsOf net rows a
-  pub shape : length a.amounts ≡ a.links * seconds
   pub whole : sum a.amounts ≡ sum_by amount_of rows
 
 nothing-enters : (links l x : ℕ) → entering (nothing links) l x ≡ 0
-nothing-enters links l x = elim (cases_lt l links) [
-  | inl link ↦ elim (cases_lt x seconds) [
-    | inl second ↦ entering-within (nothing links) l x link second ∙ get_or-replicate (links * seconds) (place l x) 0 0 (omega arith)
-    | inr beyond ↦ entering-beyond (nothing links) l x (λ link second. omega arith)
-  ]
-  | inr none ↦ entering-beyond (nothing links) l x (λ link second. omega arith)
-]
+nothing-enters links l x = omega (arith, entering-most (nothing links) l x)
 
 -- no rows
 pub tally-none : (net : Net) (a : Amounts) → a ≡ nothing (length net.link_names) → IsTally net [] a
@@ -37,8 +31,7 @@ tally-none net a is = rw is (record {
     links = refl;
     sums = nothing-enters (length net.link_names);
   };
-  shape = length-replicate (length net.link_names * seconds) 0;
-  whole = sum_by-replicate (λ n. n) (length net.link_names * seconds) 0 ∙ omega arith;
+  whole = refl;
 })
 
 -- what one row brings to a link in a second
@@ -65,22 +58,44 @@ brings-else r l x other =
 entering_by-more : (rows : List ArrivalRow) (r : ArrivalRow) (l x : ℕ) → entering_by (rows ++ r ∷ []) l x ≡ entering_by rows l x + brings r l x
 entering_by-more rows r l x = ap (sum_by amount_of) (filter-append (is_at l x) rows (r ∷ [])) ∙ sum_by-append amount_of (filter (is_at l x) rows) (filter (is_at l x) (r ∷ []))
 
-module _ (a : Amounts) (r : ArrivalRow) (link : r.link < a.links) (second : r.second < seconds) (shape : length a.amounts ≡ a.links * seconds) where
-  inside : place r.link r.second < length a.amounts
-  inside = omega arith
+-- zeros behind a list change neither what stands in a place nor the sum
+get_or-reaching : (xs : List ℕ) (count k : ℕ) → get_or (reaching xs count) k 0 ≡ get_or xs k 0
+get_or-reaching xs count k = elim (cases_lt k (length xs)) [
+  | inl h ↦ get_or_append_left xs (replicate (count - length xs) 0) 0 k h
+  | inr h ↦ get_or-append_right xs (replicate (count - length xs) 0) (length xs) k 0 refl h ∙ zeros (count - length xs) (k - length xs) ∙ sym (get_or_past xs k 0 h)
+]
+  where
+    zeros : (n i : ℕ) → ◌≡◌ {A = ℕ} (get_or (replicate n 0) i 0) 0
+    zeros n i = elim (cases_lt i n) [
+      | inl h ↦ get_or-replicate n i 0 0 h
+      | inr h ↦ get_or_past (replicate n 0) i 0 (omega (arith, length-replicate {A = ℕ} n 0))
+    ]
+
+length-reaching : (xs : List ℕ) (count : ℕ) → count ≤ length (reaching xs count)
+length-reaching xs count = omega (arith, length-append xs (replicate (count - length xs) 0), length-replicate {A = ℕ} (count - length xs) 0)
+
+sum-reaching : (xs : List ℕ) (count : ℕ) → sum (reaching xs count) ≡ sum xs
+sum-reaching xs count = omega (arith, sum_by-append (λ n. n) xs (replicate (count - length xs) 0), sum_by-replicate (λ n. n) (count - length xs) 0)
+
+module _ (a : Amounts) (r : ArrivalRow) (link : r.link < a.links) (second : r.second < seconds) where
+  inside : place a.links r.link r.second < length (amounts_to a r.second)
+  inside = omega (arith, mul-add-lt r.second a.links r.link (r.second + 1) (omega arith) link, length-reaching a.amounts ((r.second + 1) * a.links))
 
   entering-here : entering (added a r) r.link r.second ≡ entering a r.link r.second + r.amount
   entering-here =
       let new = entering-within (added a r) r.link r.second link second in
       let old = entering-within a r.link r.second link second in
-      new ∙ get_or-set_same a.amounts (place r.link r.second) (get_or a.amounts (place r.link r.second) 0 + r.amount) 0 inside ∙ ap (λ n. n + r.amount) (sym old)
+      new ∙ get_or-set_same (amounts_to a r.second) (place a.links r.link r.second) (get_or a.amounts (place a.links r.link r.second) 0 + r.amount) 0 inside ∙ ap (λ n. n + r.amount) (sym old)
 
   entering-other : (l x : ℕ) → (r.link ≡ l → r.second ≡ x → ⊥) → entering (added a r) l x ≡ entering a l x
   entering-other l x other = elim (cases_lt l a.links) [
     | inl here ↦ elim (cases_lt x seconds) [
       | inl now ↦
-          let apart : place l x ≢ place r.link r.second = (λ same. other (omega arith) (omega arith)) in
-          entering-within (added a r) l x here now ∙ get_or-set_other a.amounts (place r.link r.second) (place l x) (get_or a.amounts (place r.link r.second) 0 + r.amount) 0 apart ∙ sym (entering-within a l x here now)
+          let apart : place a.links l x ≢ place a.links r.link r.second = (λ same. let both = same_from_place x l r.second r.link a.links here link same in other (sym both.1) (sym both.0)) in
+          entering-within (added a r) l x here now
+          ∙ get_or-set_other (amounts_to a r.second) (place a.links r.link r.second) (place a.links l x) (get_or a.amounts (place a.links r.link r.second) 0 + r.amount) 0 apart
+          ∙ get_or-reaching a.amounts ((r.second + 1) * a.links) (place a.links l x)
+          ∙ sym (entering-within a l x here now)
       | inr later ↦ entering-beyond (added a r) l x (λ h g. omega arith) ∙ sym (entering-beyond a l x (λ h g. omega arith))
     ]
     | inr none ↦ entering-beyond (added a r) l x (λ h g. omega arith) ∙ sym (entering-beyond a l x (λ h g. omega arith))
@@ -96,7 +111,13 @@ module _ (a : Amounts) (r : ArrivalRow) (link : r.link < a.links) (second : r.se
   ]
 
   sum-added : sum (added a r).amounts ≡ sum a.amounts + r.amount
-  sum-added = omega (arith, sum_by-set (λ n. n) a.amounts (place r.link r.second) (get_or a.amounts (place r.link r.second) 0 + r.amount) 0 inside)
+  sum-added =
+      omega (
+        arith,
+        sum_by-set (λ n. n) (amounts_to a r.second) (place a.links r.link r.second) (get_or a.amounts (place a.links r.link r.second) 0 + r.amount) 0 inside,
+        sum-reaching a.amounts ((r.second + 1) * a.links),
+        get_or-reaching a.amounts ((r.second + 1) * a.links) (place a.links r.link r.second),
+      )
 
 one-row : (P : ArrivalRow → Type 0) (r : ArrivalRow) → P r → All P (r ∷ [])
 one-row P r holds = All-cons P r [] holds (All-nil P)
@@ -111,10 +132,9 @@ tally-more net rows a b r tally is same few =
       of_rows = record {
         lawful = record { each = All-append (IsRow net) rows (r ∷ []) tally.of_rows.lawful.each (one-row (IsRow net) r is); few = omega (arith, rows_more, tally.whole, few) };
         links = tally.of_rows.links;
-        sums = λ l x. omega (arith, entering-added a r link second tally.shape l x, entering_by-more rows r l x, tally.of_rows.sums l x);
+        sums = λ l x. omega (arith, entering-added a r link second l x, entering_by-more rows r l x, tally.of_rows.sums l x);
       };
-      shape = length-set a.amounts (place r.link r.second) _ ∙ tally.shape;
-      whole = omega (arith, sum-added a r link second tally.shape, rows_more, tally.whole);
+      whole = omega (arith, sum-added a r link second, rows_more, tally.whole);
     })
 
 -- where something enters, there is a row

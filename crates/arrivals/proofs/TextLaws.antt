@@ -1,5 +1,5 @@
 -- The first record at fault.
-use Rattle.std.proofs.Common.{◌≡◌, ℕ, ◌+◌, ◌≤◌, List, [], ◌∷◌, ◌++◌, length, sum, Option, Some, None, Err, IsSomeAnd, refl, sym, ap, ◌∙◌, arith, append_assoc, length-append}
+use Rattle.std.proofs.Common.{◌≡◌, ℕ, ◌+◌, ◌≤◌, List, [], ◌∷◌, ◌++◌, length, sum, Some, None, Err, IsSomeAnd, refl, sym, ap, ◌∙◌, arith, append_assoc, length-append}
 use Rattle.std.proofs.lemmas.List.{append-nil}
 use Rattle.std.proofs.lemmas.Option.{same_Some, none-some}
 use Rattle.foundation.specs.Options.{◌>>=◌, each}
@@ -82,6 +82,7 @@ module _ (net : Net) (all : List (List (List ℕ))) (number : ℕ) (fields : Lis
   fault-added r new (Sum n) is h =
       behind (Sum n) (here-first n (λ before fields. IsSomeAnd (row_of net fields) (IsAtSum net before)) h.0
       (and-some (IsAtSum net under.rows) (row_of net fields) r is (h.1, omega (arith, h.2, under.tally.whole))))
+  fault-added r new NoMemory is h = tt
   fault-added r new _ is h = absurd h
 
   -- one record more

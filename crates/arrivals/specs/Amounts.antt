@@ -1,26 +1,26 @@
 -- What arrivals are: an amount for each link and second.
-use Rattle.std.specs.Prelude.{◌≡◌, ℕ, ◌+◌, ◌*◌, ◌≤◌, ◌<◌, nat_lt, ◌&&◌, if◌then◌else◌, List, length, replicate, slice_index}
+use Rattle.std.specs.Prelude.{◌≡◌, ℕ, ◌+◌, ◌*◌, ◌≤◌, ◌<◌, nat_lt, ◌&&◌, if◌then◌else◌, List, [], length, slice_index_or}
 use Rattle.net_numbers.specs.Numbers.{Net}
 use Rattle.road_net.specs.Totals.{total}
 use Rattle.arrivals.specs.declared.rows.ArrivalRow.{ArrivalRow}
 use Rattle.arrivals.specs.Rows.{seconds, most_of_all, IsSource, AreRows, entering_by}
 
--- for so many links the amounts of each second, link by link
+-- for so many links the amounts of the first seconds, second by second; nothing enters behind them
 pub record Amounts : Type 0 where
   pub links : ℕ
   pub amounts : List ℕ
 
--- the place of a link and a second
-abbrev pub place : ℕ → ℕ → ℕ
-place link second = link * seconds + second
+-- among so many links, the place of a link and a second
+abbrev pub place : ℕ → ℕ → ℕ → ℕ
+place links link second = second * links + link
 
--- what enters a link in a second; nothing where there is no such link, and nothing behind the last second
+-- what enters a link in a second; nothing where there is no such link, and nothing behind the amounts or the last second
 abbrev pub entering : Amounts → ℕ → ℕ → ℕ
-entering a link second = if nat_lt link a.links && nat_lt second seconds then slice_index a.amounts (place link second) else 0
+entering a link second = if nat_lt link a.links && nat_lt second seconds then slice_index_or a.amounts (place a.links link second) 0 else 0
 
 -- so many links that nothing enters
 abbrev pub nothing : ℕ → Amounts
-nothing links = record { links = links; amounts = replicate (links * seconds) 0 }
+nothing links = record { links = links; amounts = [] }
 
 -- The arrivals of rows: the rows are lawful, and what enters a link in a second is their sum.
 pub record AreArrivalsOf (net : Net) (rows : List ArrivalRow) (a : Amounts) : Type 0 where

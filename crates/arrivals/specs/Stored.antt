@@ -1,30 +1,38 @@
 -- What the steps of the code answer, and what they keep. No public clause names these words.
-use Rattle.std.specs.Prelude.{◌≡◌, ℕ, ◌+◌, ◌*◌, ◌≤◌, List, None, Some, Result, Ok, Err, IsSomeAnd, length, sum, slice_index, slice_set}
+use Rattle.std.specs.Prelude.{◌≡◌, ℕ, ◌+◌, ◌-◌, ◌*◌, ◌≤◌, List, ◌++◌, None, Some, Result, Ok, Err, IsSomeAnd, length, replicate, sum, slice_index_or, slice_set}
 use Rattle.net_numbers.specs.Numbers.{Net, number_of}
 use Rattle.arrivals.specs.declared.rows.ArrivalRow.{ArrivalRow}
 use Rattle.arrivals.specs.declared.rows.RowFault.{RowFault}
-use Rattle.arrivals.specs.declared.rows.RowFault.TheVariants.{Row, Link, Bound, Sum}
+use Rattle.arrivals.specs.declared.rows.RowFault.TheVariants.{NoMemory, Row, Link, Bound, Sum}
 use Rattle.arrivals.specs.Amounts.{Amounts, place}
 use Rattle.arrivals.specs.Faults.{IsAtLink, IsAtBound}
 use Rattle.arrivals.specs.Records.{told_of, row_of}
-use Rattle.arrivals.specs.Rows.{seconds, most_of_all, IsRow}
+use Rattle.arrivals.specs.Rows.{most_of_all, IsRow}
 
--- the amounts of all links and seconds, and their sum
-pub record IsStored (links : ℕ) (amounts : List ℕ) (whole : ℕ) : Type 0 where
-  pub shape : length amounts ≡ links * seconds
+-- the amounts and their sum
+pub record IsStored (amounts : List ℕ) (whole : ℕ) : Type 0 where
   pub adds : whole ≡ sum amounts
   pub few : whole ≤ most_of_all
 
+-- these amounts with zeros behind them, so many at the least
+abbrev pub reaching : List ℕ → ℕ → List ℕ
+reaching amounts count = amounts ++ replicate (count - length amounts) 0
+
+-- the amounts up to the end of a second, at the least
+abbrev pub amounts_to : Amounts → ℕ → List ℕ
+amounts_to a second = reaching a.amounts ((second + 1) * a.links)
+
 -- with one row more
 abbrev pub added : Amounts → ArrivalRow → Amounts
-added a r = record { links = a.links; amounts = slice_set a.amounts (place r.link r.second) (slice_index a.amounts (place r.link r.second) + r.amount) }
+added a r = record { links = a.links; amounts = slice_set (amounts_to a r.second) (place a.links r.link r.second) (slice_index_or a.amounts (place a.links r.link r.second) 0 + r.amount) }
 
--- the row was added, where it is lawful and all bring no more than they may; else its first fault
+-- the row was added, where it is lawful and all bring no more than they may; else its first fault, or want of memory
 abbrev pub Adds : Net → ArrivalRow → ℕ → Amounts → Amounts → Result (Unit {0}) RowFault → Type 0
 Adds net r number old new (Ok _) = IsRow net r × (new ≡ added old r) × (sum old.amounts + r.amount ≤ most_of_all)
 Adds net r number old new (Err (Link n)) = (n ≡ number) × IsAtLink net r
 Adds net r number old new (Err (Bound n)) = (n ≡ number) × IsAtBound net r
 Adds net r number old new (Err (Sum n)) = (n ≡ number) × IsRow net r × (most_of_all + 1 ≤ sum old.amounts + r.amount)
+Adds net r number old new (Err NoMemory) = Unit {0}
 Adds net r number old new (Err _) = ⊥
 
 -- the row of a record; else the record tells none, or its name is no link's

@@ -1,6 +1,7 @@
 //! What enters the links of a network, by link and second.
-ghost use Rattle.std.specs.Prelude.{◌≡◌, ◌↔◌, ◌<◌, IsTrue, IfOk, length, replicate};
+ghost use Rattle.std.specs.Prelude.{◌≡◌, ◌↔◌, ◌<◌, IsTrue, OnOk, OnErr, length};
 ghost use Rattle.arrivals.specs.Rows.{IsSource, HasBounds};
+ghost use Rattle.arrivals.specs.Stored.{reaching};
 
 use crate::rows::{ArrivalRow, RowFault};
 use foundation::threads::CrossesThreads;
@@ -18,13 +19,14 @@ const MOST_OF_ROW: u32 = 1_000_000;
 const MOST_OF_ALL: u32 = 2_000_000_000;
 
 /// What enters the links of a network from outside: the sums of its rows by link and second, all together at most
-/// 2,000,000,000 thousandths of a vehicle. It keeps one number for each link and second, however many rows there were.
+/// 2,000,000,000 thousandths of a vehicle. It keeps one number for each link and each second up to the last one in which
+/// something enters, however many rows there were.
 ///
 /// docs/RULES.md, "Arrivals".
 #[derive(Drop)]
 pub struct Arrivals {
     links: u32,
-    /// The seconds of the first link, then those of the second, and so on.
+    /// The links of the first second, then those of the next one, and so on.
     amounts: Vec<u32>,
     /// The sum of all amounts.
     whole: u32,
@@ -39,7 +41,7 @@ impl Model for Arrivals {
 
     ghost view = { λ arrivals. record { links = arrivals.links; amounts = arrivals.amounts.items } };
 
-    ghost invariant = { λ arrivals. IsStored arrivals.links arrivals.amounts.items arrivals.whole };
+    ghost invariant = { λ arrivals. IsStored arrivals.amounts.items arrivals.whole };
 }
 
 impl CrossesThreads for Arrivals {}
@@ -74,7 +76,7 @@ impl Arrivals {
         ensures refused { IfErr result (λ fault. Refuses fault ((a : Amounts) → ¬ AreArrivalsOf net.now rows.now a)) }
         ensures first { IfErr result (IsRowFault net.now rows.now) }
     {
-        let mut arrivals = Arrivals::none(alloc, net)?;
+        let mut arrivals = Arrivals::none(alloc, net);
         for (index, row) in rows.iter().enumerate() {
             arrivals.add(net, *row, index as u32 + 1)?;
         }
@@ -91,21 +93,20 @@ impl Arrivals {
         if link >= self.links || second >= SECONDS {
             return 0;
         }
-        self.amounts[link as usize * SECONDS as usize + second as usize]
+        let place = second as usize * self.links as usize + link as usize;
+        self.amounts.get(place).copied().unwrap_or(0)
     }
 
     /// No arrivals.
-    pub(crate) fn none(alloc: Global, net: &Network) -> Result<Arrivals, AllocError>
-        ensures none { IfOk result (λ a. a ≡ nothing (length net.now.link_names)) }
+    pub(crate) fn none(alloc: Global, net: &Network) -> Arrivals
+        ensures none { result ≡ nothing (length net.now.link_names) }
         ensures network { IsNetwork net.now }
     {
-        let links = net.links();
-        let amounts = zeros(alloc, links as usize * SECONDS as usize)?;
-        Ok(Arrivals {
-            links,
-            amounts,
+        Arrivals {
+            links: net.links(),
+            amounts: Vec::new(alloc),
             whole: 0,
-        })
+        }
     }
 
     /// Adds the row with this number.
@@ -127,17 +128,23 @@ impl Arrivals {
         if row.amount > MOST_OF_ALL - self.whole {
             return Err(RowFault::Sum(number));
         }
-        self.amounts[row.link as usize * SECONDS as usize + row.second as usize] += row.amount;
+        let links = self.links as usize;
+        reach(&mut self.amounts, (row.second as usize + 1) * links)?;
+        self.amounts[row.second as usize * links + row.link as usize] += row.amount;
         self.whole += row.amount;
         Ok(())
     }
 }
 
-/// So many zeros.
-fn zeros(alloc: Global, count: usize) -> Result<Vec<u32>, AllocError>
-    ensures { IfOk result (λ v. v.items ≡ replicate count 0) }
+/// Has so many amounts, at the least: zeros behind those that stand there.
+fn reach(amounts: &mut Vec<u32>, count: usize) -> Result<(), AllocError>
+    ensures ok { OnOk result (amounts.new.items ≡ reaching amounts.old.items count) }
+    ensures err { OnErr result (amounts.new.items ≡ amounts.old.items) }
 {
-    vec![in alloc; 0; count]
+    if amounts.len() >= count {
+        return Ok(());
+    }
+    amounts.resize(count, 0)
 }
 
 /// Whether the link is one of the network that comes from no node.

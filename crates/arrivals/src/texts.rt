@@ -43,7 +43,7 @@ fn read_records(
     ensures refused { IfErr result (λ fault. Refuses fault ((a : Amounts) → ¬ AreArrivalRecords net.now (left_of reader.old) a)) }
     ensures first { IfErr result (AreFaulty net.now (left_of reader.old)) }
 {
-    let mut arrivals = Arrivals::none(alloc, net)?;
+    let mut arrivals = Arrivals::none(alloc, net);
     if !next_record(reader, record)? {
         return Err(RowFault::Header);
     }

@@ -318,14 +318,15 @@ fn over<R: Threads + Wait + Sync>(
     rt: &R,
     alloc: Global,
     line: &str,
-    files: [&str; 3],
+    net: &str,
+    arr: &str,
+    hist: &str,
     faults: Faults<'_>,
 ) -> Result<Ending, AllocError> {
     let mut words = Vec::new(alloc);
     for word in line.split(' ') {
         words.push(word)?;
     }
-    let [net, arr, hist] = files;
     let files = &[
         ("net", net.as_bytes()),
         ("arr", arr.as_bytes()),
@@ -337,13 +338,15 @@ fn over<R: Threads + Wait + Sync>(
 #[test]
 fn worked_runs(rt: HostRuntime) -> Result<(), Fail> {
     let alloc = rt.alloc();
-    let turns = over(&rt, alloc, "turns net arr", [NETWORK, ARRIVALS, ""], NO_FAULTS)?;
+    let turns = over(&rt, alloc, "turns net arr", NETWORK, ARRIVALS, "", NO_FAULTS)?;
     assert!(rt; turns.is(Status::Done, REPORT, ""));
     let replayed = over(
         &rt,
         alloc,
         "replay net arr hist",
-        [NETWORK, ARRIVALS, REPORT],
+        NETWORK,
+        ARRIVALS,
+        REPORT,
         NO_FAULTS,
     )?;
     assert!(rt; replayed.is(Status::Done, REPORT, ""));
@@ -359,7 +362,9 @@ fn replays_one_round<R: Threads + Wait + Sync>(rt: &R, alloc: Global) -> Result<
             rt,
             alloc,
             "replay net arr hist",
-            [&net, ARRIVALS, history],
+            &net,
+            ARRIVALS,
+            history,
             NO_FAULTS,
         )?;
         if !ending.is(Status::Done, report, "") {
@@ -374,7 +379,7 @@ fn replays_one_round<R: Threads + Wait + Sync>(rt: &R, alloc: Global) -> Result<
 fn planned_instances(rt: HostRuntime) -> Result<(), Fail> {
     let alloc = rt.alloc();
     for &(words, lines) in PLANNED {
-        let planned = over(&rt, alloc, words, [NETWORK, ARRIVALS, REPORT], NO_FAULTS)?;
+        let planned = over(&rt, alloc, words, NETWORK, ARRIVALS, REPORT, NO_FAULTS)?;
         let text = [PHASES, lines].concat(alloc)?;
         assert!(rt; planned.is(Status::Done, &text, ""));
         assert!(rt; is_accepted(&rt, alloc, &planned)?);
@@ -418,45 +423,44 @@ fn refused_texts(rt: HostRuntime) -> Result<(), Fail> {
     let alloc = rt.alloc();
     for &(from, to, line) in BAD_NETWORKS {
         let net = NETWORK.replace(alloc, from, to)?;
-        assert!(rt; is_bad(&rt, alloc, "turns net arr", [&net, ARRIVALS, ""], line)?);
+        assert!(rt; is_bad(&rt, alloc, "turns net arr", &net, ARRIVALS, "", line)?);
     }
     for &(arrivals, line) in BAD_ARRIVALS {
-        assert!(rt; is_bad(&rt, alloc, "turns net arr", [NETWORK, arrivals, ""], line)?);
+        assert!(rt; is_bad(&rt, alloc, "turns net arr", NETWORK, arrivals, "", line)?);
     }
     let net = NETWORK.replace(alloc, "rounds = 4", "rounds = 1")?;
     for &(history, line) in BAD_HISTORIES {
-        assert!(rt;
-            is_bad(
-                &rt,
-                alloc,
-                "replay net arr hist",
-                [&net, ARRIVALS, history],
-                line
-            )?
-        );
+        assert!(rt; is_bad(&rt, alloc, "replay net arr hist", &net, ARRIVALS, history, line)?);
     }
     Ok(())
 }
 
 // Whether the input is refused with this line.
-fn is_bad<R: Threads + Wait + Sync>(rt: &R, alloc: Global, words: &str, files: [&str; 3], line: &str) -> Result<bool, AllocError> {
-    let ending = over(rt, alloc, words, files, NO_FAULTS)?;
+fn is_bad<R: Threads + Wait + Sync>(
+    rt: &R,
+    alloc: Global,
+    words: &str,
+    net: &str,
+    arr: &str,
+    hist: &str,
+    line: &str,
+) -> Result<bool, AllocError> {
+    let ending = over(rt, alloc, words, net, arr, hist, NO_FAULTS)?;
     Ok(ending.is(Status::BadInput, "", line))
 }
 
 #[test]
 fn refused_words(rt: HostRuntime) -> Result<(), Fail> {
     let alloc = rt.alloc();
-    let files = [NETWORK, ARRIVALS, REPORT];
     for &(words, line) in MISSING {
-        assert!(rt; is_bad(&rt, alloc, words, files, line)?);
+        assert!(rt; is_bad(&rt, alloc, words, NETWORK, ARRIVALS, REPORT, line)?);
     }
     for &(words, line) in UNREAD {
-        let ending = over(&rt, alloc, words, files, NO_FAULTS)?;
+        let ending = over(&rt, alloc, words, NETWORK, ARRIVALS, REPORT, NO_FAULTS)?;
         assert!(rt; ending.is(Status::ReadFault, "", line));
     }
     for words in NO_COMMAND.lines() {
-        let ending = over(&rt, alloc, words, files, NO_FAULTS)?;
+        let ending = over(&rt, alloc, words, NETWORK, ARRIVALS, REPORT, NO_FAULTS)?;
         assert!(rt; ending.is(Status::Usage, "", "signal: usage\n"));
     }
     Ok(())
@@ -472,19 +476,42 @@ const FETCHES: &[(&[u32], &str)] = &[
 #[test]
 fn faulty(rt: HostRuntime) -> Result<(), Fail> {
     let alloc = rt.alloc();
-    let files = [NETWORK, ARRIVALS, REPORT];
     for &(fetches, line) in FETCHES {
         let faults = Faults {
             fetches,
             out: &[],
             err: &[],
         };
-        let ending = over(&rt, alloc, "replay net arr hist", files, faults)?;
+        let ending = over(
+            &rt,
+            alloc,
+            "replay net arr hist",
+            NETWORK,
+            ARRIVALS,
+            REPORT,
+            faults,
+        )?;
         assert!(rt; ending.is(Status::ReadFault, "", line));
     }
-    let ending = over(&rt, alloc, "replay net arr hist", files, OUT_KEEPS_FOUR)?;
+    let ending = over(
+        &rt,
+        alloc,
+        "replay net arr hist",
+        NETWORK,
+        ARRIVALS,
+        REPORT,
+        OUT_KEEPS_FOUR,
+    )?;
     assert!(rt; ending.is(Status::WriteFault, "kind", "signal: cannot write\n"));
-    let ending = over(&rt, alloc, "grid 7 2 1", files, OUT_KEEPS_FOUR)?;
+    let ending = over(
+        &rt,
+        alloc,
+        "grid 7 2 1",
+        NETWORK,
+        ARRIVALS,
+        REPORT,
+        OUT_KEEPS_FOUR,
+    )?;
     assert!(rt; ending.is(Status::WriteFault, "grid", "signal: cannot write\n"));
     Ok(())
 }

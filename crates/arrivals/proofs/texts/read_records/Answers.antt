@@ -10,7 +10,7 @@ use Rattle.arrivals.proofs.texts.read_records.Goals as goal
 pub loop-arrivals-init : goal.loop-arrivals-init
 loop-arrivals-init c =
     let (reading, left) = found-one c.args.reader.now c.next_record.new.reader _ _ c.if-not-branch.false c.in_ok-next_record.ensures in
-    record { reading = reading; under = under-none c.args.net.now _ _ _ _ left (c.is_header.ensures.0 c.if-not-is_header.false) c.in_ok-arrivals.ensures.none }
+    record { reading = reading; under = under-none c.args.net.now _ _ _ _ left (c.is_header.ensures.0 c.if-not-is_header.false) c.none-arrivals.ensures.none }
 
 pub overflow_add-number : goal.overflow_add-number
 overflow_add-number c = omega (arith, under-count _ _ _ _ _ c.loop-arrivals.invariant.under)

@@ -15,7 +15,7 @@ overflow_add-index c = omega (arith, tally-count c.args.net.now _ _ c.loop-index
 
 pub returns-in_err-add-clause-first : goal.returns-in_err-add-clause-first
 returns-in_err-add-clause-first c =
-    let p = err_from_is_err_and c.from_residual-in_err-add.result c.from_residual-in_err-add.ensures.1 in
+    let p = err_from_is_err_and c.from_residual.result c.from_residual.ensures.1 in
     let tally = c.loop-index.invariant in
     let d : ArrivalRow = record { second = 0; link = 0; amount = 0 } in
     let r : ArrivalRow = get_or c.args.rows.now c.loop-index.index d in
@@ -24,7 +24,7 @@ returns-in_err-add-clause-first c =
 
 pub returns-in_err-add-clause-refused : goal.returns-in_err-add-clause-refused
 returns-in_err-add-clause-refused c =
-    IfErr-weaker c.from_residual-in_err-add.result (IsRowFault c.args.net.now c.args.rows.now) _ (row-refuses c.args.net.now c.args.rows.now) (returns-in_err-add-clause-first c)
+    IfErr-weaker c.from_residual.result (IsRowFault c.args.net.now c.args.rows.now) _ (row-refuses c.args.net.now c.args.rows.now) (returns-in_err-add-clause-first c)
 
 pub loop-index-preserved : goal.loop-index-preserved
 loop-index-preserved c =
