@@ -93,15 +93,7 @@ pub fn run_with_room<R: Threads + Wait + Sync>(
     let mut shelf = shelf_of(alloc, text, faults.fetches)?;
     let mut out = MemorySink::new(alloc, room, faults.out.to_vec(alloc)?)?;
     let mut err = MemorySink::new(alloc, 1000, faults.err.to_vec(alloc)?)?;
-    let status = signal(
-        rt,
-        alloc,
-        &words,
-        &mut shelf,
-        &mut out,
-        &mut err,
-        &OpenGate,
-    );
+    let status = signal(rt, alloc, &words, &mut shelf, &mut out, &mut err, &OpenGate);
     Ok(Ending { status, out, err })
 }
 
@@ -117,15 +109,7 @@ pub fn run_over<R: Threads + Wait + Sync>(
     let mut shelf = shelf_with(alloc, files, faults.fetches)?;
     let mut out = MemorySink::new(alloc, 10_000, faults.out.to_vec(alloc)?)?;
     let mut err = MemorySink::new(alloc, 1000, faults.err.to_vec(alloc)?)?;
-    let status = signal(
-        rt,
-        alloc,
-        &words,
-        &mut shelf,
-        &mut out,
-        &mut err,
-        &OpenGate,
-    );
+    let status = signal(rt, alloc, &words, &mut shelf, &mut out, &mut err, &OpenGate);
     Ok(Ending { status, out, err })
 }
 

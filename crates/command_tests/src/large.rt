@@ -52,7 +52,13 @@ const INSTANCES: &[(&str, &str, &str, usize, u32)] = &[
 fn large_instances(rt: HostRuntime) -> Result<(), Fail> {
     let alloc = rt.alloc();
     for &(shows, instance, plan, length, sum) in INSTANCES {
-        let planned = run(&rt, alloc, &["plan", "file"], instance.as_bytes(), NO_FAULTS)?;
+        let planned = run(
+            &rt,
+            alloc,
+            &["plan", "file"],
+            instance.as_bytes(),
+            NO_FAULTS,
+        )?;
         assert!(rt; planned.is(Status::Done, plan, ""), "{shows}");
         let as_wanted = is_certified(&rt, alloc, instance.as_bytes(), length, sum)?;
         assert!(rt; as_wanted, "{shows}");
@@ -69,7 +75,14 @@ fn is_certified<R: Threads + Wait + Sync>(
     sum: u32,
 ) -> Result<bool, AllocError> {
     let instance = instance.to_vec(alloc)?;
-    let certified = run_with_room(rt, alloc, &["certify", "file"], instance, NO_FAULTS, 1_000_000)?;
+    let certified = run_with_room(
+        rt,
+        alloc,
+        &["certify", "file"],
+        instance,
+        NO_FAULTS,
+        1_000_000,
+    )?;
     let certificate = certified.out();
     if certificate.len() != length || checksum(certificate) != sum {
         return Ok(false);

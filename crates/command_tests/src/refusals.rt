@@ -325,7 +325,13 @@ const FAULTY: &[(&str, Faults<'static>, Status, &str, &str)] = &[
 fn faulty(rt: HostRuntime) -> Result<(), Fail> {
     let alloc = rt.alloc();
     for &(command, faults, status, out, err) in FAULTY {
-        let ending = run(&rt, alloc, &[command, "file"], TWO_CLUSTERS.as_bytes(), faults)?;
+        let ending = run(
+            &rt,
+            alloc,
+            &[command, "file"],
+            TWO_CLUSTERS.as_bytes(),
+            faults,
+        )?;
         assert!(rt;
             ending.is(status, out, err),
             "{command} with {out} and {err}"

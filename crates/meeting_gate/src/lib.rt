@@ -10,6 +10,7 @@ use std::thread::Threads;
 
 // How often a node that reads looks out for the other one before it goes on: so many times so many looks.
 const TURNS: u32 = 200_000;
+
 const LOOKS: u32 = 1_000;
 
 /// A gate in which each of two nodes, inside its reading of a link, looks out for the other node inside the reading of its own link

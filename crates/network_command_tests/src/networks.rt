@@ -338,7 +338,15 @@ fn over<R: Threads + Wait + Sync>(
 #[test]
 fn worked_runs(rt: HostRuntime) -> Result<(), Fail> {
     let alloc = rt.alloc();
-    let turns = over(&rt, alloc, "turns net arr", NETWORK, ARRIVALS, "", NO_FAULTS)?;
+    let turns = over(
+        &rt,
+        alloc,
+        "turns net arr",
+        NETWORK,
+        ARRIVALS,
+        "",
+        NO_FAULTS,
+    )?;
     assert!(rt; turns.is(Status::Done, REPORT, ""));
     let replayed = over(
         &rt,
@@ -388,7 +396,11 @@ fn planned_instances(rt: HostRuntime) -> Result<(), Fail> {
 }
 
 // Whether the certificate of the instance that was written is accepted.
-fn is_accepted<R: Threads + Wait + Sync>(rt: &R, alloc: Global, planned: &Ending) -> Result<bool, AllocError> {
+fn is_accepted<R: Threads + Wait + Sync>(
+    rt: &R,
+    alloc: Global,
+    planned: &Ending,
+) -> Result<bool, AllocError> {
     let certified = run_over(
         rt,
         alloc,
@@ -430,7 +442,17 @@ fn refused_texts(rt: HostRuntime) -> Result<(), Fail> {
     }
     let net = NETWORK.replace(alloc, "rounds = 4", "rounds = 1")?;
     for &(history, line) in BAD_HISTORIES {
-        assert!(rt; is_bad(&rt, alloc, "replay net arr hist", &net, ARRIVALS, history, line)?);
+        assert!(rt;
+            is_bad(
+                &rt,
+                alloc,
+                "replay net arr hist",
+                &net,
+                ARRIVALS,
+                history,
+                line
+            )?
+        );
     }
     Ok(())
 }

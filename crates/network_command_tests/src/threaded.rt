@@ -46,10 +46,7 @@ fn job<R: Threads + Wait + Sync, G: Gate + Sync>(
     alloc: Global,
     gate: &G,
 ) -> Result<Status, AllocError> {
-    let files = vec![in alloc;
-        file(alloc, "net", NETWORK)?,
-        file(alloc, "arr", ARRIVALS)?
-    ]?;
+    let files = vec![in alloc; file(alloc, "net", NETWORK)?, file(alloc, "arr", ARRIVALS)?]?;
     let mut shelf = MemoryShelf::new(alloc, files, Vec::new(alloc));
     let mut out = MemorySink::new(alloc, 10_000, Vec::new(alloc))?;
     let mut err = MemorySink::new(alloc, 1000, Vec::new(alloc))?;

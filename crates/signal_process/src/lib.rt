@@ -35,12 +35,7 @@ pub fn run<
     R: Files + AllocGlobal + Threads + Wait + Sync,
     O: Write + Drop,
     E: Write + Drop,
->(
-    env: &W,
-    rt: &R,
-    out: O,
-    err: E,
-) -> ExitCode {
+>(env: &W, rt: &R, out: O, err: E) -> ExitCode {
     let alloc = rt.alloc();
     let words = match words(env, alloc) {
         Ok(words) => words,
@@ -50,15 +45,7 @@ pub fn run<
     let mut shelf = FileShelf::new(alloc, rt);
     let mut out = StreamSink::new(out);
     let mut err = StreamSink::new(err);
-    let status = signal(
-        rt,
-        alloc,
-        &words,
-        &mut shelf,
-        &mut out,
-        &mut err,
-        &OpenGate,
-    );
+    let status = signal(rt, alloc, &words, &mut shelf, &mut out, &mut err, &OpenGate);
     ExitCode::from(status.code())
 }
 

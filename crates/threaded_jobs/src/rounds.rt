@@ -56,9 +56,7 @@ fn closed(alloc: Global, boards: Boards, passes: Vec<Pass>) -> Result<Vec<BoardL
     requires { AreAllPasses boards passes.items }
     ensures { IfOk result (λ logs. AreLogsOfPasses boards.links passes.items logs.items) }
 {
-    boards
-        .close(alloc, passes)
-        .map_err(|refused| refused.2)
+    boards.close(alloc, passes).map_err(|refused| refused.2)
 }
 
 /// The run of a network in threads, each node with a planner and a pass of its own. The boards are closed in any case.
