@@ -1,11 +1,14 @@
-//! Calls of the program over files and sinks in memory, for the tests of its commands.
+//! Calls of the program over files and sinks in memory, with the open gate, for the tests of its commands.
 #![tactic(auto)]
 
+use board_model::OpenGate;
 use foundation::items::Items;
 use foundation::text::Text;
 use outside_world::{MemoryShelf, MemorySink, SinkFail};
 use signal_cli::{Status, plan_job, signal};
 use std::alloc::{AllocError, Global};
+use std::sync::Wait;
+use std::thread::Threads;
 
 /// The lines of two phases alike, up to the head's.
 pub const TWO_PHASES: &str = "instance 1\nphases 2\nphase 5 30 3 2 2 120\nphase 5 30 3 2 2 120\n";
@@ -55,6 +58,11 @@ impl Ending {
             && self.err.bytes() == err.as_bytes()
     }
 
+    /// Whether the work was done, with these bytes in `out` and nothing in `err`.
+    pub fn is_done(&self, out: &[u8]) -> bool {
+        self.status == Status::Done && self.out.bytes() == out && self.err.bytes().is_empty()
+    }
+
     /// What stands in `out`.
     pub fn out(&self) -> &[u8] {
         self.out.bytes()
@@ -62,17 +70,19 @@ impl Ending {
 }
 
 /// Calls the program with these words. Its shelf has one file, `file`, with this text, and 1000 bytes may be written.
-pub fn run(
+pub fn run<R: Threads + Wait + Sync>(
+    rt: &R,
     alloc: Global,
     words: &[&str],
     text: &[u8],
     faults: Faults<'_>,
 ) -> Result<Ending, AllocError> {
-    run_with_room(alloc, words, text.to_vec(alloc)?, faults, 1000)
+    run_with_room(rt, alloc, words, text.to_vec(alloc)?, faults, 1000)
 }
 
 /// The same, where so many bytes may be written.
-pub fn run_with_room(
+pub fn run_with_room<R: Threads + Wait + Sync>(
+    rt: &R,
     alloc: Global,
     words: &[&str],
     text: Vec<u8>,
@@ -83,12 +93,13 @@ pub fn run_with_room(
     let mut shelf = shelf_of(alloc, text, faults.fetches)?;
     let mut out = MemorySink::new(alloc, room, faults.out.to_vec(alloc)?)?;
     let mut err = MemorySink::new(alloc, 1000, faults.err.to_vec(alloc)?)?;
-    let status = signal(alloc, &words, &mut shelf, &mut out, &mut err);
+    let status = signal(rt, alloc, &words, &mut shelf, &mut out, &mut err, &OpenGate);
     Ok(Ending { status, out, err })
 }
 
 /// Calls the program with these words over a shelf with these files; 10,000 bytes may be written.
-pub fn run_over(
+pub fn run_over<R: Threads + Wait + Sync>(
+    rt: &R,
     alloc: Global,
     words: &[&str],
     files: &[(&str, &[u8])],
@@ -98,13 +109,17 @@ pub fn run_over(
     let mut shelf = shelf_with(alloc, files, faults.fetches)?;
     let mut out = MemorySink::new(alloc, 10_000, faults.out.to_vec(alloc)?)?;
     let mut err = MemorySink::new(alloc, 1000, faults.err.to_vec(alloc)?)?;
-    let status = signal(alloc, &words, &mut shelf, &mut out, &mut err);
+    let status = signal(rt, alloc, &words, &mut shelf, &mut out, &mut err, &OpenGate);
     Ok(Ending { status, out, err })
 }
 
 /// Calls the program with the words `plan file` over this text. Nothing fails.
-pub fn plan(alloc: Global, text: &[u8]) -> Result<Ending, AllocError> {
-    run(alloc, &["plan", "file"], text, NO_FAULTS)
+pub fn plan<R: Threads + Wait + Sync>(
+    rt: &R,
+    alloc: Global,
+    text: &[u8],
+) -> Result<Ending, AllocError> {
+    run(rt, alloc, &["plan", "file"], text, NO_FAULTS)
 }
 
 /// Calls the job of `plan` by itself over the file `file` with this text. Nothing fails.

@@ -131,13 +131,13 @@ fn certificates(rt: HostRuntime) -> Result<(), Fail> {
     for &(command, instance, answer, entries) in MADE {
         let text = ["certificate 1\n", instance, answer, entries, "end\n"].concat(alloc)?;
         let words = [command, "file"];
-        let ending = run(alloc, &words, instance.as_bytes(), SECOND_FETCH_FAILS)?;
+        let ending = run(&rt, alloc, &words, instance.as_bytes(), SECOND_FETCH_FAILS)?;
         assert!(rt;
             ending.is(Status::Done, text.as_str(), ""),
             "{command} {answer}"
         );
         let words = ["check", "file"];
-        let ending = run(alloc, &words, ending.out(), SECOND_FETCH_FAILS)?;
+        let ending = run(&rt, alloc, &words, ending.out(), SECOND_FETCH_FAILS)?;
         assert!(rt;
             ending.is(Status::Done, "accepted\n", ""),
             "{command} {answer}"
@@ -146,6 +146,7 @@ fn certificates(rt: HostRuntime) -> Result<(), Fail> {
     for &(instance, answer, entries, status, out, err) in CHECKED {
         let text = ["certificate 1\n", instance, answer, entries, "end\n"].concat(alloc)?;
         let ending = run(
+            &rt,
             alloc,
             &["check", "file"],
             text.as_bytes(),

@@ -3,7 +3,9 @@
 use command_calls::{NO_FAULTS, run, run_with_room};
 use signal_cli::Status;
 use std::alloc::{AllocError, Global};
+use std::sync::Wait;
 use std::test::Fail;
+use std::thread::Threads;
 
 // What the instance shows, its text, what `plan` writes, and how long the certificate is, with its checksum.
 const INSTANCES: &[(&str, &str, &str, usize, u32)] = &[
@@ -50,28 +52,42 @@ const INSTANCES: &[(&str, &str, &str, usize, u32)] = &[
 fn large_instances(rt: HostRuntime) -> Result<(), Fail> {
     let alloc = rt.alloc();
     for &(shows, instance, plan, length, sum) in INSTANCES {
-        let planned = run(alloc, &["plan", "file"], instance.as_bytes(), NO_FAULTS)?;
+        let planned = run(
+            &rt,
+            alloc,
+            &["plan", "file"],
+            instance.as_bytes(),
+            NO_FAULTS,
+        )?;
         assert!(rt; planned.is(Status::Done, plan, ""), "{shows}");
-        let as_wanted = is_certified(alloc, instance.as_bytes(), length, sum)?;
+        let as_wanted = is_certified(&rt, alloc, instance.as_bytes(), length, sum)?;
         assert!(rt; as_wanted, "{shows}");
     }
     Ok(())
 }
 
 // Whether `certify` writes a text of this length with this checksum, and `check` accepts it.
-fn is_certified(
+fn is_certified<R: Threads + Wait + Sync>(
+    rt: &R,
     alloc: Global,
     instance: &[u8],
     length: usize,
     sum: u32,
 ) -> Result<bool, AllocError> {
     let instance = instance.to_vec(alloc)?;
-    let certified = run_with_room(alloc, &["certify", "file"], instance, NO_FAULTS, 1_000_000)?;
+    let certified = run_with_room(
+        rt,
+        alloc,
+        &["certify", "file"],
+        instance,
+        NO_FAULTS,
+        1_000_000,
+    )?;
     let certificate = certified.out();
     if certificate.len() != length || checksum(certificate) != sum {
         return Ok(false);
     }
-    let checked = run(alloc, &["check", "file"], certificate, NO_FAULTS)?;
+    let checked = run(rt, alloc, &["check", "file"], certificate, NO_FAULTS)?;
     Ok(checked.is(Status::Done, "accepted\n", ""))
 }
 
@@ -107,7 +123,7 @@ fn texts_up_to_the_limit(rt: HostRuntime) -> Result<(), Fail> {
     for &(length, status, out, err) in LENGTHS {
         let text = certificate_of_length(alloc, length)?;
         assert_eq!(rt; text.len(), length);
-        let ending = run_with_room(alloc, &["check", "file"], text, NO_FAULTS, 100)?;
+        let ending = run_with_room(&rt, alloc, &["check", "file"], text, NO_FAULTS, 100)?;
         assert!(rt; ending.is(status, out, err), "{length}");
     }
     Ok(())

@@ -139,7 +139,7 @@ fn worked_instances(rt: HostRuntime) -> Result<(), Fail> {
     let alloc = rt.alloc();
     for &(shows, phases, rest, written) in WORKED {
         let text = [phases, rest, "end\n"].concat(alloc)?;
-        let ending = plan(alloc, text.as_bytes())?;
+        let ending = plan(&rt, alloc, text.as_bytes())?;
         assert!(rt; ending.is(Status::Done, written, ""), "{shows}");
     }
     Ok(())
@@ -156,7 +156,7 @@ fn the_job_alone(rt: HostRuntime) -> Result<(), Fail> {
 #[test]
 fn plans_or_wants_memory(rt: HostRuntime) {
     let words = ["plan", "file"];
-    let Ok(ending) = run(rt.alloc(), &words, TWO_CLUSTERS.as_bytes(), NO_FAULTS) else {
+    let Ok(ending) = run(&rt, rt.alloc(), &words, TWO_CLUSTERS.as_bytes(), NO_FAULTS) else {
         return;
     };
     let planned = ending.is(Status::Done, TWO_CLUSTERS_PLAN, "");

@@ -215,12 +215,12 @@ const BAD_TEXTS: &[(&str, usize, &str)] = &[
 fn refused(rt: HostRuntime) -> Result<(), Fail> {
     let alloc = rt.alloc();
     for &(words, text, status, line) in REFUSED {
-        let ending = run(alloc, words, text.as_bytes(), NO_FAULTS)?;
+        let ending = run(&rt, alloc, words, text.as_bytes(), NO_FAULTS)?;
         assert!(rt; ending.is(status, "", line), "{words:?}");
     }
     for &(text, further, line) in BAD_TEXTS {
         let text = lengthened(alloc, text, further)?;
-        let ending = run(alloc, &["plan", "file"], &text, NO_FAULTS)?;
+        let ending = run(&rt, alloc, &["plan", "file"], &text, NO_FAULTS)?;
         assert!(rt; ending.is(Status::BadInput, "", line), "{line}");
     }
     Ok(())
@@ -325,7 +325,13 @@ const FAULTY: &[(&str, Faults<'static>, Status, &str, &str)] = &[
 fn faulty(rt: HostRuntime) -> Result<(), Fail> {
     let alloc = rt.alloc();
     for &(command, faults, status, out, err) in FAULTY {
-        let ending = run(alloc, &[command, "file"], TWO_CLUSTERS.as_bytes(), faults)?;
+        let ending = run(
+            &rt,
+            alloc,
+            &[command, "file"],
+            TWO_CLUSTERS.as_bytes(),
+            faults,
+        )?;
         assert!(rt;
             ending.is(status, out, err),
             "{command} with {out} and {err}"

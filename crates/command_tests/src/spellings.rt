@@ -3,7 +3,9 @@
 use command_calls::plan;
 use signal_cli::Status;
 use std::alloc::{AllocError, Global};
+use std::sync::Wait;
 use std::test::Fail;
+use std::thread::Threads;
 
 const TEXT: &str =
     "instance 1\nphases 2\nphase 5 30 3 2 2 120\nphase 5 30 3 2 2 120\nhead 0 0 0 kept\ncluster 1 2000 3 4\nend\n";
@@ -114,7 +116,7 @@ fn cut(rt: HostRuntime) -> Result<(), Fail> {
     let text = TEXT.as_bytes();
     for place in 0..text.len() {
         assert!(rt;
-            is_refused_at(alloc, &text[..place], place)?,
+            is_refused_at(&rt, alloc, &text[..place], place)?,
             "cut at {place}"
         );
     }
@@ -129,7 +131,7 @@ fn changed(rt: HostRuntime) -> Result<(), Fail> {
         let byte = other_byte(text[place]);
         let other = spliced(alloc, &text[..place], byte, &text[place + 1..])?;
         assert!(rt;
-            is_as_told(alloc, &other, CHANGED, place)?,
+            is_as_told(&rt, alloc, &other, CHANGED, place)?,
             "changed at {place}"
         );
     }
@@ -148,14 +150,15 @@ const INSERTED: &[(u8, &[Told])] = &[
 fn inserted(rt: HostRuntime) -> Result<(), Fail> {
     for &(byte, told) in INSERTED {
         for place in 0..TEXT.len() + 1 {
-            let held = insertion_is_as_told(rt.alloc(), byte, told, place)?;
+            let held = insertion_is_as_told(&rt, rt.alloc(), byte, told, place)?;
             assert!(rt; held, "byte {byte} at {place}");
         }
     }
     Ok(())
 }
 
-fn insertion_is_as_told(
+fn insertion_is_as_told<R: Threads + Wait + Sync>(
+    rt: &R,
     alloc: Global,
     byte: u8,
     told: &[Told],
@@ -163,7 +166,7 @@ fn insertion_is_as_told(
 ) -> Result<bool, AllocError> {
     let (front, back) = TEXT.as_bytes().split_at(place.min(TEXT.len()));
     let other = spliced(alloc, front, byte, back)?;
-    is_as_told(alloc, &other, told, place)
+    is_as_told(rt, alloc, &other, told, place)
 }
 
 fn other_byte(byte: u8) -> u8 {
@@ -182,18 +185,29 @@ fn spliced(alloc: Global, front: &[u8], byte: u8, back: &[u8]) -> Result<Vec<u8>
 }
 
 // Whether `plan` refuses the text with a fault of the line in which this place stands.
-fn is_refused_at(alloc: Global, text: &[u8], place: usize) -> Result<bool, AllocError> {
+fn is_refused_at<R: Threads + Wait + Sync>(
+    rt: &R,
+    alloc: Global,
+    text: &[u8],
+    place: usize,
+) -> Result<bool, AllocError> {
     match LINES.iter().find(|line| line.1 <= place) {
-        Some((line, _)) => Ok(plan(alloc, text)?.is(Status::BadInput, "", line)),
+        Some((line, _)) => Ok(plan(rt, alloc, text)?.is(Status::BadInput, "", line)),
         None => Ok(false),
     }
 }
 
 // Whether `plan` ends for the text, which is changed at this place, as the table has it for the place, or
 // refuses the text with a fault of the line there where the table has not the place.
-fn is_as_told(alloc: Global, text: &[u8], told: &[Told], place: usize) -> Result<bool, AllocError> {
+fn is_as_told<R: Threads + Wait + Sync>(
+    rt: &R,
+    alloc: Global,
+    text: &[u8],
+    told: &[Told],
+    place: usize,
+) -> Result<bool, AllocError> {
     match told.iter().find(|row| row.3.contains(&place)) {
-        Some((status, out, err, _)) => Ok(plan(alloc, text)?.is(*status, out, err)),
-        None => is_refused_at(alloc, text, place),
+        Some((status, out, err, _)) => Ok(plan(rt, alloc, text)?.is(*status, out, err)),
+        None => is_refused_at(rt, alloc, text, place),
     }
 }

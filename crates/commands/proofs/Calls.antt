@@ -2,7 +2,7 @@
 use Rattle.std.proofs.Common.{rules, ◌≡◌, ℕ, List, [], ◌∷◌, true, sym, ap, ◌∙◌, arith}
 use Rattle.std.proofs.lemmas.Fmt.{decimal_injective}
 use Rattle.std.specs.Str.{bytes_eq}
-use Rattle.commands.specs.Commands.{Call, IsCall, Certify, CertifyBound, Check, Grid, Instance, Plan, Replay, Turns, words_of}
+use Rattle.commands.specs.Commands.{Call, IsCall, Certify, CertifyBound, Check, Grid, Instance, Net, Plan, Replay, Turns, words_of}
 
 -- the first word
 first : List (List ℕ) → List ℕ
@@ -27,6 +27,7 @@ one_call words (CertifyBound f) (CertifyBound g) is other = let e = is.spelled i
 one_call words (Check f) (Check g) is other = let e = is.spelled in let d = other.spelled in cc
 one_call words (Turns n a) (Turns m b) is other = let e = is.spelled in let d = other.spelled in cc
 one_call words (Replay n a h) (Replay m b i) is other = let e = is.spelled in let d = other.spelled in cc
+one_call words (Net n a) (Net m b) is other = let e = is.spelled in let d = other.spelled in cc
 one_call words (Instance n a h k r) (Instance m b i l q) is other =
     let e = is.spelled in
     let d = other.spelled in

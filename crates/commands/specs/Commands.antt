@@ -15,7 +15,7 @@ use Rattle.net_numbers.specs.Numbers.{number_of}
 use Rattle.scenario_gen.specs.Grids.{AreRounds}
 use Rattle.scenario_gen.specs.Layout.{IsSide}
 use Rattle.commands.specs.Answers.{answer_text}
-use Rattle.commands.specs.Headline.{Headline, IsGridSummary, IsPlannedText}
+use Rattle.commands.specs.Headline.{Headline, IsGridSummary, IsPlannedText, ToldHeadline}
 use Rattle.command_texts.specs.Limits.{most_bytes}
 use Rattle.command_texts.specs.Texts.{AllSaid, CertificateText, InstanceText, Next, NoMore, Spells, Texts, history_texts, network_texts}
 use Rattle.commands.specs.Verdicts.{accepted_line, rejected_line}
@@ -32,6 +32,7 @@ pub data Call : Type 0 where
   Check : (file : List ℕ) → Call
   Turns : (net arr : List ℕ) → Call
   Replay : (net arr hist : List ℕ) → Call
+  Net : (net arr : List ℕ) → Call
   Instance : (net arr hist node : List ℕ) → (round : ℕ) → Call
   Grid : (number side rounds : ℕ) → Call
 
@@ -43,6 +44,7 @@ words_of (CertifyBound file) = codes "certify_bound" ∷ file ∷ []
 words_of (Check file) = codes "check" ∷ file ∷ []
 words_of (Turns net arr) = codes "turns" ∷ net ∷ arr ∷ []
 words_of (Replay net arr hist) = codes "replay" ∷ net ∷ arr ∷ hist ∷ []
+words_of (Net net arr) = codes "net" ∷ net ∷ arr ∷ []
 words_of (Instance net arr hist node round) = codes "instance" ∷ net ∷ arr ∷ hist ∷ node ∷ decimal round ∷ []
 words_of (Grid number side rounds) = codes "grid" ∷ decimal number ∷ decimal side ∷ decimal rounds ∷ []
 
@@ -65,6 +67,7 @@ texts_of (CertifyBound file) = Next InstanceText file (λ said. NoMore)
 texts_of (Check file) = Next CertificateText file (λ said. NoMore)
 texts_of (Turns net arr) = network_texts net arr (λ network. NoMore)
 texts_of (Replay net arr hist) = history_texts net arr hist
+texts_of (Net net arr) = network_texts net arr (λ network. NoMore)
 texts_of (Instance net arr hist node round) = history_texts net arr hist
 texts_of (Grid number side rounds) = NoMore
 
@@ -85,6 +88,7 @@ IsTextOf (CertifyBound file) said bytes = (c : Claim) × (c.problem ≡ said.0) 
 IsTextOf (Check file) said bytes = Proves said.0 × IsLeast said.0.problem said.0.answer × (bytes ≡ accepted_line)
 IsTextOf (Turns net arr) said bytes = Headline said.0 said.1.0 (turn_order said.0) bytes
 IsTextOf (Replay net arr hist) said bytes = Headline said.0 said.1.0 said.1.1.0 bytes
+IsTextOf (Net net arr) said bytes = ToldHeadline said.0 said.1.0 bytes
 IsTextOf (Instance net arr hist node round) said bytes = IsPlannedText said.0 said.1.0 said.1.1.0 node round bytes
 IsTextOf (Grid number side rounds) said bytes = IsGridSummary number side rounds bytes
 
@@ -116,5 +120,6 @@ seen (told.CertifyBound file) = CertifyBound file.now
 seen (told.Check file) = Check file.now
 seen (told.Turns net arr) = Turns net.now arr.now
 seen (told.Replay net arr hist) = Replay net.now arr.now hist.now
+seen (told.Net net arr) = Net net.now arr.now
 seen (told.Instance net arr hist node round) = Instance net.now arr.now hist.now node.now round
 seen (told.Grid number side rounds) = Grid number side rounds

@@ -40,6 +40,11 @@ pub enum Command<'a> {
         arr: &'a str,
         hist: &'a str,
     },
+    /// Writes the report of a run in threads.
+    Net {
+        net: &'a str,
+        arr: &'a str,
+    },
     /// Writes the instance that a node planned in a round of the run of a history.
     Instance {
         net: &'a str,
@@ -74,6 +79,10 @@ pub fn command_of(words: &[Text]) -> Option<Command<'_>>
         "replay" => {
             let (net, arr, hist) = three(rest)?;
             Some(Command::Replay { net, arr, hist })
+        }
+        "net" => {
+            let (net, arr) = two(rest)?;
+            Some(Command::Net { net, arr })
         }
         "instance" => {
             let (net, arr, hist, node, round) = four_and_number(rest)?;

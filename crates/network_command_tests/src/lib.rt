@@ -1,6 +1,8 @@
 //! Tests of the commands over a network, from their words to what they write: worked runs with their reports, planned instances that
-//! are certified and checked, grids, the refusals of each text, and faults in mid-work.
+//! are certified and checked, grids, runs in threads, the refusals of each text, and faults in mid-work.
 #![tactic(auto)]
 
 #[cfg(test)]
 mod networks;
+#[cfg(test)]
+mod threaded;

@@ -4,10 +4,12 @@ use command_calls::{Ending, Faults, NO_FAULTS, run_over};
 use outside_world::{MemorySink, SinkFail};
 use signal_cli::{Status, grid_job};
 use std::alloc::{AllocError, Global};
+use std::sync::Wait;
 use std::test::Fail;
+use std::thread::Threads;
 
 // Two nodes, each of which the other one feeds, for four rounds.
-const NETWORK: &str = r#"[run]
+pub(crate) const NETWORK: &str = r#"[run]
 step = 5
 look = 30
 gap = 1
@@ -96,7 +98,7 @@ a = "ab"
 b = "sb"
 "#;
 
-const ARRIVALS: &str = "second,link,amount\n0,sa,1000\n";
+pub(crate) const ARRIVALS: &str = "second,link,amount\n0,sa,1000\n";
 
 // The report of the run of the turn order.
 const REPORT: &str = r#"kind,round,node,x,y,z,w
@@ -282,6 +284,8 @@ const MISSING: &[(&str, &str)] = &[
 const UNREAD: &[(&str, &str)] = &[
     ("turns absent arr", "signal: cannot read 1\n"),
     ("turns net absent", "signal: cannot read 2\n"),
+    ("net absent arr", "signal: cannot read 1\n"),
+    ("net net absent", "signal: cannot read 2\n"),
     ("replay net arr absent", "signal: cannot read 3\n"),
     ("instance net arr absent c 0", "signal: cannot read 3\n"),
 ];
@@ -290,6 +294,8 @@ const UNREAD: &[(&str, &str)] = &[
 const NO_COMMAND: &str = "\
 turns net\n\
 turns net arr hist\n\
+net net\n\
+net net arr hist\n\
 replay net arr\n\
 instance net arr hist\n\
 instance net arr hist a\n\
@@ -308,7 +314,8 @@ grid -1 3 20\n\
 ";
 
 // Calls the program with the words of a line over a network, arrivals and a history.
-fn over(
+fn over<R: Threads + Wait + Sync>(
+    rt: &R,
     alloc: Global,
     line: &str,
     net: &str,
@@ -325,15 +332,24 @@ fn over(
         ("arr", arr.as_bytes()),
         ("hist", hist.as_bytes()),
     ];
-    run_over(alloc, &words, files, faults)
+    run_over(rt, alloc, &words, files, faults)
 }
 
 #[test]
 fn worked_runs(rt: HostRuntime) -> Result<(), Fail> {
     let alloc = rt.alloc();
-    let turns = over(alloc, "turns net arr", NETWORK, ARRIVALS, "", NO_FAULTS)?;
+    let turns = over(
+        &rt,
+        alloc,
+        "turns net arr",
+        NETWORK,
+        ARRIVALS,
+        "",
+        NO_FAULTS,
+    )?;
     assert!(rt; turns.is(Status::Done, REPORT, ""));
     let replayed = over(
+        &rt,
         alloc,
         "replay net arr hist",
         NETWORK,
@@ -342,15 +358,16 @@ fn worked_runs(rt: HostRuntime) -> Result<(), Fail> {
         NO_FAULTS,
     )?;
     assert!(rt; replayed.is(Status::Done, REPORT, ""));
-    assert!(rt; replays_one_round(alloc)?);
+    assert!(rt; replays_one_round(&rt, alloc)?);
     Ok(())
 }
 
 // Whether each history for one round has its report.
-fn replays_one_round(alloc: Global) -> Result<bool, AllocError> {
+fn replays_one_round<R: Threads + Wait + Sync>(rt: &R, alloc: Global) -> Result<bool, AllocError> {
     let net = NETWORK.replace(alloc, "rounds = 4", "rounds = 1")?;
     for &(history, report) in ONE_ROUND {
         let ending = over(
+            rt,
             alloc,
             "replay net arr hist",
             &net,
@@ -370,23 +387,29 @@ fn replays_one_round(alloc: Global) -> Result<bool, AllocError> {
 fn planned_instances(rt: HostRuntime) -> Result<(), Fail> {
     let alloc = rt.alloc();
     for &(words, lines) in PLANNED {
-        let planned = over(alloc, words, NETWORK, ARRIVALS, REPORT, NO_FAULTS)?;
+        let planned = over(&rt, alloc, words, NETWORK, ARRIVALS, REPORT, NO_FAULTS)?;
         let text = [PHASES, lines].concat(alloc)?;
         assert!(rt; planned.is(Status::Done, &text, ""));
-        assert!(rt; is_accepted(alloc, &planned)?);
+        assert!(rt; is_accepted(&rt, alloc, &planned)?);
     }
     Ok(())
 }
 
 // Whether the certificate of the instance that was written is accepted.
-fn is_accepted(alloc: Global, planned: &Ending) -> Result<bool, AllocError> {
+fn is_accepted<R: Threads + Wait + Sync>(
+    rt: &R,
+    alloc: Global,
+    planned: &Ending,
+) -> Result<bool, AllocError> {
     let certified = run_over(
+        rt,
         alloc,
         &["certify", "file"],
         &[("file", planned.out())],
         NO_FAULTS,
     )?;
     let checked = run_over(
+        rt,
         alloc,
         &["check", "file"],
         &[("file", certified.out())],
@@ -398,7 +421,7 @@ fn is_accepted(alloc: Global, planned: &Ending) -> Result<bool, AllocError> {
 #[test]
 fn grids(rt: HostRuntime) -> Result<(), Fail> {
     let alloc = rt.alloc();
-    let ending = run_over(alloc, &["grid", "7", "3", "20"], &[], NO_FAULTS)?;
+    let ending = run_over(&rt, alloc, &["grid", "7", "3", "20"], &[], NO_FAULTS)?;
     assert!(rt; ending.is(Status::Done, SUMMARY, ""));
     let mut out = MemorySink::new(alloc, 1000, Vec::new(alloc))?;
     let mut err = MemorySink::new(alloc, 1000, Vec::new(alloc))?;
@@ -412,20 +435,31 @@ fn refused_texts(rt: HostRuntime) -> Result<(), Fail> {
     let alloc = rt.alloc();
     for &(from, to, line) in BAD_NETWORKS {
         let net = NETWORK.replace(alloc, from, to)?;
-        assert!(rt; is_bad(alloc, "turns net arr", &net, ARRIVALS, "", line)?);
+        assert!(rt; is_bad(&rt, alloc, "turns net arr", &net, ARRIVALS, "", line)?);
     }
     for &(arrivals, line) in BAD_ARRIVALS {
-        assert!(rt; is_bad(alloc, "turns net arr", NETWORK, arrivals, "", line)?);
+        assert!(rt; is_bad(&rt, alloc, "turns net arr", NETWORK, arrivals, "", line)?);
     }
     let net = NETWORK.replace(alloc, "rounds = 4", "rounds = 1")?;
     for &(history, line) in BAD_HISTORIES {
-        assert!(rt; is_bad(alloc, "replay net arr hist", &net, ARRIVALS, history, line)?);
+        assert!(rt;
+            is_bad(
+                &rt,
+                alloc,
+                "replay net arr hist",
+                &net,
+                ARRIVALS,
+                history,
+                line
+            )?
+        );
     }
     Ok(())
 }
 
 // Whether the input is refused with this line.
-fn is_bad(
+fn is_bad<R: Threads + Wait + Sync>(
+    rt: &R,
     alloc: Global,
     words: &str,
     net: &str,
@@ -433,7 +467,7 @@ fn is_bad(
     hist: &str,
     line: &str,
 ) -> Result<bool, AllocError> {
-    let ending = over(alloc, words, net, arr, hist, NO_FAULTS)?;
+    let ending = over(rt, alloc, words, net, arr, hist, NO_FAULTS)?;
     Ok(ending.is(Status::BadInput, "", line))
 }
 
@@ -441,14 +475,14 @@ fn is_bad(
 fn refused_words(rt: HostRuntime) -> Result<(), Fail> {
     let alloc = rt.alloc();
     for &(words, line) in MISSING {
-        assert!(rt; is_bad(alloc, words, NETWORK, ARRIVALS, REPORT, line)?);
+        assert!(rt; is_bad(&rt, alloc, words, NETWORK, ARRIVALS, REPORT, line)?);
     }
     for &(words, line) in UNREAD {
-        let ending = over(alloc, words, NETWORK, ARRIVALS, REPORT, NO_FAULTS)?;
+        let ending = over(&rt, alloc, words, NETWORK, ARRIVALS, REPORT, NO_FAULTS)?;
         assert!(rt; ending.is(Status::ReadFault, "", line));
     }
     for words in NO_COMMAND.lines() {
-        let ending = over(alloc, words, NETWORK, ARRIVALS, REPORT, NO_FAULTS)?;
+        let ending = over(&rt, alloc, words, NETWORK, ARRIVALS, REPORT, NO_FAULTS)?;
         assert!(rt; ending.is(Status::Usage, "", "signal: usage\n"));
     }
     Ok(())
@@ -471,6 +505,7 @@ fn faulty(rt: HostRuntime) -> Result<(), Fail> {
             err: &[],
         };
         let ending = over(
+            &rt,
             alloc,
             "replay net arr hist",
             NETWORK,
@@ -481,6 +516,7 @@ fn faulty(rt: HostRuntime) -> Result<(), Fail> {
         assert!(rt; ending.is(Status::ReadFault, "", line));
     }
     let ending = over(
+        &rt,
         alloc,
         "replay net arr hist",
         NETWORK,
@@ -490,6 +526,7 @@ fn faulty(rt: HostRuntime) -> Result<(), Fail> {
     )?;
     assert!(rt; ending.is(Status::WriteFault, "kind", "signal: cannot write\n"));
     let ending = over(
+        &rt,
         alloc,
         "grid 7 2 1",
         NETWORK,

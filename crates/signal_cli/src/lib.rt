@@ -15,4 +15,5 @@ pub use check::check_job;
 pub use command_texts::Status;
 pub use network_jobs::{grid_job, instance_job, replay_job, turns_job};
 pub use plan::plan_job;
+pub use threaded_jobs::net_job;
 pub use top::signal;

@@ -9,26 +9,32 @@ use super::certify::certify_job;
 use super::certify_bound::certify_bound_job;
 use super::check::check_job;
 use super::plan::plan_job;
+use board_model::Gate;
 use command_texts::{Refusal, Status, refuse};
 use commands::{Command, command_of};
 use foundation::text::Text;
 use network_jobs::{grid_job, instance_job, replay_job, turns_job};
 use outside_world::{Shelf, Sink};
 use std::alloc::Global;
+use std::sync::Wait;
+use std::thread::Threads;
+use threaded_jobs::net_job;
 
 /// The program: does what its words say over the shelf and the sinks, and answers how it ended.
 ///
 /// The words are those of a command; all others are `Usage`, which touches neither shelf nor `out`. Each status of a
 /// command comes with its cause, nothing is written to `out` before all work is done, and a refusal writes its line to
-/// `err`.
+/// `err`. `net` alone starts threads and waits, and calls the gate.
 ///
 /// docs/FORMATS.md, "Words".
-pub fn signal<S: Shelf, O: Sink, E: Sink>(
+pub fn signal<R: Threads + Wait + Sync, S: Shelf, O: Sink, E: Sink, G: Gate + Sync>(
+    rt: &R,
     alloc: Global,
     words: &[Text],
     shelf: &mut S,
     out: &mut O,
     err: &mut E,
+    gate: &G,
 ) -> Status
     ensures usage { (result ≡ Status.Usage) ↔ ((call : Call) → ¬ IsCall words.now call) }
     ensures unused { result ≡ Status.Usage → (S.state shelf.new ≡ S.state shelf.old) × (O.state out.new ≡ O.state out.old)
@@ -39,18 +45,20 @@ pub fn signal<S: Shelf, O: Sink, E: Sink>(
         (record { shelf = S.state shelf.new; out = O.state out.new; err = E.state err.new }) result }
 {
     match command_of(words) {
-        Some(command) => run(alloc, command, shelf, out, err),
+        Some(command) => run(rt, alloc, command, shelf, out, err, gate),
         None => refuse(alloc, Refusal::Usage, err),
     }
 }
 
 // Does what a command says.
-fn run<S: Shelf, O: Sink, E: Sink>(
+fn run<R: Threads + Wait + Sync, S: Shelf, O: Sink, E: Sink, G: Gate + Sync>(
+    rt: &R,
     alloc: Global,
     command: Command<'_>,
     shelf: &mut S,
     out: &mut O,
     err: &mut E,
+    gate: &G,
 ) -> Status
     requires { IsWithin (seen command) }
     ensures { Outcome (seen command.entry)
@@ -64,6 +72,7 @@ fn run<S: Shelf, O: Sink, E: Sink>(
         Command::Check { file } => check_job(alloc, file, shelf, out, err),
         Command::Turns { net, arr } => turns_job(alloc, net, arr, shelf, out, err),
         Command::Replay { net, arr, hist } => replay_job(alloc, net, arr, hist, shelf, out, err),
+        Command::Net { net, arr } => net_job(rt, alloc, net, arr, shelf, out, err, gate),
         Command::Instance {
             net,
             arr,

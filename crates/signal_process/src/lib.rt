@@ -1,6 +1,7 @@
 //! The program in its process: its words, files and streams, handed to the top call.
 #![tactic(auto)]
 
+use board_model::OpenGate;
 use foundation::text::Text;
 use outside_world::{FileShelf, StreamSink};
 use signal_cli::{Status, signal};
@@ -9,6 +10,8 @@ use std::env;
 use std::io::{ErrorKind, Write};
 use std::process::ExitCode;
 use std::rt::{Env, Files};
+use std::sync::Wait;
+use std::thread::Threads;
 use thiserror::Error;
 
 /// The status that says that the runtime refused the words themselves.
@@ -23,16 +26,16 @@ enum NoWords {
     Memory,
 }
 
-/// Calls `signal` with the words of the command line, which `env` gives, the files of `rt`, and these streams for `out` and
-/// `err`. The answer is its status, or 7 where the words are refused.
+/// Calls `signal` with the words of the command line, which `env` gives, the files and threads of `rt`, these streams for `out` and
+/// `err`, and the open gate. The answer is its status, or 7 where the words are refused.
 ///
 /// docs/FORMATS.md, "Exit statuses and lines of refusal".
-pub fn run<W: Env + AllocGlobal, R: Files + AllocGlobal, O: Write + Drop, E: Write + Drop>(
-    env: &W,
-    rt: &R,
-    out: O,
-    err: E,
-) -> ExitCode {
+pub fn run<
+    W: Env + AllocGlobal,
+    R: Files + AllocGlobal + Threads + Wait + Sync,
+    O: Write + Drop,
+    E: Write + Drop,
+>(env: &W, rt: &R, out: O, err: E) -> ExitCode {
     let alloc = rt.alloc();
     let words = match words(env, alloc) {
         Ok(words) => words,
@@ -42,7 +45,7 @@ pub fn run<W: Env + AllocGlobal, R: Files + AllocGlobal, O: Write + Drop, E: Wri
     let mut shelf = FileShelf::new(alloc, rt);
     let mut out = StreamSink::new(out);
     let mut err = StreamSink::new(err);
-    let status = signal(alloc, &words, &mut shelf, &mut out, &mut err);
+    let status = signal(rt, alloc, &words, &mut shelf, &mut out, &mut err, &OpenGate);
     ExitCode::from(status.code())
 }
 

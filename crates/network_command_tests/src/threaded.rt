@@ -1,0 +1,67 @@
+// The command whose nodes run in threads: `replay` gives its report again, and the nodes of a round act side by side.
+
+use crate::networks::{ARRIVALS, NETWORK};
+use board_model::{Gate, OpenGate};
+use command_calls::{NO_FAULTS, run_over};
+use foundation::items::Items;
+use foundation::text::Text;
+use meeting_gate::MeetingGate;
+use outside_world::{MemoryShelf, MemorySink};
+use signal_cli::{Status, net_job};
+use std::alloc::{AllocError, Global};
+use std::sync::Wait;
+use std::test::Fail;
+use std::thread::Threads;
+
+#[test]
+fn replayed(rt: HostRuntime) -> Result<(), Fail> {
+    let alloc = rt.alloc();
+    let net = ("net", NETWORK.as_bytes());
+    let arr = ("arr", ARRIVALS.as_bytes());
+    for _ in 0..4 {
+        let told = run_over(&rt, alloc, &["net", "net", "arr"], &[net, arr], NO_FAULTS)?;
+        assert!(rt; told.is_done(told.out()));
+        let hist = ("hist", told.out());
+        let again = run_over(
+            &rt,
+            alloc,
+            &["replay", "net", "arr", "hist"],
+            &[net, arr, hist],
+            NO_FAULTS,
+        )?;
+        assert!(rt; again.is_done(told.out()));
+    }
+    Ok(())
+}
+
+// A file in memory.
+fn file(alloc: Global, name: &str, content: &str) -> Result<(Text, Items<u8>), AllocError> {
+    let name = Text::from_string(String::from_str(alloc, name)?);
+    Ok((name, Items::from_vec(content.as_bytes().to_vec(alloc)?)))
+}
+
+// How the job ends for the worked network with this gate.
+fn job<R: Threads + Wait + Sync, G: Gate + Sync>(
+    rt: &R,
+    alloc: Global,
+    gate: &G,
+) -> Result<Status, AllocError> {
+    let files = vec![in alloc; file(alloc, "net", NETWORK)?, file(alloc, "arr", ARRIVALS)?]?;
+    let mut shelf = MemoryShelf::new(alloc, files, Vec::new(alloc));
+    let mut out = MemorySink::new(alloc, 10_000, Vec::new(alloc))?;
+    let mut err = MemorySink::new(alloc, 1000, Vec::new(alloc))?;
+    let status = net_job(
+        rt, alloc, "net", "arr", &mut shelf, &mut out, &mut err, gate,
+    );
+    Ok(status)
+}
+
+#[test]
+fn two_reads_inside(rt: HostRuntime) -> Result<(), Fail> {
+    let alloc = rt.alloc();
+    assert!(rt; job(&rt, alloc, &OpenGate)? == Status::Done);
+    let gate = MeetingGate::new((0, 2), (1, 1));
+    assert!(rt; job(&rt, alloc, &gate)? == Status::Done);
+    assert_eq!(rt; gate.met(), (4, 4, 0));
+    Ok(())
+}
