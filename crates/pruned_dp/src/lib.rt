@@ -91,6 +91,8 @@ pub struct BoundPlanner {
 impl CrossesThreads for BoundPlanner {}
 
 impl BoundPlanner {
+    ghost use Rattle.std.specs.Prelude.{◌≡◌, IfOk, length};
+
     /// A planner that has not planned yet. It takes no memory.
     ///
     /// docs/RULES.md, "Bounded table".
@@ -98,6 +100,19 @@ impl BoundPlanner {
         BoundPlanner {
             lists: Lists::new(alloc),
         }
+    }
+
+    /// So many planners that have not planned yet. An `Err` comes where memory runs out.
+    ///
+    /// docs/RULES.md, "Bounded table".
+    pub fn many(alloc: Global, count: usize) -> Result<Vec<BoundPlanner>, AllocError>
+        ensures { IfOk result (λ planners. length planners.items ≡ count) }
+    {
+        let mut planners = Vec::with_capacity(alloc, count)?;
+        for _planner in 0..count {
+            planners.push(BoundPlanner::new(alloc))?;
+        }
+        Ok(planners)
     }
 }
 
