@@ -6,11 +6,13 @@ use Rattle.std.proofs.lemmas.List.Elements.{All-get_or}
 use Rattle.std.proofs.lemmas.List.Sums.{sum_by-cons}
 use Rattle.std.proofs.lemmas.Bool.{cases_lt}
 use Rattle.std.proofs.lemmas.Bool.Decides.{eqb_tells}
+use Rattle.switch_rules.specs.Arriving.{ComesFirst}
 use Rattle.switch_rules.specs.Orders.{orders, mixtures, choose}
+use Rattle.switch_rules.proofs.Arriving.{one-first}
 use Rattle.switch_rules.proofs.Counting.{length-orders_of}
 use Rattle.clusters.specs.declared.shapes.Platoon.{Platoon}
 use Rattle.clusters.specs.Platoons.{platoons_at}
-use Rattle.clusters.specs.Windows.{ComesFirst, IsFront, IsLongest, IsRising, IsSmall, arrival, arrivals}
+use Rattle.clusters.specs.Windows.{IsFront, IsLongest, IsRising, IsSmall, arrival, arrivals}
 use Rattle.clusters.specs.Taking.{IsFirstAmong}
 use Rattle.clusters.proofs.ListLaws.{rising-apart}
 
@@ -165,13 +167,6 @@ front-grows lists counts first rising h next =
       ];
     }
 
--- two different phases' platoons don't both come first
-both-first : (a p b q : ℕ) → ComesFirst a p b q → ComesFirst b q a p → p ≡ q
-both-first a p b q h g = elim h [
-  | inl lt ↦ elim g [ inl gt ↦ absurd (omega arith) | inr same ↦ absurd (omega (arith, same.0)) ]
-  | inr one ↦ elim g [ inl gt ↦ absurd (omega (arith, one.0)) | inr other ↦ omega (arith, one.1, other.1) ]
-]
-
 -- a front that has more somewhere has no less anywhere
 pub front-within : (lists : List (List Platoon)) (counts more : List ℕ) (q : ℕ) → IsFront lists counts → IsFront lists more → get_or counts q 0 < get_or more q 0
     → (k : ℕ) → get_or counts k 0 ≤ get_or more k 0
@@ -182,7 +177,7 @@ front-within lists counts more q h g lt k = elim (cases_lt (get_or more k 0) (ge
       h.before k q (get_or more k 0) (get_or counts q 0) less (omega arith) (omega (arith, g.there q)) in
       let other : ComesFirst (arrival lists q (get_or counts q 0)) q (arrival lists k (get_or more k 0)) k =
       g.before q k (get_or counts q 0) (get_or more k 0) lt (omega arith) (omega (arith, h.there k)) in
-      let same : k ≡ q = both-first (arrival lists k (get_or more k 0)) k (arrival lists q (get_or counts q 0)) q one other in
+      let same : k ≡ q = one-first (arrival lists k (get_or more k 0)) k (arrival lists q (get_or counts q 0)) q one other in
       omega (arith, ap (λ x. get_or more x 0) same, ap (λ x. get_or counts x 0) same))
 ]
 
@@ -197,7 +192,7 @@ front-has lists counts more first q g next lt = elim (cases_lt (get_or counts fi
       g.before q first.1 (get_or counts q 0) (get_or counts first.1 0) lt less next.waits in
       let comes : ComesFirst first.0 first.1 (arrival lists q (get_or counts q 0)) q = next.comes q (below-there lists q (get_or counts q 0) there) there in
       let P : ℕ → Type 0 = λ a. ComesFirst a first.1 (arrival lists q (get_or counts q 0)) q in
-      let same : q ≡ first.1 = both-first (arrival lists q (get_or counts q 0)) q (arrival lists first.1 (get_or counts first.1 0)) first.1 one (subst P next.arr comes) in
+      let same : q ≡ first.1 = one-first (arrival lists q (get_or counts q 0)) q (arrival lists first.1 (get_or counts first.1 0)) first.1 one (subst P next.arr comes) in
       omega (arith, ap (λ x. get_or more x 0) same, ap (λ x. get_or counts x 0) same))
 ]
 

@@ -1,8 +1,9 @@
 -- What the steps of taking platoons into a window find. Of each phase so many have been taken.
 use Rattle.std.specs.Prelude.{◌≡◌, ℕ, ◌<◌, ◌≤◌, List, Option, Some, None, length, slice_index, take}
+use Rattle.switch_rules.specs.Arriving.{ComesFirst}
 use Rattle.clusters.specs.declared.shapes.Platoon.{Platoon}
 use Rattle.clusters.specs.Platoons.{platoons_at}
-use Rattle.clusters.specs.Windows.{ComesFirst, arrival, arrivals}
+use Rattle.clusters.specs.Windows.{arrival, arrivals}
 
 -- when the next platoon of a list arrives; nothing where all have been taken
 abbrev pub IsNextArrival : List Platoon → ℕ → Option ℕ → Type 0

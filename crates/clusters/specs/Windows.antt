@@ -1,6 +1,7 @@
 -- The window: the platoons that one planning takes up.
-use Rattle.std.specs.Prelude.{◌≡◌, ℕ, ◌+◌, ◌<◌, ◌≤◌, ◌⊎◌, List, length, map, slice_index, sum, take}
+use Rattle.std.specs.Prelude.{◌≡◌, ℕ, ◌+◌, ◌<◌, ◌≤◌, List, length, map, slice_index, sum, take}
 use Rattle.std.specs.List.Sorted.{IsStrictlyIncreasing}
+use Rattle.switch_rules.specs.Arriving.{ComesFirst}
 use Rattle.switch_rules.specs.Bounds.{most_clusters, most_orders}
 use Rattle.switch_rules.specs.Orders.{orders}
 use Rattle.clusters.specs.declared.shapes.Platoon.{Platoon}
@@ -14,11 +15,6 @@ arrivals list = map (λ p. p.cluster.arr) list
 -- when the platoon with this place in the list of phase k arrives
 abbrev pub arrival : List (List Platoon) → ℕ → ℕ → ℕ
 arrival lists k place = slice_index (arrivals (platoons_at lists k)) place
-
--- of two platoons that one comes first which arrives first, and of two that arrive together the one of the lower phase; those of
--- one phase keep their order
-abbrev pub ComesFirst : ℕ → ℕ → ℕ → ℕ → Type 0
-ComesFirst arr phase other_arr other_phase = (arr < other_arr) ⊎ ((arr ≡ other_arr) × (phase ≤ other_phase))
 
 -- So many of each phase are a front of all platoons: each of them comes before each of the others.
 pub record IsFront (lists : List (List Platoon)) (counts : List ℕ) : Type 0 where

@@ -92,6 +92,15 @@ kept-none r first rs e = sym (cond_above r.from first.from (r ∷ rows_before rs
 kept-more : (r first : Green) (rs : List Green) → r.from < first.from → rows_before (r ∷ rs) first.from ≡ r ∷ rows_before rs first.from
 kept-more r first rs h = sym (cond_below r.from first.from (r ∷ rows_before rs first.from) [] h)
 
+-- a row that has ended by now stays: the row after now is one of the others, and what comes in its place begins later
+past-row : (plan : List Phase) (r : Green) (rs : List Green) (now : ℕ) (row first : Green) → IsPlan plan → IsLawful plan (r ∷ rs) → row_after (r ∷ rs) now ≡ Some row → Replaces first row → r.to ≤ now
+    → (row_after rs now ≡ Some row) × (r.from < first.from)
+past-row plan r rs now row first p lawful e same h =
+    let found = cond_above now r.to (Some r) (row_after rs now) (row_after rs now) h refl ∙ e in
+    let later = begins-later plan r rs now row lawful found in
+    let long = green-length plan r p (lawful-first plan r rs lawful) in
+    (found, omega (arith, same.from, later, long))
+
 -- the first row of what is kept, or else of what comes behind it, is where the old one is
 first-of-splice : (plan : List Phase) (before : Green) (old : List Green) (now : ℕ) (row first : Green) (rest : List Green) → IsPlan plan → IsLawful plan (before ∷ old) → row_after old now ≡ Some row → Replaces first row
     → Follows plan before (row_at (rows_before old first.from ++ first ∷ rest) 0)
@@ -108,10 +117,8 @@ first-of-splice plan before (r ∷ rs) now row first rest p lawful e same =
           let new : Follows plan before first = record { phase = phase ∙ follows.phase; begins = omega (arith, from, follows.begins) } in
           rw (kept-none r first rs from) new
       | inr h ↦
-          let later = begins-later plan r rs now row others (cond_above now r.to (Some r) (row_after rs now) (row_after rs now) h refl ∙ e) in
-          let long = green-length plan r p (lawful-first plan r rs others) in
-          let below : r.from < first.from = omega (arith, same.from, later, long) in
-          rw (kept-more r first rs below) follows
+          let past = past-row plan r rs now row first p others e same h in
+          rw (kept-more r first rs past.1) follows
     ]
 
 splice-lawful : (plan : List Phase) (old : List Green) (now : ℕ) (row first : Green) (rest : List Green) → IsPlan plan → IsLawful plan old → row_after old now ≡ Some row → Replaces first row → IsLawful plan (first ∷ rest)
@@ -124,10 +131,7 @@ splice-lawful plan (r ∷ rs) now row first rest p lawful e same next = elim (ca
       let from : first.from ≡ r.from = same.from ∙ sym (ap (λ (g : Green). g.from) is) in
       rw (kept-none r first rs from) next
   | inr h ↦
-      let found = cond_above now r.to (Some r) (row_after rs now) (row_after rs now) h refl ∙ e in
-      let later = begins-later plan r rs now row lawful found in
-      let long = green-length plan r p (lawful-first plan r rs lawful) in
-      let below : r.from < first.from = omega (arith, same.from, later, long) in
+      let (found, below) = past-row plan r rs now row first p lawful e same h in
       let others = splice-lawful plan rs now row first rest p (lawful-tail plan r rs lawful) found same next in
       rw (kept-more r first rs below) (lawful-cons plan r (rows_before rs first.from ++ first ∷ rest) (lawful-first plan r rs lawful) (λ some. first-of-splice plan r rs now row first rest p lawful found same) others)
 ]
@@ -172,10 +176,7 @@ splice-standing plan (r ∷ rs) now row first rest p lawful e same spent next se
             standing-same first r rest rs second phase from new_covers old_covers
       ])
   | inr h ↦
-      let found = cond_above now r.to (Some r) (row_after rs now) (row_after rs now) h refl ∙ e in
-      let later = begins-later plan r rs now row lawful found in
-      let long = green-length plan r p (lawful-first plan r rs lawful) in
-      let below : r.from < first.from = omega (arith, same.from, later, long) in
+      let (found, below) = past-row plan r rs now row first p lawful e same h in
       let others = splice-standing plan rs now row first rest p (lawful-tail plan r rs lawful) found same spent next second past in
       rw (kept-more r first rs below) (standing-more r (rows_before rs first.from ++ first ∷ rest) rs second others)
 ]
@@ -222,10 +223,7 @@ splice-any plan (r ∷ rs) now row first rest test p lawful e same spent next ba
       let shows : test first ≡ test r = back.same ∙ sym (ap test is) in
       rw (kept-none r first rs from) cc
   | inr h ↦
-      let found = cond_above now r.to (Some r) (row_after rs now) (row_after rs now) h refl ∙ e in
-      let later = begins-later plan r rs now row lawful found in
-      let long = green-length plan r p (lawful-first plan r rs lawful) in
-      let below : r.from < first.from = omega (arith, same.from, later, long) in
+      let (found, below) = past-row plan r rs now row first p lawful e same h in
       let others = splice-any plan rs now row first rest test p (lawful-tail plan r rs lawful) found same spent next back in
       rw (kept-more r first rs below) (ap (λ (b : Bool). test r || b) others)
 ]

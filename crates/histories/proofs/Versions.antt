@@ -183,7 +183,8 @@ module _ (steps : ℕ → List BoardStep) (link f : ℕ) (others : (n : ℕ) →
 -- of a network
 module _ (net : Net) (network : IsNetwork net) (link : ℕ) where
   module _ (f t : ℕ) (from : (link_at net link).from ≡ Some f) (to : (link_at net link).to ≡ Some t) where
-    publishes : (n : ℕ) → filter (is_publish_of link) (board_steps net n) ≡ cond (eqb f n) (Publish link ∷ []) []
+    -- its publisher publishes on it, and no other node
+    pub publishes : (n : ℕ) → filter (is_publish_of link) (board_steps net n) ≡ cond (eqb f n) (Publish link ∷ []) []
     publishes n =
         ((are-steps net network).players link).publishes n
         ∙ ap (λ (o : Option ℕ). cond (is_some o) (step_if (link_at net link).from n (Publish link)) []) to

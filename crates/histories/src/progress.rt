@@ -34,7 +34,7 @@ pub struct Progress {
     /// The steps of each node that are left in this round.
     left: [u32; 64],
     /// Those of all nodes together.
-    open: u32,
+    whole_left: u32,
 }
 
 impl Model for Progress {
@@ -46,7 +46,7 @@ impl Model for Progress {
 
     ghost view = { λ p. record { rounds = p.rounds; done = p.done; steps = p.steps; left = p.left } };
 
-    ghost invariant = { λ p. IsStored p.rounds p.done p.steps p.whole p.left p.open };
+    ghost invariant = { λ p. IsStored p.rounds p.done p.steps p.whole p.left p.whole_left };
 }
 
 impl CrossesThreads for Progress {}
@@ -75,7 +75,7 @@ impl Progress {
             steps,
             whole,
             left: steps,
-            open: whole,
+            whole_left: whole,
         }
     }
 
@@ -96,10 +96,10 @@ impl Progress {
             return Err(Stop::NotItsTurn);
         }
         self.left[place] -= 1;
-        self.open -= 1;
-        if self.open == 0 {
+        self.whole_left -= 1;
+        if self.whole_left == 0 {
             self.left = self.steps;
-            self.open = self.whole;
+            self.whole_left = self.whole;
             self.done += 1;
         }
         Ok(())

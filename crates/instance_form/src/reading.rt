@@ -76,9 +76,8 @@ fn form_front(alloc: Global, line: u32, bytes: &[u8]) -> Result<(Form, u32, &[u8
 /// docs/FORMATS.md, "Instance text".
 pub fn read_front(alloc: Global, line: u32, bytes: &[u8]) -> Result<(Form, u32, &[u8]), FormFault>
     requires { line + length bytes.now ≤ 2 ^ 32 }
-    ensures fits { IfOk result (λ x. HasText x.0.phases.items x.0.head x.0.lists.items) }
-    ensures found { IfOk result (λ x. bytes.now
-        ≡ instance_text x.0.phases.items x.0.head x.0.lists.items ++ x.2.now) }
+    ensures ok { IfOk result (λ x. HasText x.0.phases.items x.0.head x.0.lists.items
+        × (bytes.now ≡ instance_text x.0.phases.items x.0.head x.0.lists.items ++ x.2.now)) }
     ensures next { IfOk result (λ x. x.1 ≡ line + line_count x.0.phases.items x.0.lists.items) }
     ensures only { (plan : List Phase) (h : Head) (lists : List (List Cluster)) (rest : List ℕ)
         → HasText plan h lists → bytes.now ≡ instance_text plan h lists ++ rest
@@ -95,9 +94,8 @@ pub fn read_front(alloc: Global, line: u32, bytes: &[u8]) -> Result<(Form, u32, 
 /// docs/FORMATS.md, "Instance text".
 pub fn read_form(alloc: Global, bytes: &[u8]) -> Result<Form, FormFault>
     requires { length bytes.now < 2 ^ 32 }
-    ensures fits { IfOk result (λ form. HasText form.phases.items form.head form.lists.items) }
-    ensures found { IfOk result (λ form. bytes.now
-        ≡ instance_text form.phases.items form.head form.lists.items) }
+    ensures ok { IfOk result (λ form. HasText form.phases.items form.head form.lists.items
+        × (bytes.now ≡ instance_text form.phases.items form.head form.lists.items)) }
     ensures only { (plan : List Phase) (h : Head) (lists : List (List Cluster))
         → HasText plan h lists → bytes.now ≡ instance_text plan h lists
         → MatchResult result (λ form. HasParts form plan h lists) IsWant }

@@ -14,7 +14,7 @@ ghost use Rattle.line_text.specs.Fields.{literal_at, field_at, field_seen};
 ///
 /// docs/FORMATS.md, "Numbers and lines".
 pub fn literal<'a>(text: &str, bytes: &'a [u8]) -> Option<&'a [u8]>
-    ensures found { IfSome result (λ rest. bytes.now ≡ text.now ++ rest.now) }
+    ensures some { IfSome result (λ rest. bytes.now ≡ text.now ++ rest.now) }
     ensures only { (rest : List ℕ) → bytes.now ≡ text.now ++ rest → IsSomeAnd result (λ x. x.now ≡ rest) }
     ensures shorter { IfSome result (λ rest. length rest.now + length text.now ≡ length bytes.now) }
     // The same as a function of the bytes.
@@ -30,7 +30,7 @@ pub fn literal<'a>(text: &str, bytes: &'a [u8]) -> Option<&'a [u8]>
 /// docs/FORMATS.md, "Numbers and lines".
 pub fn field_u8(separator: u8, bytes: &[u8]) -> Option<(u8, &[u8])>
     requires { ¬ IsAsciiDigit separator }
-    ensures found { IfSome result (λ x. bytes.now ≡ decimal x.0 ++ separator ∷ x.1.now) }
+    ensures some { IfSome result (λ x. bytes.now ≡ decimal x.0 ++ separator ∷ x.1.now) }
     ensures only { (n : ℕ) (rest : List ℕ) → n < 2 ^ 8 → bytes.now ≡ decimal n ++ separator ∷ rest
         → IsSomeAnd result (λ x. (x.0 ≡ n) × (x.1.now ≡ rest)) }
     ensures shorter { IfSome result (λ x. length x.1.now < length bytes.now) }
@@ -48,7 +48,7 @@ pub fn field_u8(separator: u8, bytes: &[u8]) -> Option<(u8, &[u8])>
 /// docs/FORMATS.md, "Numbers and lines".
 pub fn field_u32(separator: u8, bytes: &[u8]) -> Option<(u32, &[u8])>
     requires { ¬ IsAsciiDigit separator }
-    ensures found { IfSome result (λ x. bytes.now ≡ decimal x.0 ++ separator ∷ x.1.now) }
+    ensures some { IfSome result (λ x. bytes.now ≡ decimal x.0 ++ separator ∷ x.1.now) }
     ensures only { (n : ℕ) (rest : List ℕ) → n < 2 ^ 32 → bytes.now ≡ decimal n ++ separator ∷ rest
         → IsSomeAnd result (λ x. (x.0 ≡ n) × (x.1.now ≡ rest)) }
     ensures shorter { IfSome result (λ x. length x.1.now < length bytes.now) }
@@ -66,7 +66,7 @@ pub fn field_u32(separator: u8, bytes: &[u8]) -> Option<(u32, &[u8])>
 /// docs/FORMATS.md, "Numbers and lines".
 pub fn field_u64(separator: u8, bytes: &[u8]) -> Option<(u64, &[u8])>
     requires { ¬ IsAsciiDigit separator }
-    ensures found { IfSome result (λ x. bytes.now ≡ decimal x.0 ++ separator ∷ x.1.now) }
+    ensures some { IfSome result (λ x. bytes.now ≡ decimal x.0 ++ separator ∷ x.1.now) }
     ensures only { (n : ℕ) (rest : List ℕ) → n < 2 ^ 64 → bytes.now ≡ decimal n ++ separator ∷ rest
         → IsSomeAnd result (λ x. (x.0 ≡ n) × (x.1.now ≡ rest)) }
     ensures shorter { IfSome result (λ x. length x.1.now < length bytes.now) }
@@ -82,7 +82,7 @@ const SHORT: usize = 19;
 /// The number at the front, if it is at most `most`, up to the separator, and the bytes after that.
 fn field_up_to(most: u64, separator: u8, bytes: &[u8]) -> Option<(u64, &[u8])>
     requires { ¬ IsAsciiDigit separator }
-    ensures found { IfSome result (λ x. (x.0 ≤ most) × (bytes.now ≡ decimal x.0 ++ separator ∷ x.1.now)) }
+    ensures some { IfSome result (λ x. (x.0 ≤ most) × (bytes.now ≡ decimal x.0 ++ separator ∷ x.1.now)) }
     ensures only { (n : ℕ) (rest : List ℕ) → n ≤ most → bytes.now ≡ decimal n ++ separator ∷ rest
         → IsSomeAnd result (λ x. (x.0 ≡ n) × (x.1.now ≡ rest)) }
     ensures shorter { IfSome result (λ x. length x.1.now < length bytes.now) }
@@ -105,7 +105,7 @@ fn short_field(most: u64, separator: u8, bytes: &[u8], first: u64) -> Option<(u6
     requires digit { (0 < first) × (first < 10) }
     requires some { 0 < length bytes.now }
     requires front { take 1 bytes.now ≡ decimal first }
-    ensures found { IfSome result (λ x. (x.0 ≤ most) × (bytes.now ≡ decimal x.0 ++ separator ∷ x.1.now)) }
+    ensures some { IfSome result (λ x. (x.0 ≤ most) × (bytes.now ≡ decimal x.0 ++ separator ∷ x.1.now)) }
     ensures only { (n : ℕ) (rest : List ℕ) → n ≤ most → bytes.now ≡ decimal n ++ separator ∷ rest
         → IsSomeAnd result (λ x. (x.0 ≡ n) × (x.1.now ≡ rest)) }
     ensures shorter { IfSome result (λ x. length x.1.now < length bytes.now) }
@@ -136,7 +136,7 @@ fn field_end(
     requires some { 0 < place }
     requires front { take place bytes.now ≡ decimal number }
     requires last { number ≡ 0 ⊎ (¬ IsAsciiDigit (slice_index bytes.now place)) }
-    ensures found { IfSome result (λ x. (x.0 ≤ most) × (bytes.now ≡ decimal x.0 ++ separator ∷ x.1.now)) }
+    ensures some { IfSome result (λ x. (x.0 ≤ most) × (bytes.now ≡ decimal x.0 ++ separator ∷ x.1.now)) }
     ensures only { (n : ℕ) (rest : List ℕ) → n ≤ most → bytes.now ≡ decimal n ++ separator ∷ rest
         → IsSomeAnd result (λ x. (x.0 ≡ n) × (x.1.now ≡ rest)) }
     ensures shorter { IfSome result (λ x. length x.1.now < length bytes.now) }
@@ -164,7 +164,7 @@ fn long_field(
     requires some { (0 < place) × (0 < number) }
     requires within { place ≤ length bytes.now }
     requires front { take place bytes.now ≡ decimal number }
-    ensures found { IfSome result (λ x. (x.0 ≤ most) × (bytes.now ≡ decimal x.0 ++ separator ∷ x.1.now)) }
+    ensures some { IfSome result (λ x. (x.0 ≤ most) × (bytes.now ≡ decimal x.0 ++ separator ∷ x.1.now)) }
     ensures only { (n : ℕ) (rest : List ℕ) → n ≤ most → bytes.now ≡ decimal n ++ separator ∷ rest
         → IsSomeAnd result (λ x. (x.0 ≡ n) × (x.1.now ≡ rest)) }
     ensures shorter { IfSome result (λ x. length x.1.now < length bytes.now) }

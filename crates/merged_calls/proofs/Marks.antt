@@ -1,5 +1,5 @@
 -- Events with their links, in the order of all.
-use Rattle.std.proofs.Common.{◌≡◌, ℕ, eqb, cond, Bool, true, false, List, map, filter, refl}
+use Rattle.std.proofs.Common.{◌≡◌, ℕ, eqb, cond, Bool, true, false, List, map, filter, refl, inl, inr, arith}
 use Rattle.std.specs.Prelude.{AllPairs, ◌&&◌, if◌then◌else◌}
 use Rattle.board_model.specs.declared.boards.BoardEvent.{BoardEvent}
 use Rattle.board_model.specs.Calls.{IsBefore}
@@ -24,6 +24,13 @@ of_node node all = filter (λ m. eqb m.event.node node) all
 pub record AreMarked (logs : ℕ → List BoardEvent) (all : List Marked) : Type 0 where
   pub ordered : AllPairs (λ a b. IsBefore a.event b.event) all
   pub each : (link : ℕ) → map (λ m. m.event) (at_link link all) ≡ logs link
+
+-- of two events of different nodes not both come before the other
+pub apart : (a b : Marked) → (a.event.node ≡ b.event.node → ⊥) → IsBefore a.event b.event → IsBefore b.event a.event → ⊥
+apart a b other (inl p) (inl q) = omega arith
+apart a b other (inl p) (inr q) = omega arith
+apart a b other (inr p) (inl q) = omega arith
+apart a b other (inr p) (inr q) = other (omega arith)
 
 -- the history of these, marked
 abbrev pub IsMarkedMerge : (ℕ → List BoardEvent) → List ℕ → Type 0

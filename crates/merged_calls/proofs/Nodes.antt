@@ -1,5 +1,5 @@
 -- In the merge of their logs stand each node's own calls, in their order.
-use Rattle.std.proofs.Common.{◌≡◌, ℕ, ◌<◌, ◌≤◌, eqb, true, List, [], ◌∷◌, map, refl, sym, ap, ◌∙◌, ⊎_elim, inl, inr, arith}
+use Rattle.std.proofs.Common.{◌≡◌, ℕ, ◌<◌, ◌≤◌, eqb, true, List, [], ◌∷◌, map, refl, sym, ap, ◌∙◌, ⊎_elim, arith}
 use Rattle.std.specs.Prelude.{All}
 use Rattle.std.proofs.lemmas.Bool.{eqb-true}
 use Rattle.std.proofs.lemmas.List.Elements.{All-head, All-tail, filter_passes, All-weaker}
@@ -8,7 +8,7 @@ use Rattle.board_model.specs.declared.boards.BoardEvent.{BoardEvent}
 use Rattle.board_model.specs.Calls.{calls_at, event_of, IsBefore, AreLogsOf}
 use Rattle.board_model.specs.declared.calls.Call.{Call}
 use Rattle.merged_calls.specs.Calls.{IsRising}
-use Rattle.merged_calls.proofs.Marks.{Marked, AreMarked, at_link, of_node}
+use Rattle.merged_calls.proofs.Marks.{Marked, AreMarked, apart, at_link, of_node}
 use Rattle.histories.proofs.Lists.{filter-comm, filter-map, pairs-map, same}
 
 -- a call of a node, and an event of a link, with their marks
@@ -59,9 +59,3 @@ module _ (calls : ℕ → List Call) (logs : ℕ → List BoardEvent) (all : Lis
   -- so there is one merge of the logs
   pub one-merge : ((n : ℕ) → IsRising (calls n)) → (more : List Marked) → AreMarked logs more → ((n : ℕ) → of_node n all ≡ of_node n more) → all ≡ more
   one-merge rising more again parts = same (λ (m : Marked). m.event.node) (λ (a b : Marked). IsBefore a.event b.event) (λ (a b : Marked). IsBefore a.event b.event) apart all more merged.ordered again.ordered parts
-    where
-      apart : (a b : Marked) → (a.event.node ≡ b.event.node → ⊥) → IsBefore a.event b.event → IsBefore b.event a.event → ⊥
-      apart a b other (inl p) (inl q) = omega arith
-      apart a b other (inl p) (inr q) = omega arith
-      apart a b other (inr p) (inl q) = omega arith
-      apart a b other (inr p) (inr q) = other (omega arith)

@@ -17,7 +17,7 @@ use Rattle.histories.specs.Merges.{IsMerge, all_events}
 use Rattle.histories.proofs.Lists.{filter-yes, filter-no, filter-none, filter-map, pairs-head, pairs-tail, pairs-map, same}
 use Rattle.histories.proofs.Ordered.{map-swaps, pairs-back}
 use Rattle.merged_calls.specs.Calls.{IsRising}
-use Rattle.merged_calls.proofs.Marks.{Marked, AreMarked, IsMarkedMerge, at_link, of_node}
+use Rattle.merged_calls.proofs.Marks.{Marked, AreMarked, IsMarkedMerge, apart, at_link, of_node}
 use Rattle.merged_calls.proofs.Nodes.{tag}
 
 module _ {X : Type 0} (p : X → Bool) where
@@ -164,12 +164,6 @@ module _ (calls : ℕ → List Call) (logs : List Log) (tied : AreLogsOf calls (
     link-part : (l : ℕ) → at_link l marks ≡ at_link l base
     link-part l = same (λ (m : Marked). m.event.node) (λ (a b : Marked). IsBefore a.event b.event) (λ (a b : Marked). IsBefore a.event b.event) apart
         (at_link l marks) (at_link l base) (AllPairs-filter (λ (a b : Marked). IsBefore a.event b.event) (λ (m : Marked). eqb m.link l) marks ordered) (base-ordered l) (node-part l)
-      where
-        apart : (a b : Marked) → (a.event.node ≡ b.event.node → ⊥) → IsBefore a.event b.event → IsBefore b.event a.event → ⊥
-        apart a b other (inl p) (inl q) = omega arith
-        apart a b other (inl p) (inr q) = omega arith
-        apart a b other (inr p) (inl q) = omega arith
-        apart a b other (inr p) (inr q) = other (omega arith)
 
     are-marked : AreMarked (log_at logs) marks
     are-marked = record { ordered = ordered; each = λ l. ap (map (λ (m : Marked). m.event)) (link-part l ∙ base-at l) ∙ all-tagged l (log_at logs l) }

@@ -23,7 +23,7 @@ impl Model for Names {
 }
 
 impl Names {
-    ghost use Rattle.std.specs.Prelude.{◌≡◌, ◌<◌, ◌+◌, ◌^◌, [], ◌∷◌, ◌++◌, IfOk, is_none, if◌then◌else◌, length, slice_index_or};
+    ghost use Rattle.std.specs.Prelude.{◌≡◌, ◌<◌, ◌+◌, ◌^◌, [], ◌∷◌, ◌++◌, IfOk, OnErr, is_none, if◌then◌else◌, length, slice_index_or};
     ghost use Rattle.net_numbers.specs.Numbers.{number_of};
 
     /// No names.
@@ -60,11 +60,13 @@ impl Names {
         }
     }
 
-    /// Adds a name at the end; `false` where it is there already.
+    /// Adds a name at the end; `false` where it is there already. An `Err` comes only where memory runs out, and leaves the
+    /// names as they were.
     pub fn add(&mut self, alloc: Global, name: &str) -> Result<bool, AllocError>
         requires { length self.old + 1 < 2 ^ 32 }
         ensures names { IfOk result (λ added. self.new ≡ (if added then self.old ++ name.now ∷ [] else self.old)) }
         ensures added { IfOk result (λ added. added ≡ is_none (number_of self.old name.now)) }
+        ensures refused { OnErr result (self.new ≡ self.old) }
     {
         let name = String::from_str(alloc, name)?;
         Ok(self.set.insert(name)?)

@@ -3,9 +3,11 @@ use Rattle.std.proofs.Common.{◌≡◌, ℕ, zero, suc, ◌+◌, ◌-◌, ◌*�
 use Rattle.std.specs.Option.{option_map}
 use Rattle.std.proofs.lemmas.Bool.{cases_eq, cases_lt}
 use Rattle.std.proofs.lemmas.List.{append-nil, append_assoc, get_or-map, get_or_past, length-map}
+use Rattle.switch_rules.specs.Arriving.{ComesFirst}
 use Rattle.switch_rules.specs.declared.Cluster.{Cluster}
 use Rattle.switch_rules.specs.declared.Head.{Head}
 use Rattle.switch_rules.specs.declared.Served.{Served}
+use Rattle.switch_rules.proofs.Arriving.{one-first}
 use Rattle.schedule_meaning.specs.Instances.{Problem, IsInstance, cluster_at, counts_of, list_at}
 use Rattle.schedule_meaning.specs.Timing.{delay_of, timed, timing, total_cost}
 use Rattle.schedule_meaning.proofs.Sequences.{get_or-counts}
@@ -16,7 +18,7 @@ use Rattle.dp_certificate.specs.declared.Entry.{Entry}
 use Rattle.dp_certificate.proofs.RestLaws.{arrives-later}
 use Rattle.dp_certificate.proofs.Stages.{more-other, more-same, more-within, none-counted, some-same, sum-one_more}
 use Rattle.forward_dp.proofs.Bounds.{sum-le}
-use Rattle.pruned_dp.specs.Arrivals.{ComesNext, GoesByArrival, IsArrivalDelay, IsByArrival, IsNoLater, arrival}
+use Rattle.pruned_dp.specs.Arrivals.{ComesNext, GoesByArrival, IsArrivalDelay, IsByArrival, arrival}
 use Rattle.pruned_dp.specs.Bounded.{IsBounded}
 use Rattle.pruned_dp.specs.Firsts.{IsFirstAmong, IsFirstOf}
 
@@ -29,7 +31,7 @@ listed p lawful k n some = elim (cases_lt k (length p.lists)) [
   | inr past ↦ absurd (omega (arith, some, ap length (get_or_past p.lists k [] past)))
 ]
 
-no-later-on : (arr k other later j : ℕ) → IsNoLater arr k other j → other ≤ later → IsNoLater arr k later j
+no-later-on : (arr k other later j : ℕ) → ComesFirst arr k other j → other ≤ later → ComesFirst arr k later j
 no-later-on arr k other later j (inl h) on = inl (omega arith)
 no-later-on arr k other later j (inr h) on = elim (cases_lt other later) [ inl more ↦ inl (omega (arith, h.0, more)) | inr same ↦ inr (omega (arith, h.0, on, same), h.1) ]
 
@@ -40,7 +42,7 @@ comes-next p lawful counts first is = record {
   first = λ j place from inside.
       let phase : j < length p.plan = listed p lawful j place inside in
       let spaced = lawful.spaced j [] (omega (arith, phase, lawful.lists)) in
-      subst (λ n. IsNoLater n first.1 (arrival p j place) j) is.arr
+      subst (λ n. ComesFirst n first.1 (arrival p j place) j) is.arr
       (no-later-on first.0 first.1 (arrival p j (get_or counts j 0)) (arrival p j place) j (is.comes j phase (omega (arith, from, inside))) (arrives-later (list_at p.lists j) spaced (get_or counts j 0) place from inside));
 }
 
@@ -103,13 +105,7 @@ arrival-long p lawful sequence order =
 
 -- and there is one alone
 one-next : (p : Problem) (counts : List ℕ) (k j : ℕ) → ComesNext p counts k → ComesNext p counts j → k ≡ j
-one-next p counts k j a b = both (arrival p k (get_or counts k 0)) (arrival p j (get_or counts j 0)) k j (a.first j (get_or counts j 0) (omega arith) b.some) (b.first k (get_or counts k 0) (omega arith) a.some)
-  where
-    both : (x y k j : ℕ) → IsNoLater x k y j → IsNoLater y j x k → k ≡ j
-    both x y k j (inl h) (inl g) = absurd (omega arith)
-    both x y k j (inl h) (inr g) = absurd (omega (arith, g.0))
-    both x y k j (inr h) (inl g) = absurd (omega (arith, h.0))
-    both x y k j (inr h) (inr g) = omega (arith, h.1, g.1)
+one-next p counts k j a b = one-first (arrival p k (get_or counts k 0)) k (arrival p j (get_or counts j 0)) j (a.first j (get_or counts j 0) (omega arith) b.some) (b.first k (get_or counts k 0) (omega arith) a.some)
 
 one-order : (p : Problem) (s t counts : List ℕ) → GoesByArrival p counts s → GoesByArrival p counts t → s ≡ t
 one-order p [] [] counts a b = refl

@@ -1,5 +1,6 @@
 -- The sequence in order of arrival, and its delay.
-use Rattle.std.specs.Prelude.{◌≡◌, ℕ, ◌<◌, ◌≤◌, ◌⊎◌, List, [], ◌∷◌, length, slice_index, Option}
+use Rattle.std.specs.Prelude.{◌≡◌, ℕ, ◌<◌, ◌≤◌, List, [], ◌∷◌, length, slice_index, Option}
+use Rattle.switch_rules.specs.Arriving.{ComesFirst}
 use Rattle.schedule_meaning.specs.Instances.{Problem, cluster_at, list_at}
 use Rattle.schedule_meaning.specs.Timing.{delay_of}
 use Rattle.dp_certificate.specs.Prefixes.{first_stage, one_more}
@@ -8,14 +9,10 @@ use Rattle.dp_certificate.specs.Prefixes.{first_stage, one_more}
 abbrev pub arrival : Problem → ℕ → ℕ → ℕ
 arrival p k place = (cluster_at (list_at p.lists k) place).arr
 
--- a cluster comes before one of another phase: it arrives earlier, or at the same time and has no higher phase
-abbrev pub IsNoLater : ℕ → ℕ → ℕ → ℕ → Type 0
-IsNoLater arr phase other other_phase = (arr < other) ⊎ ((arr ≡ other) × (phase ≤ other_phase))
-
 -- behind so many clusters of each phase the next one of phase k comes before all that are left
 pub record ComesNext (p : Problem) (counts : List ℕ) (k : ℕ) : Type 0 where
   pub some : slice_index counts k < length (list_at p.lists k)
-  pub first : (j place : ℕ) → slice_index counts j ≤ place → place < length (list_at p.lists j) → IsNoLater (arrival p k (slice_index counts k)) k (arrival p j place) j
+  pub first : (j place : ℕ) → slice_index counts j ≤ place → place < length (list_at p.lists j) → ComesFirst (arrival p k (slice_index counts k)) k (arrival p j place) j
 
 -- behind so many clusters of each phase a sequence serves all that are left, each before those that come after it
 abbrev pub GoesByArrival : Problem → List ℕ → List ℕ → Type 0

@@ -1,8 +1,9 @@
 -- The state of the search for the cluster that comes next.
 use Rattle.std.specs.Prelude.{◌≡◌, ℕ, ◌<◌, ◌≤◌, List, Option, Some, None, length, slice_index}
+use Rattle.switch_rules.specs.Arriving.{ComesFirst}
 use Rattle.switch_rules.specs.declared.Cluster.{Cluster}
 use Rattle.schedule_meaning.specs.Instances.{Problem, cluster_at, list_at}
-use Rattle.pruned_dp.specs.Arrivals.{IsNoLater, arrival}
+use Rattle.pruned_dp.specs.Arrivals.{arrival}
 
 -- when the next cluster of a list arrives; nothing where all are served
 abbrev pub IsNextArrival : List Cluster → ℕ → Option ℕ → Type 0
@@ -14,7 +15,7 @@ pub record IsFirstAmong (p : Problem) (counts : List ℕ) (n : ℕ) (first : ℕ
   pub phase : first.1 < n
   pub some : slice_index counts first.1 < length (list_at p.lists first.1)
   pub arr : first.0 ≡ arrival p first.1 (slice_index counts first.1)
-  pub comes : (k : ℕ) → k < n → slice_index counts k < length (list_at p.lists k) → IsNoLater first.0 first.1 (arrival p k (slice_index counts k)) k
+  pub comes : (k : ℕ) → k < n → slice_index counts k < length (list_at p.lists k) → ComesFirst first.0 first.1 (arrival p k (slice_index counts k)) k
 
 -- or none is left
 abbrev pub IsFirstOf : Problem → List ℕ → ℕ → Option (ℕ × ℕ) → Type 0

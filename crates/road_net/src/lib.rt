@@ -205,7 +205,7 @@ impl Network {
     pub fn find_node(&self, name: &str) -> Option<u32>
         ensures value { result ≡ number_of self.now.node_names name.now }
         ensures none { IsNone result ↔ ¬ Contains self.now.node_names name.now }
-        ensures found { IfSome result (λ number. slice_get self.now.node_names number ≡ Some name.now) }
+        ensures some { IfSome result (λ number. slice_get self.now.node_names number ≡ Some name.now) }
         ensures below { IfSome result (λ number. number < length self.now.node_names) }
         ensures network { IsNetwork self.now }
     {
@@ -216,7 +216,7 @@ impl Network {
     pub fn find_link(&self, name: &str) -> Option<u32>
         ensures value { result ≡ number_of self.now.link_names name.now }
         ensures none { IsNone result ↔ ¬ Contains self.now.link_names name.now }
-        ensures found { IfSome result (λ number. slice_get self.now.link_names number ≡ Some name.now) }
+        ensures some { IfSome result (λ number. slice_get self.now.link_names number ≡ Some name.now) }
         ensures below { IfSome result (λ number. number < length self.now.link_names) }
         ensures network { IsNetwork self.now }
     {

@@ -1,5 +1,5 @@
 -- The places of a lawful history: each step of a node in a round has one, and a version was published before it is read.
-use Rattle.std.proofs.Common.{◌≡◌, ℕ, zero, suc, ◌+◌, ◌-◌, ◌*◌, ◌/◌, ◌%◌, ◌<◌, ◌≤◌, Bool, true, false, cond, List, [], ◌∷◌, Option, Some, length, map, take, drop, get_or, filter, is_some, refl, sym, ap, subst, ◌∙◌, inl, inr, arith, length-append, eqb, ne_eqb, eq-eqb}
+use Rattle.std.proofs.Common.{◌≡◌, ℕ, zero, suc, ◌+◌, ◌-◌, ◌*◌, ◌/◌, ◌%◌, ◌<◌, ◌≤◌, Bool, true, false, cond, List, [], ◌∷◌, Some, length, map, take, drop, get_or, filter, refl, sym, ap, subst, ◌∙◌, inl, inr, arith, length-append, ne_eqb, eq-eqb}
 use Rattle.std.proofs.lemmas.Bool.{cases_eq, cases_lt, cases_Bool}
 use Rattle.std.proofs.lemmas.List.{take-take, take-append-drop, take_more, get_or_append_left, get_or-append_right, get_or-map, length-map}
 use Rattle.std.proofs.lemmas.Nat.{mod-mul-add, div-mul-add}
@@ -7,16 +7,15 @@ use Rattle.net_numbers.specs.Numbers.{Net}
 use Rattle.net_numbers.specs.Outline.{link_at}
 use Rattle.road_net.specs.Network.{IsNetwork, heard_links, told_links}
 use Rattle.histories.specs.Histories.{count, IsEntry, IsLawful, round_at, step_at, version_at}
-use Rattle.histories.specs.Steps.{board_steps, is_publish_of, step_if}
+use Rattle.histories.specs.Steps.{board_steps, is_publish_of}
 use Rattle.histories.specs.declared.steps.BoardStep.{BoardStep}
 use Rattle.histories.specs.declared.steps.BoardStep.TheVariants.{Read, Publish}
 use Rattle.histories.proofs.Counts.{count-append, count-one}
 use Rattle.histories.proofs.Entries.{entry}
-use Rattle.histories.proofs.Players.{are-steps}
 use Rattle.histories.proofs.Prefixes.{in-round}
 use Rattle.histories.proofs.Rounds.{rounds-count}
 use Rattle.histories.proofs.StepLaws.{step-count, steps-beyond}
-use Rattle.histories.proofs.Versions.{version-more, none-found, version-is, made-within}
+use Rattle.histories.proofs.Versions.{version-more, none-found, version-is, made-within, publishes}
 
 -- the step with this number of a node in a round stands at a place
 pub record StandsAt (net : Net) (h : List ℕ) (round node k place : ℕ) : Type 0 where
@@ -120,17 +119,11 @@ module _ (net : Net) (network : IsNetwork net) (h : List ℕ) (lawful : IsLawful
       (round, k, at.below, stands net h round n k place (omega arith) (record { inside = inside; node_there = refl; counted = e }))
 
   module _ (link f t : ℕ) (from : (link_at net link).from ≡ Some f) (to : (link_at net link).to ≡ Some t) where
-    publishes : (n : ℕ) → filter (is_publish_of link) (board_steps net n) ≡ cond (eqb f n) (Publish link ∷ []) []
-    publishes n =
-        ((are-steps net network).players link).publishes n
-        ∙ ap (λ (o : Option ℕ). cond (is_some o) (step_if (link_at net link).from n (Publish link)) []) to
-        ∙ ap (λ (o : Option ℕ). step_if o n (Publish link)) from
-
     pub others : (n : ℕ) → (n ≡ f → ⊥) → filter (is_publish_of link) (board_steps net n) ≡ []
-    others n other = publishes n ∙ ap (λ b. cond b (Publish link ∷ []) []) (ne_eqb f n (λ e. other (sym e)))
+    others n other = publishes net network link f t from to n ∙ ap (λ b. cond b (Publish link ∷ []) []) (ne_eqb f n (λ e. other (sym e)))
 
     pub once : filter (is_publish_of link) (board_steps net f) ≡ Publish link ∷ []
-    once = publishes f ∙ ap (λ b. cond b (Publish link ∷ []) []) (eq-eqb f f refl)
+    once = publishes net network link f t from to f ∙ ap (λ b. cond b (Publish link ∷ []) []) (eq-eqb f f refl)
 
     abbrev passes : ℕ → Bool
     passes place = is_publish_of link (step_at (board_steps net) h place)

@@ -51,7 +51,7 @@ impl From<FormFault> for TextFault {
 /// docs/FORMATS.md, "Instance text".
 pub fn read_instance(alloc: Global, bytes: &[u8]) -> Result<Instance, TextFault>
     requires { length bytes.now < 2 ^ 32 }
-    ensures found { IfOk result (λ i. bytes.now ≡ instance_text i.plan i.head i.lists) }
+    ensures ok { IfOk result (λ i. bytes.now ≡ instance_text i.plan i.head i.lists) }
     ensures lawful { IfOk result IsInstance }
     ensures only { (p : Problem) → IsInstance p → bytes.now ≡ instance_text p.plan p.head p.lists
         → MatchResult result (λ i. i ≡ p) IsWant }

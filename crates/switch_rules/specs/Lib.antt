@@ -1,3 +1,4 @@
+pub mod Arriving
 pub mod Bounds
 pub mod Orders
 pub mod Sequences

@@ -1,5 +1,5 @@
 -- What is so of new passes.
-use Rattle.std.proofs.Common.{◌≡◌, ℕ, zero, suc, ◌+◌, ◌*◌, ◌≤◌, List, [], length, refl}
+use Rattle.std.proofs.Common.{◌≡◌, ℕ, zero, suc, ◌+◌, ◌*◌, ◌≤◌, [], length, refl}
 use Rattle.std.specs.Prelude.{All, IfSome, slice_get}
 use Rattle.atomic_table.specs.Seated.{TableId}
 use Rattle.board_rule.specs.Passes.{PassView, fresh_pass, fresh_passes}

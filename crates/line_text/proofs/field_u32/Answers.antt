@@ -8,5 +8,5 @@ returns-in_err-number-clause-exact c =
 
 pub returns-clause-exact : goal.returns-clause-exact
 returns-clause-exact c =
-    let found = c.in_ok-number.ensures.found in
-    field_is (2 ^ 32) c.args.separator c.args.bytes.now (Some (c.in_ok-number.number, c.in_ok-number.rest)) (omega arith) c.requires (omega arith, found.1) (λ n rest lt e. c.in_ok-number.ensures.only n rest (omega arith) e)
+    let some = c.in_ok-number.ensures.some in
+    field_is (2 ^ 32) c.args.separator c.args.bytes.now (Some (c.in_ok-number.number, c.in_ok-number.rest)) (omega arith) c.requires (omega arith, some.1) (λ n rest lt e. c.in_ok-number.ensures.only n rest (omega arith) e)

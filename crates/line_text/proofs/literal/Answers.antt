@@ -8,8 +8,8 @@ use Rattle.line_text.proofs.literal.Goals as goal
 stripped : (c : goal.After-strip_prefix) → MatchOption c.strip_prefix.result ((rest : List ℕ) → c.args.bytes.now ≢ c.args.text.now ++ rest) (λ x. c.args.bytes.now ≡ c.args.text.now ++ x.now)
 stripped c = strip_prefix_is Decides-eqb c.args.bytes.now c.args.text.now c.strip_prefix.result (rw c.as_bytes.ensures.value at c.strip_prefix.ensures.cases)
 
-pub returns-clause-found : goal.returns-clause-found
-returns-clause-found c = stripped_found c.args.text.now c.args.bytes.now c.strip_prefix.result (stripped c)
+pub returns-clause-some : goal.returns-clause-some
+returns-clause-some c = stripped_found c.args.text.now c.args.bytes.now c.strip_prefix.result (stripped c)
 
 pub returns-clause-only : goal.returns-clause-only
 returns-clause-only c = stripped_only c.args.text.now c.args.bytes.now c.strip_prefix.result (stripped c)

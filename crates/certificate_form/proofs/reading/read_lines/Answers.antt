@@ -29,7 +29,7 @@ returns-in_err-rest-clause-first c =
 opened : (c : In_ok-rest) → c.args.bytes.now ≡ codes "certificate 1\n" ++ c.in_ok-rest.rest.now
 opened c =
     let some : c.literal.result ≡ Some c.in_ok-rest.rest = c.in_ok-rest.ensures.ok_part in
-    rw some at c.literal.ensures.found
+    rw some at c.literal.ensures.some
 
 pub returns-in_err-form-clause-only : goal.returns-in_err-form-clause-only
 returns-in_err-form-clause-only c = λ claim fits e.
@@ -50,13 +50,13 @@ problem_of c = record { plan = c.in_ok-form.form.phases.items; head = c.in_ok-fo
 -- and what stands behind them
 spelled : (c : In_ok-form) → c.args.bytes.now ≡ front_text (problem_of c) ++ c.in_ok-form.rest.now
 unfolding problem_of
-spelled c = whole (problem_of c) c.args.bytes.now c.in_ok-rest.rest.now c.in_ok-form.rest.now (opened (goal.at.In_ok-form c).In_ok-rest) c.in_ok-form.ensures.found
+spelled c = whole (problem_of c) c.args.bytes.now c.in_ok-rest.rest.now c.in_ok-form.rest.now (opened (goal.at.In_ok-form c).In_ok-rest) c.in_ok-form.ensures.ok.1
 
 pub tail-requires-clause-room : goal.tail-requires-clause-room
 unfolding problem_of
 tail-requires-clause-room c =
-    room (problem_of (goal.at.tail-requires-clause-room c).In_ok-form) c.args.bytes.now c.in_ok-rest.rest.now c.in_ok-form.rest.now c.in_ok-form.line 4294967296 c.in_ok-form.ensures.fits
-    (opened (goal.at.tail-requires-clause-room c).In_ok-rest) c.in_ok-form.ensures.found c.in_ok-form.ensures.next c.requires
+    room (problem_of (goal.at.tail-requires-clause-room c).In_ok-form) c.args.bytes.now c.in_ok-rest.rest.now c.in_ok-form.rest.now c.in_ok-form.line 4294967296 c.in_ok-form.ensures.ok.0
+    (opened (goal.at.tail-requires-clause-room c).In_ok-rest) c.in_ok-form.ensures.ok.1 c.in_ok-form.ensures.next c.requires
 
 pub returns-in_err-answer-clause-only : goal.returns-in_err-answer-clause-only
 unfolding problem_of
@@ -64,7 +64,7 @@ returns-in_err-answer-clause-only c = λ claim fits e.
     let d = (goal.at.returns-in_err-answer-clause-only c).In_ok-form in
     let p = err_from_is_err_and c.from_residual-in_err-answer.result c.from_residual-in_err-answer.ensures.1 in
     let phases : c.len-phases.result ≡ length c.in_ok-form.form.phases.items = omega (arith, c.len-phases.ensures, c.in_ok-form.form.phases.ok.0) in
-    rw (p.1, p.2) (fails_only (problem_of d) c.in_ok-form.ensures.fits c.args.bytes.now c.in_ok-form.rest.now c.in_ok-form.line (spelled d) c.in_ok-form.ensures.next c.in_err-answer.field-0.0 (rw phases at c.in_err-answer.ensures.exact) claim fits e)
+    rw (p.1, p.2) (fails_only (problem_of d) c.in_ok-form.ensures.ok.0 c.args.bytes.now c.in_ok-form.rest.now c.in_ok-form.line (spelled d) c.in_ok-form.ensures.next c.in_err-answer.field-0.0 (rw phases at c.in_err-answer.ensures.exact) claim fits e)
 
 pub returns-in_err-answer-clause-first : goal.returns-in_err-answer-clause-first
 unfolding problem_of
@@ -72,25 +72,25 @@ returns-in_err-answer-clause-first c =
     let d = (goal.at.returns-in_err-answer-clause-first c).In_ok-form in
     let p = err_from_is_err_and c.from_residual-in_err-answer.result c.from_residual-in_err-answer.ensures.1 in
     let phases : c.len-phases.result ≡ length c.in_ok-form.form.phases.items = omega (arith, c.len-phases.ensures, c.in_ok-form.form.phases.ok.0) in
-    rw (p.1, p.2) (fails_line (problem_of d) c.in_ok-form.ensures.fits c.args.bytes.now c.in_ok-form.rest.now c.in_ok-form.line (spelled d) c.in_ok-form.ensures.next c.in_err-answer.field-0.0 (rw phases at c.in_err-answer.ensures.exact))
+    rw (p.1, p.2) (fails_line (problem_of d) c.in_ok-form.ensures.ok.0 c.args.bytes.now c.in_ok-form.rest.now c.in_ok-form.line (spelled d) c.in_ok-form.ensures.next c.in_err-answer.field-0.0 (rw phases at c.in_err-answer.ensures.exact))
 
 pub returns-clause-fits : goal.returns-clause-fits
 unfolding problem_of
 returns-clause-fits c =
     let d = (goal.at.returns-clause-fits c).In_ok-form in
     let phases : c.len-phases.result ≡ length c.in_ok-form.form.phases.items = omega (arith, c.len-phases.ensures, c.in_ok-form.form.phases.ok.0) in
-    read_fits (problem_of d) c.in_ok-form.ensures.fits c.args.bytes.now c.in_ok-form.rest.now c.in_ok-form.line (spelled d) c.in_ok-form.ensures.next c.in_ok-answer.answer c.in_ok-answer.entries.items (rw phases at c.in_ok-answer.ensures.exact)
+    read_fits (problem_of d) c.in_ok-form.ensures.ok.0 c.args.bytes.now c.in_ok-form.rest.now c.in_ok-form.line (spelled d) c.in_ok-form.ensures.next c.in_ok-answer.answer c.in_ok-answer.entries.items (rw phases at c.in_ok-answer.ensures.exact)
 
 pub returns-clause-found : goal.returns-clause-found
 unfolding problem_of
 returns-clause-found c =
     let d = (goal.at.returns-clause-found c).In_ok-form in
     let phases : c.len-phases.result ≡ length c.in_ok-form.form.phases.items = omega (arith, c.len-phases.ensures, c.in_ok-form.form.phases.ok.0) in
-    read_found (problem_of d) c.in_ok-form.ensures.fits c.args.bytes.now c.in_ok-form.rest.now c.in_ok-form.line (spelled d) c.in_ok-form.ensures.next c.in_ok-answer.answer c.in_ok-answer.entries.items (rw phases at c.in_ok-answer.ensures.exact)
+    read_found (problem_of d) c.in_ok-form.ensures.ok.0 c.args.bytes.now c.in_ok-form.rest.now c.in_ok-form.line (spelled d) c.in_ok-form.ensures.next c.in_ok-answer.answer c.in_ok-answer.entries.items (rw phases at c.in_ok-answer.ensures.exact)
 
 pub returns-clause-only : goal.returns-clause-only
 unfolding problem_of
 returns-clause-only c = λ claim fits e.
     let d = (goal.at.returns-clause-only c).In_ok-form in
     let phases : c.len-phases.result ≡ length c.in_ok-form.form.phases.items = omega (arith, c.len-phases.ensures, c.in_ok-form.form.phases.ok.0) in
-    read_only (problem_of d) c.in_ok-form.ensures.fits c.args.bytes.now c.in_ok-form.rest.now c.in_ok-form.line (spelled d) c.in_ok-form.ensures.next c.in_ok-answer.answer c.in_ok-answer.entries.items (rw phases at c.in_ok-answer.ensures.exact) claim fits e
+    read_only (problem_of d) c.in_ok-form.ensures.ok.0 c.args.bytes.now c.in_ok-form.rest.now c.in_ok-form.line (spelled d) c.in_ok-form.ensures.next c.in_ok-answer.answer c.in_ok-answer.entries.items (rw phases at c.in_ok-answer.ensures.exact) claim fits e

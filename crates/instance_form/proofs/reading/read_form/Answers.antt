@@ -25,4 +25,4 @@ returns-in_err-form-clause-first c =
 pub returns-else-is_empty-clause-first : goal.returns-else-is_empty-clause-first
 returns-else-is_empty-clause-first c =
     let form = c.in_ok-form.form in
-    trailing_fault form.phases.items form.head form.lists.items c.args.bytes.now c.in_ok-form.rest.now c.in_ok-form.line c.in_ok-form.ensures.fits c.in_ok-form.ensures.found c.in_ok-form.ensures.next
+    trailing_fault form.phases.items form.head form.lists.items c.args.bytes.now c.in_ok-form.rest.now c.in_ok-form.line c.in_ok-form.ensures.ok.0 c.in_ok-form.ensures.ok.1 c.in_ok-form.ensures.next

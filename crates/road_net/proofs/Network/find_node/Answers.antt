@@ -8,7 +8,7 @@ returns-clause-none c =
     let is : c.find.result ≡ number_of c.args.self.now.node_names c.args.name.now = c.find.ensures ∙ ap (λ net. number_of net.node_names c.args.name.now) c.self.view_is in
     rw is (number_of-none c.args.self.now.node_names c.args.name.now)
 
-pub returns-clause-found : goal.returns-clause-found
-returns-clause-found c =
+pub returns-clause-some : goal.returns-clause-some
+returns-clause-some c =
     let is : c.find.result ≡ number_of c.args.self.now.node_names c.args.name.now = c.find.ensures ∙ ap (λ net. number_of net.node_names c.args.name.now) c.self.view_is in
     rw is (number_of-found c.args.self.now.node_names c.args.name.now)

@@ -40,7 +40,7 @@ returns-then-self-eq0-clause-ok c = λ net h come.
     let inside : n < length left = omega (arith, c.self.invariant.left_long, c.if-place-ge64.false) in
     let own : (get_or left n 0 - 1) + 1 ≡ get_or left n 0 = one-less (get_or left n 0) c.if-self-place-eq0.false in
     come-round net h (the_view c.self.inside) (subst (HasCome net h) (sym c.self.view_is) come) n (get_or left n 0 - 1) (under c.self.inside.done c.self.inside.rounds c.self.invariant.most c.if-self.false) inside own
-    (omega (arith, fewer left n (get_or left n 0 - 1) c.self.inside.«open» inside own c.self.invariant.all_left, c.if-self-eq0.true))
+    (omega (arith, fewer left n (get_or left n 0 - 1) c.self.inside.whole_left inside own c.self.invariant.all_left, c.if-self-eq0.true))
 
 pub returns-else-self-eq0-clause-ok : goal.returns-else-self-eq0-clause-ok
 returns-else-self-eq0-clause-ok c = λ net h come.
@@ -48,6 +48,6 @@ returns-else-self-eq0-clause-ok c = λ net h come.
     let left : List ℕ = c.self.inside.left in
     let inside : n < length left = omega (arith, c.self.invariant.left_long, c.if-place-ge64.false) in
     let own : (get_or left n 0 - 1) + 1 ≡ get_or left n 0 = one-less (get_or left n 0) c.if-self-place-eq0.false in
-    let all = fewer left n (get_or left n 0 - 1) c.self.inside.«open» inside own c.self.invariant.all_left in
+    let all = fewer left n (get_or left n 0 - 1) c.self.inside.whole_left inside own c.self.invariant.all_left in
     come-step net h (the_view c.self.inside) (subst (HasCome net h) (sym c.self.view_is) come) n (get_or left n 0 - 1) (under c.self.inside.done c.self.inside.rounds c.self.invariant.most c.if-self.false) inside own
-    (elim (cases_lt 0 (c.self.inside.«open» - 1)) [ inl some ↦ omega (arith, some, all) | inr none ↦ absurd (c.if-self-eq0.false (omega (arith, none))) ])
+    (elim (cases_lt 0 (c.self.inside.whole_left - 1)) [ inl some ↦ omega (arith, some, all) | inr none ↦ absurd (c.if-self-eq0.false (omega (arith, none))) ])
