@@ -7,6 +7,9 @@ PEER is a folder with a Cargo package whose one binary understands the words `pl
 programs then run by turns on each instance of this folder, and on a grid of 64 nodes, and what is printed is, for each command
 and input, the best time of many runs and its ratio, and, where valgrind is there, the instructions that callgrind counts and
 their ratio. The answers must be equal. The exit status is 0 where they are, and 1 where any differs.
+
+The built program's own `net` and `turns` then run by turns on the grid's files, each by as many processors as there are: their
+times, the most memory that each held, and the ratio of both. `replay` of what `net` writes must write the same.
 """
 
 import argparse
@@ -106,22 +109,48 @@ def compare_networks(programs, runs, work):
     return alike
 
 
+def most_memory(program, words):
+    """The most memory that one run holds, in MB."""
+    run = subprocess.Popen([program, *words], stdin=subprocess.DEVNULL, stdout=subprocess.DEVNULL)
+    _, _, usage = os.wait4(run.pid, 0)
+    return usage.ru_maxrss / 1000
+
+
+def compare_threads(program, peer, runs, work):
+    """`net` against `turns` of one program. Whether what `net` writes is replayed to the same bytes."""
+    subprocess.run([peer, "grid_files", "7", "8", "120", work], check=True)
+    network, arrivals, report = str(work / "net.toml"), str(work / "arr.csv"), work / "threads"
+    written = answer(program, ("net", network, arrivals))
+    report.write_bytes(written[1])
+    alike = answer(program, ("replay", network, arrivals, str(report))) == written
+    best = [float("inf")] * 2
+    for _ in range(runs):
+        for place, command in enumerate(("net", "turns")):
+            best[place] = min(best[place], seconds(program, (command, network, arrivals)))
+    net, turns = (most_memory(program, (command, network, arrivals)) for command in ("net", "turns"))
+    print(f"net, turns    120 rounds         {best[0] * 1e3:8.2f} ms {best[1] * 1e3:8.2f} ms  {best[0] / best[1]:5.2f}"
+          f"   {net:8.1f} MB {turns:8.1f} MB {net / turns:5.2f}" + ("" if alike else "   not replayed"), flush=True)
+    return alike
+
+
 def main():
     parser = argparse.ArgumentParser(description=__doc__.split("\n", 1)[0])
     parser.add_argument("peer", type=Path, help="the folder with the peer's package")
     parser.add_argument("--program", type=Path, default=HERE.parent / "crates/signal_program/out/signal_program")
     parser.add_argument("--runs", type=int, default=60, help="of a command on an instance; a sixth of them on a network")
-    parser.add_argument("--only", choices=("instances", "networks"))
+    parser.add_argument("--only", choices=("instances", "networks", "threads"))
     options = parser.parse_args()
     with tempfile.TemporaryDirectory() as place:
         work = Path(place)
         programs = (options.program.resolve(), peer_built(options.peer, work / "target"))
         print(f"{'':32} {'ours':>11} {'peer':>11}  ratio   {'ours':>10} {'peer':>10}  ratio")
         alike = True
-        if options.only != "networks":
+        if options.only in (None, "instances"):
             alike &= compare_planners(programs, options.runs, work)
-        if options.only != "instances":
+        if options.only in (None, "networks"):
             alike &= compare_networks(programs, max(options.runs // 6, 1), work)
+        if options.only in (None, "threads"):
+            alike &= compare_threads(*programs, max(options.runs // 6, 1), work)
     return 0 if alike else 1
 
 

@@ -89,6 +89,17 @@ impl Forecast {
         }
     }
 
+    /// The forecast of no row, with room for so many. An `Err` comes only where memory runs out.
+    ///
+    /// docs/RULES.md, "Forecast".
+    pub fn with_room(alloc: Global, rows: usize) -> Result<Forecast, AllocError>
+        ensures { IfOk result (λ forecast. forecast ≡ []) }
+    {
+        Ok(Forecast {
+            rows: Vec::with_capacity(alloc, rows)?,
+        })
+    }
+
     /// Adds a row at the end. There are fewer than 180 rows, the row is within its bounds, and its second is above that
     /// of the last row.
     ///

@@ -14,6 +14,7 @@ use crate::greens::Greens;
 use crate::rows::{Row, merge, push_row};
 use dp_certificate::{Entry, Rests, serve_next};
 use foundation::steps::Steps;
+use foundation::threads::CrossesThreads;
 use schedule_meaning::Instance;
 use std::alloc::{AllocError, Global};
 use std::sync::ledger::Ledger;
@@ -30,22 +31,37 @@ pub struct Reached {
     kept: Vec<Row>,
 }
 
+impl CrossesThreads for Reached {}
+
 impl Reached {
-    ghost use Rattle.std.specs.Prelude.{◌≡◌, ◌+◌, ◌-◌, ◌<◌, ◌≤◌, IfOk, OnOk, true, false, length, [], Contains, ◌⊎◌};
+    ghost use Rattle.std.specs.Prelude.{◌≡◌, ◌+◌, ◌-◌, ◌<◌, ◌≤◌, OnOk, true, false, length, [], Contains, ◌⊎◌};
     ghost use Rattle.flat_table.specs.Groups.{AreJoined, AreReachedBy, IsEmpty, IsSource};
     ghost use Rattle.flat_table.specs.Rows.{AreBestOf, AreLater, AreRisingPlaces, AreUpTo, IsOffered, time_of};
 
-    /// Nothing is reached. There is room for so many rows of each kind. An `Err` comes where memory runs out.
+    /// Nothing is reached. It takes no memory.
     ///
     /// docs/RULES.md, "Table".
-    pub fn new(alloc: Global, room: usize) -> Result<Reached, AllocError>
-        ensures { IfOk result IsEmpty }
+    pub fn none(alloc: Global) -> Reached
+        ensures { IsEmpty result }
     {
-        Ok(Reached {
-            greens: Greens::new(alloc, room)?,
-            fresh: Vec::with_capacity(alloc, room)?,
-            kept: Vec::with_capacity(alloc, room)?,
-        })
+        Reached {
+            greens: Greens::none(alloc),
+            fresh: Vec::new(alloc),
+            kept: Vec::new(alloc),
+        }
+    }
+
+    /// Has room for so many rows of each kind, at the least. An `Err` comes where memory runs out.
+    ///
+    /// docs/RULES.md, "Table".
+    pub fn make_room(&mut self, room: usize) -> Result<(), AllocError>
+        requires { IsEmpty self.old }
+        ensures { OnOk result (IsEmpty self.new) }
+    {
+        self.greens.take_room(room)?;
+        self.fresh.reserve(room)?;
+        self.kept.reserve(room)?;
+        Ok(())
     }
 
     /// Takes in all that is reached from rows by a cluster of a phase, which is the next one behind each of them, and is

@@ -1,5 +1,5 @@
 -- The table: its rows, and how far it is made.
-use Rattle.std.specs.Prelude.{◌≡◌, ℕ, zero, suc, ◌+◌, ◌-◌, ◌*◌, ◌<◌, ◌≤◌, ◌++◌, true, List, length, map, slice_index, AllPairs, All, Contains, Option, Some}
+use Rattle.std.specs.Prelude.{◌≡◌, ℕ, zero, suc, ◌+◌, ◌-◌, ◌*◌, ◌<◌, ◌≤◌, ◌++◌, true, List, [], length, map, slice_index, AllPairs, All, Contains, Option, Some}
 use Rattle.schedule_meaning.specs.Instances.{Problem, IsInstance, list_at}
 use Rattle.dp_certificate.specs.Limits.{IsSomeDelay, IsWithin}
 use Rattle.dp_certificate.specs.Prefixes.{Stage, key_of, stage_of}
@@ -136,6 +136,12 @@ pub record IsCellFilled (p : Problem) (limit : Option ℕ) (counts : List ℕ) (
 -- all rows: those that are let go, and the others
 abbrev pub all_rows : List Row → Rows → List Row
 all_rows gone rows = gone ++ rows.earlier.items ++ rows.latest.items
+
+-- no row is kept, and none is let go
+pub record HasNone (rows : Rows) : Type 0 where
+  pub gone : rows.gone ≡ 0
+  pub earlier : rows.earlier.items ≡ []
+  pub latest : rows.latest.items ≡ []
 
 -- the rows from which a phase is served: for the first one those with fewer clusters of it
 abbrev pub source_of : Rows → ℕ → List Row

@@ -10,6 +10,7 @@ ghost use Rattle.dp_certificate.specs.Whole.{IsWhole};
 
 use crate::answer_of;
 use crate::kept::Past;
+use crate::lists::Lists;
 use crate::table::{room, table};
 use dp_certificate::Certificate;
 use foundation::steps::Steps;
@@ -63,7 +64,11 @@ pub fn certify_within<L: Ledger>(
         wanted: true,
         entries: Vec::with_capacity(alloc, 2 * room(i))?,
     };
-    let rows = table(alloc, i, limit, &mut past, steps)?;
+    let Lists {
+        mut reached,
+        mut rows,
+    } = Lists::new(alloc).for_table(i)?;
+    table(i, limit, &mut past, &mut reached, &mut rows, steps)?;
     let answer = answer_of(alloc, i, &rows)?;
     past.take(rows.earlier.as_slice())?;
     past.take(rows.latest.as_slice())?;

@@ -1,11 +1,12 @@
 //! The rows of a table that can still be served on.
 
-ghost use Rattle.std.specs.Prelude.{◌≡◌, ◌+◌, ◌^◌, ◌<◌, ◌++◌, List, [], length, map, slice_index, IfOk, OnOk};
+ghost use Rattle.std.specs.Prelude.{◌≡◌, ◌+◌, ◌^◌, ◌<◌, ◌++◌, List, [], length, map, slice_index, OnOk};
 ghost use Rattle.flat_table.specs.declared.rows.Row.{Row};
-ghost use Rattle.forward_dp.specs.Tables.{HasEntries, IsEntered, base_of, source_of};
+ghost use Rattle.forward_dp.specs.Tables.{HasEntries, HasNone, IsEntered, base_of, source_of};
 
 use dp_certificate::Entry;
 use flat_table::Row;
+use foundation::threads::CrossesThreads;
 use std::alloc::{AllocError, Global};
 use std::mem::swap;
 
@@ -53,18 +54,28 @@ fn push_entries(entries: &mut Vec<Entry>, rows: &[Row]) -> Result<(), AllocError
     Ok(())
 }
 
+impl CrossesThreads for Rows {}
+
 impl Rows {
-    /// No rows, and room for so many of either kind. An `Err` comes where memory runs out.
-    pub(crate) fn new(alloc: Global, room: usize) -> Result<Rows, AllocError>
-        ensures gone { IfOk result (λ rows. rows.gone ≡ 0) }
-        ensures earlier { IfOk result (λ rows. rows.earlier.items ≡ []) }
-        ensures latest { IfOk result (λ rows. rows.latest.items ≡ []) }
-    {
-        Ok(Rows {
+    /// No rows. It takes no memory.
+    pub(crate) fn none(alloc: Global) -> Rows {
+        Rows {
             gone: 0,
-            earlier: Vec::with_capacity(alloc, room)?,
-            latest: Vec::with_capacity(alloc, room)?,
-        })
+            earlier: Vec::new(alloc),
+            latest: Vec::new(alloc),
+        }
+    }
+
+    /// Lets all rows go, and has room for so many of either kind. An `Err` comes where memory runs out.
+    pub(crate) fn clear(&mut self, room: usize) -> Result<(), AllocError>
+        ensures { OnOk result (HasNone self.new) }
+    {
+        self.gone = 0;
+        self.earlier.clear();
+        self.latest.clear();
+        self.earlier.reserve(room)?;
+        self.latest.reserve(room)?;
+        Ok(())
     }
 
     /// The rows from which a phase can be served.

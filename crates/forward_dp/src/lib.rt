@@ -14,6 +14,7 @@ ghost use Rattle.forward_dp.specs.Tables.{HasAnswers};
 mod answers;
 mod certifying;
 mod kept;
+mod lists;
 mod table;
 
 use answers::sequence_of;
@@ -24,8 +25,10 @@ use foundation::items::Items;
 use foundation::steps::Steps;
 use foundation::threads::CrossesThreads;
 use kept::{Past, Rows};
+pub use lists::Lists;
 use schedule_meaning::{Answer, Instance, Planner};
 use std::alloc::{AllocError, Global};
+use std::mem::replace;
 use std::sync::ledger::Ledger;
 use table::{cell, table};
 
@@ -67,12 +70,37 @@ pub fn layered_within<L: Ledger>(
     ensures least { IfOk result (IsLeast i.now) }
     ensures servings { (keys : List Key) → HasKeysWithin i.now limit keys → steps.new ≤ steps.old + length i.now.plan * length keys }
 {
+    layered_in(alloc, &mut Lists::new(alloc), i, limit, steps)
+}
+
+/// The best answer of an instance by a table with a limit, as `layered_within` gives it, in these lists, in as few steps. After an
+/// `Err`, which comes where memory runs out, the lists have given their memory back.
+///
+/// docs/RULES.md, "Bounded table".
+pub fn layered_in<L: Ledger>(
+    alloc: Global,
+    lists: &mut Lists,
+    i: &Instance,
+    limit: Option<u64>,
+    steps: &mut Steps<L>,
+) -> Result<Answer, AllocError>
+    requires { IsSomeDelay i.now limit }
+    ensures best { IfOk result (IsBest i.now) }
+    ensures least { IfOk result (IsLeast i.now) }
+    ensures servings { (keys : List Key) → HasKeysWithin i.now limit keys → steps.new ≤ steps.old + length i.now.plan * length keys }
+{
     let mut past = Past {
         wanted: false,
         entries: Vec::new(alloc),
     };
-    let rows = table(alloc, i, limit, &mut past, steps)?;
-    answer_of(alloc, i, &rows)
+    let Lists {
+        mut reached,
+        mut rows,
+    } = replace(lists, Lists::new(alloc)).for_table(i)?;
+    table(i, limit, &mut past, &mut reached, &mut rows, steps)?;
+    let answer = answer_of(alloc, i, &rows)?;
+    *lists = Lists { reached, rows };
+    Ok(answer)
 }
 
 /// The answer of the best of the rows of whole sequences.

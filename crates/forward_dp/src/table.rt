@@ -6,7 +6,7 @@ ghost use Rattle.dp_certificate.specs.Limits.{HasKeysWithin, IsSomeDelay};
 ghost use Rattle.dp_certificate.specs.Prefixes.{Key};
 ghost use Rattle.flat_table.specs.Groups.{IsEmpty};
 ghost use Rattle.forward_dp.specs.Numbers.{counts_number};
-ghost use Rattle.forward_dp.specs.Tables.{HasEntries, IsCellMade, IsCellReady, IsFrom, IsGroupFilled, IsGroupReady, IsNextCounts, IsTableMade, all_rows};
+ghost use Rattle.forward_dp.specs.Tables.{HasEntries, IsCellMade, IsCellReady, IsFrom, IsGroupFilled, IsGroupReady, IsNextCounts, HasNone, IsTableMade, all_rows};
 ghost use Rattle.flat_table.specs.declared.rows.Row.{Row};
 
 use crate::kept::{Past, Rows};
@@ -14,41 +14,42 @@ use dp_certificate::{Entry, list_lengths};
 use flat_table::{Order, Reached, Row};
 use foundation::steps::Steps;
 use schedule_meaning::Instance;
-use std::alloc::{AllocError, Global};
+use std::alloc::AllocError;
 use std::sync::ledger::Ledger;
 use switch_rules::ways;
 
 /// The greatest room for rows from the start.
 const MOST_ROOM: u32 = 32_768;
 
-/// The whole table: a row for each key that a fit prefix reaches. Where there is a limit, which is the delay of a feasible
-/// sequence, only with what is within it.
+/// Makes the whole table out of no rows: a row for each key that a fit prefix reaches. Where there is a limit, which is the delay of
+/// a feasible sequence, only with what is within it.
 pub(crate) fn table<L: Ledger>(
-    alloc: Global,
     i: &Instance,
     limit: Option<u64>,
     past: &mut Past,
+    reached: &mut Reached,
+    rows: &mut Rows,
     steps: &mut Steps<L>,
-) -> Result<Rows, AllocError>
+) -> Result<(), AllocError>
     requires delay { IsSomeDelay i.now limit }
     requires past { HasEntries past.old [] }
-    ensures whole { IfOk result (λ rows. (gone : List Row) × HasEntries past.new gone × IsTableMade i.now limit gone rows) }
+    requires empty { IsEmpty reached.old }
+    requires none { HasNone rows.old }
+    ensures whole { OnOk result ((gone : List Row) × HasEntries past.new gone × IsTableMade i.now limit gone rows.new) }
     ensures wanted { past.new.wanted ≡ past.old.wanted }
+    ensures empty { OnOk result (IsEmpty reached.new) }
     ensures servings { (keys : List Key) → HasKeysWithin i.now limit keys → steps.new ≤ steps.old + length i.now.plan * length keys }
 {
     let last = list_lengths(i);
-    let room = room(i);
-    let mut reached = Reached::new(alloc, room / 8)?;
-    let mut rows = Rows::new(alloc, room)?;
     rows.latest.push(first_row(i))?;
     let mut counts = [0; 4];
     let mut ends = [0; 4];
     while let Some(next) = next_counts(&counts, &last) {
         rows.enter(&counts, &next, past)?;
-        fill_cell(i, limit, &next, &mut ends, &mut reached, &mut rows, steps)?;
+        fill_cell(i, limit, &next, &mut ends, reached, rows, steps)?;
         counts = next;
     }
-    Ok(rows)
+    Ok(())
 }
 
 /// For how many rows there is room from the start, so that the lists of a large table lie in pages of their own and seldom move:

@@ -1,4 +1,4 @@
-//! All nodes play a round, each in a branch of its own.
+//! All nodes play a round, each in a branch of its own, carried by as many threads as there are processors.
 ghost use Rattle.std.specs.Prelude.{◌≡◌, OnOk, length};
 ghost use denote.Param.Send.{IsSend, IsSync};
 ghost use Rattle.round_calls.specs.Rounds.{AreSamePasses, CanAllPlay, HaveAllPlayed};
@@ -12,10 +12,21 @@ use road_net::Network;
 use schedule_meaning::Planner;
 use std::alloc::{AllocError, Global};
 use std::sync::Wait;
-use std::thread::{Threads, join_mut};
+use std::thread::{Threads, available_parallelism, join_mut};
 
-/// These nodes play a round, each with its actor, planner and pass: one half beside the other, down to single nodes. Where no thread
-/// can be started, the caller plays both halves.
+/// So many threads carry a round at the least, where there are as many nodes.
+const LEAST_THREADS: usize = 4;
+
+/// How many threads carry a round: one for each processor, and not fewer than `LEAST_THREADS`.
+pub(crate) fn threads_of<R: Threads>(rt: &R) -> usize {
+    match available_parallelism(rt) {
+        Ok(processors) => processors.get().max(LEAST_THREADS),
+        Err(_) => LEAST_THREADS,
+    }
+}
+
+/// These nodes play a round, each with its actor, planner and pass: one half beside the other, down to single nodes. With one thread
+/// left, and where none can be started, the caller plays one half after the other.
 ///
 /// An `Err` comes only where memory runs out; the other nodes still play to their ends.
 #[cycle(halves)]
@@ -27,6 +38,7 @@ pub(crate) fn play_all<P: Planner + Send, R: Threads + Wait + Sync, G: Gate + Sy
     boards: &Boards,
     round: u32,
     gate: &G,
+    threads: usize,
     actors: &mut [Actor],
     planners: &mut [P],
     passes: &mut [Pass],
@@ -57,6 +69,23 @@ pub(crate) fn play_all<P: Planner + Send, R: Threads + Wait + Sync, G: Gate + Sy
     let (front_passes, back_passes) = passes.split_at_mut(middle);
     let (front_actors, back_actors) = actors.split_at_mut(middle);
     let (front_planners, back_planners) = planners.split_at_mut(middle);
+    if threads < 2 {
+        return play_in_turn(
+            rt,
+            alloc,
+            net,
+            world,
+            boards,
+            round,
+            gate,
+            front_actors,
+            back_actors,
+            front_planners,
+            back_planners,
+            front_passes,
+            back_passes,
+        );
+    }
     play_both(
         rt,
         alloc,
@@ -65,6 +94,7 @@ pub(crate) fn play_all<P: Planner + Send, R: Threads + Wait + Sync, G: Gate + Sy
         boards,
         round,
         gate,
+        threads,
         front_actors,
         back_actors,
         front_planners,
@@ -74,9 +104,9 @@ pub(crate) fn play_all<P: Planner + Send, R: Threads + Wait + Sync, G: Gate + Sy
     )
 }
 
-/// Two halves of the nodes play a round at once.
+/// Two halves of the nodes play a round, one after the other.
 #[cycle(halves)]
-fn play_both<P: Planner + Send, R: Threads + Wait + Sync, G: Gate + Sync>(
+fn play_in_turn<P: Planner + Send, R: Threads + Wait + Sync, G: Gate + Sync>(
     rt: &R,
     alloc: Global,
     net: &Network,
@@ -98,6 +128,63 @@ fn play_both<P: Planner + Send, R: Threads + Wait + Sync, G: Gate + Sync>(
     ensures back { OnOk result (HaveAllPlayed net.now round world.now back_actors.old back_actors.new back_passes.old back_passes.new) }
     ensures same { AreSamePasses front_passes.old front_passes.new × AreSamePasses back_passes.old back_passes.new }
 {
+    let first = play_all(
+        rt,
+        alloc,
+        net,
+        world,
+        boards,
+        round,
+        gate,
+        1,
+        front_actors,
+        front_planners,
+        front_passes,
+    );
+    let second = play_all(
+        rt,
+        alloc,
+        net,
+        world,
+        boards,
+        round,
+        gate,
+        1,
+        back_actors,
+        back_planners,
+        back_passes,
+    );
+    first?;
+    second
+}
+
+/// Two halves of the nodes play a round at once, each carried by half of the threads.
+#[cycle(halves)]
+fn play_both<P: Planner + Send, R: Threads + Wait + Sync, G: Gate + Sync>(
+    rt: &R,
+    alloc: Global,
+    net: &Network,
+    world: &World,
+    boards: &Boards,
+    round: u32,
+    gate: &G,
+    threads: usize,
+    front_actors: &mut [Actor],
+    back_actors: &mut [Actor],
+    front_planners: &mut [P],
+    back_planners: &mut [P],
+    front_passes: &mut [Pass],
+    back_passes: &mut [Pass],
+) -> Result<(), AllocError>
+    requires links { boards.now.links ≡ length net.now.link_names }
+    requires front { CanAllPlay net.now round world.now boards.now (length front_planners.old) front_actors.old front_passes.old }
+    requires back { CanAllPlay net.now round world.now boards.now (length back_planners.old) back_actors.old back_passes.old }
+    ensures front { OnOk result (HaveAllPlayed net.now round world.now front_actors.old front_actors.new front_passes.old front_passes.new) }
+    ensures back { OnOk result (HaveAllPlayed net.now round world.now back_actors.old back_actors.new back_passes.old back_passes.new) }
+    ensures same { AreSamePasses front_passes.old front_passes.new × AreSamePasses back_passes.old back_passes.new }
+{
+    let others = threads / 2;
+    let own = threads - others;
     let mut front = || -> Result<(), AllocError>
         requires { IsSend P.row × IsSync R.row × IsSync G.row × (boards.now.links ≡ length net.now.link_names) × CanAllPlay net.now round world.now boards.now (length front_planners.now) front_actors.now front_passes.now }
         ensures { OnOk result (HaveAllPlayed net.entry.now round world.entry.now front_actors.entry.now front_actors.exit.now front_passes.entry.now front_passes.exit.now) × AreSamePasses front_passes.entry.now front_passes.exit.now }
@@ -110,6 +197,7 @@ fn play_both<P: Planner + Send, R: Threads + Wait + Sync, G: Gate + Sync>(
             boards,
             round,
             gate,
+            own,
             front_actors,
             front_planners,
             front_passes,
@@ -127,6 +215,7 @@ fn play_both<P: Planner + Send, R: Threads + Wait + Sync, G: Gate + Sync>(
             boards,
             round,
             gate,
+            others,
             back_actors,
             back_planners,
             back_passes,

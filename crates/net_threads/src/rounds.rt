@@ -5,7 +5,7 @@ ghost use Rattle.board_rule.specs.Passes.{AreAllPasses, calls_in};
 ghost use Rattle.net_threads.specs.Calls.{AreStepsOf, HaveCallsLeft, IsRunOfCalls, MergeToLawful};
 ghost use Rattle.round_calls.specs.Rounds.{AreSamePasses, Between};
 
-use crate::joined::play_all;
+use crate::joined::{play_all, threads_of};
 use crate::stages::{Stage, stage_of};
 use arrivals::Arrivals;
 use board_model::Gate;
@@ -29,6 +29,7 @@ fn play_round<P: Planner + Send, R: Threads + Wait + Sync, G: Gate + Sync>(
     boards: &Boards,
     round: u32,
     gate: &G,
+    threads: usize,
     stage: &mut Stage,
     planners: &mut [P],
     passes: &mut [Pass],
@@ -51,6 +52,7 @@ fn play_round<P: Planner + Send, R: Threads + Wait + Sync, G: Gate + Sync>(
         boards,
         round,
         gate,
+        threads,
         stage.actors.all.as_mut_slice(),
         planners,
         passes,
@@ -68,6 +70,7 @@ fn play_rounds<P: Planner + Send, R: Threads + Wait + Sync, G: Gate + Sync>(
     arrivals: &Arrivals,
     boards: &Boards,
     gate: &G,
+    threads: usize,
     stage: &mut Stage,
     planners: &mut [P],
     passes: &mut [Pass],
@@ -81,7 +84,7 @@ fn play_rounds<P: Planner + Send, R: Threads + Wait + Sync, G: Gate + Sync>(
 {
     for round in 0..net.run().rounds {
         play_round(
-            rt, alloc, net, arrivals, boards, round, gate, stage, planners, passes,
+            rt, alloc, net, arrivals, boards, round, gate, threads, stage, planners, passes,
         )?;
     }
     Ok(())
@@ -137,6 +140,7 @@ pub fn run_rounds<P: Planner + Send + Drop, R: Threads + Wait + Sync, G: Gate + 
         arrivals,
         boards,
         gate,
+        threads_of(rt),
         &mut stage,
         planners.as_mut_slice(),
         passes,

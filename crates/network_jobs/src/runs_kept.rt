@@ -29,7 +29,7 @@ pub fn kept_run(
 {
     let _nodes = net.nodes();
     law_of_runs(net);
-    run(alloc, net, arrivals, h, &mut BoundPlanner)
+    run(alloc, net, arrivals, h, &mut BoundPlanner::new(alloc))
 }
 
 /// The report of the run of a lawful history.

@@ -56,7 +56,8 @@ fn rows(alloc: Global, now: u32, amounts: &[u32]) -> Result<Forecast, AllocError
     requires most { (k : ℕ) → slice_index amounts.now k ≤ 80000 }
     ensures { IfOk result (λ forecast. forecast ≡ positive_rows (λ d. slice_index amounts.now (d - now)) (range_with_len now (length amounts.now))) }
 {
-    let mut forecast = Forecast::empty(alloc);
+    let filled = amounts.iter().filter(|amount| **amount > 0).count();
+    let mut forecast = Forecast::with_room(alloc, filled)?;
     for (k, amount) in amounts.iter().enumerate() {
         if *amount > 0 {
             forecast.push(Row {

@@ -15,7 +15,7 @@ mod arrivals;
 
 use arrivals::arrival_delay;
 use dp_certificate::Certificate;
-use forward_dp::{certify_within, layered_within};
+use forward_dp::{Lists, certify_within, layered_in};
 use foundation::steps::Steps;
 use foundation::threads::CrossesThreads;
 use schedule_meaning::{Answer, Instance, Planner};
@@ -38,8 +38,22 @@ pub fn bounded<L: Ledger>(
     ensures least { IfOk result (IsLeast i.now) }
     ensures servings { (entries : List Entry) → IsBounded i.now entries → steps.new ≤ steps.old + length i.now.plan * length entries + sum (counts_of i.now.lists) }
 {
+    bounded_in(alloc, &mut Lists::new(alloc), i, steps)
+}
+
+/// The best answer of an instance by its bounded table, made in these lists.
+fn bounded_in<L: Ledger>(
+    alloc: Global,
+    lists: &mut Lists,
+    i: &Instance,
+    steps: &mut Steps<L>,
+) -> Result<Answer, AllocError>
+    ensures best { IfOk result (IsBest i.now) }
+    ensures least { IfOk result (IsLeast i.now) }
+    ensures servings { (entries : List Entry) → IsBounded i.now entries → steps.new ≤ steps.old + length i.now.plan * length entries + sum (counts_of i.now.lists) }
+{
     let limit = arrival_delay(alloc, i, steps)?;
-    layered_within(alloc, i, limit, steps)
+    layered_in(alloc, lists, i, limit, steps)
 }
 
 /// The bounded table with the best answer: a certificate with those entries of the whole table whose delay, with what the
@@ -66,13 +80,41 @@ pub fn certify_bound<L: Ledger>(
     certify_within(alloc, i, limit, steps)
 }
 
-/// The planner that answers by `bounded`, in as few steps.
+/// The planner that answers by `bounded`, in as few steps. It keeps the lists of its tables from one planning to the next.
 ///
 /// docs/RULES.md, "Bounded table".
-#[derive(Clone, Copy)]
-pub struct BoundPlanner;
+#[derive(Drop)]
+pub struct BoundPlanner {
+    lists: Lists,
+}
 
 impl CrossesThreads for BoundPlanner {}
+
+impl BoundPlanner {
+    ghost use Rattle.std.specs.Prelude.{◌≡◌, IfOk, length};
+
+    /// A planner that has not planned yet. It takes no memory.
+    ///
+    /// docs/RULES.md, "Bounded table".
+    pub fn new(alloc: Global) -> BoundPlanner {
+        BoundPlanner {
+            lists: Lists::new(alloc),
+        }
+    }
+
+    /// So many planners that have not planned yet. An `Err` comes where memory runs out.
+    ///
+    /// docs/RULES.md, "Bounded table".
+    pub fn many(alloc: Global, count: usize) -> Result<Vec<BoundPlanner>, AllocError>
+        ensures { IfOk result (λ planners. length planners.items ≡ count) }
+    {
+        let mut planners = Vec::with_capacity(alloc, count)?;
+        for _planner in 0..count {
+            planners.push(BoundPlanner::new(alloc))?;
+        }
+        Ok(planners)
+    }
+}
 
 impl Planner for BoundPlanner {
     fn best<L: Ledger>(
@@ -86,6 +128,6 @@ impl Planner for BoundPlanner {
         ensures only { IfOk result (λ answer. (other : Answer) → IsBest i.now other → other ≡ answer) }
         ensures servings { (entries : List Entry) → IsBounded i.now entries → steps.new ≤ steps.old + length i.now.plan * length entries + sum (counts_of i.now.lists) }
     {
-        bounded(alloc, i, steps)
+        bounded_in(alloc, &mut self.lists, i, steps)
     }
 }

@@ -39,7 +39,7 @@ fn calls_for(net: &Network) -> u32
 fn planners_for(alloc: Global, net: &Network) -> Result<Vec<BoundPlanner>, AllocError>
     ensures { IfOk result (λ planners. length planners.items ≡ length net.now.node_names) }
 {
-    vec![in alloc; BoundPlanner; net.nodes() as usize]
+    BoundPlanner::many(alloc, net.nodes() as usize)
 }
 
 /// The run in threads, by new passes.

@@ -47,7 +47,7 @@ fn run_by<R: Threads + Wait + Sync, G: Gate + Sync>(
     ensures lawful { OnOk result (MergeToLawful net.now (calls_in passes.new)) }
     ensures run { IfOk result (IsRunOfCalls net.now arrivals.now (calls_in passes.new)) }
 {
-    let planners = vec![in alloc; BoundPlanner; net.nodes() as usize]?;
+    let planners = BoundPlanner::many(alloc, net.nodes() as usize)?;
     run_rounds(rt, alloc, net, arrivals, planners, boards, passes, gate)
 }
 

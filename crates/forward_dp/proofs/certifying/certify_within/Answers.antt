@@ -2,43 +2,43 @@ use Rattle.std.proofs.Common.{◌∙◌, arith}
 use Rattle.forward_dp.proofs.Wholes.{AreParts, accepted, best-short, certified, parts}
 use Rattle.forward_dp.proofs.certifying.certify_within.Goals as goal
 
-pub new-requires-clause-few : goal.new-requires-clause-few
-new-requires-clause-few g c =
+pub new-requires-2-clause-few : goal.new-requires-2-clause-few
+new-requires-2-clause-few g c =
     let made : AreParts c.args.i.now c.args.limit c.take-2.new.self.entries.items c.in_ok-answer.answer =
-    parts c.args.i.now c.args.limit c.in_ok-rows.ensures.whole.0 c.in_ok-rows.rows c.as_slice.result.now c.as_slice-2.result.now c.take-2.new.self.entries.items c.in_ok-answer.answer c.in_ok-answer.ensures.instance c.requires c.in_ok-rows.ensures.whole.2 c.as_slice.ensures.value c.as_slice-2.ensures.value
-    (c.in_ok-take-2.ensures.taken _ (c.in_ok-take.ensures.taken _ c.in_ok-rows.ensures.whole.1) (c.take-2.ensures.wanted ∙ c.take.ensures.wanted ∙ c.table.ensures.wanted)) c.in_ok-answer.ensures.best in
+    parts c.args.i.now c.args.limit c.in_ok-table.ensures.whole.0 c.table.new.rows c.as_slice.result.now c.as_slice-2.result.now c.take-2.new.self.entries.items c.in_ok-answer.answer c.in_ok-answer.ensures.instance c.requires c.in_ok-table.ensures.whole.2 c.as_slice.ensures.value c.as_slice-2.ensures.value
+    (c.in_ok-take-2.ensures.taken _ (c.in_ok-take.ensures.taken _ c.in_ok-table.ensures.whole.1) (c.take-2.ensures.wanted ∙ c.take.ensures.wanted ∙ c.table.ensures.wanted)) c.in_ok-answer.ensures.best in
     omega (arith, made.few)
 
-pub new-requires-clause-short : goal.new-requires-clause-short
-new-requires-clause-short g c = best-short c.args.i.now c.in_ok-answer.answer c.in_ok-answer.ensures.instance c.in_ok-answer.ensures.best
+pub new-requires-2-clause-short : goal.new-requires-2-clause-short
+new-requires-2-clause-short g c = best-short c.args.i.now c.in_ok-answer.answer c.in_ok-answer.ensures.instance c.in_ok-answer.ensures.best
 
 pub answer_of-requires : goal.answer_of-requires
-answer_of-requires g c = record { limit = c.args.limit; gone = c.in_ok-rows.ensures.whole.0; delay = c.requires; made = c.in_ok-rows.ensures.whole.2 }
+answer_of-requires g c = record { limit = c.args.limit; gone = c.in_ok-table.ensures.whole.0; delay = c.requires; made = c.in_ok-table.ensures.whole.2 }
 
 pub unwrap-requires : goal.unwrap-requires
 unwrap-requires g c =
-    accepted c.args.i.now c.in_ok-instance.instance c.args.limit c.take-2.new.self.entries.items c.in_ok-answer.answer c.new.result
-    (parts c.args.i.now c.args.limit c.in_ok-rows.ensures.whole.0 c.in_ok-rows.rows c.as_slice.result.now c.as_slice-2.result.now c.take-2.new.self.entries.items c.in_ok-answer.answer c.in_ok-answer.ensures.instance c.requires c.in_ok-rows.ensures.whole.2 c.as_slice.ensures.value c.as_slice-2.ensures.value
-    (c.in_ok-take-2.ensures.taken _ (c.in_ok-take.ensures.taken _ c.in_ok-rows.ensures.whole.1) (c.take-2.ensures.wanted ∙ c.take.ensures.wanted ∙ c.table.ensures.wanted)) c.in_ok-answer.ensures.best)
-    c.in_ok-instance.ensures c.new.ensures.refused
+    accepted c.args.i.now c.in_ok-instance.instance c.args.limit c.take-2.new.self.entries.items c.in_ok-answer.answer c.new-2.result
+    (parts c.args.i.now c.args.limit c.in_ok-table.ensures.whole.0 c.table.new.rows c.as_slice.result.now c.as_slice-2.result.now c.take-2.new.self.entries.items c.in_ok-answer.answer c.in_ok-answer.ensures.instance c.requires c.in_ok-table.ensures.whole.2 c.as_slice.ensures.value c.as_slice-2.ensures.value
+    (c.in_ok-take-2.ensures.taken _ (c.in_ok-take.ensures.taken _ c.in_ok-table.ensures.whole.1) (c.take-2.ensures.wanted ∙ c.take.ensures.wanted ∙ c.table.ensures.wanted)) c.in_ok-answer.ensures.best)
+    c.in_ok-instance.ensures c.new-2.ensures.refused
 
 pub returns-clause-table : goal.returns-clause-table
 returns-clause-table g c =
-    (certified c.args.i.now c.in_ok-instance.instance c.args.limit c.take-2.new.self.entries.items c.in_ok-answer.answer c.new.result c.unwrap.result
-    (parts c.args.i.now c.args.limit c.in_ok-rows.ensures.whole.0 c.in_ok-rows.rows c.as_slice.result.now c.as_slice-2.result.now c.take-2.new.self.entries.items c.in_ok-answer.answer c.in_ok-answer.ensures.instance c.requires c.in_ok-rows.ensures.whole.2 c.as_slice.ensures.value c.as_slice-2.ensures.value
-    (c.in_ok-take-2.ensures.taken _ (c.in_ok-take.ensures.taken _ c.in_ok-rows.ensures.whole.1) (c.take-2.ensures.wanted ∙ c.take.ensures.wanted ∙ c.table.ensures.wanted)) c.in_ok-answer.ensures.best)
-    c.in_ok-instance.ensures c.new.ensures.ok c.unwrap.ensures).table
+    (certified c.args.i.now c.in_ok-instance.instance c.args.limit c.take-2.new.self.entries.items c.in_ok-answer.answer c.new-2.result c.unwrap.result
+    (parts c.args.i.now c.args.limit c.in_ok-table.ensures.whole.0 c.table.new.rows c.as_slice.result.now c.as_slice-2.result.now c.take-2.new.self.entries.items c.in_ok-answer.answer c.in_ok-answer.ensures.instance c.requires c.in_ok-table.ensures.whole.2 c.as_slice.ensures.value c.as_slice-2.ensures.value
+    (c.in_ok-take-2.ensures.taken _ (c.in_ok-take.ensures.taken _ c.in_ok-table.ensures.whole.1) (c.take-2.ensures.wanted ∙ c.take.ensures.wanted ∙ c.table.ensures.wanted)) c.in_ok-answer.ensures.best)
+    c.in_ok-instance.ensures c.new-2.ensures.ok c.unwrap.ensures).table
 
 pub returns-clause-proves : goal.returns-clause-proves
 returns-clause-proves g c =
-    (certified c.args.i.now c.in_ok-instance.instance c.args.limit c.take-2.new.self.entries.items c.in_ok-answer.answer c.new.result c.unwrap.result
-    (parts c.args.i.now c.args.limit c.in_ok-rows.ensures.whole.0 c.in_ok-rows.rows c.as_slice.result.now c.as_slice-2.result.now c.take-2.new.self.entries.items c.in_ok-answer.answer c.in_ok-answer.ensures.instance c.requires c.in_ok-rows.ensures.whole.2 c.as_slice.ensures.value c.as_slice-2.ensures.value
-    (c.in_ok-take-2.ensures.taken _ (c.in_ok-take.ensures.taken _ c.in_ok-rows.ensures.whole.1) (c.take-2.ensures.wanted ∙ c.take.ensures.wanted ∙ c.table.ensures.wanted)) c.in_ok-answer.ensures.best)
-    c.in_ok-instance.ensures c.new.ensures.ok c.unwrap.ensures).proves
+    (certified c.args.i.now c.in_ok-instance.instance c.args.limit c.take-2.new.self.entries.items c.in_ok-answer.answer c.new-2.result c.unwrap.result
+    (parts c.args.i.now c.args.limit c.in_ok-table.ensures.whole.0 c.table.new.rows c.as_slice.result.now c.as_slice-2.result.now c.take-2.new.self.entries.items c.in_ok-answer.answer c.in_ok-answer.ensures.instance c.requires c.in_ok-table.ensures.whole.2 c.as_slice.ensures.value c.as_slice-2.ensures.value
+    (c.in_ok-take-2.ensures.taken _ (c.in_ok-take.ensures.taken _ c.in_ok-table.ensures.whole.1) (c.take-2.ensures.wanted ∙ c.take.ensures.wanted ∙ c.table.ensures.wanted)) c.in_ok-answer.ensures.best)
+    c.in_ok-instance.ensures c.new-2.ensures.ok c.unwrap.ensures).proves
 
 pub returns-clause-few : goal.returns-clause-few
 returns-clause-few g c =
-    (certified c.args.i.now c.in_ok-instance.instance c.args.limit c.take-2.new.self.entries.items c.in_ok-answer.answer c.new.result c.unwrap.result
-    (parts c.args.i.now c.args.limit c.in_ok-rows.ensures.whole.0 c.in_ok-rows.rows c.as_slice.result.now c.as_slice-2.result.now c.take-2.new.self.entries.items c.in_ok-answer.answer c.in_ok-answer.ensures.instance c.requires c.in_ok-rows.ensures.whole.2 c.as_slice.ensures.value c.as_slice-2.ensures.value
-    (c.in_ok-take-2.ensures.taken _ (c.in_ok-take.ensures.taken _ c.in_ok-rows.ensures.whole.1) (c.take-2.ensures.wanted ∙ c.take.ensures.wanted ∙ c.table.ensures.wanted)) c.in_ok-answer.ensures.best)
-    c.in_ok-instance.ensures c.new.ensures.ok c.unwrap.ensures).few
+    (certified c.args.i.now c.in_ok-instance.instance c.args.limit c.take-2.new.self.entries.items c.in_ok-answer.answer c.new-2.result c.unwrap.result
+    (parts c.args.i.now c.args.limit c.in_ok-table.ensures.whole.0 c.table.new.rows c.as_slice.result.now c.as_slice-2.result.now c.take-2.new.self.entries.items c.in_ok-answer.answer c.in_ok-answer.ensures.instance c.requires c.in_ok-table.ensures.whole.2 c.as_slice.ensures.value c.as_slice-2.ensures.value
+    (c.in_ok-take-2.ensures.taken _ (c.in_ok-take.ensures.taken _ c.in_ok-table.ensures.whole.1) (c.take-2.ensures.wanted ∙ c.take.ensures.wanted ∙ c.table.ensures.wanted)) c.in_ok-answer.ensures.best)
+    c.in_ok-instance.ensures c.new-2.ensures.ok c.unwrap.ensures).few

@@ -12,9 +12,9 @@ loop-next-init g c = record {
   gone = [];
   held = c.requires.past;
   wanted = refl;
-  way = table-starts c.args.i.now c.args.limit c.first_row.ensures.instance c.requires.delay c.first_row.result _ c.first_row.ensures.row c.in_ok-rows.ensures.gone c.in_ok-rows.ensures.earlier (c.in_ok-push.ensures.items ∙ ap (λ xs. xs ++ c.first_row.result ∷ []) c.in_ok-rows.ensures.latest);
+  way = table-starts c.args.i.now c.args.limit c.first_row.ensures.instance c.requires.delay c.first_row.result _ c.first_row.ensures.row c.requires.none.gone c.requires.none.earlier (c.in_ok-push.ensures.items ∙ ap (λ xs. xs ++ c.first_row.result ∷ []) c.requires.none.latest);
   within = λ k. omega (arith, none-counted k);
-  empty = c.in_ok-reached.ensures;
+  empty = c.requires.empty;
   cost = omega arith;
 }
 

@@ -2,4 +2,4 @@ use Rattle.schedule_meaning.proofs.Choosing.{best-only}
 use Rattle.pruned_dp.proofs.BoundPlannerPlanner.best.Goals as goal
 
 pub returns-clause-only : goal.returns-clause-only
-returns-clause-only g c = best-only c.args.i.now c.bounded.result c.bounded.ensures.best
+returns-clause-only g c = best-only c.args.i.now c.bounded_in.result c.bounded_in.ensures.best

@@ -1,0 +1,47 @@
+//! The lists of a table, which are kept from one planning to the next.
+ghost use Rattle.flat_table.specs.Groups.{IsEmpty};
+
+use crate::kept::Rows;
+use crate::table::room;
+use flat_table::Reached;
+use foundation::threads::CrossesThreads;
+use schedule_meaning::Instance;
+use std::alloc::{AllocError, Global};
+
+/// The lists that a table is made in. Who plans many times keeps them, so that they take their memory once.
+///
+/// docs/RULES.md, "Table".
+#[derive(Drop)]
+pub struct Lists {
+    pub(crate) reached: Reached,
+    pub(crate) rows: Rows,
+    ghost empty: { IsEmpty reached },
+}
+
+impl CrossesThreads for Lists {}
+
+impl Lists {
+    ghost use Rattle.std.specs.Prelude.{IfOk};
+    ghost use Rattle.forward_dp.specs.Tables.{HasNone};
+
+    /// Lists with nothing in them. It takes no memory.
+    ///
+    /// docs/RULES.md, "Table".
+    pub fn new(alloc: Global) -> Lists {
+        Lists {
+            reached: Reached::none(alloc),
+            rows: Rows::none(alloc),
+        }
+    }
+
+    /// These lists with no row, and with room for the table of an instance. An `Err` comes where memory runs out.
+    pub(crate) fn for_table(self, i: &Instance) -> Result<Lists, AllocError>
+        ensures { IfOk result (λ lists. HasNone lists.rows) }
+    {
+        let Lists { mut reached, mut rows } = self;
+        let room = room(i);
+        reached.make_room(room / 8)?;
+        rows.clear(room)?;
+        Ok(Lists { reached, rows })
+    }
+}
