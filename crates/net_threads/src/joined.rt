@@ -1,4 +1,4 @@
-//! All nodes play a round, each in a branch of its own, carried by as many threads as there are processors.
+//! All nodes play a round, each in a branch of its own, carried by no fewer threads than there are processors.
 ghost use Rattle.std.specs.Prelude.{◌≡◌, OnOk, length};
 ghost use denote.Param.Send.{IsSend, IsSync};
 ghost use Rattle.round_calls.specs.Rounds.{AreSamePasses, CanAllPlay, HaveAllPlayed};
@@ -14,10 +14,10 @@ use std::alloc::{AllocError, Global};
 use std::sync::Wait;
 use std::thread::{Threads, available_parallelism, join_mut};
 
-/// So many threads carry a round at the least, where there are as many nodes.
+/// So many threads carry a round at the least, where it has as many nodes.
 const LEAST_THREADS: usize = 4;
 
-/// How many threads carry a round: one for each processor, and not fewer than `LEAST_THREADS`.
+/// How many threads carry a round at the least: one for each processor, and not fewer than `LEAST_THREADS`.
 pub(crate) fn threads_of<R: Threads>(rt: &R) -> usize {
     match available_parallelism(rt) {
         Ok(processors) => processors.get().max(LEAST_THREADS),
@@ -94,7 +94,7 @@ pub(crate) fn play_all<P: Planner + Send, R: Threads + Wait + Sync, G: Gate + Sy
         boards,
         round,
         gate,
-        threads,
+        threads.div_ceil(2),
         front_actors,
         back_actors,
         front_planners,
@@ -128,7 +128,7 @@ fn play_in_turn<P: Planner + Send, R: Threads + Wait + Sync, G: Gate + Sync>(
     ensures back { OnOk result (HaveAllPlayed net.now round world.now back_actors.old back_actors.new back_passes.old back_passes.new) }
     ensures same { AreSamePasses front_passes.old front_passes.new × AreSamePasses back_passes.old back_passes.new }
 {
-    let first = play_all(
+    let front = play_all(
         rt,
         alloc,
         net,
@@ -141,7 +141,7 @@ fn play_in_turn<P: Planner + Send, R: Threads + Wait + Sync, G: Gate + Sync>(
         front_planners,
         front_passes,
     );
-    let second = play_all(
+    let back = play_all(
         rt,
         alloc,
         net,
@@ -154,11 +154,11 @@ fn play_in_turn<P: Planner + Send, R: Threads + Wait + Sync, G: Gate + Sync>(
         back_planners,
         back_passes,
     );
-    first?;
-    second
+    front?;
+    back
 }
 
-/// Two halves of the nodes play a round at once, each carried by half of the threads.
+/// Two halves of the nodes play a round at once, carried by so many threads each.
 #[cycle(halves)]
 fn play_both<P: Planner + Send, R: Threads + Wait + Sync, G: Gate + Sync>(
     rt: &R,
@@ -183,8 +183,6 @@ fn play_both<P: Planner + Send, R: Threads + Wait + Sync, G: Gate + Sync>(
     ensures back { OnOk result (HaveAllPlayed net.now round world.now back_actors.old back_actors.new back_passes.old back_passes.new) }
     ensures same { AreSamePasses front_passes.old front_passes.new × AreSamePasses back_passes.old back_passes.new }
 {
-    let others = threads / 2;
-    let own = threads - others;
     let mut front = || -> Result<(), AllocError>
         requires { IsSend P.row × IsSync R.row × IsSync G.row × (boards.now.links ≡ length net.now.link_names) × CanAllPlay net.now round world.now boards.now (length front_planners.now) front_actors.now front_passes.now }
         ensures { OnOk result (HaveAllPlayed net.entry.now round world.entry.now front_actors.entry.now front_actors.exit.now front_passes.entry.now front_passes.exit.now) × AreSamePasses front_passes.entry.now front_passes.exit.now }
@@ -197,7 +195,7 @@ fn play_both<P: Planner + Send, R: Threads + Wait + Sync, G: Gate + Sync>(
             boards,
             round,
             gate,
-            own,
+            threads,
             front_actors,
             front_planners,
             front_passes,
@@ -215,7 +213,7 @@ fn play_both<P: Planner + Send, R: Threads + Wait + Sync, G: Gate + Sync>(
             boards,
             round,
             gate,
-            others,
+            threads,
             back_actors,
             back_planners,
             back_passes,

@@ -81,7 +81,7 @@ fn add_part(amounts: &mut [u32], part: &[u32], first: usize, share: (u32, u32))
     ensures near { (k : ℕ) → k < first → slice_index amounts.new k ≡ slice_index amounts.old k }
     ensures far { (k : ℕ) → first ≤ k → k < length amounts.old → slice_index amounts.new k ≡ slice_index amounts.old k + part_between (slice_index part.now (k - first)) share.0 (share.0 + share.1) }
 {
-    if first >= amounts.len() {
+    if first >= amounts.len() || share.1 == 0 {
         return;
     }
     for j in 0..part.len().min(amounts.len() - first) {
