@@ -4,6 +4,4 @@
 #[cfg(test)]
 mod rows;
 #[cfg(test)]
-mod shown;
-#[cfg(test)]
 mod texts;

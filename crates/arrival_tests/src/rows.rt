@@ -1,9 +1,9 @@
 //! Rows by number, and what enters by link and second.
-use crate::shown::worked;
 use arrivals::{ArrivalRow, Arrivals, RowFault, read_arrivals};
 use road_net::Network;
 use std::alloc::{AllocError, Global};
 use std::test::Fail;
+use worked_network::network;
 
 /// A row: its second, the number of its link, and its amount.
 type Row = (u32, u32, u32);
@@ -50,7 +50,7 @@ fn made(alloc: Global, net: &Network, rows: &[Row]) -> Result<Option<RowFault>, 
 #[test]
 fn by_number(rt: HostRuntime) -> Result<(), Fail> {
     let alloc = rt.alloc();
-    let net = worked(alloc)?;
+    let net = network(alloc, 4)?;
     for &(rows, fault) in FAULTS {
         assert_eq!(rt; made(alloc, &net, rows)?, fault, "{rows:?}");
     }
@@ -60,7 +60,7 @@ fn by_number(rt: HostRuntime) -> Result<(), Fail> {
 #[test]
 fn entering(rt: HostRuntime) -> Result<(), Fail> {
     let alloc = rt.alloc();
-    let net = worked(alloc)?;
+    let net = network(alloc, 4)?;
     let text = "second,link,amount\n0,sa,1000\n17999,sa,2\n5,sb,7\n0,sa,1\n17999,sb,1000000\n";
     let arrivals = read_arrivals(alloc, text.as_bytes(), &net)?;
     for &(second, link, amount) in ENTERING {

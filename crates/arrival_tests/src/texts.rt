@@ -1,7 +1,9 @@
 //! Files: what they begin with, and the first row at fault.
-use crate::shown::{fault_of, worked};
-use arrivals::RowFault;
+use arrivals::{RowFault, read_arrivals};
+use road_net::Network;
+use std::alloc::Global;
 use std::test::Fail;
+use worked_network::network;
 
 /// Files that are read: with no rows, quotes, empty lines, other ends of lines, leading zeros and a byte order mark.
 const READ: &[&str] = &[
@@ -61,10 +63,15 @@ const FAULTS: &[(&str, RowFault)] = &[
     ("0,sa,1\r0,ab,1\r", RowFault::Link(2)),
 ];
 
+/// The fault of a file, or none where it is read.
+fn fault_of(alloc: Global, net: &Network, text: &[u8]) -> Option<RowFault> {
+    read_arrivals(alloc, text, net).err()
+}
+
 #[test]
 fn headers(rt: HostRuntime) -> Result<(), Fail> {
     let alloc = rt.alloc();
-    let net = worked(alloc)?;
+    let net = network(alloc, 4)?;
     for text in READ {
         assert_eq!(rt; fault_of(alloc, &net, text.as_bytes()), None, "{text}");
     }
@@ -81,7 +88,7 @@ fn headers(rt: HostRuntime) -> Result<(), Fail> {
 #[test]
 fn faults(rt: HostRuntime) -> Result<(), Fail> {
     let alloc = rt.alloc();
-    let net = worked(alloc)?;
+    let net = network(alloc, 4)?;
     for &(rows, fault) in FAULTS {
         let text = format!(in alloc; "second,link,amount\n{rows}\n")?;
         assert_eq!(rt;
@@ -97,7 +104,7 @@ fn faults(rt: HostRuntime) -> Result<(), Fail> {
 #[test]
 fn bytes(rt: HostRuntime) -> Result<(), Fail> {
     let alloc = rt.alloc();
-    let net = worked(alloc)?;
+    let net = network(alloc, 4)?;
     let name = b"second,link,amount\n0,\xff,1\n";
     assert_eq!(rt;
         fault_of(alloc, &net, name.as_slice()),
@@ -120,7 +127,7 @@ fn bytes(rt: HostRuntime) -> Result<(), Fail> {
 #[test]
 fn sums(rt: HostRuntime) -> Result<(), Fail> {
     let alloc = rt.alloc();
-    let net = worked(alloc)?;
+    let net = network(alloc, 4)?;
     let mut text = String::from_str(alloc, "second,link,amount\n")?;
     for _ in 0..2000 {
         text.push_str("0,sa,1000000\n")?;

@@ -245,6 +245,10 @@ fn text_answers(alloc: Global, bytes: &[u8], asked: &Asked) -> bool {
 /// A change that changes nothing.
 const NONE: &str = "step = 5 -> step = 5";
 
+/// The run and the phases of the first node as inline tables, which change nothing either.
+const INLINE: &str =
+    r#"[run]|step = 5|look = 30|gap = 1|rounds = 4 -> run = { step = 5, look = 30, gap = 1, rounds = 4 } & name = "a"|[[node.phase]]|least = 5|greatest = 30|yellow = 3|clear = 2|loss = 2|wait = 120|links = ["ba"]|[[node.phase]]|least = 5|greatest = 30|yellow = 3|clear = 2|loss = 2|wait = 120|links = ["sa"] -> name = "a"|phase = [|  { least = 5, greatest = 30, yellow = 3, clear = 2, loss = 2, wait = 120, links = ["ba"] },|  { least = 5, greatest = 30, yellow = 3, clear = 2, loss = 2, wait = 120, links = ["sa"] },|]"#;
+
 /// Three turns of the link `ab`, one of them into a further link.
 const SEVEN: &str =
     r#"exit = "ba", share = 500 -> exit = "xb", share = 333 }, { exit = "yb", share = 333 & exit = "xb", share = 500 -> exit = "ba", share = 334 & name = "xb" -> name = "xb"|from = "b"|travel = 10|sat = 500|[[link]]|name = "yb""#;
@@ -256,6 +260,7 @@ const SHARED: &str =
 /// Edits of the worked network, and what is asked of it then.
 const ANSWERS: &[(&str, Asked)] = &[
     (NONE, Asked::Worked),
+    (INLINE, Asked::Worked),
     (
         SEVEN,
         Asked::Parts(

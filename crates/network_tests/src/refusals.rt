@@ -1,10 +1,11 @@
 //! Each fault at each kind of place, and what is accepted.
 use crate::orders::{BOUNDS_IN_ORDER, JOINS_IN_ORDER, NAMES_IN_ORDER, SHAPES_IN_ORDER, STAGES};
 use crate::rows::{TOLD, WRONG, fault_of, misjudged};
-use crate::texts::{BARE, WORKED};
+use crate::texts::BARE;
 use road_net::{NetFault, Part, Place};
 use std::alloc::{AllocError, Global};
 use std::test::Fail;
+use worked_network::NETWORK;
 
 /// A key that must be there is not.
 const KEYS_ABSENT: &str = r#"[run]|step = 5|look = 30|gap = 1|rounds = 4 -> # => shape top 0 0
@@ -248,24 +249,24 @@ const UNCHANGED_BARE: &str = "step = 5 -> step = 5 => bound top 0 0";
 
 /// The texts that are changed, the rows that change them, and what is told of those that are judged otherwise.
 const TABLES: &[(&str, &str, &str)] = &[
-    (WORKED, KEYS_ABSENT, ""),
-    (WORKED, KEYS_FURTHER, ""),
-    (WORKED, KINDS, ""),
+    (NETWORK, KEYS_ABSENT, ""),
+    (NETWORK, KEYS_FURTHER, ""),
+    (NETWORK, KINDS, ""),
     (BARE, ARRAYS, ""),
-    (WORKED, BOUNDS, ""),
-    (WORKED, NAMES, ""),
-    (WORKED, JOINS, ""),
-    (WORKED, ACCEPTED, ""),
-    (WORKED, NO_TOML, ""),
+    (NETWORK, BOUNDS, ""),
+    (NETWORK, NAMES, ""),
+    (NETWORK, JOINS, ""),
+    (NETWORK, ACCEPTED, ""),
+    (NETWORK, NO_TOML, ""),
     ("x", NO_NETWORK, ""),
-    (WORKED, UNCHANGED, ""),
+    (NETWORK, UNCHANGED, ""),
     (BARE, UNCHANGED_BARE, ""),
-    (WORKED, STAGES, ""),
-    (WORKED, SHAPES_IN_ORDER, ""),
-    (WORKED, BOUNDS_IN_ORDER, ""),
-    (WORKED, NAMES_IN_ORDER, ""),
-    (WORKED, JOINS_IN_ORDER, ""),
-    (WORKED, WRONG, TOLD),
+    (NETWORK, STAGES, ""),
+    (NETWORK, SHAPES_IN_ORDER, ""),
+    (NETWORK, BOUNDS_IN_ORDER, ""),
+    (NETWORK, NAMES_IN_ORDER, ""),
+    (NETWORK, JOINS_IN_ORDER, ""),
+    (NETWORK, WRONG, TOLD),
 ];
 
 #[test]
@@ -279,7 +280,7 @@ fn each_text_is_judged_as_its_row_says(rt: HostRuntime) -> Result<(), Fail> {
 
 /// The fault of the worked network with these bytes behind it.
 fn with_tail(alloc: Global, tail: &[u8]) -> Result<Option<NetFault>, AllocError> {
-    let mut bytes = Vec::from_slice(alloc, WORKED.as_bytes())?;
+    let mut bytes = Vec::from_slice(alloc, NETWORK.as_bytes())?;
     bytes.extend_from_slice(tail)?;
     Ok(fault_of(alloc, bytes.as_slice()))
 }

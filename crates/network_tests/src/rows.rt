@@ -4,10 +4,11 @@
 //! `OLD -> NEW`, where OLD stands once in the text, or `ANCHOR .. OLD -> NEW`, where ANCHOR stands once in it
 //! and the first OLD behind it is changed. A bar is the end of a line. An edit that does not fit the text has
 //! an outcome of its own, which no row asks for.
-use crate::texts::{WORKED, fault_named};
+use crate::texts::fault_named;
 use road_net::{NetFault, read_network};
 use std::alloc::{AllocError, Global};
 use std::test::Fail;
+use worked_network::NETWORK;
 
 /// What stands before and behind a part of the text that stands in it once.
 fn around_once<'a>(text: &'a str, part: &str) -> Option<(&'a str, &'a str)> {
@@ -71,7 +72,7 @@ fn changed(alloc: Global, base: &str, edits: &str) -> Result<Option<String>, All
 
 /// The worked network after all edits of a row.
 pub(crate) fn worked_with(alloc: Global, edits: &str) -> Result<String, Fail> {
-    match changed(alloc, WORKED, edits)? {
+    match changed(alloc, NETWORK, edits)? {
         Some(text) => Ok(text),
         None => Err(Fail::from("an edit does not fit")),
     }

@@ -1,4 +1,4 @@
-//! A network of two nodes, and what they sense and hear in second 5.
+//! What the nodes of the worked network sense and hear in second 5.
 ghost use Rattle.std.specs.Prelude.{◌≡◌, ◌*◌, ◌<◌, ◌≤◌, IfOk, length, sum, vec_len};
 ghost use Rattle.road_net.specs.Senses.{IsSensedOf};
 ghost use Rattle.clusters.specs.Inflow.{IsHeardOf};
@@ -7,97 +7,6 @@ use board_model::{Forecast, Heard, Row};
 use foundation::items::Items;
 use road_net::{LinkSense, Network, Sensed};
 use std::alloc::{AllocError, Global};
-
-/// Two nodes, a and b, with a link each way, a link from outside to each, and one from b to outside. The links are numbered
-/// as they stand here, from 0.
-pub(crate) const NET: &str = "[run]
-step = 5
-look = 30
-gap = 1
-rounds = 4
-
-[[node]]
-name = \"a\"
-[[node.phase]]
-least = 5
-greatest = 30
-yellow = 3
-clear = 2
-loss = 2
-wait = WAIT
-links = [\"ba\"]
-[[node.phase]]
-least = 5
-greatest = 30
-yellow = 3
-clear = 2
-loss = 2
-wait = WAIT
-links = [\"sa\"]
-
-[[node]]
-name = \"b\"
-[[node.phase]]
-least = 5
-greatest = 30
-yellow = 3
-clear = 2
-loss = 2
-wait = WAIT
-links = [\"ab\"]
-[[node.phase]]
-least = 5
-greatest = 30
-yellow = 3
-clear = 2
-loss = 2
-wait = WAIT
-links = [\"sb\"]
-
-[[link]]
-name = \"sa\"
-to = \"a\"
-travel = 10
-sat = 500
-turn = [{ exit = \"ab\", share = 1000 }]
-
-[[link]]
-name = \"ab\"
-from = \"a\"
-to = \"b\"
-travel = 10
-sat = 500
-turn = [{ exit = \"ba\", share = 500 }, { exit = \"xb\", share = 500 }]
-
-[[link]]
-name = \"ba\"
-from = \"b\"
-to = \"a\"
-travel = 10
-sat = 500
-turn = [{ exit = \"ab\", share = 1000 }]
-
-[[link]]
-name = \"sb\"
-to = \"b\"
-travel = 10
-sat = 500
-turn = [{ exit = \"xb\", share = 1000 }]
-
-[[link]]
-name = \"xb\"
-from = \"b\"
-travel = 10
-sat = 500
-
-[[conflict]]
-a = \"ba\"
-b = \"sa\"
-
-[[conflict]]
-a = \"ab\"
-b = \"sb\"
-";
 
 /// The second in which all is sensed, heard and told.
 pub(crate) const NOW: u32 = 5;

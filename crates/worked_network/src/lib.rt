@@ -1,0 +1,203 @@
+//! The worked network of docs/FORMATS.md for tests: its text, what enters it, reports of its runs, and the network itself.
+#![tactic(auto)]
+
+use road_net::{NetFault, Network, read_network};
+use std::alloc::{AllocError, Global};
+
+/// Two nodes, a 0 and b 1, for four rounds. The links by number: sa 0 enters at a, ab 1 leads from a to b and ba 2 back, sb 3 enters
+/// at b, and xb 4 leaves it.
+pub const NETWORK: &str = r#"[run]
+step = 5
+look = 30
+gap = 1
+rounds = 4
+
+[[node]]
+name = "a"
+[[node.phase]]
+least = 5
+greatest = 30
+yellow = 3
+clear = 2
+loss = 2
+wait = 120
+links = ["ba"]
+[[node.phase]]
+least = 5
+greatest = 30
+yellow = 3
+clear = 2
+loss = 2
+wait = 120
+links = ["sa"]
+
+[[node]]
+name = "b"
+[[node.phase]]
+least = 5
+greatest = 30
+yellow = 3
+clear = 2
+loss = 2
+wait = 120
+links = ["ab"]
+[[node.phase]]
+least = 5
+greatest = 30
+yellow = 3
+clear = 2
+loss = 2
+wait = 120
+links = ["sb"]
+
+[[link]]
+name = "sa"
+to = "a"
+travel = 10
+sat = 500
+turn = [{ exit = "ab", share = 1000 }]
+
+[[link]]
+name = "ab"
+from = "a"
+to = "b"
+travel = 10
+sat = 500
+turn = [{ exit = "ba", share = 500 }, { exit = "xb", share = 500 }]
+
+[[link]]
+name = "ba"
+from = "b"
+to = "a"
+travel = 10
+sat = 500
+turn = [{ exit = "ab", share = 1000 }]
+
+[[link]]
+name = "sb"
+to = "b"
+travel = 10
+sat = 500
+turn = [{ exit = "xb", share = 1000 }]
+
+[[link]]
+name = "xb"
+from = "b"
+travel = 10
+sat = 500
+
+[[conflict]]
+a = "ba"
+b = "sa"
+
+[[conflict]]
+a = "ab"
+b = "sb"
+"#;
+
+/// One vehicle enters in second 0.
+pub const ONE_VEHICLE: &str = "second,link,amount\n0,sa,1000\n";
+
+/// Vehicles that enter at both nodes.
+pub const MANY_VEHICLES: &str = "second,link,amount
+0,sa,1000
+1,sb,1500
+3,sa,700
+6,sb,1000
+8,sa,2000
+12,sb,500
+";
+
+/// The report of the run of four rounds in the turn order, with the one vehicle. It is a file of its history too.
+pub const REPORT: &str = "kind,round,node,x,y,z,w
+step,0,a,read,ba,0,
+step,0,a,publish,ab,1,
+step,0,b,read,ab,1,
+step,0,b,publish,ba,1,
+step,1,a,read,ba,1,
+step,1,a,publish,ab,2,
+step,1,b,read,ab,2,
+step,1,b,publish,ba,2,
+step,2,a,read,ba,2,
+step,2,a,publish,ab,3,
+step,2,b,read,ab,3,
+step,2,b,publish,ba,3,
+step,3,a,read,ba,3,
+step,3,a,publish,ab,4,
+step,3,b,read,ab,4,
+step,3,b,publish,ba,4,
+plan,0,a,ba=0,plan,0,
+plan,0,b,ab=1,plan,0,
+plan,1,a,ba=1,plan,2000,1
+plan,1,b,ab=2,plan,0,0
+plan,2,a,ba=2,plan,2000,10
+plan,2,b,ab=3,plan,0,0
+plan,3,a,ba=3,plan,0,0
+plan,3,b,ab=4,plan,0,00
+green,,a,0,0,5,
+green,,a,1,10,27,
+green,,b,0,0,27,
+link,,,sa,1000,1000,500
+link,,,ab,1000,0,0
+link,,,ba,0,0,0
+link,,,sb,0,0,0
+link,,,xb,0,0,0
+total,,,1000,0,1000,500
+";
+
+/// Files of histories of one round, each with the report of its run, with the one vehicle.
+pub const ONE_ROUND: &[(&str, &str)] = &[
+    (
+        "kind,round,node,x,y,z,w\nstep,,a,,,,\nstep,,a,,,,\nstep,,b,,,,\nstep,,b,,,,\n",
+        "kind,round,node,x,y,z,w
+step,0,a,read,ba,0,
+step,0,a,publish,ab,1,
+step,0,b,read,ab,1,
+step,0,b,publish,ba,1,
+plan,0,a,ba=0,plan,0,
+plan,0,b,ab=1,plan,0,
+green,,a,0,0,30,
+green,,b,0,0,30,
+link,,,sa,1000,0,0
+link,,,ab,0,0,0
+link,,,ba,0,0,0
+link,,,sb,0,0,0
+link,,,xb,0,0,0
+total,,,1000,0,1000,0
+",
+    ),
+    (
+        "kind,round,node,x,y,z,w\nstep,,a,,,,\nstep,,b,,,,\nstep,,a,,,,\nstep,,b,,,,\n",
+        "kind,round,node,x,y,z,w
+step,0,a,read,ba,0,
+step,0,b,read,ab,0,
+step,0,a,publish,ab,1,
+step,0,b,publish,ba,1,
+plan,0,a,ba=0,plan,0,
+plan,0,b,ab=0,plan,0,
+green,,a,0,0,30,
+green,,b,0,0,30,
+link,,,sa,1000,0,0
+link,,,ab,0,0,0
+link,,,ba,0,0,0
+link,,,sb,0,0,0
+link,,,xb,0,0,0
+total,,,1000,0,1000,0
+",
+    ),
+];
+
+/// The text of the network with so many rounds.
+pub fn with_rounds(alloc: Global, rounds: u32) -> Result<String, AllocError> {
+    let line = format!(in alloc; "rounds = {rounds}")?;
+    NETWORK.replace(alloc, "rounds = 4", line.as_str())
+}
+
+/// The network with so many rounds.
+pub fn network(alloc: Global, rounds: u32) -> Result<Network, NetFault> {
+    let text = with_rounds(alloc, rounds)?;
+    if text.len() > 10_000 {
+        return Err(NetFault::NoMemory);
+    }
+    read_network(alloc, text.as_bytes())
+}
