@@ -7,8 +7,6 @@ mod adapters;
 #[cfg(test)]
 mod certificates;
 #[cfg(test)]
-mod large;
-#[cfg(test)]
 mod planning;
 #[cfg(test)]
 mod process;

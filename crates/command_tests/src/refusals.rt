@@ -3,7 +3,6 @@
 use command_calls::{Faults, NO_FAULTS, SECOND_FETCH_FAILS, TWO_CLUSTERS, TWO_CLUSTERS_PLAN, run};
 use outside_world::SinkFail;
 use signal_cli::Status;
-use std::alloc::{AllocError, Global};
 use std::test::Fail;
 
 const NO_END: &str =
@@ -121,94 +120,75 @@ const REFUSED: &[(&[&str], &str, Status, &str)] = &[
     ),
 ];
 
-// Texts with further spaces behind them, and the refusal.
-const BAD_TEXTS: &[(&str, usize, &str)] = &[
-    ("", 0, "signal: bad 1 line 1\n"),
+// Texts, and the refusal.
+const BAD_TEXTS: &[(&str, &str)] = &[
+    ("", "signal: bad 1 line 1\n"),
     (
         "instance 2\nphases 2\nphase 5 30 3 2 2 120\nphase 5 30 3 2 2 120\nhead 0 0 0 kept\ncluster 1 2000 3 4\nend\n",
-        0,
         "signal: bad 1 line 1\n",
     ),
     (
         "instance 1\nphases 5\nphase 5 30 3 2 2 120\nphase 5 30 3 2 2 120\nhead 0 0 0 kept\ncluster 1 2000 3 4\nend\n",
-        0,
         "signal: bad 1 line 2\n",
     ),
     (
         "instance 1\nphases 2\nphase 5 30 3 2 2 4294967296\nphase 5 30 3 2 2 120\nhead 0 0 0 kept\ncluster 1 2000 3 4\nend\n",
-        0,
         "signal: bad 1 line 3\n",
     ),
     (
         "instance 1\nphases 2\nphase 5 30 3 2 2 120\nphase 5 30 3 2 2 120\nhead 256 0 0 kept\ncluster 1 2000 3 4\nend\n",
-        0,
         "signal: bad 1 line 5\n",
     ),
     (
         "instance 1\nphases 2\nphase 5 30 3 2 2 120\nphase 5 30 3 2 2 120\nhead 0 0 0 kept\ncluster 1 2000 3 4\ncluster 0 2000 3 4\nend\n",
-        0,
         "signal: bad 1 line 7\n",
     ),
-    (NO_END, 0, "signal: bad 1 line 8\n"),
-    (TWO_CLUSTERS, 1, "signal: bad 1 line 9\n"),
-    (TWO_CLUSTERS, 100_663_176, "signal: bad 1 line 9\n"),
-    (TWO_CLUSTERS, 100_663_177, "signal: bad 1 long\n"),
+    (NO_END, "signal: bad 1 line 8\n"),
     (
         "instance 1\nphases 2\nphase 0 30 3 2 2 120\nphase 5 30 3 2 2 120\nhead 0 0 0 kept\ncluster 1 2000 3 4\nend\n",
-        0,
         "signal: bad 1 plan 0 least\n",
     ),
     (
         "instance 1\nphases 2\nphase 5 30 3 2 2 120\nphase 31 30 3 2 2 120\nhead 0 0 0 kept\ncluster 1 2000 3 4\nend\n",
-        0,
         "signal: bad 1 plan 1 greatest\n",
     ),
     (
         "instance 1\nphases 2\nphase 5 30 3 2 2 120\nphase 5 30 11 11 2 120\nhead 0 0 0 kept\ncluster 1 2000 3 4\nend\n",
-        0,
         "signal: bad 1 plan 1 yellow\n",
     ),
     (
         "instance 1\nphases 2\nphase 5 30 3 11 2 120\nphase 0 30 3 2 2 120\nhead 0 0 0 kept\ncluster 1 2000 3 4\nend\n",
-        0,
         "signal: bad 1 plan 0 clear\n",
     ),
     (
         "instance 1\nphases 2\nphase 5 30 3 2 2 120\nphase 1 2 3 2 2 120\nhead 0 0 0 kept\ncluster 1 2000 3 4\nend\n",
-        0,
         "signal: bad 1 plan 1 loss\n",
     ),
     (
         "instance 1\nphases 2\nphase 5 30 3 2 2 3601\nphase 5 30 3 2 2 120\nhead 2 0 0 kept\ncluster 1 2000 3 4\nend\n",
-        0,
         "signal: bad 1 plan 0 wait\n",
     ),
     (
         "instance 1\nphases 2\nphase 5 30 3 2 2 120\nphase 5 30 3 2 2 120\nhead 2 0 0 kept\ncluster 1 0 3 4\nend\n",
-        0,
         "signal: bad 1 head phase\n",
     ),
     (
         "instance 1\nphases 2\nphase 5 30 3 2 2 120\nphase 5 30 3 2 2 120\nhead 0 100001 100001 kept\ncluster 1 2000 3 4\nend\n",
-        0,
         "signal: bad 1 head time\n",
     ),
     (
         "instance 1\nphases 2\nphase 5 30 3 2 2 120\nphase 5 30 3 2 2 120\nhead 0 0 31 kept\ncluster 1 0 3 4\nend\n",
-        0,
         "signal: bad 1 head time\n",
     ),
     (
         "instance 1\nphases 2\nphase 5 30 3 2 2 120\nphase 5 30 3 2 2 120\nhead 0 0 0 kept\ncluster 0 2000 3 4\ncluster 0 2000 3 4\ncluster 1 2000 3 4\ncluster 1 2000 9 241\nend\n",
-        0,
         "signal: bad 1 cluster 1 2\n",
     ),
     (
         "instance 1\nphases 2\nphase 5 30 3 2 2 120\nphase 5 30 3 2 2 120\nhead 0 0 0 kept\ncluster 0 2000 3 4\ncluster 1 2000 3 4\ncluster 1 2000 7 4\ncluster 1 2000 10 4\nend\n",
-        0,
         "signal: bad 1 order 1 3\n",
     ),
-    (TEN_AND_NINE, 0, "signal: bad 1 many\n"),
+    (TEN_AND_NINE, "signal: bad 1 many\n"),
 ];
 
 #[test]
@@ -218,19 +198,11 @@ fn refused(rt: HostRuntime) -> Result<(), Fail> {
         let ending = run(&rt, alloc, words, text.as_bytes(), NO_FAULTS)?;
         assert!(rt; ending.is(status, "", line), "{words:?}");
     }
-    for &(text, further, line) in BAD_TEXTS {
-        let text = lengthened(alloc, text, further)?;
-        let ending = run(&rt, alloc, &["plan", "file"], &text, NO_FAULTS)?;
+    for &(text, line) in BAD_TEXTS {
+        let ending = run(&rt, alloc, &["plan", "file"], text.as_bytes(), NO_FAULTS)?;
         assert!(rt; ending.is(Status::BadInput, "", line), "{line}");
     }
     Ok(())
-}
-
-// The text with so many spaces behind it.
-fn lengthened(alloc: Global, text: &str, further: usize) -> Result<Vec<u8>, AllocError> {
-    let mut longer = text.as_bytes().to_vec(alloc)?;
-    longer.resize(longer.len().saturating_add(further), b' ')?;
-    Ok(longer)
 }
 
 const FETCH_FAILS: Faults<'static> = Faults {

@@ -13,8 +13,8 @@ const TURNS: u32 = 200_000;
 
 const LOOKS: u32 = 1_000;
 
-/// A gate in which each of two nodes, inside its reading of a link, looks out for the other node inside the reading of its own link
-/// in the same round, while both hold a turn.
+/// A gate for two nodes, each of which reads the link that the other one publishes, and no other. Inside its reading each looks out for
+/// the other node inside its own in the same round, while both hold a turn.
 #[derive(Drop)]
 pub struct MeetingGate {
     first: (u32, u32),
@@ -22,6 +22,7 @@ pub struct MeetingGate {
     by_first: AtomicU64,
     by_second: AtomicU64,
     missed: AtomicU64,
+    told: AtomicU64,
 }
 
 impl CrossesThreads for MeetingGate {}
@@ -35,16 +36,15 @@ impl MeetingGate {
             by_first: AtomicU64::new(0),
             by_second: AtomicU64::new(0),
             missed: AtomicU64::new(0),
+            told: AtomicU64::new(0),
         }
     }
 
-    /// How often the first node was inside its reading, how often the second, and how often one looked out in vain.
-    pub fn met(&self) -> (u64, u64, u64) {
-        (
-            self.by_first.load(Ordering::SeqCst),
-            self.by_second.load(Ordering::SeqCst),
-            self.missed.load(Ordering::SeqCst),
-        )
+    /// How often the first node was inside its reading, how often the second, how often one looked out in vain, and how many board
+    /// steps of the two were told before they came, each with its node, round and link.
+    pub fn met(&self) -> [u64; 4] {
+        let counters = [&self.by_first, &self.by_second, &self.missed, &self.told];
+        counters.map(|counter| counter.load(Ordering::SeqCst))
     }
 }
 
@@ -52,11 +52,24 @@ impl Gate for MeetingGate {
     fn before<R: Threads + Wait + Sync>(
         &self,
         _rt: &R,
-        _node: u32,
-        _round: u32,
-        _link: u32,
-        _publish: bool,
-    ) {}
+        node: u32,
+        round: u32,
+        link: u32,
+        publish: bool,
+    ) {
+        let of_first = if publish { self.second.1 } else { self.first.1 };
+        let of_second = if publish { self.first.1 } else { self.second.1 };
+        let is_told = if (node, link) == (self.first.0, of_first) {
+            is_due(&self.by_first, round, publish)
+        } else if (node, link) == (self.second.0, of_second) {
+            is_due(&self.by_second, round, publish)
+        } else {
+            false
+        };
+        if is_told {
+            self.told.fetch_add(1, Ordering::SeqCst);
+        }
+    }
 
     fn inside<R: Threads + Wait + Sync>(&self, _rt: &R, node: u32, link: u32, publish: bool) {
         let is_met = if publish {
@@ -72,6 +85,11 @@ impl Gate for MeetingGate {
             self.missed.fetch_add(1, Ordering::SeqCst);
         }
     }
+}
+
+// Whether the next board step of a node that was inside so many readings is one of this round: a reading, or the publishing behind it.
+fn is_due(readings: &AtomicU64, round: u32, publish: bool) -> bool {
+    readings.load(Ordering::SeqCst) == u64::from(round) + u64::from(publish)
 }
 
 // Raises a node's own counter, and looks at that of the other node until it is as high. Whether it was.

@@ -7,177 +7,7 @@ use std::alloc::{AllocError, Global};
 use std::sync::Wait;
 use std::test::Fail;
 use std::thread::Threads;
-
-// Two nodes, each of which the other one feeds, for four rounds.
-pub(crate) const NETWORK: &str = r#"[run]
-step = 5
-look = 30
-gap = 1
-rounds = 4
-
-[[node]]
-name = "a"
-[[node.phase]]
-least = 5
-greatest = 30
-yellow = 3
-clear = 2
-loss = 2
-wait = 120
-links = ["ba"]
-[[node.phase]]
-least = 5
-greatest = 30
-yellow = 3
-clear = 2
-loss = 2
-wait = 120
-links = ["sa"]
-
-[[node]]
-name = "b"
-[[node.phase]]
-least = 5
-greatest = 30
-yellow = 3
-clear = 2
-loss = 2
-wait = 120
-links = ["ab"]
-[[node.phase]]
-least = 5
-greatest = 30
-yellow = 3
-clear = 2
-loss = 2
-wait = 120
-links = ["sb"]
-
-[[link]]
-name = "sa"
-to = "a"
-travel = 10
-sat = 500
-turn = [{ exit = "ab", share = 1000 }]
-
-[[link]]
-name = "ab"
-from = "a"
-to = "b"
-travel = 10
-sat = 500
-turn = [{ exit = "ba", share = 500 }, { exit = "xb", share = 500 }]
-
-[[link]]
-name = "ba"
-from = "b"
-to = "a"
-travel = 10
-sat = 500
-turn = [{ exit = "ab", share = 1000 }]
-
-[[link]]
-name = "sb"
-to = "b"
-travel = 10
-sat = 500
-turn = [{ exit = "xb", share = 1000 }]
-
-[[link]]
-name = "xb"
-from = "b"
-travel = 10
-sat = 500
-
-[[conflict]]
-a = "ba"
-b = "sa"
-
-[[conflict]]
-a = "ab"
-b = "sb"
-"#;
-
-pub(crate) const ARRIVALS: &str = "second,link,amount\n0,sa,1000\n";
-
-// The report of the run of the turn order.
-const REPORT: &str = r#"kind,round,node,x,y,z,w
-step,0,a,read,ba,0,
-step,0,a,publish,ab,1,
-step,0,b,read,ab,1,
-step,0,b,publish,ba,1,
-step,1,a,read,ba,1,
-step,1,a,publish,ab,2,
-step,1,b,read,ab,2,
-step,1,b,publish,ba,2,
-step,2,a,read,ba,2,
-step,2,a,publish,ab,3,
-step,2,b,read,ab,3,
-step,2,b,publish,ba,3,
-step,3,a,read,ba,3,
-step,3,a,publish,ab,4,
-step,3,b,read,ab,4,
-step,3,b,publish,ba,4,
-plan,0,a,ba=0,plan,0,
-plan,0,b,ab=1,plan,0,
-plan,1,a,ba=1,plan,2000,1
-plan,1,b,ab=2,plan,0,0
-plan,2,a,ba=2,plan,2000,10
-plan,2,b,ab=3,plan,0,0
-plan,3,a,ba=3,plan,0,0
-plan,3,b,ab=4,plan,0,00
-green,,a,0,0,5,
-green,,a,1,10,27,
-green,,b,0,0,27,
-link,,,sa,1000,1000,500
-link,,,ab,1000,0,0
-link,,,ba,0,0,0
-link,,,sb,0,0,0
-link,,,xb,0,0,0
-total,,,1000,0,1000,500
-"#;
-
-// Histories of the network for one round, and the reports of their runs.
-const ONE_ROUND: &[(&str, &str)] = &[
-    (
-        "kind,round,node,x,y,z,w\nstep,,a,,,,\nstep,,a,,,,\nstep,,b,,,,\nstep,,b,,,,\n",
-        r#"kind,round,node,x,y,z,w
-step,0,a,read,ba,0,
-step,0,a,publish,ab,1,
-step,0,b,read,ab,1,
-step,0,b,publish,ba,1,
-plan,0,a,ba=0,plan,0,
-plan,0,b,ab=1,plan,0,
-green,,a,0,0,30,
-green,,b,0,0,30,
-link,,,sa,1000,0,0
-link,,,ab,0,0,0
-link,,,ba,0,0,0
-link,,,sb,0,0,0
-link,,,xb,0,0,0
-total,,,1000,0,1000,0
-"#,
-    ),
-    (
-        "kind,round,node,x,y,z,w\nstep,,a,,,,\nstep,,b,,,,\nstep,,a,,,,\nstep,,b,,,,\n",
-        r#"kind,round,node,x,y,z,w
-step,0,a,read,ba,0,
-step,0,b,read,ab,0,
-step,0,a,publish,ab,1,
-step,0,b,publish,ba,1,
-plan,0,a,ba=0,plan,0,
-plan,0,b,ab=0,plan,0,
-green,,a,0,0,30,
-green,,b,0,0,30,
-link,,,sa,1000,0,0
-link,,,ab,0,0,0
-link,,,ba,0,0,0
-link,,,sb,0,0,0
-link,,,xb,0,0,0
-total,,,1000,0,1000,0
-"#,
-    ),
-];
+use worked_network::{NETWORK, ONE_ROUND, ONE_VEHICLE, REPORT, with_rounds};
 
 // Words, and the lines behind the phases of the instance that was planned then.
 const PLANNED: &[(&str, &str)] = &[
@@ -343,7 +173,7 @@ fn worked_runs(rt: HostRuntime) -> Result<(), Fail> {
         alloc,
         "turns net arr",
         NETWORK,
-        ARRIVALS,
+        ONE_VEHICLE,
         "",
         NO_FAULTS,
     )?;
@@ -353,7 +183,7 @@ fn worked_runs(rt: HostRuntime) -> Result<(), Fail> {
         alloc,
         "replay net arr hist",
         NETWORK,
-        ARRIVALS,
+        ONE_VEHICLE,
         REPORT,
         NO_FAULTS,
     )?;
@@ -364,14 +194,14 @@ fn worked_runs(rt: HostRuntime) -> Result<(), Fail> {
 
 // Whether each history for one round has its report.
 fn replays_one_round<R: Threads + Wait + Sync>(rt: &R, alloc: Global) -> Result<bool, AllocError> {
-    let net = NETWORK.replace(alloc, "rounds = 4", "rounds = 1")?;
+    let net = with_rounds(alloc, 1)?;
     for &(history, report) in ONE_ROUND {
         let ending = over(
             rt,
             alloc,
             "replay net arr hist",
             &net,
-            ARRIVALS,
+            ONE_VEHICLE,
             history,
             NO_FAULTS,
         )?;
@@ -387,7 +217,7 @@ fn replays_one_round<R: Threads + Wait + Sync>(rt: &R, alloc: Global) -> Result<
 fn planned_instances(rt: HostRuntime) -> Result<(), Fail> {
     let alloc = rt.alloc();
     for &(words, lines) in PLANNED {
-        let planned = over(&rt, alloc, words, NETWORK, ARRIVALS, REPORT, NO_FAULTS)?;
+        let planned = over(&rt, alloc, words, NETWORK, ONE_VEHICLE, REPORT, NO_FAULTS)?;
         let text = [PHASES, lines].concat(alloc)?;
         assert!(rt; planned.is(Status::Done, &text, ""));
         assert!(rt; is_accepted(&rt, alloc, &planned)?);
@@ -435,12 +265,12 @@ fn refused_texts(rt: HostRuntime) -> Result<(), Fail> {
     let alloc = rt.alloc();
     for &(from, to, line) in BAD_NETWORKS {
         let net = NETWORK.replace(alloc, from, to)?;
-        assert!(rt; is_bad(&rt, alloc, "turns net arr", &net, ARRIVALS, "", line)?);
+        assert!(rt; is_bad(&rt, alloc, "turns net arr", &net, ONE_VEHICLE, "", line)?);
     }
     for &(arrivals, line) in BAD_ARRIVALS {
         assert!(rt; is_bad(&rt, alloc, "turns net arr", NETWORK, arrivals, "", line)?);
     }
-    let net = NETWORK.replace(alloc, "rounds = 4", "rounds = 1")?;
+    let net = with_rounds(alloc, 1)?;
     for &(history, line) in BAD_HISTORIES {
         assert!(rt;
             is_bad(
@@ -448,7 +278,7 @@ fn refused_texts(rt: HostRuntime) -> Result<(), Fail> {
                 alloc,
                 "replay net arr hist",
                 &net,
-                ARRIVALS,
+                ONE_VEHICLE,
                 history,
                 line
             )?
@@ -475,14 +305,14 @@ fn is_bad<R: Threads + Wait + Sync>(
 fn refused_words(rt: HostRuntime) -> Result<(), Fail> {
     let alloc = rt.alloc();
     for &(words, line) in MISSING {
-        assert!(rt; is_bad(&rt, alloc, words, NETWORK, ARRIVALS, REPORT, line)?);
+        assert!(rt; is_bad(&rt, alloc, words, NETWORK, ONE_VEHICLE, REPORT, line)?);
     }
     for &(words, line) in UNREAD {
-        let ending = over(&rt, alloc, words, NETWORK, ARRIVALS, REPORT, NO_FAULTS)?;
+        let ending = over(&rt, alloc, words, NETWORK, ONE_VEHICLE, REPORT, NO_FAULTS)?;
         assert!(rt; ending.is(Status::ReadFault, "", line));
     }
     for words in NO_COMMAND.lines() {
-        let ending = over(&rt, alloc, words, NETWORK, ARRIVALS, REPORT, NO_FAULTS)?;
+        let ending = over(&rt, alloc, words, NETWORK, ONE_VEHICLE, REPORT, NO_FAULTS)?;
         assert!(rt; ending.is(Status::Usage, "", "signal: usage\n"));
     }
     Ok(())
@@ -509,7 +339,7 @@ fn faulty(rt: HostRuntime) -> Result<(), Fail> {
             alloc,
             "replay net arr hist",
             NETWORK,
-            ARRIVALS,
+            ONE_VEHICLE,
             REPORT,
             faults,
         )?;
@@ -520,7 +350,7 @@ fn faulty(rt: HostRuntime) -> Result<(), Fail> {
         alloc,
         "replay net arr hist",
         NETWORK,
-        ARRIVALS,
+        ONE_VEHICLE,
         REPORT,
         OUT_KEEPS_FOUR,
     )?;
@@ -530,7 +360,7 @@ fn faulty(rt: HostRuntime) -> Result<(), Fail> {
         alloc,
         "grid 7 2 1",
         NETWORK,
-        ARRIVALS,
+        ONE_VEHICLE,
         REPORT,
         OUT_KEEPS_FOUR,
     )?;

@@ -1,6 +1,5 @@
 // The command whose nodes run in threads: `replay` gives its report again, and the nodes of a round act side by side.
 
-use crate::networks::{ARRIVALS, NETWORK};
 use board_model::{Gate, OpenGate};
 use command_calls::{NO_FAULTS, run_over};
 use foundation::items::Items;
@@ -12,12 +11,13 @@ use std::alloc::{AllocError, Global};
 use std::sync::Wait;
 use std::test::Fail;
 use std::thread::Threads;
+use worked_network::{NETWORK, ONE_VEHICLE};
 
 #[test]
 fn replayed(rt: HostRuntime) -> Result<(), Fail> {
     let alloc = rt.alloc();
     let net = ("net", NETWORK.as_bytes());
-    let arr = ("arr", ARRIVALS.as_bytes());
+    let arr = ("arr", ONE_VEHICLE.as_bytes());
     for _ in 0..4 {
         let told = run_over(&rt, alloc, &["net", "net", "arr"], &[net, arr], NO_FAULTS)?;
         assert!(rt; told.is_done(told.out()));
@@ -46,7 +46,10 @@ fn job<R: Threads + Wait + Sync, G: Gate + Sync>(
     alloc: Global,
     gate: &G,
 ) -> Result<Status, AllocError> {
-    let files = vec![in alloc; file(alloc, "net", NETWORK)?, file(alloc, "arr", ARRIVALS)?]?;
+    let files = vec![in alloc;
+        file(alloc, "net", NETWORK)?,
+        file(alloc, "arr", ONE_VEHICLE)?,
+    ]?;
     let mut shelf = MemoryShelf::new(alloc, files, Vec::new(alloc));
     let mut out = MemorySink::new(alloc, 10_000, Vec::new(alloc))?;
     let mut err = MemorySink::new(alloc, 1000, Vec::new(alloc))?;
@@ -62,6 +65,6 @@ fn two_reads_inside(rt: HostRuntime) -> Result<(), Fail> {
     assert!(rt; job(&rt, alloc, &OpenGate)? == Status::Done);
     let gate = MeetingGate::new((0, 2), (1, 1));
     assert!(rt; job(&rt, alloc, &gate)? == Status::Done);
-    assert_eq!(rt; gate.met(), (4, 4, 0));
+    assert_eq!(rt; gate.met(), [4, 4, 0, 16]);
     Ok(())
 }

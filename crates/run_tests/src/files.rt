@@ -1,10 +1,10 @@
 //! Files of histories: which are read, and the first row at fault.
-use crate::networks::network;
 use delay_report::{HistoryFault, read_history};
 use histories::History;
 use road_net::Network;
 use std::alloc::{AllocError, Global};
 use std::test::Fail;
+use worked_network::network;
 
 /// What a file begins with.
 pub(crate) const HEADER: &str = "kind,round,node,x,y,z,w\n";
@@ -135,7 +135,7 @@ fn behind_header(alloc: Global, rows: &str) -> Result<String, AllocError> {
 #[test]
 fn read(rt: HostRuntime) -> Result<(), Fail> {
     let alloc = rt.alloc();
-    let net = network(alloc, "1")?;
+    let net = network(alloc, 1)?;
     for &(text, nodes) in READ {
         let seen = nodes_of(alloc, &net, text);
         assert!(rt; seen.is_some_and(|told| told.as_str() == nodes), "{text}");
@@ -146,7 +146,7 @@ fn read(rt: HostRuntime) -> Result<(), Fail> {
 #[test]
 fn no_header(rt: HostRuntime) -> Result<(), Fail> {
     let alloc = rt.alloc();
-    let net = network(alloc, "1")?;
+    let net = network(alloc, 1)?;
     for text in NO_HEADER {
         assert_eq!(rt;
             fault_of(alloc, &net, text),
@@ -160,7 +160,7 @@ fn no_header(rt: HostRuntime) -> Result<(), Fail> {
 #[test]
 fn first_faults(rt: HostRuntime) -> Result<(), Fail> {
     let alloc = rt.alloc();
-    let net = network(alloc, "1")?;
+    let net = network(alloc, 1)?;
     for &(rows, fault) in FAULTS {
         let text = behind_header(alloc, rows)?;
         assert_eq!(rt; fault_of(alloc, &net, text.as_str()), Some(fault), "{rows}");

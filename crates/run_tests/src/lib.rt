@@ -5,8 +5,6 @@
 #[cfg(test)]
 mod files;
 #[cfg(test)]
-mod networks;
-#[cfg(test)]
 mod orders;
 #[cfg(test)]
 mod played;

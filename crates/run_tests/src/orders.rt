@@ -1,9 +1,9 @@
 //! Many orders of board steps, and what is planned in each.
 use crate::files::HEADER;
-use crate::networks::MANY;
 use crate::played::replayed;
 use std::alloc::{AllocError, Global};
 use std::test::Fail;
+use worked_network::MANY_VEHICLES;
 
 /// The nodes that act, one after another, and the plans: round, node, used, and the answer with its delay and order. These were computed
 /// outside.
@@ -263,7 +263,7 @@ fn orders(rt: HostRuntime) -> Result<(), Fail> {
 /// What is planned when the nodes act in this order.
 fn plans_in(alloc: Global, nodes: &str) -> Result<String, Fail> {
     let file = file_of(alloc, nodes)?;
-    let report = replayed(alloc, "4", MANY, file.as_str())?;
+    let report = replayed(alloc, 4, MANY_VEHICLES, file.as_str())?;
     match str::from_utf8(report.as_slice()) {
         Ok(text) => Ok(plans_of(alloc, text)?),
         Err(_) => Err("no text".into()),

@@ -3,8 +3,7 @@ ghost use Rattle.std.specs.Prelude.{IfOk};
 ghost use Rattle.arrivals.specs.Amounts.{AreArrivals};
 ghost use Rattle.histories.specs.Histories.{IsLawful};
 
-use crate::networks::{arrivals, network};
-use arrivals::Arrivals;
+use arrivals::{Arrivals, read_arrivals};
 use delay_report::{read_history, render};
 use forward_dp::LayerPlanner;
 use net_core::{History, run};
@@ -12,18 +11,24 @@ use road_net::Network;
 use runs::law_of_runs;
 use std::alloc::{AllocError, Global};
 use std::test::Fail;
+use worked_network::network;
 
 /// The report of a run with so many rounds, of these arrivals and the history of a file.
 pub(crate) fn replayed(
     alloc: Global,
-    rounds: &str,
+    rounds: u32,
     arriving: &str,
     file: &str,
 ) -> Result<Vec<u8>, Fail> {
     let net = network(alloc, rounds)?;
-    let arrivals = arrivals(alloc, &net, arriving)?;
-    let h = history(alloc, &net, file)?;
-    Ok(written(alloc, &net, &arrivals, &h)?)
+    of_network(alloc, &net, arriving, file)
+}
+
+/// The same, of the network that is given.
+fn of_network(alloc: Global, net: &Network, arriving: &str, file: &str) -> Result<Vec<u8>, Fail> {
+    let arrivals = read_arrivals(alloc, arriving.as_bytes(), net)?;
+    let h = history(alloc, net, file)?;
+    Ok(written(alloc, net, &arrivals, &h)?)
 }
 
 /// The history of a file.

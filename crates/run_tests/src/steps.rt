@@ -4,8 +4,7 @@ ghost use Rattle.arrivals.specs.Amounts.{AreArrivals};
 ghost use Rattle.schedule_meaning.specs.Best.{IsBest, IsLeast};
 ghost use Rattle.schedule_meaning.specs.declared.planners.Answer.{Answer};
 
-use crate::networks::{ONE, arrivals, network};
-use arrivals::Arrivals;
+use arrivals::{Arrivals, read_arrivals};
 use forward_dp::LayerPlanner;
 use foundation::steps::Steps;
 use net_core::Core;
@@ -14,6 +13,7 @@ use schedule_meaning::{Answer, Instance, Planner};
 use std::alloc::{AllocError, Global};
 use std::sync::ledger::Ledger;
 use std::test::Fail;
+use worked_network::{ONE_VEHICLE, network};
 
 /// The nodes that are asked to act, the answer to the last one, and then what both nodes want, how many steps there were, and whether
 /// all is over.
@@ -65,8 +65,8 @@ fn answers(rt: HostRuntime) -> Result<(), Fail> {
 
 /// What a core of the worked network answers when these nodes are asked to act.
 fn answer<P: Planner>(alloc: Global, nodes: &str, planner: &mut P) -> Result<String, Fail> {
-    let net = network(alloc, "4")?;
-    let arrivals = arrivals(alloc, &net, ONE)?;
+    let net = network(alloc, 4)?;
+    let arrivals = read_arrivals(alloc, ONE_VEHICLE.as_bytes(), &net)?;
     Ok(stepped(alloc, &net, &arrivals, nodes, planner)?)
 }
 

@@ -7,5 +7,3 @@ mod inside;
 mod played;
 #[cfg(test)]
 mod replays;
-#[cfg(test)]
-mod worked;

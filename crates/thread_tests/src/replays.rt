@@ -9,18 +9,18 @@ ghost use Rattle.runs.specs.Whole.{IsWhole};
 ghost use Rattle.thread_tests.specs.Told.{IsToldBy};
 
 use crate::played::play;
-use crate::worked::{MANY, ONE, network};
 use arrivals::{Arrivals, read_arrivals};
 use board_model::{BoardLog, Gate, OpenGate};
 use delay_report::render;
 use forward_dp::LayerPlanner;
 use net_core::{History, RunRecord, merge, run};
-use road_net::Network;
+use road_net::{NetFault, Network};
 use runs::law_of_runs;
 use std::alloc::{AllocError, Global};
 use std::sync::Wait;
 use std::test::Fail;
 use std::thread::Threads;
+use worked_network::{MANY_VEHICLES, ONE_VEHICLE, network};
 
 /// How many events the logs have.
 fn events_in(logs: &[BoardLog]) -> u64 {
@@ -101,11 +101,19 @@ fn replays_twice<R: Threads + Wait + Sync>(
     }
 }
 
+/// The worked network, once more where memory was refused.
+pub(crate) fn network_twice(alloc: Global) -> Result<Network, NetFault> {
+    match network(alloc, 4) {
+        Ok(net) => Ok(net),
+        Err(_) => network(alloc, 4),
+    }
+}
+
 #[test]
 fn runs_are_those_of_their_histories(rt: HostRuntime) -> Result<(), Fail> {
     let alloc = rt.alloc();
-    let net = network(alloc)?;
-    for text in [ONE, MANY] {
+    let net = network_twice(alloc)?;
+    for text in [ONE_VEHICLE, MANY_VEHICLES] {
         for _ in 0..4 {
             assert_eq!(rt; replays_twice(&rt, alloc, &net, text), Some(true), "{text}");
         }

@@ -1,86 +1,6 @@
-//! The worked network, and small random ones, with what a plain program of the definition tells of them.
+//! Small random networks, with what a plain program of the definition tells of them and of the worked network.
 
-/// Two nodes, each of which a link of vehicles from outside enters.
-pub(crate) const WORKED: &str = r#"[run]
-step = 5
-look = 30
-gap = 1
-rounds = 4
-[[node]]
-name = "a"
-[[node.phase]]
-least = 5
-greatest = 30
-yellow = 3
-clear = 2
-loss = 2
-wait = 120
-links = ["ba"]
-[[node.phase]]
-least = 5
-greatest = 30
-yellow = 3
-clear = 2
-loss = 2
-wait = 120
-links = ["sa"]
-[[node]]
-name = "b"
-[[node.phase]]
-least = 5
-greatest = 30
-yellow = 3
-clear = 2
-loss = 2
-wait = 120
-links = ["ab"]
-[[node.phase]]
-least = 5
-greatest = 30
-yellow = 3
-clear = 2
-loss = 2
-wait = 120
-links = ["sb"]
-[[link]]
-name = "sa"
-to = "a"
-travel = 10
-sat = 500
-turn = [{ exit = "ab", share = 1000 }]
-[[link]]
-name = "ab"
-from = "a"
-to = "b"
-travel = 10
-sat = 500
-turn = [{ exit = "ba", share = 500 }, { exit = "xb", share = 500 }]
-[[link]]
-name = "ba"
-from = "b"
-to = "a"
-travel = 10
-sat = 500
-turn = [{ exit = "ab", share = 1000 }]
-[[link]]
-name = "sb"
-to = "b"
-travel = 10
-sat = 500
-turn = [{ exit = "xb", share = 1000 }]
-[[link]]
-name = "xb"
-from = "b"
-travel = 10
-sat = 500
-[[conflict]]
-a = "ba"
-b = "sa"
-[[conflict]]
-a = "ab"
-b = "sb""#;
-
-/// What is told of it behind one move of 20 seconds.
+/// What is told of the worked network behind one move of 20 seconds.
 pub(crate) const IN_ONE_MOVE: &str = "1000 0 1000 500
 1000 1000 500
 1000 0 0
@@ -90,7 +10,7 @@ pub(crate) const IN_ONE_MOVE: &str = "1000 0 1000 500
 20 0 0 0 0 0 0 0 0 0 0 0 0 2 0 0 0 0 0 0 0 0 0 0 0
 20 1 0 500 500 0 0 0 0 0 0 0 0 3 0 0 0 0 0 0 0 0 0 0 0";
 
-/// What is told of it behind each of 20 seconds.
+/// What is told of the worked network behind each of 20 seconds.
 pub(crate) const BY_SECONDS: &str = "1000 0 1000 0
 1000 0 1000 0
 1000 0 1000 0

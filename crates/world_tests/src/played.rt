@@ -1,8 +1,9 @@
 //! What is told of networks.
-use crate::networks::{BY_SECONDS, IN_ONE_MOVE, NETWORKS, WORKED};
+use crate::networks::{BY_SECONDS, IN_ONE_MOVE, NETWORKS};
 use crate::plays::{Moves, agrees};
 use std::alloc::Global;
 use std::test::Fail;
+use worked_network::NETWORK;
 
 /// What arrives at the worked network, and its greens.
 const ARRIVALS: &str = "0 0 1000";
@@ -15,7 +16,7 @@ fn twenty_seconds_in_one_move(rt: HostRuntime) {
         moves: 1,
         seconds: 20,
     };
-    let same = agrees(rt.alloc(), WORKED, ARRIVALS, GREENS, moves, IN_ONE_MOVE);
+    let same = agrees(rt.alloc(), NETWORK, ARRIVALS, GREENS, moves, IN_ONE_MOVE);
     assert_eq!(rt; same, Some(true));
 }
 
@@ -25,7 +26,7 @@ fn twenty_seconds_one_by_one(rt: HostRuntime) {
         moves: 20,
         seconds: 1,
     };
-    let same = agrees(rt.alloc(), WORKED, ARRIVALS, GREENS, moves, BY_SECONDS);
+    let same = agrees(rt.alloc(), NETWORK, ARRIVALS, GREENS, moves, BY_SECONDS);
     assert_eq!(rt; same, Some(true));
 }
 

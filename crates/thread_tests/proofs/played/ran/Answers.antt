@@ -1,9 +1,10 @@
 use Rattle.std.proofs.Common.{◌≡◌, [], ◌*◌, length, subst, sym, ap, ◌∙◌}
 use Rattle.std.specs.Prelude.{All}
+use Rattle.std.proofs.Math.Nat.{mul-le-mul_left}
 use Rattle.std.proofs.lemmas.List.FromFn.{length-map-range_with_len}
 use Rattle.board_rule.specs.Passes.{PassView, fresh_pass}
 use Rattle.net_threads.specs.Calls.{HaveCallsLeft}
-use Rattle.thread_tests.proofs.Beginning.{fresh-left, fresh-none}
+use Rattle.net_threads.proofs.Beginning.{fresh-left, fresh-none}
 use Rattle.thread_tests.proofs.played.ran.Goals as goal
 
 pub run_rounds-requires-clause-nodes : goal.run_rounds-requires-clause-nodes
@@ -18,4 +19,6 @@ run_rounds-requires-clause-fresh g c κs within =
 
 pub run_rounds-requires-clause-left : goal.run_rounds-requires-clause-left
 run_rounds-requires-clause-left g c κs within =
-    subst (HaveCallsLeft c.args.net.now) (sym c.requires.passes) (fresh-left c.args.net.now c.args.boards.now.id c.law_of_steps.ensures)
+    let net = c.args.net.now in
+    subst (HaveCallsLeft net) (sym c.requires.passes)
+    (fresh-left net c.args.boards.now.id (net.run.rounds * 320) (λ node. mul-le-mul_left net.run.rounds (c.law_of_steps.ensures.few node)))

@@ -3,7 +3,7 @@ use Rattle.std.specs.Prelude.{All}
 use Rattle.std.proofs.lemmas.List.FromFn.{length-map-range_with_len}
 use Rattle.board_rule.specs.Passes.{PassView, fresh_pass}
 use Rattle.net_threads.specs.Calls.{HaveCallsLeft}
-use Rattle.threaded_jobs.proofs.Beginning.{fresh-left, fresh-none}
+use Rattle.net_threads.proofs.Beginning.{fresh-left, fresh-none}
 use Rattle.threaded_jobs.proofs.rounds.run_by.Goals as goal
 
 pub run_rounds-requires-clause-nodes : goal.run_rounds-requires-clause-nodes

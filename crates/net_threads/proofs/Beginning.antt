@@ -1,4 +1,4 @@
--- What is so of new passes.
+-- What is so of new passes: that they have made no call, and calls enough, as a run in threads asks.
 use Rattle.std.proofs.Common.{◌≡◌, ℕ, zero, suc, ◌+◌, ◌*◌, ◌≤◌, [], length, refl}
 use Rattle.std.specs.Prelude.{All, IfSome, slice_get}
 use Rattle.atomic_table.specs.Seated.{TableId}

@@ -1,4 +1,4 @@
-// Large texts: instances with almost as many orders as there may be, and texts as long as they may be.
+// Instances with almost as many orders as there may be, and certificates as long as a text may be.
 
 use command_calls::{NO_FAULTS, run, run_with_room};
 use signal_cli::Status;
