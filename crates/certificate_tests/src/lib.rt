@@ -3,8 +3,6 @@
 #![tactic(auto)]
 
 #[cfg(test)]
-mod parts;
-#[cfg(test)]
 mod ties;
 #[cfg(test)]
 mod verdicts;

@@ -121,7 +121,7 @@ fn is_written(alloc: Global, c: &Certificate, entries: &str) -> Result<bool, All
 }
 
 // The certificate of an instance.
-pub(crate) fn certified(alloc: Global, i: &Instance) -> Result<Certificate, AllocError> {
+fn certified(alloc: Global, i: &Instance) -> Result<Certificate, AllocError> {
     certified_counted::<Brand>(alloc, i, Blank::new(1))
 }
 
