@@ -78,11 +78,7 @@ impl From<Failed> for PutFault {
 ///
 /// docs/FORMATS.md, "Certificate text".
 #[tactic(auto, using(crate::proofs::WritingLaws::text_parts))]
-pub fn put_certificate<O: Sink>(
-    alloc: Global,
-    c: &Certificate,
-    out: &mut O,
-) -> Result<(), PutFault>
+pub fn put_certificate<O: Sink>(alloc: Global, c: &Certificate, out: &mut O) -> Result<(), PutFault>
     ensures ok { OnOk result (Gains (O.state out.old) (O.state out.new) (certificate_text c.now)) }
     ensures breaks { IsErrOf result PutFault.Unwritten → Breaks (O.state out.old) (O.state out.new) (certificate_text c.now) }
     ensures no_memory { IsErrOf result PutFault.NoMemory → O.state out.new ≡ O.state out.old }
