@@ -4,6 +4,7 @@ mod EntryLaws
 mod Feeds
 mod FirstFault
 mod LengthLaws
+mod PartLaws
 mod TailLaws
 mod WholeLaws
 mod WritingLaws

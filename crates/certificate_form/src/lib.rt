@@ -6,4 +6,4 @@ mod reading;
 mod writing;
 
 pub use reading::{CertText, one_certificate, read_certificate};
-pub use writing::write_certificate;
+pub use writing::{PutFault, has_text, put_certificate, write_certificate};

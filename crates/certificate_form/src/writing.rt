@@ -1,18 +1,26 @@
 //! Writing a certificate's text.
 
-ghost use Rattle.std.specs.Prelude.{[], ◌≡◌, ◌+◌, ◌*◌, ◌++◌, ◌^◌, ◌<◌, ◌≤◌, All, codes, length, IfOk, IsSomeAnd, IsTrue, OnOk};
+ghost use Rattle.std.specs.Prelude.{[], ◌≡◌, ◌+◌, ◌*◌, ◌++◌, ◌^◌, ◌<◌, ◌≤◌, All, codes, length, vec_capacity, vec_len, IfOk, IsErrOf, IsOk, IsSomeAnd, IsTrue, OnErr, OnOk};
 ghost use Rattle.std.specs.List.{flat_map};
 ghost use Rattle.instance_form.specs.InstanceText.{instance_text};
 ghost use Rattle.instance_form.specs.InstanceText as form;
 ghost use Rattle.dp_certificate.specs.Certificates.{IsCertificate};
 ghost use Rattle.dp_certificate.specs.Numbers.{sequence_of};
 ghost use Rattle.certificate_form.specs.Answers.{Spells};
-ghost use Rattle.certificate_form.specs.CertificateText.{IsWritableAnswer, after_space, answer_line, certificate_text, entry_back, entry_front, entry_line};
+ghost use Rattle.outside_world.specs.Sink.{Breaks, Gains};
+ghost use Rattle.certificate_form.specs.CertificateText.{HasText, IsWritableAnswer, after_space, answer_line, certificate_text, entry_back, entry_front, entry_line};
 
 use dp_certificate::{Certificate, Entry};
 use number_text::{Line, push_number, push_numbers};
+use outside_world::{Failed, Sink};
 use schedule_meaning::{Answer, Instance, write_instance};
 use std::alloc::{AllocError, Global};
+
+/// How many entries a part has at the most.
+const PART: usize = 512;
+
+/// How many bytes a part of the lines of entries, and the last line, have at the most.
+const PART_ROOM: usize = 106 * PART + 4;
 
 /// The one spelling of a certificate, which `read_certificate` reads as that certificate where it has fewer than 2^32
 /// bytes: 48 for each entry at the most, 4 for each place of the answer's sequence, and 3,000. An `Err` comes where
@@ -32,6 +40,132 @@ pub fn write_certificate(alloc: Global, c: &Certificate) -> Result<Vec<u8>, Allo
     write_front(alloc, c.instance(), &mut text)?;
     write_tail(phases, c.answer(), entries, &mut text)?;
     Ok(text)
+}
+
+/// Why a certificate's text was not written whole.
+#[derive(Debug, Clone, Copy, PartialEq, Eq)]
+pub enum PutFault {
+    /// Memory ran out, and nothing was written.
+    NoMemory,
+    /// The sink failed, and a front of the text was written.
+    Unwritten,
+}
+
+impl From<AllocError> for PutFault {
+    ghost use Rattle.std.specs.Prelude.{◌≡◌};
+    ghost use Rattle.certificate_form.specs.declared.writing.PutFault.TheVariants.{NoMemory};
+
+    ghost from_gives = { λ _ fault. fault ≡ NoMemory };
+
+    fn from(_: AllocError) -> PutFault {
+        PutFault::NoMemory
+    }
+}
+
+impl From<Failed> for PutFault {
+    ghost use Rattle.std.specs.Prelude.{◌≡◌};
+    ghost use Rattle.certificate_form.specs.declared.writing.PutFault.TheVariants.{Unwritten};
+
+    ghost from_gives = { λ _ fault. fault ≡ Unwritten };
+
+    fn from(_: Failed) -> PutFault {
+        PutFault::Unwritten
+    }
+}
+
+/// Writes the one spelling of a certificate to a sink, in parts. All memory that it takes, a buffer for one part and one
+/// for the instance's lines, it takes before anything is written.
+///
+/// docs/FORMATS.md, "Certificate text".
+#[tactic(auto, using(crate::proofs::WritingLaws::text_parts))]
+pub fn put_certificate<O: Sink>(alloc: Global, c: &Certificate, out: &mut O) -> Result<(), PutFault>
+    ensures ok { OnOk result (Gains (O.state out.old) (O.state out.new) (certificate_text c.now)) }
+    ensures breaks { IsErrOf result PutFault.Unwritten → Breaks (O.state out.old) (O.state out.new) (certificate_text c.now) }
+    ensures no_memory { IsErrOf result PutFault.NoMemory → O.state out.new ≡ O.state out.old }
+{
+    let phases = usize::from(c.instance().plan().count());
+    let mut text = Vec::with_capacity(alloc, PART_ROOM + 10_000)?;
+    write_front(alloc, c.instance(), &mut text)?;
+    write_answer(&mut text, c.answer())?;
+    text.reserve(PART_ROOM)?;
+    put_rest(phases, c.entries(), &mut text, out)?;
+    Ok(())
+}
+
+/// Each certificate has a spelling, of a few bytes for each of its entries and places.
+///
+/// docs/FORMATS.md, "Certificate text".
+pub fn has_text(c: &Certificate)
+    ensures lawful { IsCertificate c.now }
+    ensures spells { HasText c.now }
+    ensures short { length (certificate_text c.now) ≤ 48 * length c.now.entries + 4 * length (sequence_of c.now.answer) + 3000 }
+{
+    instance_has_text(c.instance());
+    answer_has_text(c.answer());
+    entries_have_places(c.entries());
+}
+
+/// The numbers of an instance are below their types' limits.
+fn instance_has_text(i: &Instance)
+    ensures { form.HasText i.now.plan i.now.head i.now.lists }
+{
+    let _ = i.plan();
+}
+
+/// The numbers of an answer are below their types' limits.
+fn answer_has_text(answer: &Answer)
+    ensures { IsWritableAnswer answer.now }
+{
+    if let Answer::Plan { sequence, delay } = answer {
+        phases_are_bytes(sequence.as_slice());
+        let _delay = *delay;
+    }
+}
+
+/// Each phase is below its type's limit.
+fn phases_are_bytes(sequence: &[u8])
+    ensures { All (λ k. k < 2 ^ 8) sequence.now }
+{}
+
+/// Each entry has four counts. The loop does nothing when it runs.
+fn entries_have_places(entries: &[Entry])
+    ensures { All (λ e. length e.counts ≡ 4) entries.now }
+{
+    for entry in entries {
+        four_counts(entry);
+    }
+}
+
+/// An entry has four counts.
+fn four_counts(entry: &Entry)
+    ensures { length entry.now.counts ≡ 4 }
+{
+    let _ = entry.counts[0];
+}
+
+/// Writes a text and the lines of entries with so many counts behind it, and the last line, to a sink, a part at a time.
+fn put_rest<O: Sink>(
+    phases: usize,
+    entries: &[Entry],
+    text: &mut Vec<u8>,
+    out: &mut O,
+) -> Result<(), Failed>
+    requires phases { phases ≤ 4 }
+    requires room { vec_len text.old + 54276 ≤ vec_capacity text.old }
+    ensures ok { OnOk result (Gains (O.state out.old) (O.state out.new) (text.old.items ++ (flat_map (entry_line phases) entries.now ++ codes "end\n"))) }
+    ensures breaks { OnErr result (Breaks (O.state out.old) (O.state out.new) (text.old.items ++ (flat_map (entry_line phases) entries.now ++ codes "end\n"))) }
+{
+    let mut left = entries;
+    while left.len() > PART {
+        let (part, rest) = left.split_at(PART);
+        write_entries(text, phases, part).unwrap();
+        out.put(text.as_slice())?;
+        text.clear();
+        left = rest;
+    }
+    write_entries(text, phases, left).unwrap();
+    text.extend_from_slice(b"end\n").unwrap();
+    out.put(text.as_slice())
 }
 
 /// Writes the first line, and an instance behind it, into an empty text.
@@ -92,6 +226,9 @@ fn write_entries(text: &mut Vec<u8>, phases: usize, entries: &[Entry]) -> Result
     requires { phases ≤ 4 }
     ensures text { OnOk result (text.new.items ≡ text.old.items ++ flat_map (entry_line phases) entries.now) }
     ensures places { OnOk result (All (λ e. length e.counts ≡ 4) entries.now) }
+    ensures capacity { vec_capacity text.old ≤ vec_capacity text.new }
+    ensures succeeds { vec_len text.old + 106 * length entries.now ≤ vec_capacity text.old → IsOk result }
+    ensures short { OnOk result (vec_len text.new ≤ vec_len text.old + 106 * length entries.now) }
 {
     let mut front = Line::new();
     let mut back = Line::new();
@@ -121,7 +258,8 @@ fn begins_like(last: Option<Entry>, entry: &Entry) -> bool
 /// Makes the front of an entry's line with so many counts.
 fn put_front(line: &mut Line, phases: usize, entry: &Entry)
     requires { phases ≤ 4 }
-    ensures { line.new ≡ entry_front phases entry.now }
+    ensures text { line.new ≡ entry_front phases entry.now }
+    ensures short { length line.new ≤ 42 }
 {
     line.clear();
     line.put_spaced(u64::from(entry.phase));
@@ -133,6 +271,7 @@ fn put_front(line: &mut Line, phases: usize, entry: &Entry)
 fn put_back(line: &mut Line, entry: &Entry)
     ensures text { line.new ≡ entry_back entry.now }
     ensures places { length entry.now.counts ≡ 4 }
+    ensures short { length line.new ≤ 64 }
 {
     line.clear();
     line.put_byte(b'\n');

@@ -4,6 +4,8 @@ use Rattle.std.specs.Result.{IsErrAnd}
 use Rattle.std.specs.Prelude.{◌⊎◌}
 use Rattle.outside_world.specs.Shelf.{ShelfState}
 use Rattle.outside_world.specs.Sink.{Breaks, Gains}
+use Rattle.dp_certificate.specs.Certificates.{Claim}
+use Rattle.certificate_form.specs.CertificateText.{certificate_text}
 use Rattle.commands.specs.declared.ending.Made.{Made}
 use Rattle.commands.specs.declared.ending.Made.TheVariants as made
 use Rattle.command_texts.specs.declared.refusals.Place.{Place}
@@ -12,7 +14,7 @@ use Rattle.command_texts.specs.declared.refusals.Refusal.TheVariants as refusal
 use Rattle.command_texts.specs.declared.status.Status.{Status}
 use Rattle.command_texts.specs.declared.status.Status.TheVariants.{Done, Rejected, BadInput, ReadFault, WriteFault, NoMemory}
 use Rattle.commands.specs.Commands.{Call, IsAgainst, IsMissing, IsRejectionOf, IsTextOf, MissesNothing, texts_of}
-use Rattle.commands.specs.Ending.{Ends, Explains, Makes}
+use Rattle.commands.specs.Ending.{Ends, EndsCertificate, Explains, Makes, MakesCertificate}
 use Rattle.commands.specs.Outcome.{IsBadInput, IsUnread, Outcome, Outside, Read}
 use Rattle.command_texts.specs.Refusals.{Says}
 use Rattle.command_texts.specs.Stops.{StopsIn}
@@ -167,6 +169,14 @@ module _ (call : Call) (old new : Outside) where
   outcome (Ok (made.Rejected text)) status makes (inl w) = rejected text.items status makes.0 makes.1 w.is w.gains w.same
   outcome (Ok (made.Rejected text)) status makes (inr b) = broken text.items status makes.0 (makes.1.0, makes.1.1, (inr makes.1.2.0.0, makes.1.2.1)) b.is b.breaks b.line
   outcome (Err why) status makes ends = refuses why status makes ends
+
+  -- and so does one that writes a certificate
+  pub certificate_outcome : (result : Result Claim Refusal) (status : Status) → MakesCertificate call old.shelf new.shelf result → EndsCertificate result old.out new.out old.err new.err status → Outcome call old new status
+  certificate_outcome (Ok c) status makes (inl w) = done (certificate_text c) status makes.0 makes.1 w.is w.gains w.same
+  certificate_outcome (Ok c) status makes (inr (inl b)) = broken (certificate_text c) status makes.0 (makes.1.0, makes.1.1, (inl makes.1.2.0.0, makes.1.2.1)) b.is b.breaks b.line
+  certificate_outcome (Ok c) status makes (inr (inr (left, inl said))) = wants status makes.0 said.0 left said.1
+  certificate_outcome (Ok c) status makes (inr (inr (left, inr said))) = absurd said.0
+  certificate_outcome (Err why) status makes ends = refuses why status makes ends
 
 -- why the texts of a command could not be had explains why it made nothing
 explained : (call : Call) (old new : ShelfState) (why : Refusal) → StopsIn (texts_of call) old new why → Explains call old new why

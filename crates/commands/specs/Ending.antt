@@ -2,6 +2,8 @@
 use Rattle.std.specs.Prelude.{◌≡◌, ℕ, List, Result, Ok, Err, ◌⊎◌}
 use Rattle.outside_world.specs.Shelf.{ShelfState}
 use Rattle.outside_world.specs.Sink.{Breaks, Gains, SinkState}
+use Rattle.dp_certificate.specs.Certificates.{Claim}
+use Rattle.certificate_form.specs.CertificateText.{certificate_text}
 use Rattle.commands.specs.Commands.{Call, IsAgainst, IsRejectionOf, IsTextOf, MissesNothing, texts_of}
 use Rattle.commands.specs.Outcome.{IsBadInput, Read}
 use Rattle.command_texts.specs.Refusals.{Refuses, Says}
@@ -38,19 +40,30 @@ abbrev pub made_status : Made → Status
 made_status (made.Done text) = Done
 made_status (made.Rejected text) = Rejected
 
--- it was written whole
-pub record IsWritten (made : Made) (out out' err err' : SinkState) (status : Status) : Type 0 where
-  pub is : status ≡ made_status made
-  pub gains : Gains out out' (bytes_of made)
+-- these bytes were written whole, and the status says what they mean
+pub record IsWritten (bytes : List ℕ) (means : Status) (out out' err err' : SinkState) (status : Status) : Type 0 where
+  pub is : status ≡ means
+  pub gains : Gains out out' bytes
   pub same : err' ≡ err
 
--- it could not be written whole
-pub record IsBroken (made : Made) (out out' err err' : SinkState) (status : Status) : Type 0 where
+-- they could not be written whole
+pub record IsBroken (bytes : List ℕ) (out out' err err' : SinkState) (status : Status) : Type 0 where
   pub is : status ≡ WriteFault
-  pub breaks : Breaks out out' (bytes_of made)
+  pub breaks : Breaks out out' bytes
   pub line : Says refusal.Unwritten err err'
 
 -- how what was made, or refused, is answered
 abbrev pub Ends : Result Made Refusal → SinkState → SinkState → SinkState → SinkState → Status → Type 0
-Ends (Ok made) out out' err err' status = IsWritten made out out' err err' status ⊎ IsBroken made out out' err err' status
+Ends (Ok made) out out' err err' status = IsWritten (bytes_of made) (made_status made) out out' err err' status ⊎ IsBroken (bytes_of made) out out' err err' status
 Ends (Err why) out out' err err' status = (out' ≡ out) × Refuses why err err' status
+
+-- a command made a certificate of its texts, in which its words miss nothing, and writes its text; or why it made none
+abbrev pub MakesCertificate : Call → ShelfState → ShelfState → Result Claim Refusal → Type 0
+MakesCertificate call old new (Ok c) = (new ≡ old) × Read call old.files (λ said. (IsTextOf call said (certificate_text c) × ¬ IsAgainst call said) × MissesNothing call said)
+MakesCertificate call old new (Err why) = Explains call old new why
+
+-- how a certificate is answered, for whose text memory may run out before anything is written; or how a refusal is
+abbrev pub EndsCertificate : Result Claim Refusal → SinkState → SinkState → SinkState → SinkState → Status → Type 0
+EndsCertificate (Ok c) out out' err err' status =
+    IsWritten (certificate_text c) Done out out' err err' status ⊎ IsBroken (certificate_text c) out out' err err' status ⊎ ((out' ≡ out) × Refuses refusal.NoMemory err err' status)
+EndsCertificate (Err why) out out' err err' status = (out' ≡ out) × Refuses why err err' status

@@ -5,12 +5,12 @@ ghost use Rattle.dp_certificate.specs.Numbers.{sequence_of};
 ghost use Rattle.dp_certificate.specs.Proves.{Proves};
 ghost use Rattle.dp_certificate.specs.Whole.{IsWhole};
 ghost use Rattle.commands.specs.Commands.{Certify};
-ghost use Rattle.commands.specs.Ending.{Makes};
+ghost use Rattle.commands.specs.Ending.{MakesCertificate};
 ghost use Rattle.commands.specs.Outcome.{Outcome};
 
-use certificate_form::{one_certificate, write_certificate};
+use crate::delivery::deliver;
+use certificate_form::{has_text, one_certificate};
 use command_texts::{Place, Refusal, Status, fetch_instance};
-use commands::{Made, end};
 use dp_certificate::Certificate;
 use foundation::steps::Steps;
 use outside_world::{Shelf, Sink};
@@ -45,15 +45,15 @@ fn counted<L: Ledger>(alloc: Global, i: &Instance, blank: Blank) -> Result<Certi
     forward_dp::certify(alloc, i, &mut steps)
 }
 
-// The text of the certificate of the instance that a file's text spells.
-fn written<S: Shelf>(alloc: Global, shelf: &mut S, file: &str) -> Result<Made, Refusal>
-    ensures { Makes (Certify file.now) (S.state shelf.old) (S.state shelf.new) result }
+// The certificate of the instance that a file's text spells, of which what is to be promised of its text is known.
+fn made<S: Shelf>(alloc: Global, shelf: &mut S, file: &str) -> Result<Certificate, Refusal>
+    ensures { MakesCertificate (Certify file.now) (S.state shelf.old) (S.state shelf.new) result }
 {
     let instance = fetch_instance(alloc, shelf, Place::First, file)?;
     let certificate = certified(alloc, &instance)?;
-    let text = write_certificate(alloc, &certificate)?;
+    has_text(&certificate);
     one_certificate();
-    Ok(Made::Done(text))
+    Ok(certificate)
 }
 
 /// The command `certify FILE`: writes the certificate of the instance that the file's text spells, with its best answer
@@ -74,5 +74,5 @@ pub fn certify_job<S: Shelf, O: Sink, E: Sink>(
         (record { shelf = S.state shelf.old; out = O.state out.old; err = E.state err.old })
         (record { shelf = S.state shelf.new; out = O.state out.new; err = E.state err.new }) result }
 {
-    end(alloc, written(alloc, shelf, file), out, err)
+    deliver(alloc, made(alloc, shelf, file), out, err)
 }

@@ -5,6 +5,7 @@ mod answers;
 mod certify;
 mod certify_bound;
 mod check;
+mod delivery;
 mod plan;
 mod top;
 mod verdicts;

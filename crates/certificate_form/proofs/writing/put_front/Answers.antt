@@ -16,7 +16,12 @@ put_word-requires c =
     let l1 = spaced-length c.clear.new.self c.put_spaced.new.self c.from.result 20 c.put_spaced.ensures (digits-long c.from.result c.from.type_inv) in
     omega (arith, ap length c.clear.ensures, l1, c.put_counts.ensures.room)
 
-pub returns : goal.returns
-returns c =
+pub returns-clause-text : goal.returns-clause-text
+returns-clause-text c =
     front_filled c.args.phases c.args.entry.now c.clear.new.self c.put_spaced.new.self c.put_counts.new.line c.put_word.new.self c.from.result
     c.clear.ensures c.put_spaced.ensures c.from.ensures c.put_counts.ensures.text c.put_word.ensures
+
+pub returns-clause-short : goal.returns-clause-short
+returns-clause-short c =
+    let l1 = spaced-length c.clear.new.self c.put_spaced.new.self c.from.result 20 c.put_spaced.ensures (digits-long c.from.result c.from.type_inv) in
+    omega (arith, ap length c.clear.ensures, l1, c.put_counts.ensures.room, ap length c.put_word.ensures)

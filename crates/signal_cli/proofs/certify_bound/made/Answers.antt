@@ -1,9 +1,9 @@
-use Rattle.std.proofs.Common.{subst, sym}
+use Rattle.std.proofs.Common.{refl, subst, sym}
 use Rattle.schedule_meaning.specs.Best.{IsBest}
 use Rattle.schedule_meaning.specs.Instances.{Problem}
-use Rattle.dp_certificate.specs.Whole.{IsWhole}
+use Rattle.pruned_dp.specs.Bounded.{IsBounded}
 use Rattle.signal_cli.proofs.Accepted.{accepted}
-use Rattle.signal_cli.proofs.certify.written.Goals as goal
+use Rattle.signal_cli.proofs.certify_bound.made.Goals as goal
 
 pub returns : goal.returns
 returns g c =
@@ -19,10 +19,10 @@ returns g c =
             (
               made.certificate,
               made.ensures.instance,
-              subst (λ (p : Problem). IsWhole p made.certificate.entries) same made.ensures.whole,
+              subst (λ (p : Problem). IsBounded p made.certificate.entries) same made.ensures.bounded,
               subst (λ (p : Problem). IsBest p made.certificate.answer) same made.ensures.best,
-              c.in_ok-text.ensures.text,
-              accepted _ _ _ c.one_certificate.ensures c.in_ok-text.ensures.short made.ensures.few.0 made.ensures.few.1 c.in_ok-text.ensures.lawful c.in_ok-text.ensures.spells made.ensures.proves,
+              refl,
+              accepted _ _ _ c.one_certificate.ensures c.has_text.ensures.short made.ensures.few.0 made.ensures.few.1 c.has_text.ensures.lawful (c.has_text.ensures.spells, refl) made.ensures.proves,
             ),
             λ against. against,
           ),
