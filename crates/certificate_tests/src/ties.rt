@@ -79,7 +79,12 @@ fn planners_agree(rt: HostRuntime) -> Result<(), Fail> {
 fn agree(alloc: Global, i: &Instance) -> Result<bool, AllocError> {
     let plain = best_of::<PlainPlanner, Brand>(alloc, &mut PlainPlanner, i, Blank::new(1))?;
     let layered = best_of::<LayerPlanner, Brand>(alloc, &mut LayerPlanner, i, Blank::new(1))?;
-    let bounded = best_of::<BoundPlanner, Brand>(alloc, &mut BoundPlanner::new(alloc), i, Blank::new(1))?;
+    let bounded = best_of::<BoundPlanner, Brand>(
+        alloc,
+        &mut BoundPlanner::new(alloc),
+        i,
+        Blank::new(1),
+    )?;
     Ok(is_same(&plain, &layered) && is_same(&plain, &bounded))
 }
 

@@ -38,7 +38,10 @@ impl Lists {
     pub(crate) fn for_table(self, i: &Instance) -> Result<Lists, AllocError>
         ensures { IfOk result (λ lists. HasNone lists.rows) }
     {
-        let Lists { mut reached, mut rows } = self;
+        let Lists {
+            mut reached,
+            mut rows,
+        } = self;
         let room = room(i);
         reached.make_room(room / 8)?;
         rows.clear(room)?;
