@@ -67,8 +67,8 @@ struct Lines {
 /// docs/FORMATS.md, "Certificate text".
 pub fn read_certificate(alloc: Global, bytes: &[u8]) -> Result<Certificate, CertText>
     requires { length bytes.now < 2 ^ 32 }
-    ensures found { IfOk result (λ c. bytes.now ≡ certificate_text c) }
-    ensures fits { IfOk result HasText }
+    ensures ok { IfOk result (λ c. bytes.now ≡ certificate_text c) }
+    ensures text { IfOk result HasText }
     ensures lawful { IfOk result IsCertificate }
     ensures only { (c : Claim) → HasText c → IsCertificate c → bytes.now ≡ certificate_text c
         → MatchResult result (λ v. v ≡ c) IsWant }
@@ -103,8 +103,8 @@ pub fn one_certificate()
 /// What the lines of a certificate's text say.
 fn read_lines(alloc: Global, bytes: &[u8]) -> Result<Lines, FormFault>
     requires { length bytes.now < 2 ^ 32 }
-    ensures fits { IfOk result (λ x. HasText (said_by x)) }
-    ensures found { IfOk result (λ x. bytes.now ≡ certificate_text (said_by x)) }
+    ensures text { IfOk result (λ x. HasText (said_by x)) }
+    ensures ok { IfOk result (λ x. bytes.now ≡ certificate_text (said_by x)) }
     ensures only { (c : Claim) → HasText c → bytes.now ≡ certificate_text c
         → MatchResult result (λ x. said_by x ≡ c) form.IsWant }
     ensures first { IfErr result (IsLineFault bytes.now) }

@@ -21,7 +21,7 @@ use std::alloc::{AllocError, Global};
 
 // The number of a node, in a network that has this round too.
 fn node_in_round(net: &Network, node: &str, round: u32) -> Result<u32, Refusal>
-    ensures found { IfOk result (λ number. number_of net.now.node_names node.now ≡ Some number) }
+    ensures ok { IfOk result (λ number. number_of net.now.node_names node.now ≡ Some number) }
     ensures below { IfOk result (λ number. number < length net.now.node_names) }
     ensures round { OnOk result (round < net.now.run.rounds) }
     ensures refused { IfErr result (Misses net.now node.now round) }

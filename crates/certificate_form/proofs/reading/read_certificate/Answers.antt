@@ -7,4 +7,4 @@ use Rattle.certificate_form.proofs.reading.read_certificate.Goals as goal
 pub new-requires-2 : goal.new-requires-2
 new-requires-2 c =
     let form = c.in_ok-form.field-0.form in
-    lists-below-text form.phases.items form.head form.lists.items _ refl (text_below c.args.bytes.now (said_by c.in_ok-form.field-0) 4294967296 c.in_ok-form.ensures.found c.requires)
+    lists-below-text form.phases.items form.head form.lists.items _ refl (text_below c.args.bytes.now (said_by c.in_ok-form.field-0) 4294967296 c.in_ok-form.ensures.ok c.requires)

@@ -74,17 +74,17 @@ returns-in_err-answer-clause-first c =
     let phases : c.len-phases.result ≡ length c.in_ok-form.form.phases.items = omega (arith, c.len-phases.ensures, c.in_ok-form.form.phases.ok.0) in
     rw (p.1, p.2) (fails_line (problem_of d) c.in_ok-form.ensures.ok.0 c.args.bytes.now c.in_ok-form.rest.now c.in_ok-form.line (spelled d) c.in_ok-form.ensures.next c.in_err-answer.field-0.0 (rw phases at c.in_err-answer.ensures.exact))
 
-pub returns-clause-fits : goal.returns-clause-fits
+pub returns-clause-text : goal.returns-clause-text
 unfolding problem_of
-returns-clause-fits c =
-    let d = (goal.at.returns-clause-fits c).In_ok-form in
+returns-clause-text c =
+    let d = (goal.at.returns-clause-text c).In_ok-form in
     let phases : c.len-phases.result ≡ length c.in_ok-form.form.phases.items = omega (arith, c.len-phases.ensures, c.in_ok-form.form.phases.ok.0) in
     read_fits (problem_of d) c.in_ok-form.ensures.ok.0 c.args.bytes.now c.in_ok-form.rest.now c.in_ok-form.line (spelled d) c.in_ok-form.ensures.next c.in_ok-answer.answer c.in_ok-answer.entries.items (rw phases at c.in_ok-answer.ensures.exact)
 
-pub returns-clause-found : goal.returns-clause-found
+pub returns-clause-ok : goal.returns-clause-ok
 unfolding problem_of
-returns-clause-found c =
-    let d = (goal.at.returns-clause-found c).In_ok-form in
+returns-clause-ok c =
+    let d = (goal.at.returns-clause-ok c).In_ok-form in
     let phases : c.len-phases.result ≡ length c.in_ok-form.form.phases.items = omega (arith, c.len-phases.ensures, c.in_ok-form.form.phases.ok.0) in
     read_found (problem_of d) c.in_ok-form.ensures.ok.0 c.args.bytes.now c.in_ok-form.rest.now c.in_ok-form.line (spelled d) c.in_ok-form.ensures.next c.in_ok-answer.answer c.in_ok-answer.entries.items (rw phases at c.in_ok-answer.ensures.exact)
 
