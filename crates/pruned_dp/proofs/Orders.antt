@@ -1,18 +1,17 @@
 -- The sequence in order of arrival: how it is found, that there is one alone, and that its delay is a limit.
-use Rattle.std.proofs.Common.{◌≡◌, ℕ, zero, suc, ◌+◌, ◌-◌, ◌*◌, ◌<◌, ◌≤◌, List, [], ◌∷◌, ◌++◌, length, map, sum, get_or, All, Contains, Option, Some, None, IfSome, refl, sym, ap, subst, ◌∙◌, inl, inr, length-set, arith}
+use Rattle.std.proofs.Common.{◌≡◌, ℕ, zero, suc, ◌+◌, ◌-◌, ◌*◌, ◌<◌, ◌≤◌, List, [], ◌∷◌, ◌++◌, length, map, sum, get_or, Contains, Option, Some, None, IfSome, refl, sym, ap, subst, ◌∙◌, inl, inr, length-set, arith}
 use Rattle.std.specs.Option.{option_map}
-use Rattle.std.proofs.lemmas.Bool.{cases_eq, cases_lt}
+use Rattle.std.proofs.lemmas.Bool.{cases_lt}
 use Rattle.std.proofs.lemmas.List.{append-nil, append_assoc, get_or-map, get_or_past, length-map}
 use Rattle.switch_rules.specs.Arriving.{ComesFirst}
-use Rattle.switch_rules.specs.declared.Cluster.{Cluster}
 use Rattle.switch_rules.specs.declared.Head.{Head}
 use Rattle.switch_rules.specs.declared.Served.{Served}
 use Rattle.switch_rules.proofs.Arriving.{one-first}
-use Rattle.schedule_meaning.specs.Instances.{Problem, IsInstance, cluster_at, counts_of, list_at}
+use Rattle.schedule_meaning.specs.Instances.{Problem, IsInstance, counts_of, list_at}
 use Rattle.schedule_meaning.specs.Timing.{delay_of, timed, timing, total_cost}
 use Rattle.schedule_meaning.proofs.Sequences.{get_or-counts}
-use Rattle.dp_certificate.specs.Limits.{HasKeysWithin, IsLimited, IsSomeDelay, IsWithin}
-use Rattle.dp_certificate.specs.Prefixes.{Key, Stage, first_stage, key_of, one_more, stage_of}
+use Rattle.dp_certificate.specs.Limits.{HasKeysWithin, IsSomeDelay, IsWithin}
+use Rattle.dp_certificate.specs.Prefixes.{first_stage, key_of, one_more, stage_of}
 use Rattle.dp_certificate.specs.Proves.{HasEntry, key_of_entry}
 use Rattle.dp_certificate.specs.declared.Entry.{Entry}
 use Rattle.dp_certificate.proofs.RestLaws.{arrives-later}
@@ -20,7 +19,7 @@ use Rattle.dp_certificate.proofs.Stages.{more-other, more-same, more-within, non
 use Rattle.forward_dp.proofs.Bounds.{sum-le}
 use Rattle.pruned_dp.specs.Arrivals.{ComesNext, GoesByArrival, IsArrivalDelay, IsByArrival, arrival}
 use Rattle.pruned_dp.specs.Bounded.{IsBounded}
-use Rattle.pruned_dp.specs.Firsts.{IsFirstAmong, IsFirstOf}
+use Rattle.pruned_dp.specs.Firsts.{IsFirstAmong}
 
 -- ---- the next cluster
 

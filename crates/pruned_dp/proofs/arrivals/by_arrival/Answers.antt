@@ -1,4 +1,4 @@
-use Rattle.std.proofs.Common.{◌+◌, ◌++◌, ◌∷◌, [], get_or, length-set, refl, subst, sym, ◌∙◌, arith}
+use Rattle.std.proofs.Common.{◌+◌, ◌∷◌, [], get_or, length-set, refl, subst, sym, ◌∙◌, arith}
 use Rattle.dp_certificate.specs.Prefixes.{one_more}
 use Rattle.dp_certificate.proofs.NextLaws.{few-listed}
 use Rattle.dp_certificate.proofs.Stages.{none-counted}

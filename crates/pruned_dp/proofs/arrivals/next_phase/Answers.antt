@@ -1,4 +1,4 @@
-use Rattle.pruned_dp.proofs.Orders.{comes-next, none-left}
+use Rattle.pruned_dp.proofs.Orders.{comes-next}
 use Rattle.pruned_dp.proofs.arrivals.next_phase.Goals as goal
 
 pub returns-clause-some : goal.returns-clause-some
