@@ -41,7 +41,7 @@ pub fn timeline(
     ensures begins_by { (n : ℕ) → head.now.since ≤ n → until + 20 ≤ n → All (λ s. s.green ≤ n) served.now → IfOk result (BeginBy n) }
 {
     learn(plan);
-    let mut rows = Vec::new(alloc);
+    let mut rows = Vec::with_capacity(alloc, phases.len() + 2 * usize::from(plan.count()))?;
     let mut current = *head;
     for (index, phase) in phases.iter().enumerate() {
         let next = &served[index];

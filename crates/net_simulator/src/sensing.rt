@@ -24,7 +24,7 @@ pub(crate) fn sense_links(
     requires second { second ≤ 18000 }
     ensures { IfOk result (λ s. s.items ≡ map (seen_by net.now queues.now recent.now second) links.now) }
 {
-    let mut senses = Vec::new(alloc);
+    let mut senses = Vec::with_capacity(alloc, links.len())?;
     for &l in links {
         senses.push(sense_link(alloc, net, l, queues, recent, second)?)?;
     }
@@ -48,7 +48,7 @@ fn sense_link(
 {
     let travel = net.link(l).travel;
     let first = second + 128 - travel;
-    let mut coming = Vec::new(alloc);
+    let mut coming = Vec::with_capacity(alloc, travel as usize)?;
     for i in 0..travel {
         coming.push(rows::at(recent, l, first + i))?;
     }
