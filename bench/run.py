@@ -110,10 +110,10 @@ def compare_networks(programs, runs, work):
 
 
 def most_memory(program, words):
-    """The most memory that one run holds, in MB."""
-    run = subprocess.Popen([program, *words], stdin=subprocess.DEVNULL, stdout=subprocess.DEVNULL)
-    _, _, usage = os.wait4(run.pid, 0)
-    return usage.ru_maxrss / 1000
+    """The most memory that one run holds, in MB, as /usr/bin/time tells it (a child of this script would be counted with the script's)."""
+    run = subprocess.run(["/usr/bin/time", "-f", "%M", program, *words], stdin=subprocess.DEVNULL, stdout=subprocess.DEVNULL,
+                         stderr=subprocess.PIPE)
+    return int(run.stderr.split()[-1]) / 1000
 
 
 def compare_threads(program, peer, runs, work):

@@ -12,5 +12,3 @@ mod planning;
 mod process;
 #[cfg(test)]
 mod refusals;
-#[cfg(test)]
-mod spellings;
