@@ -7,7 +7,7 @@ use Rattle.std.proofs.lemmas.Option.{none-some, same_Some}
 use Rattle.std.proofs.lemmas.List.Elements.{All-push, Contains-append_left, Contains-append_right}
 use Rattle.std.proofs.lemmas.List.Quantifiers.{all_pairs_push}
 use Rattle.flat_table.specs.declared.rows.Row.{Row}
-use Rattle.flat_table.specs.Rows.{AreBestOf, AreLater, ArePlaced, AreRisingPlaces, HasNoRow, IsNoWorse, IsOffered, IsPlaced, row_in, time_of}
+use Rattle.flat_table.specs.Rows.{AreBestOf, AreLater, ArePlaced, AreRisingPlaces, IsNoWorse, IsOffered, IsPlaced, row_in, time_of}
 use Rattle.flat_table.proofs.Keeping.{has-self}
 
 if-none : {X : Type 0} (P : X → Type 0) (o : Option X) → o ≡ None → IfSome o P
@@ -107,35 +107,18 @@ placed-less places first end k placed inside = record {
   above = λ j h. elim (cases_eq j k) [ inl e ↦ get_or-set_at places k j None None e inside | inr other ↦ get_or-set_other places k j None None other ∙ placed.above j h ];
 }
 
--- the places before the next row are empty, and are passed over
-pub drained-skip : (initial places : List (Option Row)) (from place : ℕ) (out : List Row) → AreDrained initial places from out → from ≤ place → HasNoRow places from place → AreDrained initial places place out
-drained-skip initial places from place out d rise none = record {
-  cleared = λ k h. elim (cases_lt k from) [ inl less ↦ d.cleared k less | inr rest ↦ none k rest h ];
-  ahead = λ k h. d.ahead k (omega (arith, rise, h));
-  later = d.later;
-  from = λ k e h. (let f = d.from k e h in (f.0, omega (arith, f.1, rise), f.2));
-  all = λ k r h e. elim (cases_lt k from) [
-    | inl less ↦ d.all k r less e
-    | inr rest ↦ absurd (none-some r (sym (none k rest h) ∙ d.ahead k rest ∙ e))
-  ];
-}
-
--- no row is left behind
-pub none-left : (initial places : List (Option Row)) (first end from : ℕ) (out : List Row) → ArePlaced initial first end → AreDrained initial places from out → HasNoRow places from end → (k : ℕ) → row_in places k ≡ None
-none-left initial places first end from out placed d none k = elim (cases_lt k from) [
+-- all are moved
+pub drained-left : (initial places : List (Option Row)) (first end place : ℕ) (out : List Row) → ArePlaced initial first end → AreDrained initial places place out → end ≤ place → (k : ℕ) → row_in places k ≡ None
+drained-left initial places first end place out placed d over k = elim (cases_lt k place) [
   | inl less ↦ d.cleared k less
-  | inr rest ↦ elim (cases_lt k end) [
-    | inl inside ↦ none k rest inside
-    | inr over ↦ d.ahead k rest ∙ placed.above k over
-  ]
+  | inr rest ↦ d.ahead k rest ∙ placed.above k (omega (arith, over, rest))
 ]
 
--- all are moved where none is left
-pub all-moved : (initial places : List (Option Row)) (first end from : ℕ) (out : List Row) → ArePlaced initial first end → AreDrained initial places from out → HasNoRow places from end → AreBestOf (IsPlaced initial) out
-all-moved initial places first end from out placed d none = record {
+pub drained-all : (initial places : List (Option Row)) (first end place : ℕ) (out : List Row) → ArePlaced initial first end → AreDrained initial places place out → end ≤ place → AreBestOf (IsPlaced initial) out
+drained-all initial places first end place out placed d over = record {
   from = λ k e h. (let f = d.from k e h in (f.0, f.2));
-  all = λ r h. has-self out r (elim (cases_lt h.0 from) [
+  all = λ r h. has-self out r (elim (cases_lt h.0 place) [
     | inl less ↦ d.all h.0 r less h.1
-    | inr rest ↦ absurd (none-some r (sym (none-left initial places first end from out placed d none h.0) ∙ d.ahead h.0 rest ∙ h.1))
+    | inr rest ↦ absurd (none-some r (sym (placed.above h.0 (omega (arith, over, rest))) ∙ h.1))
   ]);
 }
