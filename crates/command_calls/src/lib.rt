@@ -113,6 +113,28 @@ pub fn run_over<R: Threads + Wait + Sync>(
     Ok(Ending { status, out, err })
 }
 
+/// Calls the program with the words of a line over the files `net`, `arr` and `hist` with these texts.
+pub fn run_on_network<R: Threads + Wait + Sync>(
+    rt: &R,
+    alloc: Global,
+    line: &str,
+    net: &str,
+    arr: &str,
+    hist: &str,
+    faults: Faults<'_>,
+) -> Result<Ending, AllocError> {
+    let mut words = Vec::new(alloc);
+    for word in line.split(' ') {
+        words.push(word)?;
+    }
+    let files = &[
+        ("net", net.as_bytes()),
+        ("arr", arr.as_bytes()),
+        ("hist", hist.as_bytes()),
+    ];
+    run_over(rt, alloc, &words, files, faults)
+}
+
 /// Calls the program with the words `plan file` over this text. Nothing fails.
 pub fn plan<R: Threads + Wait + Sync>(
     rt: &R,
@@ -146,7 +168,8 @@ fn shelf_of(alloc: Global, text: Vec<u8>, fails: &[u32]) -> Result<MemoryShelf, 
     Ok(MemoryShelf::new(alloc, files, fails.to_vec(alloc)?))
 }
 
-fn shelf_with(
+/// A shelf with these files, of which these fetches fail.
+pub fn shelf_with(
     alloc: Global,
     contents: &[(&str, &[u8])],
     fails: &[u32],

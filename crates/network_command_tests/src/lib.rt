@@ -1,5 +1,5 @@
 //! Tests of the commands over a network, from their words to what they write: worked runs with their reports, planned instances that
-//! are certified and checked, grids, runs in threads, the refusals of each text, and faults in mid-work.
+//! are certified and checked, grids, and runs in threads.
 #![tactic(auto)]
 
 #[cfg(test)]

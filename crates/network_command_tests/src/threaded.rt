@@ -1,11 +1,9 @@
 // The command whose nodes run in threads: `replay` gives its report again, and the nodes of a round act side by side.
 
 use board_model::{Gate, OpenGate};
-use command_calls::{NO_FAULTS, run_over};
-use foundation::items::Items;
-use foundation::text::Text;
+use command_calls::{NO_FAULTS, run_over, shelf_with};
 use meeting_gate::MeetingGate;
-use outside_world::{MemoryShelf, MemorySink};
+use outside_world::MemorySink;
 use signal_cli::{Status, net_job};
 use std::alloc::{AllocError, Global};
 use std::sync::Wait;
@@ -34,23 +32,14 @@ fn replayed(rt: HostRuntime) -> Result<(), Fail> {
     Ok(())
 }
 
-// A file in memory.
-fn file(alloc: Global, name: &str, content: &str) -> Result<(Text, Items<u8>), AllocError> {
-    let name = Text::from_string(String::from_str(alloc, name)?);
-    Ok((name, Items::from_vec(content.as_bytes().to_vec(alloc)?)))
-}
-
 // How the job ends for the worked network with this gate.
 fn job<R: Threads + Wait + Sync, G: Gate + Sync>(
     rt: &R,
     alloc: Global,
     gate: &G,
 ) -> Result<Status, AllocError> {
-    let files = vec![in alloc;
-        file(alloc, "net", NETWORK)?,
-        file(alloc, "arr", ONE_VEHICLE)?,
-    ]?;
-    let mut shelf = MemoryShelf::new(alloc, files, Vec::new(alloc));
+    let files = &[("net", NETWORK.as_bytes()), ("arr", ONE_VEHICLE.as_bytes())];
+    let mut shelf = shelf_with(alloc, files, &[])?;
     let mut out = MemorySink::new(alloc, 10_000, Vec::new(alloc))?;
     let mut err = MemorySink::new(alloc, 1000, Vec::new(alloc))?;
     let status = net_job(
