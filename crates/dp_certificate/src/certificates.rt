@@ -82,6 +82,23 @@ impl Certificate {
         })
     }
 
+    /// The certificate of these parts, of which it is known that they are one: `new` without its tests. There are fewer than
+    /// 2^32 entries, and fewer than 2^32 numbers in the sequence of the answer. It takes no memory.
+    ///
+    /// docs/RULES.md, "Certificate".
+    pub fn of_lawful(instance: Instance, entries: Vec<Entry>, answer: Answer) -> Certificate
+        requires lawful { IsCertificate (record { problem = instance; entries = entries.items; answer = answer }) }
+        requires few { vec_len entries < 2 ^ 32 }
+        requires short { IsShort answer }
+        ensures { result ≡ record { problem = instance; entries = entries.items; answer = answer } }
+    {
+        Certificate {
+            instance,
+            entries,
+            answer,
+        }
+    }
+
     /// The instance that the answer is for.
     ///
     /// docs/RULES.md, "Certificate".

@@ -315,17 +315,15 @@ pub record IsCertified (p : Problem) (limit : Option ℕ) (c : Claim) : Type 0 w
   pub proves : Proves c
   pub few : (length c.entries ≤ 2000001) × (length (sequence_of c.answer) ≤ 40)
 
-pub certified : {E : Type 0} (p given : Problem) (limit : Option ℕ) (entries : List Entry) (answer : Answer) (r : Result Claim E) (made : Claim) → AreParts p limit entries answer → given ≡ p
-    → IfOk r (λ c. (c ≡ record { problem = given; entries = entries; answer = answer }) × IsCertificate c) → r ≡ Ok made → IsCertified p limit made
-certified p given limit entries answer r made h same ok e =
+pub certified : (p given : Problem) (limit : Option ℕ) (entries : List Entry) (answer : Answer) (made : Claim) → AreParts p limit entries answer → given ≡ p
+    → made ≡ record { problem = given; entries = entries; answer = answer } → IsCertified p limit made
+certified p given limit entries answer made h same out =
     let c : Claim = record { problem = p; entries = entries; answer = answer } in
-    let out : (made ≡ record { problem = given; entries = entries; answer = answer }) × IsCertificate made = subst (λ r. IfOk r (λ c. (c ≡ record { problem = given; entries = entries; answer = answer }) × IsCertificate c)) e ok in
-    let is : made ≡ c = out.0 ∙ ap (λ (q : Problem). let x : Claim = record { problem = q; entries = entries; answer = answer } in x) same in
+    let is : made ≡ c = out ∙ ap (λ (q : Problem). let x : Claim = record { problem = q; entries = entries; answer = answer } in x) same in
     let here : IsCertified p limit c = record { table = h.table; best = h.best; proves = whole-proves p limit entries answer h.lawful h.delay h.table h.best; few = (h.few, best-few p answer h.lawful h.best) } in
     subst (IsCertified p limit) (sym is) here
 
--- and is not refused
-pub accepted : {E : Type 0} (p given : Problem) (limit : Option ℕ) (entries : List Entry) (answer : Answer) (r : Result Claim E) → AreParts p limit entries answer → given ≡ p → OnErr r (¬ IsCertificate (record { problem = given; entries = entries; answer = answer })) → IsOk r
-accepted p given limit entries answer (Ok c) h same err = refl
-accepted p given limit entries answer (Err e) h same err =
-    absurd (err (subst (λ (q : Problem). IsCertificate (record { problem = q; entries = entries; answer = answer })) (sym same) (whole-certificate p limit entries answer h.lawful h.table)))
+-- and they are one
+pub lawful : (p given : Problem) (limit : Option ℕ) (entries : List Entry) (answer : Answer) → AreParts p limit entries answer → given ≡ p → IsCertificate (record { problem = given; entries = entries; answer = answer })
+lawful p given limit entries answer h same =
+    subst (λ (q : Problem). IsCertificate (record { problem = q; entries = entries; answer = answer })) (sym same) (whole-certificate p limit entries answer h.lawful h.table)

@@ -73,5 +73,5 @@ pub fn certify_within<L: Ledger>(
     past.take(rows.earlier.as_slice())?;
     past.take(rows.latest.as_slice())?;
     let instance = i.copy(alloc)?;
-    Ok(Certificate::new(instance, past.entries, answer).unwrap())
+    Ok(Certificate::of_lawful(instance, past.entries, answer))
 }

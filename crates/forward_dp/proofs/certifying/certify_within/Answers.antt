@@ -1,44 +1,44 @@
 use Rattle.std.proofs.Common.{◌∙◌, arith}
-use Rattle.forward_dp.proofs.Wholes.{AreParts, accepted, best-short, certified, parts}
+use Rattle.forward_dp.proofs.Wholes.{AreParts, best-short, certified, lawful, parts}
 use Rattle.forward_dp.proofs.certifying.certify_within.Goals as goal
 
-pub new-requires-2-clause-few : goal.new-requires-2-clause-few
-new-requires-2-clause-few g c =
+pub of_lawful-requires-clause-lawful : goal.of_lawful-requires-clause-lawful
+of_lawful-requires-clause-lawful g c =
+    lawful c.args.i.now c.in_ok-instance.instance c.args.limit c.take-2.new.self.entries.items c.in_ok-answer.answer
+    (parts c.args.i.now c.args.limit c.in_ok-table.ensures.whole.0 c.table.new.rows c.as_slice.result.now c.as_slice-2.result.now c.take-2.new.self.entries.items c.in_ok-answer.answer c.in_ok-answer.ensures.instance c.requires c.in_ok-table.ensures.whole.2 c.as_slice.ensures.value c.as_slice-2.ensures.value
+    (c.in_ok-take-2.ensures.taken _ (c.in_ok-take.ensures.taken _ c.in_ok-table.ensures.whole.1) (c.take-2.ensures.wanted ∙ c.take.ensures.wanted ∙ c.table.ensures.wanted)) c.in_ok-answer.ensures.best)
+    c.in_ok-instance.ensures
+
+pub of_lawful-requires-clause-few : goal.of_lawful-requires-clause-few
+of_lawful-requires-clause-few g c =
     let made : AreParts c.args.i.now c.args.limit c.take-2.new.self.entries.items c.in_ok-answer.answer =
     parts c.args.i.now c.args.limit c.in_ok-table.ensures.whole.0 c.table.new.rows c.as_slice.result.now c.as_slice-2.result.now c.take-2.new.self.entries.items c.in_ok-answer.answer c.in_ok-answer.ensures.instance c.requires c.in_ok-table.ensures.whole.2 c.as_slice.ensures.value c.as_slice-2.ensures.value
     (c.in_ok-take-2.ensures.taken _ (c.in_ok-take.ensures.taken _ c.in_ok-table.ensures.whole.1) (c.take-2.ensures.wanted ∙ c.take.ensures.wanted ∙ c.table.ensures.wanted)) c.in_ok-answer.ensures.best in
     omega (arith, made.few)
 
-pub new-requires-2-clause-short : goal.new-requires-2-clause-short
-new-requires-2-clause-short g c = best-short c.args.i.now c.in_ok-answer.answer c.in_ok-answer.ensures.instance c.in_ok-answer.ensures.best
+pub of_lawful-requires-clause-short : goal.of_lawful-requires-clause-short
+of_lawful-requires-clause-short g c = best-short c.args.i.now c.in_ok-answer.answer c.in_ok-answer.ensures.instance c.in_ok-answer.ensures.best
 
 pub answer_of-requires : goal.answer_of-requires
 answer_of-requires g c = record { limit = c.args.limit; gone = c.in_ok-table.ensures.whole.0; delay = c.requires; made = c.in_ok-table.ensures.whole.2 }
 
-pub unwrap-requires : goal.unwrap-requires
-unwrap-requires g c =
-    accepted c.args.i.now c.in_ok-instance.instance c.args.limit c.take-2.new.self.entries.items c.in_ok-answer.answer c.new-2.result
-    (parts c.args.i.now c.args.limit c.in_ok-table.ensures.whole.0 c.table.new.rows c.as_slice.result.now c.as_slice-2.result.now c.take-2.new.self.entries.items c.in_ok-answer.answer c.in_ok-answer.ensures.instance c.requires c.in_ok-table.ensures.whole.2 c.as_slice.ensures.value c.as_slice-2.ensures.value
-    (c.in_ok-take-2.ensures.taken _ (c.in_ok-take.ensures.taken _ c.in_ok-table.ensures.whole.1) (c.take-2.ensures.wanted ∙ c.take.ensures.wanted ∙ c.table.ensures.wanted)) c.in_ok-answer.ensures.best)
-    c.in_ok-instance.ensures c.new-2.ensures.refused
-
 pub returns-clause-table : goal.returns-clause-table
 returns-clause-table g c =
-    (certified c.args.i.now c.in_ok-instance.instance c.args.limit c.take-2.new.self.entries.items c.in_ok-answer.answer c.new-2.result c.unwrap.result
+    (certified c.args.i.now c.in_ok-instance.instance c.args.limit c.take-2.new.self.entries.items c.in_ok-answer.answer c.of_lawful.result
     (parts c.args.i.now c.args.limit c.in_ok-table.ensures.whole.0 c.table.new.rows c.as_slice.result.now c.as_slice-2.result.now c.take-2.new.self.entries.items c.in_ok-answer.answer c.in_ok-answer.ensures.instance c.requires c.in_ok-table.ensures.whole.2 c.as_slice.ensures.value c.as_slice-2.ensures.value
     (c.in_ok-take-2.ensures.taken _ (c.in_ok-take.ensures.taken _ c.in_ok-table.ensures.whole.1) (c.take-2.ensures.wanted ∙ c.take.ensures.wanted ∙ c.table.ensures.wanted)) c.in_ok-answer.ensures.best)
-    c.in_ok-instance.ensures c.new-2.ensures.ok c.unwrap.ensures).table
+    c.in_ok-instance.ensures c.of_lawful.ensures).table
 
 pub returns-clause-proves : goal.returns-clause-proves
 returns-clause-proves g c =
-    (certified c.args.i.now c.in_ok-instance.instance c.args.limit c.take-2.new.self.entries.items c.in_ok-answer.answer c.new-2.result c.unwrap.result
+    (certified c.args.i.now c.in_ok-instance.instance c.args.limit c.take-2.new.self.entries.items c.in_ok-answer.answer c.of_lawful.result
     (parts c.args.i.now c.args.limit c.in_ok-table.ensures.whole.0 c.table.new.rows c.as_slice.result.now c.as_slice-2.result.now c.take-2.new.self.entries.items c.in_ok-answer.answer c.in_ok-answer.ensures.instance c.requires c.in_ok-table.ensures.whole.2 c.as_slice.ensures.value c.as_slice-2.ensures.value
     (c.in_ok-take-2.ensures.taken _ (c.in_ok-take.ensures.taken _ c.in_ok-table.ensures.whole.1) (c.take-2.ensures.wanted ∙ c.take.ensures.wanted ∙ c.table.ensures.wanted)) c.in_ok-answer.ensures.best)
-    c.in_ok-instance.ensures c.new-2.ensures.ok c.unwrap.ensures).proves
+    c.in_ok-instance.ensures c.of_lawful.ensures).proves
 
 pub returns-clause-few : goal.returns-clause-few
 returns-clause-few g c =
-    (certified c.args.i.now c.in_ok-instance.instance c.args.limit c.take-2.new.self.entries.items c.in_ok-answer.answer c.new-2.result c.unwrap.result
+    (certified c.args.i.now c.in_ok-instance.instance c.args.limit c.take-2.new.self.entries.items c.in_ok-answer.answer c.of_lawful.result
     (parts c.args.i.now c.args.limit c.in_ok-table.ensures.whole.0 c.table.new.rows c.as_slice.result.now c.as_slice-2.result.now c.take-2.new.self.entries.items c.in_ok-answer.answer c.in_ok-answer.ensures.instance c.requires c.in_ok-table.ensures.whole.2 c.as_slice.ensures.value c.as_slice-2.ensures.value
     (c.in_ok-take-2.ensures.taken _ (c.in_ok-take.ensures.taken _ c.in_ok-table.ensures.whole.1) (c.take-2.ensures.wanted ∙ c.take.ensures.wanted ∙ c.table.ensures.wanted)) c.in_ok-answer.ensures.best)
-    c.in_ok-instance.ensures c.new-2.ensures.ok c.unwrap.ensures).few
+    c.in_ok-instance.ensures c.of_lawful.ensures).few
