@@ -1,10 +1,8 @@
 -- What is within a limit.
-use Rattle.std.proofs.Common.{◌≡◌, ℕ, ◌+◌, ◌≤◌, List, length, Option, Some, None, IfSome, refl, arith}
+use Rattle.std.proofs.Common.{◌≡◌, ℕ, ◌≤◌, length, Option, Some, None, IfSome, refl, arith}
 use Rattle.schedule_meaning.specs.Instances.{Problem, IsInstance}
-use Rattle.schedule_meaning.specs.Timing.{delay_of}
 use Rattle.dp_certificate.specs.Limits.{IsSomeDelay, IsWithin}
 use Rattle.dp_certificate.specs.Prefixes.{Stage, first_stage, stage_after}
-use Rattle.dp_certificate.specs.Proves.{rest_of}
 use Rattle.dp_certificate.proofs.RestLaws.{IsAllServed, no-rest, rest-below, step-rest}
 use Rattle.dp_certificate.proofs.Stages.{ends-delay}
 

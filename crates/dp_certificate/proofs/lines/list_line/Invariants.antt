@@ -1,4 +1,4 @@
-use Rattle.std.proofs.Common.{◌+◌, ◌*◌, ◌<◌, ◌≤◌, length}
+use Rattle.std.proofs.Common.{◌*◌, ◌<◌, ◌≤◌, length}
 use Rattle.schedule_meaning.specs.Instances.{cluster_at}
 use Rattle.dp_certificate.proofs.LineLaws.{IsUpward}
 use Rattle.dp_certificate.proofs.lines.list_line.Given as goal
