@@ -1,5 +1,5 @@
 //! All nodes play a round, each in a branch of its own, carried by no fewer threads than there are processors.
-ghost use Rattle.std.specs.Prelude.{◌≡◌, OnOk, length};
+ghost use Rattle.std.specs.Prelude.{◌≡◌, ◌<◌, ◌≤◌, OnOk, length};
 ghost use denote.Param.Send.{IsSend, IsSync};
 ghost use Rattle.round_calls.specs.Rounds.{AreSamePasses, CanAllPlay, HaveAllPlayed};
 
@@ -25,8 +25,17 @@ pub(crate) fn threads_of<R: Threads>(rt: &R) -> usize {
     }
 }
 
-/// These nodes play a round, each with its actor, planner and pass: one half beside the other, down to single nodes. With one thread
-/// left, and where none can be started, the caller plays one half after the other.
+/// How many of so many nodes play beside the others: one part for a thread of its own, where several carry them, and else one half.
+fn front_of(nodes: usize, threads: usize) -> usize
+    requires { 2 ≤ nodes }
+    ensures some { 0 < result }
+    ensures others { result < nodes }
+{
+    (nodes / threads.max(2)).max(1)
+}
+
+/// These nodes play a round, each with its actor, planner and pass: a part in a thread of its own beside the others, until one thread
+/// is left. That one, and one that finds no other to be had, plays one half after the other, down to single nodes.
 ///
 /// An `Err` comes only where memory runs out; the other nodes still play to their ends.
 #[cycle(halves)]
@@ -65,7 +74,7 @@ pub(crate) fn play_all<P: Planner + Send, R: Threads + Wait + Sync, G: Gate + Sy
             &mut passes[0],
         );
     }
-    let middle = passes.len() / 2;
+    let middle = front_of(passes.len(), threads);
     let (front_passes, back_passes) = passes.split_at_mut(middle);
     let (front_actors, back_actors) = actors.split_at_mut(middle);
     let (front_planners, back_planners) = planners.split_at_mut(middle);
@@ -94,7 +103,7 @@ pub(crate) fn play_all<P: Planner + Send, R: Threads + Wait + Sync, G: Gate + Sy
         boards,
         round,
         gate,
-        threads.div_ceil(2),
+        threads - 1,
         front_actors,
         back_actors,
         front_planners,
@@ -104,7 +113,7 @@ pub(crate) fn play_all<P: Planner + Send, R: Threads + Wait + Sync, G: Gate + Sy
     )
 }
 
-/// Two halves of the nodes play a round, one after the other.
+/// Two parts of the nodes play a round, one after the other.
 #[cycle(halves)]
 fn play_in_turn<P: Planner + Send, R: Threads + Wait + Sync, G: Gate + Sync>(
     rt: &R,
@@ -158,7 +167,8 @@ fn play_in_turn<P: Planner + Send, R: Threads + Wait + Sync, G: Gate + Sync>(
     back
 }
 
-/// Two halves of the nodes play a round at once, carried by so many threads each.
+/// Two parts of the nodes play a round at once: the first in a thread of its own, the second carried by so many. All threads of a round are
+/// started by one, so that none has to wait until another that starts it is running.
 #[cycle(halves)]
 fn play_both<P: Planner + Send, R: Threads + Wait + Sync, G: Gate + Sync>(
     rt: &R,
@@ -195,7 +205,7 @@ fn play_both<P: Planner + Send, R: Threads + Wait + Sync, G: Gate + Sync>(
             boards,
             round,
             gate,
-            threads,
+            threads.min(1),
             front_actors,
             front_planners,
             front_passes,
