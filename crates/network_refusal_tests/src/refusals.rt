@@ -1,6 +1,6 @@
 // What the commands over a network refuse, with the line of each refusal.
 
-use command_calls::{Faults, NO_FAULTS, run_on_network};
+use command_calls::{Ending, Faults, NO_FAULTS, run_on_network, run_over};
 use outside_world::SinkFail;
 use signal_cli::Status;
 use std::alloc::{AllocError, Global};
@@ -191,38 +191,31 @@ fn faulty(rt: HostRuntime) -> Result<(), Fail> {
             out: &[],
             err: &[],
         };
-        let ending = run_on_network(
-            &rt,
-            alloc,
-            "replay net arr hist",
-            NETWORK,
-            ONE_VEHICLE,
-            REPORT,
-            faults,
-        )?;
+        let ending = replay_with(&rt, alloc, faults)?;
         assert!(rt; ending.is(Status::ReadFault, "", line));
     }
-    let ending = run_on_network(
-        &rt,
+    let ending = replay_with(&rt, alloc, OUT_KEEPS_FOUR)?;
+    assert!(rt; ending.is(Status::WriteFault, "kind", "signal: cannot write\n"));
+    let ending = run_over(&rt, alloc, &["grid", "7", "2", "1"], &[], OUT_KEEPS_FOUR)?;
+    assert!(rt; ending.is(Status::WriteFault, "grid", "signal: cannot write\n"));
+    Ok(())
+}
+
+// How `replay` of the worked run ends with these faults.
+fn replay_with<R: Threads + Wait + Sync>(
+    rt: &R,
+    alloc: Global,
+    faults: Faults<'_>,
+) -> Result<Ending, AllocError> {
+    run_on_network(
+        rt,
         alloc,
         "replay net arr hist",
         NETWORK,
         ONE_VEHICLE,
         REPORT,
-        OUT_KEEPS_FOUR,
-    )?;
-    assert!(rt; ending.is(Status::WriteFault, "kind", "signal: cannot write\n"));
-    let ending = run_on_network(
-        &rt,
-        alloc,
-        "grid 7 2 1",
-        NETWORK,
-        ONE_VEHICLE,
-        REPORT,
-        OUT_KEEPS_FOUR,
-    )?;
-    assert!(rt; ending.is(Status::WriteFault, "grid", "signal: cannot write\n"));
-    Ok(())
+        faults,
+    )
 }
 
 // A fourth fetch would fail, and `out` takes four bytes and fails.
