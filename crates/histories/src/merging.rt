@@ -1,5 +1,5 @@
 // The history that logs tell.
-ghost use Rattle.std.specs.Prelude.{◌≡◌, ◌++◌, [], IfOk, OnOk, map};
+ghost use Rattle.std.specs.Prelude.{◌≡◌, ◌<◌, ◌++◌, [], IfOk, IsPermutation, OnOk, length, map};
 ghost use Rattle.histories.specs.Merges.{IsMerge, all_events, stamp_and_node};
 
 use crate::history::History;
@@ -17,8 +17,36 @@ pub fn merge(alloc: Global, logs: &[BoardLog]) -> Result<History, AllocError>
     for log in logs {
         push_drawn(log, &mut drawn)?;
     }
+    place_by_stamps(&mut drawn);
     drawn.sort_unstable();
     nodes_of(alloc, drawn.as_slice())
+}
+
+/// Puts the pairs in the places of their stamps, as far as there are such places. Threads draw stamps one after another, so the sort
+/// behind it finds them in order.
+fn place_by_stamps(drawn: &mut Vec<(u64, u32)>)
+    ensures { IsPermutation drawn.old.items drawn.new.items }
+{
+    for place in 0..drawn.len() {
+        settle(drawn, place);
+    }
+}
+
+/// Puts the pair in this place in that of its stamp, then the one that stood there, and so on, until one has no such place or finds
+/// it taken by its like.
+fn settle(drawn: &mut Vec<(u64, u32)>, place: usize)
+    requires { place < length drawn.old.items }
+    ensures same { IsPermutation drawn.old.items drawn.new.items }
+    ensures count { length drawn.new.items ≡ length drawn.old.items }
+{
+    let count = drawn.len();
+    for _ in 0..count {
+        let stamp = drawn[place].0;
+        if stamp >= count as u64 || drawn[stamp as usize].0 == stamp {
+            return;
+        }
+        drawn.swap(place, stamp as usize);
+    }
 }
 
 /// The history of the nodes of stamps with nodes.

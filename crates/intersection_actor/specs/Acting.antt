@@ -68,3 +68,14 @@ with_heard h a = record a { want = reading (drop 1 a.left); left = drop 1 a.left
 -- the actor that wants this
 abbrev pub wanting : Want → Acting → Acting
 wanting want a = record a { want = want }
+
+-- the actor behind its round: it keeps nothing more of what it sensed, heard and planned in it
+abbrev pub resting : Acting → Acting
+resting a = record a {
+  left = [];
+  sensed = record { now = 0; links = [] };
+  heard = [];
+  window = record { lists = []; waiting = 0 };
+  phases = [];
+  served = [];
+}

@@ -1,4 +1,6 @@
 //! The actor of a node.
+ghost use Rattle.std.specs.Prelude.{◌≡◌, []};
+
 use crate::planning::{RoundPlan, Schedule, planned};
 use crate::reads::{heard_links, next_read, next_told};
 use crate::records::{PlanRecord, Want};
@@ -62,7 +64,7 @@ impl Actor {
     ghost use Rattle.control_flow.specs.Greens.{end_of};
     ghost use Rattle.net_numbers.specs.Numbers.{Net};
     ghost use Rattle.road_net.specs.Senses.{IsSensedOf};
-    ghost use Rattle.intersection_actor.specs.Acting.{IsPublish, begun, tells_from, told_at, wanting, with_heard};
+    ghost use Rattle.intersection_actor.specs.Acting.{IsPublish, begun, resting, tells_from, told_at, wanting, with_heard};
     ghost use Rattle.intersection_actor.specs.Rounds.{IsCommitted, IsNew, IsOf, KeepsPast};
     ghost use Rattle.intersection_actor.specs.Steps.{IsPlanned};
     ghost use Rattle.clusters.specs.Windows.{counts_of};
@@ -91,15 +93,9 @@ impl Actor {
             want: Want::Done,
             round: 0,
             reads: Vec::new(alloc),
-            sensed: Sensed {
-                now: 0,
-                links: Items::from_vec(Vec::new(alloc)),
-            },
+            sensed: nothing_sensed(alloc),
             heard: Vec::new(alloc),
-            window: Window {
-                lists: Items::from_vec(Vec::new(alloc)),
-                waiting: 0,
-            },
+            window: empty_window(alloc),
             phases: Items::from_vec(Vec::new(alloc)),
             served: Items::from_vec(Vec::new(alloc)),
         })
@@ -311,5 +307,42 @@ impl Actor {
             unreachable!()
         };
         self.want = next_told(net, self.node, link as u64 + 1);
+    }
+
+    /// It has done its round: of what it sensed, heard and planned in it, it keeps its timeline and the plan record alone. It takes no
+    /// memory.
+    ///
+    /// docs/RULES.md, "A node's round".
+    pub fn rest(&mut self, alloc: Global)
+        requires { self.old.want ≡ Want.Done }
+        ensures rests { self.new ≡ resting self.old }
+        ensures of { (net : Net) → IsOf net self.old → IsOf net self.new }
+    {
+        self.reads = Vec::new(alloc);
+        self.sensed = nothing_sensed(alloc);
+        self.heard = Vec::new(alloc);
+        self.window = empty_window(alloc);
+        self.phases = Items::from_vec(Vec::new(alloc));
+        self.served = Items::from_vec(Vec::new(alloc));
+    }
+}
+
+/// What a node senses that has no entry link.
+fn nothing_sensed(alloc: Global) -> Sensed
+    ensures { result ≡ record { now = 0; links = [] } }
+{
+    Sensed {
+        now: 0,
+        links: Items::from_vec(Vec::new(alloc)),
+    }
+}
+
+/// The window of no platoons.
+fn empty_window(alloc: Global) -> Window
+    ensures { result ≡ record { lists = []; waiting = 0 } }
+{
+    Window {
+        lists: Items::from_vec(Vec::new(alloc)),
+        waiting: 0,
     }
 }

@@ -12,7 +12,7 @@ use Rattle.control_flow.specs.Greens.{end_of}
 use Rattle.control_flow.specs.declared.greens.Green.{Green}
 use Rattle.histories.specs.Steps.{board_steps}
 use Rattle.histories.specs.declared.steps.BoardStep.TheVariants as steps
-use Rattle.intersection_actor.specs.Acting.{Acting, begun, telling}
+use Rattle.intersection_actor.specs.Acting.{Acting, begun, resting, telling}
 use Rattle.intersection_actor.specs.Commits.{Commitment, IsCommit, phases_of, record_of}
 use Rattle.intersection_actor.specs.Rounds.{IsCommitted, IsOf, KeepsPast}
 use Rattle.intersection_actor.specs.declared.records.PlanRecord.{PlanRecord}
@@ -64,8 +64,12 @@ publishes-all calls links same k d inside reads =
     never : (l m : ℕ) → steps.Read l ≡ steps.Publish m → ⊥
     never l m e = cc
 
-module _ (net : Net) (round : ℕ) (world : Kept) (a b c d e : Acting) (p q r : PassView) (sensed : Sensed) (seen : IsSeen net world a.node sensed) (begins : b ≡ begun net round sensed a)
-    (heard : HasHeard b c p q) (all : c.left ≡ []) (committed : IsCommitted net c d) (kept : KeepsPast net c d) (told : HasTold net d e q r (told_links net d.node)) (of : IsOf net e) (order : AreInOrder r.known r.calls) where
+-- behind its last publishing it has done its round
+pub is-done : (net : Net) (d e : Acting) (q r : PassView) → HasTold net d e q r (told_links net d.node) → e.want ≡ Done
+is-done net d e q r told = ap (λ (x : Acting). x.want) told.actor ∙ ap telling (slice_get_past (told_links net d.node) (length (told_links net d.node)) (omega arith))
+
+module _ (net : Net) (round : ℕ) (world : Kept) (a b c d e f : Acting) (p q r : PassView) (sensed : Sensed) (seen : IsSeen net world a.node sensed) (begins : b ≡ begun net round sensed a)
+    (heard : HasHeard b c p q) (all : c.left ≡ []) (committed : IsCommitted net c d) (kept : KeepsPast net c d) (told : HasTold net d e q r (told_links net d.node)) (rests : f ≡ resting e) (of : IsOf net f) (order : AreInOrder r.known r.calls) where
   abbrev made : Commitment
   made = committed.made
 
@@ -133,10 +137,7 @@ module _ (net : Net) (round : ℕ) (world : Kept) (a b c d e : Acting) (p q r : 
         (All-weaker (λ (x : Call). x.forecast ≡ outgoing net x.link d) (λ (x : Call). x.publishes ≡ true → x.forecast ≡ told_in net round x.link made) (λ x h publishes. h ∙ tells-is x.link) told.calls told.tells);
   }
 
-  want-e : e.want ≡ Done
-  want-e = ap (λ (x : Acting). x.want) told.actor ∙ ap telling (slice_get_past (told_links net d.node) (length (told_links net d.node)) (omega arith))
-
-  pub played : HasPlayed net round world a e p r
+  pub played : HasPlayed net round world a f p r
   played = (
     record { sensed = sensed; heard = hears; made = made; calls = calls },
     record {
@@ -144,15 +145,15 @@ module _ (net : Net) (round : ℕ) (world : Kept) (a b c d e : Acting) (p q r : 
       heard = links-heard heard.calls ∙ links;
       commit = commit;
       rests = record {
-        node = ap (λ (x : Acting). x.node) told.actor ∙ node-d;
+        node = ap (λ (x : Acting). x.node) rests ∙ ap (λ (x : Acting). x.node) told.actor ∙ node-d;
         of = of;
-        want = want-e;
-        line = ap (λ (x : Acting). x.line) told.actor ∙ ap (λ (x : Acting). x.line) committed.all;
+        want = ap (λ (x : Acting). x.want) rests ∙ is-done net d e q r told;
+        line = ap (λ (x : Acting). x.line) rests ∙ ap (λ (x : Acting). x.line) told.actor ∙ ap (λ (x : Acting). x.line) committed.all;
         ahead =
-            subst (λ (l : List Green). (round + 1) * net.run.step < end_of l) (sym (ap (λ (x : Acting). x.line) told.actor))
+            subst (λ (l : List Green). (round + 1) * net.run.step < end_of l) (sym (ap (λ (x : Acting). x.line) rests ∙ ap (λ (x : Acting). x.line) told.actor))
             (subst (λ k. (k + 1) * net.run.step < end_of d.line) round-c kept.later);
         records =
-            ap (λ (x : Acting). x.records) told.actor ∙ ap (λ (x : Acting). x.records) committed.all ∙ ap (λ (l : List PlanRecord). l ++ record_of c.node c.round c.heard made ∷ []) records-c
+            ap (λ (x : Acting). x.records) rests ∙ ap (λ (x : Acting). x.records) told.actor ∙ ap (λ (x : Acting). x.records) committed.all ∙ ap (λ (l : List PlanRecord). l ++ record_of c.node c.round c.heard made ∷ []) records-c
             ∙ ap (λ (x : PlanRecord). a.records ++ x ∷ []) (ap (λ k. record_of k c.round c.heard made) node-c ∙ ap (λ k. record_of a.node k c.heard made) round-c ∙ ap (λ (l : List Heard). record_of a.node round l made) heard-c);
       };
       calls = of-round;

@@ -70,6 +70,7 @@ pub fn play<P: Planner, R: Threads + Wait + Sync, G: Gate>(
     hear(rt, alloc, net, boards, round, gate, actor, pass)?;
     actor.commit(alloc, net, planner)?;
     tell(rt, alloc, net, boards, round, gate, actor, pass)?;
+    actor.rest(alloc);
     // What it says of the pass is wanted here, and not the count.
     let _ = pass.calls_left();
     Ok(())
