@@ -168,7 +168,7 @@ impl Actor {
         self.round = round;
         self.reads = reads;
         self.sensed = sensed;
-        self.heard = Vec::new(alloc);
+        self.heard.clear();
         Ok(())
     }
 
@@ -320,7 +320,7 @@ impl Actor {
     {
         self.reads = Vec::new(alloc);
         self.sensed = nothing_sensed(alloc);
-        self.heard = Vec::new(alloc);
+        self.heard.clear();
         self.window = empty_window(alloc);
         self.phases = Items::from_vec(Vec::new(alloc));
         self.served = Items::from_vec(Vec::new(alloc));
