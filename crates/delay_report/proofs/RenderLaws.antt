@@ -1,9 +1,11 @@
 -- The parts of a report, one after another.
-use Rattle.std.proofs.Common.{◌≡◌, ℕ, ◌<◌, List, [], ◌∷◌, length, map, filter, nat_lt, slice_index_or, get_or, All, Vec, sym, ap, ◌∙◌, subst, arith}
+use Rattle.std.proofs.Common.{◌≡◌, ℕ, ◌<◌, List, [], ◌∷◌, ◌++◌, length, map, filter, nat_lt, slice_index_or, get_or, All, Vec, sym, ap, ◌∙◌, subst, arith}
 use Rattle.std.specs.List.{flat_map, range_with_len}
 use Rattle.std.proofs.lemmas.List.{get_or-map, length-map}
 use Rattle.std.proofs.lemmas.List.Elements.{All-append, All-map, All-nil}
 use Rattle.std.proofs.lemmas.List.FromFn.{get_or-range_with_len, length-range_with_len}
+use Rattle.std.proofs.lemmas.Grind.{flat_map-append}
+use Rattle.csv.specs.Writing.{default_writer, row_text}
 use Rattle.csv.specs.declared.writer.Writer.{Writer}
 use Rattle.control_flow.specs.declared.greens.Green.{Green}
 use Rattle.intersection_actor.specs.declared.records.PlanRecord.{PlanRecord}
@@ -13,7 +15,7 @@ use Rattle.runs.specs.Runs.{end_of_run}
 use Rattle.runs.specs.Whole.{IsWhole, rounds_and_nodes}
 use Rattle.runs.specs.declared.records.RunRecord.{RunRecord}
 use Rattle.delay_report.specs.Entries.{header}
-use Rattle.delay_report.specs.Reports.{green_record, link_record, no_totals, plan_record, report_records, report_text, step_record_at, total_record}
+use Rattle.delay_report.specs.Reports.{green_record, link_record, no_totals, outcome_records, plan_record, records_text, report_records, report_text, step_record_at, steps_records, total_record}
 use Rattle.delay_report.specs.Written.{Adds, HasWritten}
 use Rattle.delay_report.proofs.WrittenLaws.{adds-then}
 
@@ -24,20 +26,30 @@ pub greens-of : {Z : Type 0} (net : Net) (lines : List (List Green)) (node end :
 greens-of net lines node end rows old new ends are adds =
     subst (Adds old new) (ap (λ e. map (green_record net node) (filter (λ (green : Green). nat_lt green.from e) rows)) ends ∙ ap (λ l. map (green_record net node) (filter (λ (green : Green). nat_lt green.from (end_of_run net)) l)) are) adds
 
--- all parts of a report
-pub all-parts : {Z : Type 0} (net : Net) (run : RunRecord) (h nodes : List ℕ) (plans : List PlanRecord) (lines : List (List Green)) (links : List LinkTotals) (o0 o1 o2 o3 o4 o5 o6 : Writer (Vec ℕ Z))
-    → nodes ≡ h → plans ≡ run.plans → lines ≡ run.timelines → links ≡ run.links → HasWritten o0 [] → Adds o0 o1 (header ∷ []) → Adds o1 o2 (map (step_record_at net nodes) (range_with_len 0 (length nodes)))
+-- the front of a report
+pub front-parts : {Z : Type 0} (net : Net) (h nodes : List ℕ) (o0 o1 o2 : Writer (Vec ℕ Z)) → nodes ≡ h → HasWritten o0 [] → Adds o0 o1 (header ∷ [])
+    → Adds o1 o2 (map (step_record_at net nodes) (range_with_len 0 (length nodes))) → HasWritten o2 (records_text (steps_records net h))
+front-parts net h nodes o0 o1 o2 is_history start first steps =
+    let b = subst (λ l. Adds o1 o2 (map (step_record_at net l) (range_with_len 0 (length l)))) is_history steps in
+    (adds-then o0 o1 o2 _ _ first b).adds [] start
+
+-- what is behind it
+pub outcome-parts : {Z : Type 0} (net : Net) (run : RunRecord) (text : List ℕ) (plans : List PlanRecord) (lines : List (List Green)) (links : List LinkTotals) (o2 o3 o4 o5 o6 : Writer (Vec ℕ Z))
+    → plans ≡ run.plans → lines ≡ run.timelines → links ≡ run.links → HasWritten o2 text
     → Adds o2 o3 (map (plan_record net) plans)
     → Adds o3 o4 (flat_map (λ node. map (green_record net node) (filter (λ (green : Green). nat_lt green.from (end_of_run net)) (slice_index_or lines node []))) (range_with_len 0 (length net.node_names)))
     → Adds o4 o5 (map (λ link. link_record net link (slice_index_or links link no_totals)) (range_with_len 0 (length net.link_names)))
-    → Adds o5 o6 (total_record run.totals ∷ []) → HasWritten o6 (report_text net run h)
-unfolding report_records
-all-parts net run h nodes plans lines links o0 o1 o2 o3 o4 o5 o6 is_history are_plans are_lines are_links start first steps planned shown counted last =
-    let b = subst (λ l. Adds o1 o2 (map (step_record_at net l) (range_with_len 0 (length l)))) is_history steps in
+    → Adds o5 o6 (total_record run.totals ∷ []) → HasWritten o6 (text ++ records_text (outcome_records net run))
+outcome-parts net run text plans lines links o2 o3 o4 o5 o6 are_plans are_lines are_links start planned shown counted last =
     let c = subst (λ l. Adds o2 o3 (map (plan_record net) l)) are_plans planned in
     let d = subst (λ l. Adds o3 o4 (flat_map (λ node. map (green_record net node) (filter (λ (green : Green). nat_lt green.from (end_of_run net)) (slice_index_or l node []))) (range_with_len 0 (length net.node_names)))) are_lines shown in
     let e = subst (λ l. Adds o4 o5 (map (λ link. link_record net link (slice_index_or l link no_totals)) (range_with_len 0 (length net.link_names)))) are_links counted in
-    (adds-then o0 o1 o6 _ _ first (adds-then o1 o2 o6 _ _ b (adds-then o2 o3 o6 _ _ c (adds-then o3 o4 o6 _ _ d (adds-then o4 o5 o6 _ _ e last))))).adds [] start
+    (adds-then o2 o3 o6 _ _ c (adds-then o3 o4 o6 _ _ d (adds-then o4 o5 o6 _ _ e last))).adds text start
+
+-- both are the report
+pub both-parts : (net : Net) (run : RunRecord) (h : List ℕ) → records_text (steps_records net h) ++ records_text (outcome_records net run) ≡ report_text net run h
+unfolding report_records
+both-parts net run h = sym (flat_map-append (row_text default_writer) (steps_records net h) (outcome_records net run))
 
 all-flat : {X Y : Type 0} (P : Y → Type 0) (f : X → List Y) → ((x : X) → All P (f x)) → (xs : List X) → All P (flat_map f xs)
 all-flat P f each [] = All-nil P

@@ -69,15 +69,21 @@ link_record_of net run link = link_record net link (slice_index_or run.links lin
 abbrev pub total_record : Totals → List (List ℕ)
 total_record totals = codes "total" ∷ [] ∷ [] ∷ decimal totals.entered ∷ decimal totals.left ∷ decimal totals.on ∷ decimal totals.delay ∷ []
 
--- The records of a report: the header; the steps of the history, in their order; the plans by round and node; the greens by node
--- and time; the links; and all totals.
-unfoldable pub report_records : Net → RunRecord → List ℕ → List (List (List ℕ))
-report_records net run history =
-    header ∷ (map (step_record_at net history) (range_with_len 0 (length history))
-    ++ (map (plan_record net) run.plans
+-- the records of the front of a report: the header, and the steps of the history, in their order
+abbrev pub steps_records : Net → List ℕ → List (List (List ℕ))
+steps_records net history = header ∷ map (step_record_at net history) (range_with_len 0 (length history))
+
+-- those of what a run came to: the plans by round and node; the greens by node and time; the links; and all totals
+abbrev pub outcome_records : Net → RunRecord → List (List (List ℕ))
+outcome_records net run =
+    map (plan_record net) run.plans
     ++ (flat_map (green_records net run) (range_with_len 0 (length net.node_names))
     ++ (map (link_record_of net run) (range_with_len 0 (length net.link_names))
-    ++ total_record run.totals ∷ []))))
+    ++ total_record run.totals ∷ []))
+
+-- the records of a report: the steps of the history, and behind them what the run came to
+unfoldable pub report_records : Net → RunRecord → List ℕ → List (List (List ℕ))
+report_records net run history = steps_records net history ++ outcome_records net run
 
 -- the text of records, as `csv` writes them
 abbrev pub records_text : List (List (List ℕ)) → List ℕ

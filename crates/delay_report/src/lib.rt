@@ -12,5 +12,5 @@ mod texts;
 mod world;
 
 pub use faults::HistoryFault;
-pub use reports::{law_of_reports, render};
+pub use reports::{join_report, law_of_reports, render, render_outcome, render_steps};
 pub use texts::read_history;

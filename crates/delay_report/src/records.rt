@@ -7,11 +7,11 @@ use csv::Writer;
 use number_text::Line;
 use std::alloc::{AllocError, Global};
 
-/// A writer that has written nothing.
-pub(crate) fn start(alloc: Global) -> Writer<Vec<u8>>
-    ensures { HasWritten result [] }
+/// A writer behind this text.
+pub(crate) fn start(text: Vec<u8>) -> Writer<Vec<u8>>
+    ensures { HasWritten result text.items }
 {
-    Writer::from_writer(Vec::new(alloc))
+    Writer::from_writer(text)
 }
 
 /// The text that was written.

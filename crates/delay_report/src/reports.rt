@@ -1,10 +1,11 @@
 //! The report of a run.
-ghost use Rattle.std.specs.Prelude.{◌≡◌, ℕ, List, [], ◌∷◌, IfOk, OnOk};
+ghost use Rattle.std.specs.Prelude.{◌≡◌, ℕ, List, [], ◌∷◌, ◌++◌, IfOk, OnOk};
 ghost use Rattle.histories.specs.Histories.{IsLawful};
 ghost use Rattle.runs.specs.Whole.{IsWhole};
 ghost use Rattle.runs.specs.declared.records.RunRecord.{RunRecord};
 ghost use Rattle.delay_report.specs.Entries.{header};
-ghost use Rattle.delay_report.specs.Reports.{report_text};
+ghost use Rattle.delay_report.specs.Reports.{outcome_records, records_text, report_text, steps_records};
+ghost use Rattle.road_net.specs.Network.{IsNetwork};
 ghost use Rattle.delay_report.specs.Texts.{IsHistoryText};
 ghost use Rattle.delay_report.specs.Written.{Adds};
 
@@ -32,14 +33,55 @@ pub fn render(
     ensures text { IfOk result (λ text. text.items ≡ report_text net.now run.now h.now) }
     ensures history { IfOk result (λ text. IsHistoryText net.now text.items h.now) }
 {
-    let mut out = start(alloc);
+    let steps = render_steps(alloc, net, h)?;
+    render_outcome(alloc, net, run, steps)
+}
+
+/// The front of the report of a history: the header, and the steps in their order. An `Err` comes only where memory runs out.
+///
+/// docs/FORMATS.md, "Report".
+pub fn render_steps(alloc: Global, net: &Network, h: &History) -> Result<Vec<u8>, AllocError>
+    requires { IsLawful net.now h.now }
+    ensures text { IfOk result (λ text. text.items ≡ records_text (steps_records net.now h.now)) }
+    ensures network { OnOk result (IsNetwork net.now) }
+{
+    let mut out = start(Vec::new(alloc));
     write_header(&mut out)?;
     write_steps(alloc, net, h.steps(), &mut out)?;
+    finish(out)
+}
+
+/// Puts behind a text what a run came to: the plans, the greens, the links and all totals. An `Err` comes only where memory runs out.
+///
+/// docs/FORMATS.md, "Report".
+pub fn render_outcome(
+    alloc: Global,
+    net: &Network,
+    run: &RunRecord,
+    text: Vec<u8>,
+) -> Result<Vec<u8>, AllocError>
+    requires { IsWhole net.now run.now }
+    ensures { IfOk result (λ all. all.items ≡ text.items ++ records_text (outcome_records net.now run.now)) }
+{
+    let mut out = start(text);
     write_plans(alloc, net, run.plans.as_slice(), &mut out)?;
     write_greens(net, run.timelines.as_slice(), &mut out)?;
     write_links(net, run.links.as_slice(), &mut out)?;
     write_totals(run.totals, &mut out)?;
     finish(out)
+}
+
+/// The report of a run of a history: its front, and behind it what the run came to. An `Err` comes only where memory runs out.
+///
+/// docs/FORMATS.md, "Report".
+pub fn join_report(net: &Network, steps: Vec<u8>, outcome: &[u8]) -> Result<Vec<u8>, AllocError>
+    ensures text { (run : RunRecord) (history : List ℕ) → steps.items ≡ records_text (steps_records net.now history)
+        → outcome.now ≡ records_text (outcome_records net.now run) → IfOk result (λ text. text.items ≡ report_text net.now run history) }
+{
+    let _nodes = net.nodes();
+    let mut text = steps;
+    text.extend_from_slice(outcome)?;
+    Ok(text)
 }
 
 /// Writes the header.

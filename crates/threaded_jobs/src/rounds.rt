@@ -2,14 +2,17 @@
 ghost use Rattle.std.specs.Prelude.{◌≡◌, ◌*◌, ◌≤◌, ℕ, IfOk, OnOk, length};
 ghost use Rattle.arrivals.specs.Amounts.{AreArrivals, entering};
 ghost use Rattle.board_rule.specs.Passes.{AreAllPasses, AreLogsOfPasses, calls_in, fresh_passes};
+ghost use Rattle.delay_report.specs.Reports.{outcome_records, records_text, report_text, steps_records};
+ghost use Rattle.histories.specs.Histories.{IsLawful};
 ghost use Rattle.histories.specs.Steps.{board_steps};
+ghost use Rattle.runs.specs.Whole.{IsWhole};
 ghost use Rattle.net_threads.specs.Calls.{IsRunOfCalls, MergeToLawful};
 ghost use Rattle.commands.specs.Headline.{IsRunOf, ToldHeadline};
 
 use super::calls::calls_for_pass;
 use arrivals::Arrivals;
 use board_model::{BoardLog, Gate};
-use delay_report::{law_of_reports, render};
+use delay_report::{join_report, law_of_reports, render_outcome, render_steps};
 use histories::{History, merge};
 use net_threads::run_rounds;
 use plan_boards::{Boards, Pass};
@@ -18,13 +21,14 @@ use road_net::Network;
 use runs::{RunRecord, law_of_runs};
 use std::alloc::{AllocError, Global};
 use std::sync::Wait;
-use std::thread::Threads;
+use std::thread::{Threads, join};
 
-/// A run, and the history that its boards tell.
+/// A run, the history that its boards tell, and the logs of these.
 #[derive(Drop)]
 struct Told {
     run: RunRecord,
     history: History,
+    logs: Vec<BoardLog>,
 }
 
 /// The run of a network in threads, by new passes with so many calls, one for each node.
@@ -85,7 +89,49 @@ fn play<R: Threads + Wait + Sync, G: Gate + Sync>(
     let logs = closed(alloc, boards, passes)?;
     let run = run?;
     let history = merge(alloc, &logs)?;
-    Ok(Told { run, history })
+    Ok(Told { run, history, logs })
+}
+
+/// What a run came to, written out. The run and the logs are let go here: of so many parts, that takes as long.
+fn outcome_of(
+    alloc: Global,
+    net: &Network,
+    run: RunRecord,
+    _logs: Vec<BoardLog>,
+) -> Result<Vec<u8>, AllocError>
+    requires { IsWhole net.now run }
+    ensures { IfOk result (λ text. text.items ≡ records_text (outcome_records net.now run)) }
+{
+    render_outcome(alloc, net, &run, Vec::new(alloc))
+}
+
+/// The report of what was told. Its steps are written out while another thread writes out what the run came to, and lets go what
+/// is no more wanted.
+fn told_report<R: Threads>(
+    rt: &R,
+    alloc: Global,
+    net: &Network,
+    told: Told,
+) -> Result<Vec<u8>, AllocError>
+    requires lawful { IsLawful net.now told.history }
+    requires whole { IsWhole net.now told.run }
+    ensures text { IfOk result (λ text. text.items ≡ report_text net.now told.run told.history) }
+{
+    let Told { run, history, logs } = told;
+    let history = &history;
+    let (outcome, steps) = join(
+        rt,
+        move || -> Result<Vec<u8>, AllocError>
+            requires { IsWhole net.now run }
+            ensures { IfOk result (λ text. text.items ≡ records_text (outcome_records net.entry.now run)) }
+        { outcome_of(alloc, net, run, logs) },
+        || -> Result<Vec<u8>, AllocError>
+            requires { IsLawful net.now history.now }
+            ensures { IfOk result (λ text. text.items ≡ records_text (steps_records net.entry.now history.entry.now)) }
+        { render_steps(alloc, net, history) },
+    );
+    let outcome = outcome?;
+    join_report(net, steps?, outcome.as_slice())
 }
 
 /// The report of the run of a network in threads, and of the history that its boards tell.
@@ -102,5 +148,5 @@ pub(crate) fn report<R: Threads + Wait + Sync, G: Gate + Sync>(
     let told = play(rt, alloc, net, arrivals, gate)?;
     law_of_runs(net);
     law_of_reports(net);
-    render(alloc, net, &told.run, &told.history)
+    told_report(rt, alloc, net, told)
 }
