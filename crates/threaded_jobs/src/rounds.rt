@@ -92,21 +92,40 @@ fn play<R: Threads + Wait + Sync, G: Gate + Sync>(
     Ok(Told { run, history, logs })
 }
 
-/// What a run came to, written out. The run and the logs are let go here: of so many parts, that takes as long.
-fn outcome_of(
-    alloc: Global,
-    net: &Network,
-    run: RunRecord,
-    _logs: Vec<BoardLog>,
-) -> Result<Vec<u8>, AllocError>
+/// What a run came to, written out. The run is let go here: of so many parts, that takes as long.
+fn outcome_of(alloc: Global, net: &Network, run: RunRecord) -> Result<Vec<u8>, AllocError>
     requires { IsWhole net.now run }
     ensures { IfOk result (λ text. text.items ≡ records_text (outcome_records net.now run)) }
 {
     render_outcome(alloc, net, &run, Vec::new(alloc))
 }
 
-/// The report of what was told. Its steps are written out while another thread writes out what the run came to, and lets go what
-/// is no more wanted.
+/// The steps of a history, written out while another thread lets go the logs that told it.
+fn steps_of<R: Threads>(
+    rt: &R,
+    alloc: Global,
+    net: &Network,
+    history: &History,
+    logs: Vec<BoardLog>,
+) -> Result<Vec<u8>, AllocError>
+    requires { IsLawful net.now history.now }
+    ensures { IfOk result (λ text. text.items ≡ records_text (steps_records net.now history.now)) }
+{
+    let ((), steps) = join(
+        rt,
+        move || {
+            let _logs = logs;
+        },
+        || -> Result<Vec<u8>, AllocError>
+            requires { IsLawful net.now history.now }
+            ensures { IfOk result (λ text. text.items ≡ records_text (steps_records net.entry.now history.entry.now)) }
+        { render_steps(alloc, net, history) },
+    );
+    steps
+}
+
+/// The report of what was told. Its steps are written out while another thread writes out what the run came to, and what is no more
+/// wanted is let go beside.
 fn told_report<R: Threads>(
     rt: &R,
     alloc: Global,
@@ -115,7 +134,7 @@ fn told_report<R: Threads>(
 ) -> Result<Vec<u8>, AllocError>
     requires lawful { IsLawful net.now told.history }
     requires whole { IsWhole net.now told.run }
-    ensures text { IfOk result (λ text. text.items ≡ report_text net.now told.run told.history) }
+    ensures { IfOk result (λ text. text.items ≡ report_text net.now told.run told.history) }
 {
     let Told { run, history, logs } = told;
     let history = &history;
@@ -124,11 +143,11 @@ fn told_report<R: Threads>(
         move || -> Result<Vec<u8>, AllocError>
             requires { IsWhole net.now run }
             ensures { IfOk result (λ text. text.items ≡ records_text (outcome_records net.entry.now run)) }
-        { outcome_of(alloc, net, run, logs) },
-        || -> Result<Vec<u8>, AllocError>
+        { outcome_of(alloc, net, run) },
+        move || -> Result<Vec<u8>, AllocError>
             requires { IsLawful net.now history.now }
             ensures { IfOk result (λ text. text.items ≡ records_text (steps_records net.entry.now history.entry.now)) }
-        { render_steps(alloc, net, history) },
+        { steps_of(rt, alloc, net, history, logs) },
     );
     let outcome = outcome?;
     join_report(net, steps?, outcome.as_slice())
