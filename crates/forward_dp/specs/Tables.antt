@@ -1,7 +1,8 @@
 -- The table: its rows, and how far it is made.
-use Rattle.std.specs.Prelude.{◌≡◌, ℕ, zero, suc, ◌+◌, ◌-◌, ◌*◌, ◌<◌, ◌≤◌, ◌++◌, true, List, [], length, map, slice_index, AllPairs, All, Contains, Option, Some}
+use Rattle.std.specs.Prelude.{◌≡◌, ℕ, zero, suc, ◌+◌, ◌-◌, ◌*◌, ◌<◌, ◌≤◌, ◌++◌, Bool, true, false, cond, List, [], length, map, slice_index, AllPairs, All, Contains, Option, Some}
 use Rattle.schedule_meaning.specs.Instances.{Problem, IsInstance, list_at}
 use Rattle.dp_certificate.specs.Limits.{IsSomeDelay, IsWithin}
+use Rattle.dp_certificate.specs.Numbers.{AreLengths}
 use Rattle.dp_certificate.specs.Prefixes.{Stage, key_of, stage_of}
 use Rattle.dp_certificate.specs.Proves.{key_of_entry, stage_of_entry}
 use Rattle.flat_table.specs.Groups.{row_at}
@@ -142,23 +143,45 @@ pub record HasNone (rows : Rows) : Type 0 where
   pub gone : rows.gone ≡ 0
   pub earlier : rows.earlier.items ≡ []
   pub latest : rows.latest.items ≡ []
+  pub apart : rows.apart ≡ false
 
--- the rows from which a phase is served: for the first one those with fewer clusters of it
+-- the rows from which a phase is served: for the first one, and where the last cell stands apart, the earlier ones
 abbrev pub source_of : Rows → ℕ → List Row
 source_of rows zero = rows.earlier.items
-source_of rows (suc k) = rows.latest.items
+source_of rows (suc k) = cond rows.apart rows.earlier.items rows.latest.items
 
 -- how many rows stand before them
 abbrev pub base_of : Rows → ℕ → ℕ
 base_of rows zero = rows.gone
-base_of rows (suc k) = rows.gone + length rows.earlier.items
+base_of rows (suc k) = cond rows.apart rows.gone (rows.gone + length rows.earlier.items)
+
+-- the rows that are let go have counts which, with one more of the first phase, are below a number, the earlier rows counts below
+-- another one, and the latest rows counts from there on and below a third
+pub record AreBetween (low middle high : ℕ) (gone : List Row) (rows : Rows) : Type 0 where
+  pub past : All (λ r. counts_number r.entry.counts + 262144 < low) gone
+  pub earlier : All (λ r. counts_number r.entry.counts < middle) rows.earlier.items
+  pub latest : All (λ r. (middle ≤ counts_number r.entry.counts) × (counts_number r.entry.counts < high)) rows.latest.items
 
 -- the latest rows have so many clusters of the first phase, the earlier ones fewer, and those that are let go at least two fewer
-pub record AreParted (first : ℕ) (gone : List Row) (rows : Rows) : Type 0 where
+abbrev pub AreParted : ℕ → List Row → Rows → Type 0
+AreParted first gone rows = AreBetween (first * 262144) (first * 262144) (first * 262144 + 262144) gone rows
+
+-- of the counts within the lists none are above these
+abbrev pub IsLastCounts : Problem → List ℕ → Type 0
+IsLastCounts p counts = (c : List ℕ) → ((k : ℕ) → slice_index c k ≤ length (list_at p.lists k)) → counts_number c ≤ counts_number counts
+
+-- the cell with these counts is the last one, and stands apart: the first phase is served, the latest rows have these counts, the
+-- earlier ones lower counts, and those that are let go fewer clusters of the first phase
+pub record IsApart (p : Problem) (k : ℕ) (counts : List ℕ) (gone : List Row) (rows : Rows) : Type 0 where
+  pub served : 0 < k
+  pub last : IsLastCounts p counts
+  pub parts : AreBetween (slice_index counts 0 * 262144 + 262144) (counts_number counts) (slice_index counts 0 * 262144 + 262144) gone rows
+
+-- the rows as they stand while the cell with these counts is made, once the phases before k are served
+pub record AreStanding (p : Problem) (k : ℕ) (counts : List ℕ) (gone : List Row) (rows : Rows) : Type 0 where
   pub count : rows.gone ≡ length gone
-  pub past : All (λ r. counts_number r.entry.counts + 262144 < first * 262144) gone
-  pub earlier : All (λ r. counts_number r.entry.counts < first * 262144) rows.earlier.items
-  pub latest : All (λ r. (first * 262144 ≤ counts_number r.entry.counts) × (counts_number r.entry.counts < first * 262144 + 262144)) rows.latest.items
+  pub shared : rows.apart ≡ false → AreParted (slice_index counts 0) gone rows
+  pub apart : rows.apart ≡ true → IsApart p k counts gone rows
 
 -- what is kept of the rows that are let go are their entries, where they are wanted
 abbrev pub HasEntries : Past → List Row → Type 0
@@ -168,33 +191,48 @@ HasEntries past gone = past.wanted ≡ true → past.entries.items ≡ map (λ r
 pub record IsEntered (Holds : List Row → Type 0) (first next : ℕ) (gone : List Row) (old new : Rows) : Type 0 where
   pub past : List Row
   pub held : Holds past
+  pub count : old.gone ≡ length gone → new.gone ≡ length past
   pub parted : AreParted first gone old → first ≤ next → AreParted next past new
+  pub apart : new.apart ≡ old.apart
+  pub same : all_rows past new ≡ all_rows gone old
+
+-- all rows are the same, and where it ends the earlier ones are let go, and the last cell stands apart
+pub record IsLeft (Holds : List Row → Type 0) (ends : Bool) (gone : List Row) (old new : Rows) : Type 0 where
+  pub past : List Row
+  pub held : Holds past
+  pub count : old.gone ≡ length gone → new.gone ≡ length past
+  pub stays : ends ≡ false → (past ≡ gone) × (new ≡ old)
+  pub goes : ends ≡ true → (past ≡ gone ++ old.earlier.items) × (new.earlier.items ≡ old.latest.items) × (new.latest.items ≡ []) × (new.apart ≡ true)
   pub same : all_rows past new ≡ all_rows gone old
 
 -- the group with these counts and this phase can be filled
 pub record IsGroupReady (p : Problem) (limit : Option ℕ) (counts : List ℕ) (k from : ℕ) (gone : List Row) (rows : Rows) : Type 0 where
   pub can : CanFill p limit counts k from (all_rows gone rows)
-  pub parted : AreParted (slice_index counts 0) gone rows
+  pub standing : AreStanding p k counts gone rows
 
--- and is
-pub record IsGroupFilled (p : Problem) (limit : Option ℕ) (counts : List ℕ) (k : ℕ) (gone : List Row) (old new : Rows) (end : ℕ) : Type 0 where
-  pub filled : IsFilled p limit counts k (all_rows gone old) (all_rows gone new) end
-  pub parted : AreParted (slice_index counts 0) gone new
+-- and is, and perhaps further rows are let go
+pub record IsGroupFilled (Holds : List Row → Type 0) (p : Problem) (limit : Option ℕ) (counts : List ℕ) (k : ℕ) (gone : List Row) (old new : Rows) (end : ℕ) : Type 0 where
+  pub past : List Row
+  pub held : Holds past
+  pub filled : IsFilled p limit counts k (all_rows gone old) (all_rows past new) end
+  pub standing : AreStanding p (k + 1) counts past new
 
 -- the cell with these counts can be filled
 pub record IsCellReady (p : Problem) (limit : Option ℕ) (counts : List ℕ) (gone : List Row) (rows : Rows) (ends : List ℕ) : Type 0 where
   pub can : CanFillCell p limit counts (all_rows gone rows) ends
-  pub parted : AreParted (slice_index counts 0) gone rows
+  pub standing : AreStanding p 0 counts gone rows
 
--- and is
-pub record IsCellMade (p : Problem) (limit : Option ℕ) (counts : List ℕ) (gone : List Row) (rows : Rows) (ends : List ℕ) : Type 0 where
+-- and is, and some rows are let go
+pub record IsCellMade (Holds : List Row → Type 0) (p : Problem) (limit : Option ℕ) (counts : List ℕ) (rows : Rows) (ends : List ℕ) : Type 0 where
+  pub gone : List Row
+  pub held : Holds gone
   pub filled : IsCellFilled p limit counts (all_rows gone rows) ends
-  pub parted : AreParted (slice_index counts 0) gone rows
+  pub standing : AreStanding p 4 counts gone rows
 
--- the whole table, of which some rows are let go
+-- the whole table, of which some rows are let go; those before the latest have lower counts than the last
 pub record IsTableMade (p : Problem) (limit : Option ℕ) (gone : List Row) (rows : Rows) : Type 0 where
   pub table : IsWholeTable p limit (all_rows gone rows)
-  pub parted : AreParted (length (list_at p.lists 0)) gone rows
+  pub before : (last : List ℕ) → AreLengths p.lists last → All (λ r. counts_number r.entry.counts < counts_number last) (gone ++ rows.earlier.items)
 
 -- a table that has a row of each least sequence: one with no limit, or with one that a feasible sequence keeps
 pub record HasAnswers (p : Problem) (rows : Rows) : Type 0 where

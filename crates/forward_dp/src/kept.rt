@@ -2,7 +2,7 @@
 
 ghost use Rattle.std.specs.Prelude.{◌≡◌, ◌+◌, ◌^◌, ◌<◌, ◌++◌, List, [], length, map, slice_index, OnOk};
 ghost use Rattle.flat_table.specs.declared.rows.Row.{Row};
-ghost use Rattle.forward_dp.specs.Tables.{HasEntries, HasNone, IsEntered, base_of, source_of};
+ghost use Rattle.forward_dp.specs.Tables.{HasEntries, HasNone, IsEntered, IsLeft, base_of, source_of};
 
 use dp_certificate::Entry;
 use flat_table::Row;
@@ -11,15 +11,18 @@ use std::alloc::{AllocError, Global};
 use std::mem::swap;
 
 /// The last rows of a table: those with as many clusters of the first phase as the cell under way has, and those with fewer
-/// from which such cells are reached.
+/// from which such cells are reached. Once the first phase is served in the last cell, that cell's rows stand apart from the
+/// others with as many, so that they take no memory that was not filled before.
 #[derive(Drop)]
 pub(crate) struct Rows {
     /// How many rows stood before these, and are let go.
     pub(crate) gone: usize,
-    /// The rows with fewer clusters of the first phase.
+    /// The rows with fewer clusters of the first phase; those of the cells before the last one, where it stands apart.
     pub(crate) earlier: Vec<Row>,
-    /// The rows with as many.
+    /// The rows with as many; those of the last cell, where it stands apart.
     pub(crate) latest: Vec<Row>,
+    /// Whether the last cell stands apart.
+    pub(crate) apart: bool,
 }
 
 /// What is kept of the rows that are let go: their entries, where they are wanted.
@@ -63,6 +66,7 @@ impl Rows {
             gone: 0,
             earlier: Vec::new(alloc),
             latest: Vec::new(alloc),
+            apart: false,
         }
     }
 
@@ -71,6 +75,7 @@ impl Rows {
         ensures { OnOk result (HasNone self.new) }
     {
         self.gone = 0;
+        self.apart = false;
         self.earlier.clear();
         self.latest.clear();
         self.earlier.reserve(room)?;
@@ -82,7 +87,7 @@ impl Rows {
     pub(crate) fn source(&self, phase: u8) -> &[Row]
         ensures { result.now ≡ source_of self.now phase }
     {
-        if phase == 0 {
+        if phase == 0 || self.apart {
             self.earlier.as_slice()
         } else {
             self.latest.as_slice()
@@ -94,7 +99,7 @@ impl Rows {
         requires { self.now.gone + length self.now.earlier.items < 2 ^ 64 }
         ensures { result ≡ base_of self.now phase }
     {
-        if phase == 0 {
+        if phase == 0 || self.apart {
             self.gone
         } else {
             self.gone + self.earlier.len()
@@ -121,12 +126,29 @@ impl Rows {
         Ok(())
     }
 
+    /// Where nothing more is reached from the earlier rows, lets them go, and the last cell stands apart. An `Err` comes where
+    /// memory runs out.
+    pub(crate) fn leave(&mut self, ends: bool, past: &mut Past) -> Result<(), AllocError>
+        requires { self.old.gone + length self.old.earlier.items < 2 ^ 64 }
+        ensures wanted { past.new.wanted ≡ past.old.wanted }
+        ensures left { (gone : List Row) → HasEntries past.old gone → OnOk result (IsLeft (HasEntries past.new) ends gone self.old self.new) }
+    {
+        if !ends {
+            return Ok(());
+        }
+        past.take(self.earlier.as_slice())?;
+        self.turn();
+        self.apart = true;
+        Ok(())
+    }
+
     /// Lets the earlier rows go. The latest ones become the earlier.
     fn turn(&mut self)
         requires { self.old.gone + length self.old.earlier.items < 2 ^ 64 }
         ensures gone { self.new.gone ≡ self.old.gone + length self.old.earlier.items }
         ensures earlier { self.new.earlier.items ≡ self.old.latest.items }
         ensures latest { self.new.latest.items ≡ [] }
+        ensures apart { self.new.apart ≡ self.old.apart }
     {
         self.gone += self.earlier.len();
         swap(&mut self.earlier, &mut self.latest);

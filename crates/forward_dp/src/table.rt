@@ -1,12 +1,12 @@
 //! The table, cell by cell: a cell holds the rows with the same counts, and follows from the cells with one less.
 
-ghost use Rattle.std.specs.Prelude.{◌≡◌, ℕ, ◌+◌, ◌*◌, ◌<◌, ◌≤◌, [], ◌∷◌, List, length, slice_index, sum, IfNone, IfOk, IfSome, OnOk};
+ghost use Rattle.std.specs.Prelude.{◌≡◌, ◌↔◌, ℕ, ◌+◌, ◌*◌, ◌<◌, ◌≤◌, [], ◌∷◌, List, length, slice_index, sum, IfNone, IfOk, IfSome, IsTrue, OnOk};
 ghost use Rattle.schedule_meaning.specs.Instances.{IsInstance};
 ghost use Rattle.dp_certificate.specs.Limits.{HasKeysWithin, IsSomeDelay};
 ghost use Rattle.dp_certificate.specs.Prefixes.{Key};
 ghost use Rattle.flat_table.specs.Groups.{IsEmpty};
 ghost use Rattle.forward_dp.specs.Numbers.{counts_number};
-ghost use Rattle.forward_dp.specs.Tables.{HasEntries, IsCellMade, IsCellReady, IsFrom, IsGroupFilled, IsGroupReady, IsNextCounts, HasNone, IsTableMade, all_rows};
+ghost use Rattle.forward_dp.specs.Tables.{HasEntries, IsCellMade, IsCellReady, IsFrom, IsGroupFilled, IsGroupReady, IsLastCounts, IsNextCounts, HasNone, IsTableMade, all_rows};
 ghost use Rattle.flat_table.specs.declared.rows.Row.{Row};
 
 use crate::kept::{Past, Rows};
@@ -46,7 +46,7 @@ pub(crate) fn table<L: Ledger>(
     let mut ends = [0; 4];
     while let Some(next) = next_counts(&counts, &last) {
         rows.enter(&counts, &next, past)?;
-        fill_cell(i, limit, &next, &mut ends, reached, rows, steps)?;
+        fill_cell(i, limit, &next, &mut ends, reached, rows, past, steps)?;
         counts = next;
     }
     Ok(())
@@ -113,11 +113,13 @@ fn fill_cell<L: Ledger>(
     ends: &mut [usize; 4],
     reached: &mut Reached,
     rows: &mut Rows,
+    past: &mut Past,
     steps: &mut Steps<L>,
 ) -> Result<(), AllocError>
-    requires cell { (gone : List Row) × IsCellReady i.now limit counts.now gone rows.old ends.old }
+    requires cell { (gone : List Row) × HasEntries past.old gone × IsCellReady i.now limit counts.now gone rows.old ends.old }
     requires empty { IsEmpty reached.old }
-    ensures filled { (gone : List Row) → IsCellReady i.now limit counts.now gone rows.old ends.old → OnOk result (IsCellMade i.now limit counts.now gone rows.new ends.new) }
+    ensures filled { (gone : List Row) → HasEntries past.old gone → IsCellReady i.now limit counts.now gone rows.old ends.old → OnOk result (IsCellMade (HasEntries past.new) i.now limit counts.now rows.new ends.new) }
+    ensures wanted { past.new.wanted ≡ past.old.wanted }
     ensures empty { OnOk result (IsEmpty reached.new) }
     ensures steps { OnOk result (steps.new + sum ends.old ≤ steps.old + sum ends.new) }
     ensures most { (keys : List Key) → HasKeysWithin i.now limit keys → steps.new + sum ends.old ≤ steps.old + length i.now.plan * length keys }
@@ -132,6 +134,7 @@ fn fill_cell<L: Ledger>(
                 ends[phase as usize],
                 reached,
                 rows,
+                past,
                 steps,
             )?;
         }
@@ -149,11 +152,13 @@ fn fill_group<L: Ledger>(
     from: usize,
     reached: &mut Reached,
     rows: &mut Rows,
+    past: &mut Past,
     steps: &mut Steps<L>,
 ) -> Result<usize, AllocError>
     requires group { (gone : List Row) × IsGroupReady i.now limit counts.now phase from gone rows.old }
     requires empty { IsEmpty reached.old }
-    ensures filled { (gone : List Row) → IsGroupReady i.now limit counts.now phase from gone rows.old → IfOk result (IsGroupFilled i.now limit counts.now phase gone rows.old rows.new) }
+    ensures filled { (gone : List Row) → HasEntries past.old gone → IsGroupReady i.now limit counts.now phase from gone rows.old → IfOk result (IsGroupFilled (HasEntries past.new) i.now limit counts.now phase gone rows.old rows.new) }
+    ensures wanted { past.new.wanted ≡ past.old.wanted }
     ensures empty { OnOk result (IsEmpty reached.new) }
     ensures steps { IfOk result (λ end. steps.new + from ≤ steps.old + end) }
     ensures most { (gone : List Row) → IsGroupReady i.now limit counts.now phase from gone rows.old → steps.new + from ≤ steps.old + length (all_rows gone rows.old) }
@@ -165,8 +170,19 @@ fn fill_group<L: Ledger>(
     let source = rows.source(phase);
     let (start, end) = cell(source, from.saturating_sub(base), &before);
     reached.reach(i, &source[start..end], phase, cluster, limit, steps)?;
+    rows.leave(is_last(i, counts, phase), past)?;
     reached.put_behind(&mut rows.latest)?;
     Ok(base + end)
+}
+
+/// Whether these counts are the last, and the phase is the first, which alone is served from rows with fewer clusters of it.
+fn is_last(i: &Instance, counts: &[u8; 4], phase: u8) -> bool
+    ensures { IsTrue result ↔ (phase ≡ 0) × IsLastCounts i.now counts.now }
+{
+    if phase > 0 {
+        return false;
+    }
+    number(counts) >= number(&list_lengths(i))
 }
 
 /// Where the rows with these counts begin and end; they stand from a place on.

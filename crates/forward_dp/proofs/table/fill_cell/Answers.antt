@@ -1,17 +1,18 @@
-use Rattle.std.proofs.Common.{◌≡◌, ◌+◌, ◌<◌, ◌≤◌, length, sum, get_or, set, ap, sym, subst, arith}
+use Rattle.std.proofs.Common.{◌≡◌, ◌+◌, ◌<◌, ◌≤◌, length, sum, get_or, set, refl, ap, sym, subst, ◌∙◌, arith}
 use Rattle.flat_table.specs.Groups.{IsEmpty}
 use Rattle.phase_plan.specs.declared.Phase.{Phase}
 use Rattle.forward_dp.specs.Numbers.{counts_number}
-use Rattle.forward_dp.specs.Tables.{all_rows}
+use Rattle.forward_dp.specs.Tables.{HasEntries, all_rows}
 use Rattle.forward_dp.proofs.Few.{rows-keys}
 use Rattle.forward_dp.proofs.Filling.{ends-cost, ends-one, ends-sum, most-one, most-steps}
-use Rattle.forward_dp.proofs.Parting.{IsUnderWay, cell-ends, cell-goes-on, cell-passes, cell-starts, group-ready}
+use Rattle.forward_dp.proofs.Parting.{HasCome, cell-ends, cell-goes-on, cell-passes, cell-starts, group-ready}
 use Rattle.forward_dp.proofs.table.fill_cell.Goals as goal
 use Rattle.forward_dp.proofs.table.fill_cell.Goals.{then-counts-phase-gt0+in_ok-ends, else-counts-phase-gt0}
 
 pub loop-phase-init : goal.loop-phase-init
 loop-phase-init g c = record {
-  made = λ gone ready. cell-starts c.args.i.now c.args.limit c.args.counts.now gone c.args.rows.now c.args.ends.now ready;
+  made = λ gone held ready. cell-starts (HasEntries c.args.past.now) c.args.i.now c.args.limit c.args.counts.now gone c.args.rows.now c.args.ends.now held ready;
+  wanted = refl;
   empty = c.requires.empty;
   cost = omega arith;
 }
@@ -20,7 +21,8 @@ pub fill_group-requires-clause-group : goal.fill_group-requires-clause-group
 fill_group-requires-clause-group g c =
     let gone = c.requires.cell.0 in
     let inside : c.loop-phase.phase < length c.args.i.now.plan = omega (arith, c.loop-phase-test.true, c.count-phase-end.ensures.count, ap (length {A = Phase}) c.plan.ensures.value) in
-    (gone, group-ready c.args.i.now c.args.limit c.args.counts.now c.loop-phase.phase gone c.args.rows.now c.loop-phase.rows c.args.ends.now c.loop-phase.ends c.requires.cell.1 inside c.if-counts-phase-gt0.true (c.loop-phase.invariant.made gone c.requires.cell.1))
+    let come : HasCome (HasEntries c.loop-phase.past) c.args.i.now c.args.limit c.args.counts.now c.loop-phase.phase c.loop-phase.rows c.loop-phase.ends = c.loop-phase.invariant.made gone c.requires.cell.1 c.requires.cell.2 in
+    (come.gone, group-ready c.args.i.now c.args.limit c.args.counts.now c.loop-phase.phase gone come.gone c.args.rows.now c.loop-phase.rows c.args.ends.now c.loop-phase.ends c.requires.cell.2 inside c.if-counts-phase-gt0.true come.way)
 
 pub loop-phase-preserved : goal.loop-phase-preserved
 loop-phase-preserved g c =
@@ -30,16 +32,24 @@ loop-phase-preserved g c =
     let few : length p.plan ≤ 4 = c.plan.ensures.instance.plan.count.1 in
     let inside : k < length p.plan = omega (arith, c.loop-phase-test.true, c.count-phase-end.ensures.count, ap (length {A = Phase}) c.plan.ensures.value) in
     record {
-      made = λ gone ready. elim c.if-counts-phase-gt0.branch [
-        | then-counts-phase-gt0+in_ok-ends w ↦
-            subst (λ rows. IsUnderWay p c.args.limit counts (k + 1) gone rows c.if-counts-phase-gt0.ends) (sym w.rows-is)
-            (subst (IsUnderWay p c.args.limit counts (k + 1) gone w.fill_group.new.rows) (sym w.ends-is)
-            (cell-goes-on p c.args.limit counts k w.in_ok-ends.field-0 gone c.loop-phase.rows w.fill_group.new.rows c.loop-phase.ends (c.loop-phase.invariant.made gone ready) inside few
-            (w.in_ok-ends.ensures.filled gone (group-ready p c.args.limit counts k gone c.args.rows.now c.loop-phase.rows c.args.ends.now c.loop-phase.ends ready inside w.if-counts-phase-gt0.true (c.loop-phase.invariant.made gone ready)))))
-        | else-counts-phase-gt0 w ↦
-            subst (λ rows. IsUnderWay p c.args.limit counts (k + 1) gone rows c.if-counts-phase-gt0.ends) (sym w.rows-is)
-            (subst (IsUnderWay p c.args.limit counts (k + 1) gone c.loop-phase.rows) (sym w.ends-is)
-            (cell-passes p c.args.limit counts k gone c.args.rows.now c.loop-phase.rows c.args.ends.now c.loop-phase.ends ready inside w.if-counts-phase-gt0.false (c.loop-phase.invariant.made gone ready)))
+      made = λ gone held ready.
+          let come : HasCome (HasEntries c.loop-phase.past) p c.args.limit counts k c.loop-phase.rows c.loop-phase.ends = c.loop-phase.invariant.made gone held ready in
+          elim c.if-counts-phase-gt0.branch [
+            | then-counts-phase-gt0+in_ok-ends w ↦
+                subst (λ past. HasCome (HasEntries past) p c.args.limit counts (k + 1) c.if-counts-phase-gt0.rows c.if-counts-phase-gt0.ends) (sym w.past-is)
+                (subst (λ rows. HasCome (HasEntries w.fill_group.new.past) p c.args.limit counts (k + 1) rows c.if-counts-phase-gt0.ends) (sym w.rows-is)
+                (subst (HasCome (HasEntries w.fill_group.new.past) p c.args.limit counts (k + 1) w.fill_group.new.rows) (sym w.ends-is)
+                (cell-goes-on (HasEntries w.fill_group.new.past) p c.args.limit counts k w.in_ok-ends.field-0 come.gone c.loop-phase.rows w.fill_group.new.rows c.loop-phase.ends come.way inside few
+                (w.in_ok-ends.ensures.filled come.gone come.held (group-ready p c.args.limit counts k gone come.gone c.args.rows.now c.loop-phase.rows c.args.ends.now c.loop-phase.ends ready inside w.if-counts-phase-gt0.true come.way)))))
+            | else-counts-phase-gt0 w ↦
+                subst (λ past. HasCome (HasEntries past) p c.args.limit counts (k + 1) c.if-counts-phase-gt0.rows c.if-counts-phase-gt0.ends) (sym w.past-is)
+                (subst (λ rows. HasCome (HasEntries c.loop-phase.past) p c.args.limit counts (k + 1) rows c.if-counts-phase-gt0.ends) (sym w.rows-is)
+                (subst (HasCome (HasEntries c.loop-phase.past) p c.args.limit counts (k + 1) c.loop-phase.rows) (sym w.ends-is)
+                (cell-passes (HasEntries c.loop-phase.past) p c.args.limit counts k gone c.args.rows.now c.loop-phase.rows c.args.ends.now c.loop-phase.ends ready inside w.if-counts-phase-gt0.false come)))
+          ];
+      wanted = elim c.if-counts-phase-gt0.branch [
+        | then-counts-phase-gt0+in_ok-ends w ↦ ap (λ past. past.wanted) w.past-is ∙ w.fill_group.ensures.wanted ∙ c.loop-phase.invariant.wanted
+        | else-counts-phase-gt0 w ↦ ap (λ past. past.wanted) w.past-is ∙ c.loop-phase.invariant.wanted
       ];
       empty = elim c.if-counts-phase-gt0.branch [
         | then-counts-phase-gt0+in_ok-ends w ↦ subst IsEmpty (sym w.reached-is) w.in_ok-ends.ensures.empty
@@ -47,7 +57,7 @@ loop-phase-preserved g c =
       ];
       cost = elim c.if-counts-phase-gt0.branch [
         | then-counts-phase-gt0+in_ok-ends w ↦
-            let places : length c.loop-phase.ends ≡ 4 = (c.loop-phase.invariant.made c.requires.cell.0 c.requires.cell.1).ends_are.places in
+            let places : length c.loop-phase.ends ≡ 4 = (c.loop-phase.invariant.made c.requires.cell.0 c.requires.cell.1 c.requires.cell.2).way.ends_are.places in
             subst (λ ends. c.if-counts-phase-gt0.steps + sum c.args.ends.now ≤ c.args.steps.now + sum ends) (sym w.ends-is)
             (subst (λ steps. steps + sum c.args.ends.now ≤ c.args.steps.now + sum (set c.loop-phase.ends k w.in_ok-ends.field-0)) (sym w.steps-is)
             (ends-cost c.loop-phase.ends k w.in_ok-ends.field-0 c.args.steps.now c.loop-phase.steps w.fill_group.new.steps (sum c.args.ends.now) (omega (arith, places, inside, few)) c.loop-phase.invariant.cost w.in_ok-ends.ensures.steps))
@@ -60,24 +70,26 @@ loop-phase-preserved g c =
 pub returns-in_err-ends-clause-most : goal.returns-in_err-ends-clause-most
 returns-in_err-ends-clause-most g c keys all =
     let p = c.args.i.now in
-    let gone = c.requires.cell.0 in
     let few : length p.plan ≤ 4 = c.plan.ensures.instance.plan.count.1 in
     let inside : c.loop-phase.phase < length p.plan = omega (arith, c.loop-phase-test.true, c.count-phase-end.ensures.count, ap (length {A = Phase}) c.plan.ensures.value) in
-    let way : IsUnderWay p c.args.limit c.args.counts.now c.loop-phase.phase gone c.loop-phase.rows c.loop-phase.ends = c.loop-phase.invariant.made gone c.requires.cell.1 in
+    let come : HasCome (HasEntries c.loop-phase.past) p c.args.limit c.args.counts.now c.loop-phase.phase c.loop-phase.rows c.loop-phase.ends = c.loop-phase.invariant.made c.requires.cell.0 c.requires.cell.1 c.requires.cell.2 in
+    let gone = come.gone in
+    let way = come.way in
     most-one (length p.plan) c.args.steps.now c.loop-phase.steps c.fill_group.new.steps (sum c.args.ends.now) (sum c.loop-phase.ends) (length (all_rows gone c.loop-phase.rows)) (length keys) (get_or c.loop-phase.ends c.loop-phase.phase 0)
     c.loop-phase.invariant.cost
-    (c.fill_group.ensures.most gone (group-ready p c.args.limit c.args.counts.now c.loop-phase.phase gone c.args.rows.now c.loop-phase.rows c.args.ends.now c.loop-phase.ends c.requires.cell.1 inside c.if-counts-phase-gt0.true way))
+    (c.fill_group.ensures.most gone (group-ready p c.args.limit c.args.counts.now c.loop-phase.phase c.requires.cell.0 gone c.args.rows.now c.loop-phase.rows c.args.ends.now c.loop-phase.ends c.requires.cell.2 inside c.if-counts-phase-gt0.true way))
     (ends-one (length p.plan) (all_rows gone c.loop-phase.rows) (counts_number c.args.counts.now + 1) c.loop-phase.phase c.loop-phase.phase c.loop-phase.ends way.ends_are inside few)
     (rows-keys p c.args.limit (all_rows gone c.loop-phase.rows) keys way.table.made way.table.within all)
 
 pub returns-clause-filled : goal.returns-clause-filled
-returns-clause-filled g c gone ready =
-    cell-ends c.args.i.now c.args.limit c.args.counts.now c.loop-phase.phase gone c.args.rows.now c.loop-phase.rows c.args.ends.now c.loop-phase.ends ready
-    (omega (arith, c.loop-phase-test.false, c.count-phase-end.ensures.count, ap (length {A = Phase}) c.plan.ensures.value)) (c.loop-phase.invariant.made gone ready)
+returns-clause-filled g c gone held ready =
+    cell-ends (HasEntries c.loop-phase.past) c.args.i.now c.args.limit c.args.counts.now c.loop-phase.phase gone c.args.rows.now c.loop-phase.rows c.args.ends.now c.loop-phase.ends ready
+    (omega (arith, c.loop-phase-test.false, c.count-phase-end.ensures.count, ap (length {A = Phase}) c.plan.ensures.value)) (c.loop-phase.invariant.made gone held ready)
 
 pub returns-clause-most : goal.returns-clause-most
 returns-clause-most g c keys all =
-    let gone = c.requires.cell.0 in
-    let way : IsUnderWay c.args.i.now c.args.limit c.args.counts.now c.loop-phase.phase gone c.loop-phase.rows c.loop-phase.ends = c.loop-phase.invariant.made gone c.requires.cell.1 in
+    let come : HasCome (HasEntries c.loop-phase.past) c.args.i.now c.args.limit c.args.counts.now c.loop-phase.phase c.loop-phase.rows c.loop-phase.ends = c.loop-phase.invariant.made c.requires.cell.0 c.requires.cell.1 c.requires.cell.2 in
+    let gone = come.gone in
+    let way = come.way in
     most-steps (length c.args.i.now.plan) c.args.steps.now c.loop-phase.steps c.loop-phase.steps (sum c.args.ends.now) (sum c.loop-phase.ends) (length (all_rows gone c.loop-phase.rows)) (length keys) c.loop-phase.invariant.cost (omega arith)
     (ends-sum (length c.args.i.now.plan) (all_rows gone c.loop-phase.rows) (counts_number c.args.counts.now + 1) c.loop-phase.phase c.loop-phase.ends way.ends_are) (rows-keys c.args.i.now c.args.limit (all_rows gone c.loop-phase.rows) keys way.table.made way.table.within all)

@@ -1,6 +1,7 @@
 use Rattle.std.proofs.Common.{◌+◌, refl, arith}
 use Rattle.flat_table.proofs.Reaching.{reached-rising}
-use Rattle.forward_dp.proofs.Parting.{ready-few, ready-filled, ready-found, ready-gone, ready-long, ready-within}
+use Rattle.forward_dp.specs.Tables.{HasEntries}
+use Rattle.forward_dp.proofs.Parting.{has-left, ready-few, ready-filled, ready-found, ready-gone, ready-long, ready-within}
 use Rattle.forward_dp.proofs.table.fill_group.Goals as goal
 
 pub base-base-requires : goal.base-base-requires
@@ -20,8 +21,13 @@ pub overflow_add-result : goal.overflow_add-result
 overflow_add-result g c =
     omega (arith, c.cell-start.ensures.end.within, ready-long c.args.i.now c.args.limit c.args.counts.now c.args.phase c.args.from c.base-base.result c.source-source.result.now c.requires.group.0 c.args.rows.now c.requires.group.1 c.base-base.ensures c.source-source.ensures, ready-few c.args.i.now c.args.limit c.args.counts.now c.args.phase c.args.from c.requires.group.0 c.args.rows.now c.requires.group.1)
 
+pub leave-requires : goal.leave-requires
+leave-requires g c = omega (arith, ready-gone c.args.i.now c.args.limit c.args.counts.now c.args.phase c.args.from c.requires.group.0 c.args.rows.now c.requires.group.1)
+
 pub returns-clause-filled : goal.returns-clause-filled
-returns-clause-filled g c gone ready =
-    ready-filled c.args.i.now c.args.limit c.args.counts.now c.args.phase c.args.from (c.base-base.result + c.cell-start.result.0) (c.base-base.result + c.cell-start.result.1) gone _ c.args.rows.now _ _ c.reach.new.self ready
+returns-clause-filled g c gone held ready =
+    ready-filled (HasEntries c.leave.new.past) c.args.i.now c.args.limit c.args.counts.now c.args.phase c.args.from (c.base-base.result + c.cell-start.result.0) (c.base-base.result + c.cell-start.result.1) gone _ c.args.rows.now c.leave.new.self _ _ c.reach.new.self ready
     (ready-found c.args.i.now c.args.limit c.args.counts.now c.args.phase c.args.from c.base-base.result c.saturating_sub.result c.cell-start.result.0 c.cell-start.result.1 c.source-source.result.now gone c.args.rows.now c.list.result.now _ ready c.base-base.ensures c.source-source.ensures c.list.ensures.value c.saturating_sub.ensures c.cell-start.ensures.start c.cell-start.ensures.end)
-    c.in_ok-reach.ensures.reached c.in_ok-put_behind.ensures.joined refl refl
+    c.in_ok-reach.ensures.reached
+    (has-left (HasEntries c.leave.new.past) c.args.i.now c.args.limit c.args.counts.now c.args.phase c.args.from c.is_last.result gone c.args.rows.now c.leave.new.self ready (c.in_ok-leave.ensures.left gone held) c.is_last.ensures.0)
+    c.in_ok-put_behind.ensures.joined refl refl refl

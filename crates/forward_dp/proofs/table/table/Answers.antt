@@ -1,7 +1,7 @@
 use Rattle.std.proofs.Common.{◌+◌, ◌++◌, ◌∷◌, [], length, sum, refl, ap, ◌∙◌, arith}
 use Rattle.dp_certificate.proofs.Stages.{none-counted}
 use Rattle.forward_dp.specs.Numbers.{counts_number}
-use Rattle.forward_dp.specs.Tables.{HasEntries, all_rows}
+use Rattle.forward_dp.specs.Tables.{HasEntries, IsCellMade, all_rows}
 use Rattle.forward_dp.proofs.Few.{rows-keys}
 use Rattle.forward_dp.proofs.Filling.{all-steps, ends-sum, small-last}
 use Rattle.forward_dp.proofs.Parting.{entered-ready, table-ends, table-starts, way-gone, way-made}
@@ -12,7 +12,7 @@ loop-next-init g c = record {
   gone = [];
   held = c.requires.past;
   wanted = refl;
-  way = table-starts c.args.i.now c.args.limit c.first_row.ensures.instance c.requires.delay c.first_row.result _ c.first_row.ensures.row c.requires.none.gone c.requires.none.earlier (c.in_ok-push.ensures.items ∙ ap (λ xs. xs ++ c.first_row.result ∷ []) c.requires.none.latest);
+  way = table-starts c.args.i.now c.args.limit c.first_row.ensures.instance c.requires.delay c.first_row.result _ c.first_row.ensures.row c.requires.none.gone c.requires.none.earlier (c.in_ok-push.ensures.items ∙ ap (λ xs. xs ++ c.first_row.result ∷ []) c.requires.none.latest) c.requires.none.apart;
   within = λ k. omega (arith, none-counted k);
   empty = c.requires.empty;
   cost = omega arith;
@@ -27,17 +27,19 @@ enter-requires g c = omega (arith, way-gone c.args.i.now c.args.limit c.loop-nex
 pub fill_cell-requires-clause-cell : goal.fill_cell-requires-clause-cell
 fill_cell-requires-clause-cell g c =
     let e = c.in_ok-enter.ensures.entered c.loop-next.invariant.gone c.loop-next.invariant.held in
-    (e.past, entered-ready c.args.i.now c.args.limit c.first_row.ensures.instance c.list_lengths-last.result c.loop-next.counts c.in-Some.next c.loop-next.invariant.gone c.loop-next.rows c.enter.new.self c.loop-next.ends (HasEntries c.enter.new.past) c.list_lengths-last.ensures c.in-Some.ensures.some c.loop-next.invariant.within c.loop-next.invariant.way e)
+    (e.past, e.held, entered-ready c.args.i.now c.args.limit c.first_row.ensures.instance c.list_lengths-last.result c.loop-next.counts c.in-Some.next c.loop-next.invariant.gone c.loop-next.rows c.enter.new.self c.loop-next.ends (HasEntries c.enter.new.past) c.list_lengths-last.ensures c.in-Some.ensures.some c.loop-next.invariant.within c.loop-next.invariant.way e)
 
 pub loop-next-preserved : goal.loop-next-preserved
 loop-next-preserved g c =
     let e = c.in_ok-enter.ensures.entered c.loop-next.invariant.gone c.loop-next.invariant.held in
+    let made : IsCellMade (HasEntries c.fill_cell.new.past) c.args.i.now c.args.limit c.in-Some.next c.fill_cell.new.rows c.fill_cell.new.ends =
+    c.in_ok-fill_cell.ensures.filled e.past e.held
+    (entered-ready c.args.i.now c.args.limit c.first_row.ensures.instance c.list_lengths-last.result c.loop-next.counts c.in-Some.next c.loop-next.invariant.gone c.loop-next.rows c.enter.new.self c.loop-next.ends (HasEntries c.enter.new.past) c.list_lengths-last.ensures c.in-Some.ensures.some c.loop-next.invariant.within c.loop-next.invariant.way e) in
     record {
-      gone = e.past;
-      held = e.held;
-      wanted = c.enter.ensures.wanted ∙ c.loop-next.invariant.wanted;
-      way = way-made c.args.i.now c.args.limit c.in-Some.next e.past c.fill_cell.new.rows c.fill_cell.new.ends (c.in_ok-fill_cell.ensures.filled e.past
-          (entered-ready c.args.i.now c.args.limit c.first_row.ensures.instance c.list_lengths-last.result c.loop-next.counts c.in-Some.next c.loop-next.invariant.gone c.loop-next.rows c.enter.new.self c.loop-next.ends (HasEntries c.enter.new.past) c.list_lengths-last.ensures c.in-Some.ensures.some c.loop-next.invariant.within c.loop-next.invariant.way e));
+      gone = made.gone;
+      held = made.held;
+      wanted = c.fill_cell.ensures.wanted ∙ c.enter.ensures.wanted ∙ c.loop-next.invariant.wanted;
+      way = way-made (HasEntries c.fill_cell.new.past) c.args.i.now c.args.limit c.in-Some.next c.fill_cell.new.rows c.fill_cell.new.ends made;
       within = c.in-Some.ensures.some.within;
       empty = c.in_ok-fill_cell.ensures.empty;
       cost = omega (arith, c.loop-next.invariant.cost, c.in_ok-fill_cell.ensures.steps);
