@@ -1,5 +1,5 @@
 -- In which order a node tells its links.
-use Rattle.std.proofs.Common.{◌≡◌, ℕ, zero, suc, ◌+◌, ◌<◌, ◌≤◌, nat_le, List, [], ◌∷◌, All, Option, Some, None, filter, find, get_or, is_some, length, refl, sym, ap, ◌∙◌, arith}
+use Rattle.std.proofs.Common.{◌≡◌, ℕ, zero, suc, ◌+◌, ◌<◌, ◌≤◌, nat_le, List, [], ◌∷◌, All, Option, Some, None, find, get_or, is_some, length, refl, sym, ap, ◌∙◌, arith}
 use Rattle.std.specs.Prelude.{AllPairs, slice_get}
 use Rattle.std.specs.List.Sorted.{IsStrictlyIncreasing}
 use Rattle.std.proofs.lemmas.Bool.{cond_both}
@@ -10,8 +10,7 @@ use Rattle.net_numbers.specs.Numbers.{Net}
 use Rattle.net_numbers.specs.Outline.{link_at}
 use Rattle.road_net.specs.Network.{exit_links, told_links}
 use Rattle.intersection_actor.specs.Acting.{telling, tells_from, told_at}
-use Rattle.intersection_actor.specs.declared.records.Want.{Want}
-use Rattle.intersection_actor.specs.declared.records.Want.TheVariants.{Publish, Done}
+use Rattle.intersection_actor.specs.declared.records.Want.TheVariants.{Publish}
 
 -- where all reach a number, the first of them is the first that reaches it
 from-low : (n : ℕ) (xs : List ℕ) → All (λ y. n ≤ y) xs → find (λ l. nat_le n l) xs ≡ slice_get xs 0
