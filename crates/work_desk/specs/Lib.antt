@@ -1,0 +1,5 @@
+pub mod Known
+pub mod Places
+pub mod Plays
+pub mod Rule
+pub mod Views
