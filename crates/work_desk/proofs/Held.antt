@@ -58,7 +58,7 @@ module _ {T : Type 0} (desks : List (Desk T)) (desk : Desk T) where
         let long : length (xs ++ x ∷ []) ≡ length xs + 1 = length-append xs (x ∷ []) in
         let at : k ≡ length xs = omega arith in
         subst (λ (z : Desk T × A). Fits z.0 z.1)
-            (λ i. (sym (ap (λ n. get_or (desks ++ desk ∷ []) n d) (at ∙ same) ∙ get_or-append_seam desks desk [] d) i, sym (ap (λ n. get_or (xs ++ x ∷ []) n a) at ∙ get_or-append_seam xs x [] a) i)) last
+        (λ i. (sym (ap (λ n. get_or (desks ++ desk ∷ []) n d) (at ∙ same) ∙ get_or-append_seam desks desk [] d) i, sym (ap (λ n. get_or (xs ++ x ∷ []) n a) at ∙ get_or-append_seam xs x [] a) i)) last
   ]
 
   pub one-more-clerk : (clerks : List (Clerk T)) (clerk : Clerk T) (more : List (Desk T)) (longer : List (Clerk T)) → more ≡ desks ++ desk ∷ [] → longer ≡ clerks ++ clerk ∷ [] → AreClerksOf desks clerks → IsClerkOf desk clerk → sent_of clerk ≡ None → AreClerksOf more longer

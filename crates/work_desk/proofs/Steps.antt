@@ -1,5 +1,5 @@
 -- Each step keeps the rule.
-use Rattle.std.proofs.Common.{◌≡◌, ◌≢◌, ℕ, zero, suc, ◌+◌, ◌<◌, ◌⊎◌, inl, inr, eqb, Bool, true, false, List, [], ◌∷◌, ◌++◌, length, get_or, set, sym, refl, ap, ◌∙◌, subst, ⊎_elim, arith, eq-eqb, ne_eqb, length-set, get_or-set_same}
+use Rattle.std.proofs.Common.{◌≡◌, ◌≢◌, ℕ, zero, suc, ◌<◌, ◌⊎◌, inl, inr, eqb, Bool, true, false, List, [], ◌∷◌, ◌++◌, length, get_or, set, sym, refl, ap, ◌∙◌, subst, ⊎_elim, arith, eq-eqb, ne_eqb, length-set, get_or-set_same}
 use Rattle.std.specs.Prelude.{Option, Some, None, unwrap_or}
 use Rattle.std.proofs.lemmas.Option.{none-some}
 use Rattle.std.proofs.lemmas.Bool.{false≢true}
@@ -48,9 +48,9 @@ module _ {T : Type 0} (ready : T → Type 0) (done : T → T → Type 0) where
         → Holds ready done record { words = set s.words 0 n; homes = homes; views = set s.views id w }
     clerk-step n homes w own free long works taken idle fresh sent =
         let no-one : (seat : ℕ) (u : View T) (x : T) → get_elem? (set s.views id w) seat ≡ some u → u.taken ≡ Some x → ⊥ = λ seat u x there has. ⊎_elim
-            (λ t. free (h.taken id v x here (sym taken ∙ ap (λ (z : View T). z.taken) t.1 ∙ has)).0)
-            (λ t. free (h.taken seat u x t.1 has).0)
-            (at_set s.views id seat w u there) in
+        (λ t. free (h.taken id v x here (sym taken ∙ ap (λ (z : View T). z.taken) t.1 ∙ has)).0)
+        (λ t. free (h.taken seat u x t.1 has).0)
+        (at_set s.views id seat w u there) in
         let after : get_or (set s.words 0 n) 0 0 ≡ n = word-after n in record {
           wide = length-set s.words 0 n ∙ h.wide;
           deep = long;
@@ -86,9 +86,9 @@ module _ {T : Type 0} (ready : T → Type 0) (done : T → T → Type 0) where
         → Holds ready done record { words = set s.words 0 n; homes = homes; views = set s.views id w }
     hand-step n homes w works long others idle fresh sent taken =
         let only : (seat : ℕ) (u : View T) (x : T) → get_elem? (set s.views id w) seat ≡ some u → u.taken ≡ Some x → (seat ≡ id) × (w ≡ u) = λ seat u x there has. ⊎_elim
-            (λ t. t)
-            (λ t. absurd (others seat u x t.0 t.1 has))
-            (at_set s.views id seat w u there) in
+        (λ t. t)
+        (λ t. absurd (others seat u x t.0 t.1 has))
+        (at_set s.views id seat w u there) in
         let after : get_or (set s.words 0 n) 0 0 ≡ n = word-after n in record {
           wide = length-set s.words 0 n ∙ h.wide;
           deep = long;
@@ -179,11 +179,11 @@ module _ {T : Type 0} (ready : T → Type 0) (done : T → T → Type 0) where
       (λ lies. let is : h.chief.sent ≡ Some x = ap (λ (z : View T). z.sent) (chief-is s h id me.0 here own) ∙ sent in
       let home : get_elem? s.homes 0 ≡ some (some (Some x)) = ⊎_elim (λ t. t.2) (λ t. ⊎_elim (λ two. absurd (omega arith)) (λ t. let three = t.0 in absurd (omega arith)) t) (h.sent x is) in
       met slots id 1 0 me (Recalls me) s (sending me.0 None) me.0.sent lies (subst (λ o. get_elem? s.homes 0 ≡ some (some o)) (sym sent) home)
-          (clerk-step s h id me.0 here 0 (set s.homes 0 none) (sending me.0 None) own (λ two. omega arith) (length-set s.homes 0 none ∙ h.deep) refl refl
-          (λ _. inl refl)
-          (λ no. absurd (false≢true no))
-          (λ y no. absurd (none-some y no)))
-          refl)
+      (clerk-step s h id me.0 here 0 (set s.homes 0 none) (sending me.0 None) own (λ two. omega arith) (length-set s.homes 0 none ∙ h.deep) refl refl
+      (λ _. inl refl)
+      (λ no. absurd (false≢true no))
+      (λ y no. absurd (none-some y no)))
+      refl)
       (λ other. missed slots id 1 0 me (Recalls me) s h here other refl)
 
   -- what is done comes back
@@ -193,11 +193,11 @@ module _ {T : Type 0} (ready : T → Type 0) (done : T → T → Type 0) where
       (λ lies. let is : h.chief.sent ≡ Some x = ap (λ (z : View T). z.sent) (chief-is s h id me.0 here own) ∙ sent in
       let back : (y : T) × done x y × (get_elem? s.homes 0 ≡ some (some (Some y))) = ⊎_elim (λ t. let at = t.0 in absurd (omega arith)) (λ t. ⊎_elim (λ two. absurd (omega arith)) (λ t. (t.1, t.2, t.3)) t) (h.sent x is) in
       met slots id 3 0 me (TakesBack done me) s (sending me.0 None) (Some back.0) lies back.2
-          (clerk-step s h id me.0 here 0 (set s.homes 0 none) (sending me.0 None) own (λ two. omega arith) (length-set s.homes 0 none ∙ h.deep) refl refl
-          (λ _. inl refl)
-          (λ no. absurd (false≢true no))
-          (λ y no. absurd (none-some y no)))
-          (x, back.0, sent, back.1, refl))
+      (clerk-step s h id me.0 here 0 (set s.homes 0 none) (sending me.0 None) own (λ two. omega arith) (length-set s.homes 0 none ∙ h.deep) refl refl
+      (λ _. inl refl)
+      (λ no. absurd (false≢true no))
+      (λ y no. absurd (none-some y no)))
+      (x, back.0, sent, back.1, refl))
       (λ other. missed slots id 3 0 me (TakesBack done me) s h here other refl)
 
   -- an end at which work is done fetches what lies there
@@ -208,13 +208,13 @@ module _ {T : Type 0} (ready : T → Type 0) (done : T → T → Type 0) where
       (λ unsent. absurd (⊎_elim (λ z. omega arith) (λ z. omega arith) (h.idle unsent)))
       (λ x sent. let at : ready x × (get_elem? s.homes 0 ≡ some (some (Some x))) = ⊎_elim (λ t. (t.1, t.2)) (λ t. ⊎_elim (λ two. absurd (omega arith)) (λ t. let three = t.0 in absurd (omega arith)) t) (h.sent x sent) in
       met slots id 1 2 me (Fetches ready me) s (taking me.0 (Some x)) (Some x) lies at.1
-          (hand-step s h id me.0 here 2 (set s.homes 0 none) (taking me.0 (Some x)) works (length-set s.homes 0 none ∙ h.deep)
-          (λ seat u y apart there has. let two = (h.taken seat u y there has).0 in omega arith)
-          (λ unsent. absurd (none-some x (sym unsent ∙ sent)))
-          (λ new. absurd (none-some x (sym (h.fresh new).0 ∙ sent)))
-          (λ y _. inr (inl refl))
-          (λ y has. (refl, sent ∙ has)))
-          (x, at.0, refl)))
+      (hand-step s h id me.0 here 2 (set s.homes 0 none) (taking me.0 (Some x)) works (length-set s.homes 0 none ∙ h.deep)
+      (λ seat u y apart there has. let two = (h.taken seat u y there has).0 in omega arith)
+      (λ unsent. absurd (none-some x (sym unsent ∙ sent)))
+      (λ new. absurd (none-some x (sym (h.fresh new).0 ∙ sent)))
+      (λ y _. inr (inl refl))
+      (λ y has. (refl, sent ∙ has)))
+      (x, at.0, refl)))
       (λ other. missed slots id 1 2 me (Fetches ready me) s h here other refl)
 
   -- and delivers what became of it
@@ -243,9 +243,9 @@ module _ {T : Type 0} (ready : T → Type 0) (done : T → T → Type 0) where
   seats-hand id v s h here =
       let back : set s.views id v ≡ s.views = set_again s.views id v here in
       let fromold : (seat : ℕ) (u : View T) (x : T) → get_elem? (s.views ++ hand_view v ∷ []) seat ≡ some u → u.taken ≡ Some x → get_elem? s.views seat ≡ some u = λ seat u x there has. ⊎_elim
-          (λ t. t)
-          (λ t. absurd (none-some x (ap (λ (z : View T). z.taken) t ∙ has)))
-          (at_snoc s.views (hand_view v) u seat there) in
+      (λ t. t)
+      (λ t. absurd (none-some x (ap (λ (z : View T). z.taken) t ∙ has)))
+      (at_snoc s.views (hand_view v) u seat there) in
       subst (λ (vs : List (View T)). Holds ready done record { words = s.words; homes = s.homes; views = vs ++ hand_view v ∷ [] }) (sym back) record {
         wide = h.wide;
         deep = h.deep;

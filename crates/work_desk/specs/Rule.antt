@@ -1,6 +1,6 @@
 -- The rule of a desk, which holds of its table at every moment. Its word is 0 where nothing is handed over, 1 where work lies there, 2
 -- where an end has fetched it, 3 where what became of it lies there, and 4 where the desk is closed.
-use Rattle.std.specs.Prelude.{◌≡◌, ◌≢◌, ℕ, ◌⊎◌, true, false, Option, Some, None, List, length, slice_index}
+use Rattle.std.specs.Prelude.{◌≡◌, ℕ, ◌⊎◌, true, false, Option, Some, None, List, length, slice_index}
 use mathlib.Core.Option.{some}
 use lib.ListN.{get_elem?}
 use Rattle.atomic_table.specs.Table.{State}

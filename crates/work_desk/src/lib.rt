@@ -10,5 +10,7 @@ mod views;
 
 pub use beside::{Crew, Shift, Staff};
 pub use desk::{Clerk, Desk, Hand};
-pub use rule::{Close, Deliver, DeskRule, Errand, Fetch, HandOver, Recall, SeatHand, TakeBack, TakeSlot};
+pub use rule::{
+    Close, Deliver, DeskRule, Errand, Fetch, HandOver, Recall, SeatHand, TakeBack, TakeSlot,
+};
 pub use views::View;

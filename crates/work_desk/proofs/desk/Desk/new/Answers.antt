@@ -1,4 +1,4 @@
-use Rattle.std.proofs.Common.{rules, refl, ap, ◌∙◌}
+use Rattle.std.proofs.Common.{rules, refl}
 use Rattle.work_desk.proofs.Steps.{opens, takes-slot}
 use Rattle.work_desk.proofs.desk.Desk.new.Goals as goal
 
