@@ -12,4 +12,5 @@ mod reads;
 mod turns;
 
 pub use boards::Boards;
+pub use meets::Meeting;
 pub use pass::Pass;

@@ -1,5 +1,5 @@
 // Passes meet, by couriers.
-ghost use Rattle.std.specs.Prelude.{◌≡◌, ◌<◌, [], length, max, map, All, IsOk};
+ghost use Rattle.std.specs.Prelude.{◌≡◌, [], max, map, All, IsOk};
 ghost use Rattle.board_rule.specs.Views.{courier, informed};
 ghost use Rattle.board_rule.specs.Passes.{highest, raised};
 ghost use Rattle.board_rule.specs.Gathered.{IsCourier};
@@ -8,6 +8,27 @@ use crate::boards::{Boards, Place};
 use crate::pass::Pass;
 use board_rule::{HearCourier, SendCourier};
 use std::alloc::AllocError;
+use std::marker::Model;
+
+/// What passes that meet have told so far. Contracts see the boards that it is of, and what is known: the least stamp that
+/// a pass which is told of it may draw next.
+///
+/// docs/RULES.md, "Shared boards".
+#[derive(Drop)]
+pub struct Meeting {
+    pub(crate) seat: Place,
+}
+
+impl Model for Meeting {
+    ghost use Rattle.board_rule.specs.Gathered.{IsCourier};
+    ghost use Rattle.plan_boards.specs.Meetings.{MeetingView, meeting_view};
+
+    ghost Value = { MeetingView };
+
+    ghost view = { λ m. meeting_view m.seat.table_id m.seat.me.0.known };
+
+    ghost invariant = { λ m. IsCourier m.seat.me };
+}
 
 impl Boards {
     // Sends a courier.
@@ -30,52 +51,64 @@ impl Boards {
     }
 
     // Hears what a pass knows.
-    fn collect(&self, all: &mut Place, pass: &mut Pass)
-        requires table { (all.old.table_id ≡ self.now.id) × (pass.old.boards ≡ self.now.id) }
-        requires courier { IsCourier all.old.me }
+    fn collect(&self, meeting: &mut Meeting, pass: &mut Pass)
+        requires boards { (meeting.old.boards ≡ self.now.id) × (pass.old.boards ≡ self.now.id) }
         ensures pass { pass.new ≡ pass.old }
-        ensures table { all.new.table_id ≡ all.old.table_id }
-        ensures courier { IsCourier all.new.me }
-        ensures known { all.new.me.0.known ≡ max all.old.me.0.known pass.old.known }
+        ensures boards { meeting.new.boards ≡ meeting.old.boards }
+        ensures known { meeting.new.known ≡ max meeting.old.known pass.old.known }
     {
         let courier = self.send(&mut pass.seat);
-        self.hear(all, courier);
+        self.hear(&mut meeting.seat, courier);
     }
 
-    // Tells a pass what all know.
-    fn inform(&self, all: &mut Place, pass: &mut Pass)
-        requires table { (all.old.table_id ≡ self.now.id) × (pass.old.boards ≡ self.now.id) }
-        ensures pass { pass.new ≡ raised all.old.me.0.known pass.old }
-        ensures all { (all.new.table_id ≡ all.old.table_id) × (all.new.me ≡ all.old.me) }
+    // Tells a pass what is known.
+    fn inform(&self, meeting: &mut Meeting, pass: &mut Pass)
+        requires boards { (meeting.old.boards ≡ self.now.id) × (pass.old.boards ≡ self.now.id) }
+        ensures pass { pass.new ≡ raised meeting.old.known pass.old }
+        ensures meeting { meeting.new ≡ meeting.old }
     {
-        let courier = self.send(all);
+        let courier = self.send(&mut meeting.seat);
         self.hear(&mut pass.seat, courier);
     }
 
-    // Hears what all passes know, of which there are some.
-    fn collect_all(&self, passes: &mut [Pass]) -> Place
-        requires some { 0 < length passes.old }
-        requires boards { All (λ p. p.boards ≡ self.now.id) passes.old }
-        ensures passes { passes.new ≡ passes.old }
-        ensures table { result.table_id ≡ self.now.id }
-        ensures known { result.me.0.known ≡ highest passes.old }
+    /// Begins a meeting with what a pass knows. A caller that holds its passes in several slices lets the meeting hear each
+    /// slice, and then tells each.
+    ///
+    /// docs/RULES.md, "Shared boards".
+    pub fn begin_meeting(&self, pass: &mut Pass) -> Meeting
+        requires { pass.old.boards ≡ self.now.id }
+        ensures pass { pass.new ≡ pass.old }
+        ensures meeting { (result.boards ≡ self.now.id) × (result.known ≡ pass.old.known) }
     {
-        let first = &mut passes[0];
-        let mut all = self.send(&mut first.seat);
-        for k in 1..passes.len() {
-            self.collect(&mut all, &mut passes[k]);
-        }
-        all
+        let seat = self.send(&mut pass.seat);
+        Meeting { seat }
     }
 
-    // Tells all passes.
-    fn inform_all(&self, all: &mut Place, passes: &mut [Pass])
-        requires table { all.old.table_id ≡ self.now.id }
+    /// Hears what passes know. They stay as they were.
+    ///
+    /// docs/RULES.md, "Shared boards".
+    pub fn hear_all(&self, meeting: &mut Meeting, passes: &mut [Pass])
+        requires meeting { meeting.old.boards ≡ self.now.id }
         requires boards { All (λ p. p.boards ≡ self.now.id) passes.old }
-        ensures passes { passes.new ≡ map (raised all.old.me.0.known) passes.old }
+        ensures passes { passes.new ≡ passes.old }
+        ensures meeting { (meeting.new.boards ≡ self.now.id) × (meeting.new.known ≡ max meeting.old.known (highest passes.old)) }
+    {
+        for i in 0..passes.len() {
+            self.collect(meeting, &mut passes[i]);
+        }
+    }
+
+    /// Tells passes what all that met know. Each keeps its number, its calls and its calls left.
+    ///
+    /// docs/RULES.md, "Shared boards".
+    pub fn tell_all(&self, meeting: &mut Meeting, passes: &mut [Pass])
+        requires meeting { meeting.old.boards ≡ self.now.id }
+        requires boards { All (λ p. p.boards ≡ self.now.id) passes.old }
+        ensures passes { passes.new ≡ map (raised meeting.old.known) passes.old }
+        ensures meeting { meeting.new ≡ meeting.old }
     {
         for k in 0..passes.len() {
-            self.inform(all, &mut passes[k]);
+            self.inform(meeting, &mut passes[k]);
         }
     }
 
@@ -91,8 +124,9 @@ impl Boards {
         if passes.is_empty() {
             return Ok(());
         }
-        let mut all = self.collect_all(passes);
-        self.inform_all(&mut all, passes);
+        let mut meeting = self.begin_meeting(&mut passes[0]);
+        self.hear_all(&mut meeting, passes);
+        self.tell_all(&mut meeting, passes);
         Ok(())
     }
 }
