@@ -1,0 +1,4 @@
+pub mod Crewing
+pub mod Joining
+pub mod Quartering
+pub mod Turning

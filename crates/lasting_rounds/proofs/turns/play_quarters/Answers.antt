@@ -1,0 +1,82 @@
+use Rattle.std.proofs.Common.{◌≡◌, rules, subst, sym, arith}
+use Rattle.std.specs.Prelude.{IfSome, IsOk}
+use Rattle.net_numbers.specs.Numbers.{Net}
+use Rattle.net_simulator.specs.Worlds.{Kept}
+use Rattle.lasting_rounds.specs.Turns.{CanPlayTurn}
+use Rattle.round_calls.specs.Rounds.{HaveAllPlayed}
+use Rattle.lasting_rounds.proofs.Quartering.{played-four}
+use Rattle.lasting_rounds.proofs.Turning.{has-come, on-ok, part-after, part-can, quarters-can, turn-ready}
+use Rattle.lasting_rounds.proofs.turns.play_quarters.Goals as goal
+
+pub give-requires-clause-ready : goal.give-requires-clause-ready
+give-requires-clause-ready g c =
+    turn-ready c.turn.result c.args.quarters.first c.args.net.now c.args.boards.now c.args.round c.args.world (search rules) (search rules) (search rules) c.requires.parts.first c.requires.links
+    (quarters-can c.args.quarters c.args.net.now c.args.boards.now c.args.round _ c.args.world c.requires.parts c.requires.can).0
+
+pub give-requires-2-clause-ready : goal.give-requires-2-clause-ready
+give-requires-2-clause-ready g c =
+    turn-ready c.turn-2.result c.args.quarters.second c.args.net.now c.args.boards.now c.args.round c.args.world (search rules) (search rules) (search rules) c.requires.parts.second c.requires.links
+    (quarters-can c.args.quarters c.args.net.now c.args.boards.now c.args.round _ c.args.world c.requires.parts c.requires.can).1
+
+pub give-requires-3-clause-ready : goal.give-requires-3-clause-ready
+give-requires-3-clause-ready g c =
+    turn-ready c.turn-3.result c.args.quarters.third c.args.net.now c.args.boards.now c.args.round c.args.world (search rules) (search rules) (search rules) c.requires.parts.third c.requires.links
+    (quarters-can c.args.quarters c.args.net.now c.args.boards.now c.args.round _ c.args.world c.requires.parts c.requires.can).2
+
+pub play_part-own-requires-clause-can : goal.play_part-own-requires-clause-can
+play_part-own-requires-clause-can g c κs within =
+    part-can c.args.quarters.own c.args.net.now c.args.boards.now c.args.round c.args.world _ (search rules) c.requires.parts.own
+    (quarters-can c.args.quarters c.args.net.now c.args.boards.now c.args.round _ c.args.world c.requires.parts c.requires.can).3
+
+pub finish-requires-clause-ready : goal.finish-requires-clause-ready
+finish-requires-clause-ready g c κs within =
+    subst (λ o. IfSome o CanPlayTurn) (sym c.give-3.ensures.1)
+    (turn-ready c.turn-3.result c.args.quarters.third c.args.net.now c.args.boards.now c.args.round c.args.world (search rules) (search rules) (search rules) c.requires.parts.third c.requires.links
+    (quarters-can c.args.quarters c.args.net.now c.args.boards.now c.args.round _ c.args.world c.requires.parts c.requires.can).2)
+
+pub finish-requires-2-clause-ready : goal.finish-requires-2-clause-ready
+finish-requires-2-clause-ready g c κs within =
+    subst (λ o. IfSome o CanPlayTurn) (sym c.give-2.ensures.1)
+    (turn-ready c.turn-2.result c.args.quarters.second c.args.net.now c.args.boards.now c.args.round c.args.world (search rules) (search rules) (search rules) c.requires.parts.second c.requires.links
+    (quarters-can c.args.quarters c.args.net.now c.args.boards.now c.args.round _ c.args.world c.requires.parts c.requires.can).1)
+
+pub finish-requires-3-clause-ready : goal.finish-requires-3-clause-ready
+finish-requires-3-clause-ready g c κs within =
+    subst (λ o. IfSome o CanPlayTurn) (sym c.give.ensures.1)
+    (turn-ready c.turn.result c.args.quarters.first c.args.net.now c.args.boards.now c.args.round c.args.world (search rules) (search rules) (search rules) c.requires.parts.first c.requires.links
+    (quarters-can c.args.quarters c.args.net.now c.args.boards.now c.args.round _ c.args.world c.requires.parts c.requires.can).0)
+
+pub returns-in-Ok-all_well-clause-played : goal.returns-in-Ok-all_well-clause-played
+returns-in-Ok-all_well-clause-played g c =
+    let well = on-ok c.all_well.result _ c.all_well.ensures (search rules) in
+    let one = has-come c.turn.result c.finish-3.result _ c.args.quarters.first c.ended-first.result.0 c.args.net.now c.args.round c.args.world c.ended-first.result.1 c.give.ensures.1 c.finish-3.ensures.done (search rules) (search rules) (search rules) c.requires.parts.first.net_is c.ended-first.ensures.0 (λ ok. subst IsOk c.ended-first.ensures.1 ok) in
+    let two = has-come c.turn-2.result c.finish-2.result _ c.args.quarters.second c.ended-second.result.0 c.args.net.now c.args.round c.args.world c.ended-second.result.1 c.give-2.ensures.1 c.finish-2.ensures.done (search rules) (search rules) (search rules) c.requires.parts.second.net_is c.ended-second.ensures.0 (λ ok. subst IsOk c.ended-second.ensures.1 ok) in
+    let three = has-come c.turn-3.result c.finish.result _ c.args.quarters.third c.ended-third.result.0 c.args.net.now c.args.round c.args.world c.ended-third.result.1 c.give-3.ensures.1 c.finish.ensures.done (search rules) (search rules) (search rules) c.requires.parts.third.net_is c.ended-third.ensures.0 (λ ok. subst IsOk c.ended-third.ensures.1 ok) in
+    let x = one.played well.0 in
+    let y = two.played well.1 in
+    let z = three.played well.2 in
+    let e : c.deref.result.now ≡ c.args.world = search rules in
+    let w = subst (λ (z : Net × Kept). HaveAllPlayed z.0 c.args.round z.1 c.args.quarters.own.actors.items c.play_part-own.result.0.actors.items c.args.quarters.own.passes.items c.play_part-own.result.0.passes.items) (λ i. (c.requires.parts.own.net_is i, e i))
+    (on-ok c.play_part-own.result.1 _ c.play_part-own.ensures.played well.3) in
+    (search rules, played-four c.args.net.now c.args.round c.args.world _ _ _ _ _ _ _ _ _ _ _ _ _ _ _ _ c.requires.parts.first.acted c.requires.parts.second.acted c.requires.parts.third.acted x y z w)
+
+pub returns-in-Ok-all_well-clause-parts : goal.returns-in-Ok-all_well-clause-parts
+returns-in-Ok-all_well-clause-parts g c =
+    let well = on-ok c.all_well.result _ c.all_well.ensures (search rules) in
+    let one = has-come c.turn.result c.finish-3.result _ c.args.quarters.first c.ended-first.result.0 c.args.net.now c.args.round c.args.world c.ended-first.result.1 c.give.ensures.1 c.finish-3.ensures.done (search rules) (search rules) (search rules) c.requires.parts.first.net_is c.ended-first.ensures.0 (λ ok. subst IsOk c.ended-first.ensures.1 ok) in
+    let two = has-come c.turn-2.result c.finish-2.result _ c.args.quarters.second c.ended-second.result.0 c.args.net.now c.args.round c.args.world c.ended-second.result.1 c.give-2.ensures.1 c.finish-2.ensures.done (search rules) (search rules) (search rules) c.requires.parts.second.net_is c.ended-second.ensures.0 (λ ok. subst IsOk c.ended-second.ensures.1 ok) in
+    let three = has-come c.turn-3.result c.finish.result _ c.args.quarters.third c.ended-third.result.0 c.args.net.now c.args.round c.args.world c.ended-third.result.1 c.give-3.ensures.1 c.finish.ensures.done (search rules) (search rules) (search rules) c.requires.parts.third.net_is c.ended-third.ensures.0 (λ ok. subst IsOk c.ended-third.ensures.1 ok) in
+    let x = one.played well.0 in
+    let y = two.played well.1 in
+    let z = three.played well.2 in
+    let e : c.deref.result.now ≡ c.args.world = search rules in
+    let w = subst (λ (z : Net × Kept). HaveAllPlayed z.0 c.args.round z.1 c.args.quarters.own.actors.items c.play_part-own.result.0.actors.items c.args.quarters.own.passes.items c.play_part-own.result.0.passes.items) (λ i. (c.requires.parts.own.net_is i, e i))
+    (on-ok c.play_part-own.result.1 _ c.play_part-own.ensures.played well.3) in
+    let after = part-after c.args.net.now c.args.boards.now c.args.round c.args.world in
+    record {
+      first = after _ _ c.requires.parts.first one.same x;
+      second = after _ _ c.requires.parts.second two.same y;
+      third = after _ _ c.requires.parts.third three.same z;
+      own = after _ _ c.requires.parts.own c.play_part-own.ensures.same w;
+      some = (let many = w.passes in let some = c.requires.parts.some in omega arith);
+    }

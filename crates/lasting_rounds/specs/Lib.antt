@@ -1,0 +1,4 @@
+pub mod Crewed
+pub mod Evenly
+pub mod Quartered
+pub mod Turns
