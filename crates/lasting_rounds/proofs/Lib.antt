@@ -1,4 +1,3 @@
 pub mod Crewing
-pub mod Joining
 pub mod Quartering
 pub mod Turning

@@ -1,5 +1,5 @@
 use Rattle.std.proofs.Common.{◌/◌, length, arith}
-use Rattle.lasting_rounds.proofs.Joining.{ok-both, played-both}
+use Rattle.net_threads.proofs.Joining.{ok-both, played-both}
 use Rattle.lasting_rounds.proofs.playing.+halves.Goals as goal
 
 pub play_all-returns-clause-played : goal.play_all-returns-clause-played
