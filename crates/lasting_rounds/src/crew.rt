@@ -94,8 +94,8 @@ fn nodes_of<'a, P, G>(part: Part<'a, P, G>) -> Nodes<P>
 
 /// All rounds of a network, whose nodes come in four parts, one behind another; the last has some. Four threads play them, one each:
 /// three that last for all rounds, and this one, which also lets the passes meet and moves the world. Where a thread cannot be started,
-/// this one plays its part. The nodes come back in any case, with the calls that their passes have made. An `Err` comes only where
-/// memory runs out. It waits for the boards and the threads.
+/// this one plays its part. The nodes come back in any case, their passes with the same boards and numbers; what their calls are is told
+/// where the answer is `Ok`. An `Err` comes only where memory runs out. It waits for the boards and the threads.
 ///
 /// docs/RULES.md, "Rounds in threads".
 pub fn play_lasting<'a, P: Planner + Send + Drop, R: Threads + Wait + Sync, G: Gate + Sync>(
