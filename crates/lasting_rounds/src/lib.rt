@@ -3,13 +3,16 @@
 #![tactic(auto)]
 
 mod crew;
+mod cuts;
 mod meeting;
 mod nodes;
 mod parts;
 mod playing;
 mod quarters;
 mod rounds;
+mod run;
 mod turns;
 
 pub use crew::play_lasting;
 pub use nodes::Nodes;
+pub use run::run_lasting;
