@@ -14,7 +14,7 @@ use arrivals::Arrivals;
 use board_model::{BoardLog, Gate};
 use delay_report::{join_report, law_of_reports, render_outcome, render_steps};
 use histories::{History, merge};
-use net_threads::run_rounds;
+use lasting_rounds::run_lasting;
 use plan_boards::{Boards, Pass};
 use pruned_dp::BoundPlanner;
 use road_net::Network;
@@ -31,28 +31,28 @@ struct Told {
     logs: Vec<BoardLog>,
 }
 
-/// The run of a network in threads, by new passes with so many calls, one for each node.
+/// The run of a network in threads that last, by new passes with so many calls, one for each node, and the passes behind it.
 fn run_by<R: Threads + Wait + Sync, G: Gate + Sync>(
     rt: &R,
     alloc: Global,
     net: &Network,
     arrivals: &Arrivals,
     boards: &Boards,
-    passes: &mut [Pass],
+    passes: Vec<Pass>,
     calls: u32,
     gate: &G,
-) -> Result<RunRecord, AllocError>
+) -> Result<(RunRecord, Vec<Pass>), AllocError>
     requires arrivals { AreArrivals net.now arrivals.now }
     requires links { boards.now.links ≡ length net.now.link_names }
-    requires all { AreAllPasses boards.now passes.old }
-    requires passes { passes.old ≡ fresh_passes boards.now.id calls 0 (length net.now.node_names) }
+    requires all { AreAllPasses boards.now passes.items }
+    requires passes { passes.items ≡ fresh_passes boards.now.id calls 0 (length net.now.node_names) }
     requires enough { (node : ℕ) → net.now.run.rounds * length (board_steps net.now node) ≤ calls }
-    ensures passes { AreAllPasses boards.now passes.new }
-    ensures lawful { OnOk result (MergeToLawful net.now (calls_in passes.new)) }
-    ensures run { IfOk result (IsRunOfCalls net.now arrivals.now (calls_in passes.new)) }
+    ensures passes { IfOk result (λ r. AreAllPasses boards.now r.1.items) }
+    ensures lawful { IfOk result (λ r. MergeToLawful net.now (calls_in r.1.items)) }
+    ensures run { IfOk result (λ r. IsRunOfCalls net.now arrivals.now (calls_in r.1.items) r.0) }
 {
     let planners = BoundPlanner::many(alloc, net.nodes() as usize)?;
-    run_rounds(rt, alloc, net, arrivals, planners, boards, passes, gate)
+    run_lasting(rt, alloc, net, arrivals, planners, boards, passes, gate)
 }
 
 /// The logs of the boards.
@@ -63,7 +63,7 @@ fn closed(alloc: Global, boards: Boards, passes: Vec<Pass>) -> Result<Vec<BoardL
     boards.close(alloc, passes).map_err(|refused| refused.2)
 }
 
-/// The run of a network in threads, each node with a planner and a pass of its own. The boards are closed in any case.
+/// The run of a network in threads, each node with a planner and a pass of its own, and the history that its boards tell.
 fn play<R: Threads + Wait + Sync, G: Gate + Sync>(
     rt: &R,
     alloc: Global,
@@ -75,19 +75,9 @@ fn play<R: Threads + Wait + Sync, G: Gate + Sync>(
     ensures { IfOk result (λ told. IsRunOf net.now (entering arrivals.now) told.history told.run) }
 {
     let calls = calls_for_pass(net);
-    let (boards, mut passes) = Boards::new(alloc, net.links(), net.nodes(), calls)?;
-    let run = run_by(
-        rt,
-        alloc,
-        net,
-        arrivals,
-        &boards,
-        passes.as_mut_slice(),
-        calls,
-        gate,
-    );
+    let (boards, passes) = Boards::new(alloc, net.links(), net.nodes(), calls)?;
+    let (run, passes) = run_by(rt, alloc, net, arrivals, &boards, passes, calls, gate)?;
     let logs = closed(alloc, boards, passes)?;
-    let run = run?;
     let history = merge(alloc, &logs)?;
     Ok(Told { run, history, logs })
 }

@@ -1,4 +1,4 @@
-use Rattle.std.proofs.Common.{List, subst, sym, ◌∙◌}
+use Rattle.std.proofs.Common.{List, subst}
 use Rattle.board_model.specs.Boards.{Log}
 use Rattle.histories.specs.Merges.{IsMerge}
 use Rattle.threaded_jobs.proofs.Telling.{told}
@@ -7,10 +7,7 @@ use Rattle.threaded_jobs.proofs.rounds.play.Goals as goal
 pub returns : goal.returns
 returns g c =
     let boards = c.in_ok-boards in
-    let dealt = boards.passes in
-    let passes = c.run_by-run.new.passes in
-    let history = c.in_ok-history.history in
-    let run = c.in_ok-run in
-    let same = c.run_by-run.ensures.passes.count ∙ sym boards.ensures.all.count in
-    let merge = subst (λ (logs : List Log). IsMerge logs history) c.deref.ensures.value c.in_ok-history.ensures in
-    told c.args.net.now c.args.arrivals.now boards.boards.links dealt.len dealt.items passes c.in_ok-logs.logs.items history run.run' dealt.ok.0 same c.in_ok-logs.ensures run.ensures.lawful run.ensures.run merge
+    let ran = c.in_ok-run in
+    let logs = c.in_ok-logs in
+    let history = c.in_ok-history in
+    told c.args.net.now c.args.arrivals.now boards.boards.links ran.passes.items logs.logs.items history.history ran.run' logs.ensures ran.ensures.lawful ran.ensures.run (subst (λ (all : List Log). IsMerge all history.history) c.deref.ensures.value history.ensures)
