@@ -6,7 +6,6 @@ mod crew;
 mod meeting;
 mod nodes;
 mod parts;
-mod playing;
 mod quarters;
 mod rounds;
 mod turns;

@@ -3,10 +3,10 @@ ghost use Rattle.std.specs.Prelude.{◌≡◌, OnOk, length, vec_len};
 ghost use Rattle.lasting_rounds.specs.Turns.{IsSamePart};
 ghost use Rattle.round_calls.specs.Rounds.{CanAllPlay, HaveAllPlayed};
 
-use crate::playing::play_all;
 use board_model::Gate;
 use intersection_actor::Actor;
 use net_simulator::World;
+use node_rounds::play_in_turn;
 use plan_boards::{Boards, Pass};
 use road_net::Network;
 use schedule_meaning::Planner;
@@ -57,7 +57,7 @@ pub(crate) fn play_part<'a, P: Planner + Drop, R: Threads + Wait + Sync, G: Gate
         mut planners,
         mut passes,
     } = part;
-    let went = play_all(
+    let went = play_in_turn(
         rt,
         alloc,
         net,

@@ -6,7 +6,7 @@ use Rattle.board_rule.specs.Passes.{PassView, AreLogsOfPasses, calls_in}
 use Rattle.histories.specs.Merges.{IsMerge}
 use Rattle.net_numbers.specs.Numbers.{Net}
 use Rattle.net_threads.specs.Calls.{IsRunOfCalls, MergeToLawful}
-use Rattle.net_threads.proofs.Joining.{put-back}
+use Rattle.node_rounds.proofs.Joining.{put-back}
 use Rattle.runs.specs.declared.records.RunRecord.{RunRecord}
 use Rattle.commands.specs.Headline.{IsRunOf}
 
