@@ -6,9 +6,9 @@ use Rattle.std.specs.Prelude.{None, vec_len}
 use Rattle.board_rule.specs.Passes.{BoardsView, PassView}
 use Rattle.intersection_actor.specs.Acting.{Acting}
 use Rattle.net_numbers.specs.Numbers.{Net}
-use Rattle.lasting_rounds.specs.Quartered.{AreAtDesks, AreFree, IsPartOf}
-use Rattle.lasting_rounds.specs.declared.parts.Part.{Part}
-use Rattle.lasting_rounds.specs.declared.parts.Turn.{Turn}
+use Rattle.lasting_parts.specs.Quartered.{AreAtDesks, AreFree, IsPartOf}
+use Rattle.lasting_parts.specs.declared.parts.Part.{Part}
+use Rattle.lasting_parts.specs.declared.parts.Turn.{Turn}
 use Rattle.work_desk.specs.declared.desk.Clerk.{Clerk}
 use Rattle.work_desk.specs.declared.desk.Desk.{Desk}
 use Rattle.work_desk.specs.Known.{AreClerksOf, IsClerkOf, sent_of}

@@ -1,3 +1,1 @@
 pub mod Crewing
-pub mod Quartering
-pub mod Turning

@@ -2,9 +2,9 @@
 use Rattle.std.specs.Prelude.{◌≡◌, Result, IfOk, List, length}
 use Rattle.arrivals.specs.Amounts.{AreArrivals}
 use Rattle.net_simulator.specs.Worlds.{Kept}
-use Rattle.lasting_rounds.specs.Quartered.{AreAtDesks, AreFree, AreQuartersOf, AreSameQuarters, actors_in, passes_in}
-use Rattle.lasting_rounds.specs.declared.parts.Turn.{Turn}
-use Rattle.lasting_rounds.specs.declared.quarters.Quarters.{Quarters}
+use Rattle.lasting_parts.specs.Quartered.{AreAtDesks, AreFree, AreQuartersOf, AreSameQuarters, actors_in, passes_in}
+use Rattle.lasting_parts.specs.declared.parts.Turn.{Turn}
+use Rattle.lasting_parts.specs.declared.quarters.Quarters.{Quarters}
 use Rattle.lasting_rounds.specs.declared.rounds.Rounds.{Rounds}
 use Rattle.round_calls.specs.Rounds.{Between}
 use Rattle.work_desk.specs.declared.desk.Desk.{Desk}

@@ -1,4 +1,2 @@
 pub mod Crewed
 pub mod Evenly
-pub mod Quartered
-pub mod Turns

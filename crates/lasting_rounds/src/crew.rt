@@ -2,18 +2,17 @@
 ghost use Rattle.std.specs.Prelude.{◌≡◌, ◌++◌, ◌<◌, IfOk, List, length, vec_len};
 ghost use Rattle.arrivals.specs.Amounts.{AreArrivals};
 ghost use Rattle.lasting_rounds.specs.Evenly.{AreEven};
-ghost use Rattle.lasting_rounds.specs.Quartered.{AreAtDesks, AreFree};
-ghost use Rattle.lasting_rounds.specs.declared.parts.Turn.{Turn};
+ghost use Rattle.lasting_parts.specs.Quartered.{AreAtDesks, AreFree};
+ghost use Rattle.lasting_parts.specs.declared.parts.Turn.{Turn};
 ghost use Rattle.round_calls.specs.Rounds.{AreSamePasses, Between};
 ghost use Rattle.work_desk.specs.declared.desk.Desk.{Desk};
 ghost use Rattle.work_desk.specs.Known.{AreClerksOf};
 
 use crate::nodes::Nodes;
-use crate::parts::{Part, Turn};
-use crate::quarters::{Clerks, Quarters};
 use crate::rounds::Rounds;
 use arrivals::Arrivals;
 use board_model::Gate;
+use lasting_parts::{Clerks, Part, Quarters, Turn};
 use net_simulator::World;
 use plan_boards::Boards;
 use road_net::Network;

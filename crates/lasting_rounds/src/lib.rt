@@ -1,17 +1,13 @@
-//! The rounds of a network in four threads that last for all rounds: in each round three parts of the nodes are handed over to threads
-//! beside, and one is played here; then the passes meet, and the world moves.
+//! The rounds of a network in four threads that last for all rounds: in each round the threads play a part of the nodes each; then the
+//! passes meet, and the world moves.
 #![tactic(auto)]
 
 mod crew;
 mod cuts;
 mod meeting;
 mod nodes;
-mod parts;
-mod playing;
-mod quarters;
 mod rounds;
 mod run;
-mod turns;
 
 pub use crew::play_lasting;
 pub use nodes::Nodes;

@@ -1,11 +1,10 @@
 //! The passes of all parts meet.
 ghost use Rattle.std.specs.Prelude.{◌≡◌, ◌<◌, All, length, map, max};
 ghost use Rattle.board_rule.specs.Passes.{highest, raised};
-ghost use Rattle.lasting_rounds.specs.Quartered.{AreSameQuarters, passes_in};
-ghost use Rattle.lasting_rounds.specs.Turns.{IsSamePart};
+ghost use Rattle.lasting_parts.specs.Quartered.{AreSameQuarters, passes_in};
+ghost use Rattle.lasting_parts.specs.Turns.{IsSamePart};
 
-use crate::parts::Part;
-use crate::quarters::Quarters;
+use lasting_parts::{Part, Quarters};
 use plan_boards::{Boards, Meeting};
 
 /// Begins a meeting with what the first pass of a part knows.

@@ -1,15 +1,13 @@
 //! The rounds of a network.
 ghost use Rattle.std.specs.Prelude.{◌≡◌, ℕ, ◌+◌, ◌<◌, [], All, IfOk, OnOk, length, map, max};
 ghost use Rattle.arrivals.specs.Amounts.{AreArrivals};
-ghost use Rattle.lasting_rounds.specs.Quartered.{AreAtDesks, AreFree, AreQuartersOf, AreSameQuarters, actors_in, passes_in};
+ghost use Rattle.lasting_parts.specs.Quartered.{AreAtDesks, AreFree, AreQuartersOf, AreSameQuarters, actors_in, passes_in};
 ghost use Rattle.round_calls.specs.Rounds.{Between};
 
 use crate::meeting::meet_all;
-use crate::parts::Turn;
-use crate::quarters::{Clerks, Quarters};
-use crate::turns::play_quarters;
 use arrivals::Arrivals;
 use board_model::Gate;
+use lasting_parts::{Clerks, Quarters, Turn, play_quarters};
 use net_simulator::World;
 use plan_boards::Boards;
 use road_net::Network;

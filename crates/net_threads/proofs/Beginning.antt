@@ -1,6 +1,7 @@
--- What is so of new passes: that they have made no call, and calls enough, as a run in threads asks.
-use Rattle.std.proofs.Common.{◌≡◌, ℕ, zero, suc, ◌+◌, ◌*◌, ◌≤◌, [], length, refl}
+-- What is so of new passes: that they have made no call, and calls enough, as a run in threads asks; and what that is by their place.
+use Rattle.std.proofs.Common.{◌≡◌, ℕ, zero, suc, ◌+◌, ◌*◌, ◌<◌, ◌≤◌, List, [], length, get_or, refl, subst, arith}
 use Rattle.std.specs.Prelude.{All, IfSome, slice_get}
+use Rattle.std.proofs.lemmas.Option.{slice_get-get_or}
 use Rattle.atomic_table.specs.Seated.{TableId}
 use Rattle.board_rule.specs.Passes.{PassView, fresh_pass, fresh_passes}
 use Rattle.board_rule.proofs.Closes.{all-if}
@@ -23,3 +24,7 @@ pub fresh-left : (net : Net) (id : TableId) (calls : ℕ) → ((node : ℕ) → 
     → HaveCallsLeft net (fresh_passes id calls 0 (length net.node_names))
 fresh-left net id calls enough node =
     at-each (λ (p : PassView). net.run.rounds * length (board_steps net node) ≤ p.left) id calls 0 (length net.node_names) node (λ number. enough node)
+
+-- the calls left of a pass by its place
+pub left-at : (net : Net) (passes : List PassView) → HaveCallsLeft net passes → length passes ≡ length net.node_names → (node : ℕ) (p : PassView) → node < length net.node_names → net.run.rounds * length (board_steps net node) ≤ (get_or passes node p).left
+left-at net passes left all node p below = subst (λ o. IfSome o (λ (q : PassView). net.run.rounds * length (board_steps net node) ≤ q.left)) (slice_get-get_or passes node p (omega arith)) (left node)

@@ -1,3 +1,2 @@
 pub mod Beginning
 pub mod Ending
-pub mod Joining

@@ -6,7 +6,7 @@ ghost use Rattle.round_calls.specs.Rounds.{AreSamePasses, CanAllPlay, HaveAllPla
 use board_model::Gate;
 use intersection_actor::Actor;
 use net_simulator::World;
-use node_rounds::play;
+use node_rounds::play_in_turn;
 use plan_boards::{Boards, Pass};
 use road_net::Network;
 use schedule_meaning::Planner;
@@ -25,17 +25,18 @@ pub(crate) fn threads_of<R: Threads>(rt: &R) -> usize {
     }
 }
 
-/// How many of so many nodes play beside the others: one part for a thread of its own, where several carry them, and else one half.
+/// How many of so many nodes play in a thread of their own beside the others, where so many threads carry them.
 fn front_of(nodes: usize, threads: usize) -> usize
-    requires { 2 ≤ nodes }
+    requires nodes { 2 ≤ nodes }
+    requires threads { 2 ≤ threads }
     ensures some { 0 < result }
     ensures others { result < nodes }
 {
-    (nodes / threads.max(2)).max(1)
+    (nodes / threads).max(1)
 }
 
 /// These nodes play a round, each with its actor, planner and pass: a part in a thread of its own beside the others, until one thread
-/// is left. That one, and one that finds no other to be had, plays one half after the other, down to single nodes.
+/// is left. That one, and one that finds no other to be had, plays its nodes in turn.
 ///
 /// An `Err` comes only where memory runs out; the other nodes still play to their ends.
 #[cycle(halves)]
@@ -57,44 +58,15 @@ pub(crate) fn play_all<P: Planner + Send, R: Threads + Wait + Sync, G: Gate + Sy
     ensures played { OnOk result (HaveAllPlayed net.now round world.now actors.old actors.new passes.old passes.new) }
     ensures same { AreSamePasses passes.old passes.new }
 {
-    if passes.is_empty() {
-        return Ok(());
-    }
-    if passes.len() == 1 {
-        return play(
-            rt,
-            alloc,
-            net,
-            world,
-            boards,
-            round,
-            gate,
-            &mut actors[0],
-            &mut planners[0],
-            &mut passes[0],
+    if threads < 2 || passes.len() < 2 {
+        return play_in_turn(
+            rt, alloc, net, world, boards, round, gate, actors, planners, passes,
         );
     }
     let middle = front_of(passes.len(), threads);
     let (front_passes, back_passes) = passes.split_at_mut(middle);
     let (front_actors, back_actors) = actors.split_at_mut(middle);
     let (front_planners, back_planners) = planners.split_at_mut(middle);
-    if threads < 2 {
-        return play_in_turn(
-            rt,
-            alloc,
-            net,
-            world,
-            boards,
-            round,
-            gate,
-            front_actors,
-            back_actors,
-            front_planners,
-            back_planners,
-            front_passes,
-            back_passes,
-        );
-    }
     play_both(
         rt,
         alloc,
@@ -111,60 +83,6 @@ pub(crate) fn play_all<P: Planner + Send, R: Threads + Wait + Sync, G: Gate + Sy
         front_passes,
         back_passes,
     )
-}
-
-/// Two parts of the nodes play a round, one after the other.
-#[cycle(halves)]
-fn play_in_turn<P: Planner + Send, R: Threads + Wait + Sync, G: Gate + Sync>(
-    rt: &R,
-    alloc: Global,
-    net: &Network,
-    world: &World,
-    boards: &Boards,
-    round: u32,
-    gate: &G,
-    front_actors: &mut [Actor],
-    back_actors: &mut [Actor],
-    front_planners: &mut [P],
-    back_planners: &mut [P],
-    front_passes: &mut [Pass],
-    back_passes: &mut [Pass],
-) -> Result<(), AllocError>
-    requires links { boards.now.links ≡ length net.now.link_names }
-    requires front { CanAllPlay net.now round world.now boards.now (length front_planners.old) front_actors.old front_passes.old }
-    requires back { CanAllPlay net.now round world.now boards.now (length back_planners.old) back_actors.old back_passes.old }
-    ensures front { OnOk result (HaveAllPlayed net.now round world.now front_actors.old front_actors.new front_passes.old front_passes.new) }
-    ensures back { OnOk result (HaveAllPlayed net.now round world.now back_actors.old back_actors.new back_passes.old back_passes.new) }
-    ensures same { AreSamePasses front_passes.old front_passes.new × AreSamePasses back_passes.old back_passes.new }
-{
-    let front = play_all(
-        rt,
-        alloc,
-        net,
-        world,
-        boards,
-        round,
-        gate,
-        1,
-        front_actors,
-        front_planners,
-        front_passes,
-    );
-    let back = play_all(
-        rt,
-        alloc,
-        net,
-        world,
-        boards,
-        round,
-        gate,
-        1,
-        back_actors,
-        back_planners,
-        back_passes,
-    );
-    front?;
-    back
 }
 
 /// Two parts of the nodes play a round at once: the first in a thread of its own, the second carried by so many. All threads of a round are

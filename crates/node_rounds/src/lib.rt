@@ -4,5 +4,7 @@
 mod hearing;
 mod playing;
 mod telling;
+mod turns;
 
 pub use playing::play;
+pub use turns::play_in_turn;

@@ -2,7 +2,7 @@ use Rattle.std.proofs.Common.{◌≡◌, ◌++◌, List, length, rules, sym, ap,
 use Rattle.std.specs.Prelude.{IfOk, vec_len}
 use Rattle.board_rule.specs.Passes.{PassView}
 use Rattle.intersection_actor.specs.Acting.{Acting}
-use Rattle.lasting_rounds.specs.Quartered.{actors_in, passes_in}
+use Rattle.lasting_parts.specs.Quartered.{actors_in, passes_in}
 use Rattle.round_calls.specs.Rounds.{AreSamePasses, Between}
 use Rattle.lasting_rounds.proofs.Crewing.{part-of}
 use Rattle.lasting_rounds.proofs.crew.play_lasting.Goals as goal

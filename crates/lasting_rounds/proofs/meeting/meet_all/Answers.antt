@@ -1,7 +1,7 @@
 use Rattle.std.proofs.Common.{◌≡◌, ◌++◌, rules, subst, sym, ◌∙◌, map}
 use Rattle.std.specs.Prelude.{All}
 use Rattle.board_rule.specs.Passes.{PassView, raised}
-use Rattle.lasting_rounds.proofs.Quartering.{four-all, highest-four, map-four}
+use Rattle.lasting_parts.proofs.Quartering.{four-all, highest-four, map-four}
 use Rattle.lasting_rounds.proofs.meeting.meet_all.Goals as goal
 
 pub begun-own-requires-clause-boards : goal.begun-own-requires-clause-boards

@@ -3,7 +3,7 @@ use Rattle.std.proofs.lemmas.List.{length-map}
 use Rattle.board_rule.specs.Passes.{raised}
 use Rattle.round_calls.specs.Rounds.{names}
 use Rattle.round_calls.proofs.Passes.{raised-names}
-use Rattle.net_threads.proofs.Joining.{put-back}
+use Rattle.node_rounds.proofs.Joining.{put-back}
 use Rattle.lasting_rounds.proofs.meeting.told.Goals as goal
 
 pub returns-clause-same : goal.returns-clause-same

@@ -4,12 +4,12 @@ use Rattle.board_rule.specs.Passes.{PassView}
 use Rattle.intersection_actor.specs.Acting.{Acting}
 use Rattle.net_simulator.specs.Arriving.{arriving_of}
 use Rattle.net_simulator.specs.Worlds.{Stands, standing_by}
-use Rattle.lasting_rounds.specs.Quartered.{AreQuartersOf, actors_in, passes_in}
+use Rattle.lasting_parts.specs.Quartered.{AreQuartersOf, actors_in, passes_in}
 use Rattle.round_calls.specs.Resting.{lines_of}
 use Rattle.round_calls.specs.Rounds.{Between, HaveAllPlayed}
 use Rattle.round_calls.proofs.Passes.{all-boards, own-same, same-length}
 use Rattle.round_calls.proofs.Rounding.{can-play, over-before, round-over}
-use Rattle.lasting_rounds.proofs.Turning.{part-met, quarters-on, same-passes}
+use Rattle.lasting_parts.proofs.Turning.{part-met, quarters-on, same-passes}
 use Rattle.lasting_rounds.proofs.rounds.play_round.Goals as goal
 
 pub play_quarters-quarters-requires-clause-can : goal.play_quarters-quarters-requires-clause-can

@@ -1,4 +1,4 @@
-use Rattle.lasting_rounds.specs.Quartered.{AreAtDesks, AreFree, AreQuartersOf, AreSameQuarters, actors_in, passes_in}
+use Rattle.lasting_parts.specs.Quartered.{AreAtDesks, AreFree, AreQuartersOf, AreSameQuarters, actors_in, passes_in}
 use Rattle.round_calls.specs.Rounds.{Between}
 use Rattle.lasting_rounds.proofs.rounds.play_rounds.Given as goal
 

@@ -1,5 +1,5 @@
 use Rattle.std.proofs.Common.{arith}
-use Rattle.net_threads.proofs.Joining.{ok-both, played-both}
+use Rattle.node_rounds.proofs.Joining.{ok-both, played-both}
 use Rattle.net_threads.proofs.joined.+halves.Goals as goal
 
 pub play_all-returns-clause-played : goal.play_all-returns-clause-played
@@ -9,11 +9,3 @@ play_all-returns-clause-played g t c =
     c.args.passes.now c.play_both.new.front_passes c.play_both.new.back_passes c.split_at_mut-front_passes.result.0.now c.split_at_mut-front_passes.result.1.now (omega (arith, c.front_of-middle.ensures.others)) c.requires.can.acted
     c.split_at_mut-front_actors.ensures.front c.split_at_mut-front_actors.ensures.back c.split_at_mut-front_passes.ensures.front c.split_at_mut-front_passes.ensures.back front back)
     c.play_both.ensures.front c.play_both.ensures.back
-
-pub play_all-returns-then-threads-lt2-clause-played : goal.play_all-returns-then-threads-lt2-clause-played
-play_all-returns-then-threads-lt2-clause-played g t c =
-    ok-both c.play_in_turn.result _ _ _
-    (λ front back. played-both c.args.net.now c.args.round c.args.world.now c.front_of-middle.result c.args.actors.now c.play_in_turn.new.front_actors c.play_in_turn.new.back_actors c.split_at_mut-front_actors.result.0.now c.split_at_mut-front_actors.result.1.now
-    c.args.passes.now c.play_in_turn.new.front_passes c.play_in_turn.new.back_passes c.split_at_mut-front_passes.result.0.now c.split_at_mut-front_passes.result.1.now (omega (arith, c.front_of-middle.ensures.others)) c.requires.can.acted
-    c.split_at_mut-front_actors.ensures.front c.split_at_mut-front_actors.ensures.back c.split_at_mut-front_passes.ensures.front c.split_at_mut-front_passes.ensures.back front back)
-    c.play_in_turn.ensures.front c.play_in_turn.ensures.back

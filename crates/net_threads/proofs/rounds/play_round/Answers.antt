@@ -8,7 +8,7 @@ use Rattle.round_calls.specs.Resting.{lines_of}
 use Rattle.round_calls.specs.Rounds.{Between, CanAllPlay, HaveAllPlayed, names}
 use Rattle.round_calls.proofs.Passes.{all-boards, own-same, raised-names}
 use Rattle.round_calls.proofs.Rounding.{can-play, over-before, round-over}
-use Rattle.net_threads.proofs.Joining.{put-back}
+use Rattle.node_rounds.proofs.Joining.{put-back}
 use Rattle.net_threads.proofs.rounds.play_round.Goals as goal
 
 pub play_all-requires-clause-can : goal.play_all-requires-clause-can

@@ -1,6 +1,6 @@
 use Rattle.std.proofs.Common.{List, subst, sym, ◌∙◌}
 use Rattle.board_rule.specs.Passes.{PassView, AreLogsOfPasses}
-use Rattle.net_threads.proofs.Joining.{put-back}
+use Rattle.node_rounds.proofs.Joining.{put-back}
 use Rattle.thread_tests.proofs.Telling.{told-if-ran}
 use Rattle.thread_tests.proofs.played.play.Goals as goal
 

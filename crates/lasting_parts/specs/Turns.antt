@@ -1,8 +1,8 @@
 -- Rounds of some of the nodes.
 use Rattle.std.specs.Prelude.{◌≡◌, OnOk, length, vec_len}
 use Rattle.std.specs.Arc.{arc_value}
-use Rattle.lasting_rounds.specs.declared.parts.Part.{Part}
-use Rattle.lasting_rounds.specs.declared.parts.Turn.{Turn}
+use Rattle.lasting_parts.specs.declared.parts.Part.{Part}
+use Rattle.lasting_parts.specs.declared.parts.Turn.{Turn}
 use Rattle.round_calls.specs.Rounds.{AreSamePasses, CanAllPlay, HaveAllPlayed}
 
 module _ {P G : Type 0} where

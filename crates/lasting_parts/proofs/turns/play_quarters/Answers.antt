@@ -2,11 +2,11 @@ use Rattle.std.proofs.Common.{◌≡◌, rules, subst, sym, arith}
 use Rattle.std.specs.Prelude.{IfSome, IsOk}
 use Rattle.net_numbers.specs.Numbers.{Net}
 use Rattle.net_simulator.specs.Worlds.{Kept}
-use Rattle.lasting_rounds.specs.Turns.{CanPlayTurn}
+use Rattle.lasting_parts.specs.Turns.{CanPlayTurn}
 use Rattle.round_calls.specs.Rounds.{HaveAllPlayed}
-use Rattle.lasting_rounds.proofs.Quartering.{played-four}
-use Rattle.lasting_rounds.proofs.Turning.{has-come, on-ok, part-after, part-can, quarters-can, turn-ready}
-use Rattle.lasting_rounds.proofs.turns.play_quarters.Goals as goal
+use Rattle.lasting_parts.proofs.Quartering.{played-four}
+use Rattle.lasting_parts.proofs.Turning.{has-come, on-ok, part-after, part-can, quarters-can, turn-ready}
+use Rattle.lasting_parts.proofs.turns.play_quarters.Goals as goal
 
 pub give-requires-clause-ready : goal.give-requires-clause-ready
 give-requires-clause-ready g c =

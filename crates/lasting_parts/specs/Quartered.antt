@@ -3,11 +3,11 @@ use Rattle.std.specs.Prelude.{◌≡◌, ◌<◌, None, List, ◌++◌, length, 
 use Rattle.board_rule.specs.Passes.{BoardsView, PassView}
 use Rattle.intersection_actor.specs.Acting.{Acting}
 use Rattle.net_numbers.specs.Numbers.{Net}
-use Rattle.lasting_rounds.specs.declared.parts.Part.{Part}
-use Rattle.lasting_rounds.specs.declared.parts.Turn.{Turn}
-use Rattle.lasting_rounds.specs.declared.quarters.Clerks.{Clerks}
-use Rattle.lasting_rounds.specs.declared.quarters.Quarters.{Quarters}
-use Rattle.lasting_rounds.specs.Turns.{IsSamePart}
+use Rattle.lasting_parts.specs.declared.parts.Part.{Part}
+use Rattle.lasting_parts.specs.declared.parts.Turn.{Turn}
+use Rattle.lasting_parts.specs.declared.quarters.Clerks.{Clerks}
+use Rattle.lasting_parts.specs.declared.quarters.Quarters.{Quarters}
+use Rattle.lasting_parts.specs.Turns.{IsSamePart}
 use Rattle.work_desk.specs.declared.desk.Desk.{Desk}
 use Rattle.work_desk.specs.Known.{IsClerkOf, sent_of}
 

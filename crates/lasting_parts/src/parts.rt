@@ -1,12 +1,12 @@
 //! Some of the nodes of a network, and the rounds that they play.
 ghost use Rattle.std.specs.Prelude.{◌≡◌, OnOk, length, vec_len};
-ghost use Rattle.lasting_rounds.specs.Turns.{IsSamePart};
+ghost use Rattle.lasting_parts.specs.Turns.{IsSamePart};
 ghost use Rattle.round_calls.specs.Rounds.{CanAllPlay, HaveAllPlayed};
 
-use crate::playing::play_all;
 use board_model::Gate;
 use intersection_actor::Actor;
 use net_simulator::World;
+use node_rounds::play_in_turn;
 use plan_boards::{Boards, Pass};
 use road_net::Network;
 use schedule_meaning::Planner;
@@ -15,25 +15,40 @@ use std::sync::{Arc, Wait};
 use std::thread::Threads;
 use work_desk::Errand;
 
-/// Some of the nodes, each with its actor, planner and pass, and what they play by.
+/// Some of the nodes of a network, one behind another, and what they play by.
+///
+/// docs/RULES.md, "Rounds in threads".
 #[derive(Drop)]
-pub(crate) struct Part<'a, P, G> {
-    pub(crate) alloc: Global,
-    pub(crate) net: &'a Network,
-    pub(crate) boards: &'a Boards,
-    pub(crate) gate: &'a G,
-    pub(crate) actors: Vec<Actor>,
-    pub(crate) planners: Vec<P>,
-    pub(crate) passes: Vec<Pass>,
+pub struct Part<'a, P, G> {
+    /// Where they take memory.
+    pub alloc: Global,
+    /// The network.
+    pub net: &'a Network,
+    /// The boards at which they make their calls.
+    pub boards: &'a Boards,
+    /// What is called before each board step.
+    pub gate: &'a G,
+    /// The actors of these nodes.
+    pub actors: Vec<Actor>,
+    /// Their planners.
+    pub planners: Vec<P>,
+    /// Their passes.
+    pub passes: Vec<Pass>,
 }
 
-/// A round of some of the nodes: the world at its begin, and how it ended.
+/// A round of some of the nodes, as it is handed over at a desk: they play it where it is run.
+///
+/// docs/RULES.md, "Rounds in threads".
 #[derive(Drop)]
-pub(crate) struct Turn<'a, P, G> {
-    pub(crate) part: Part<'a, P, G>,
-    pub(crate) world: Arc<World>,
-    pub(crate) round: u32,
-    pub(crate) ended: Result<(), AllocError>,
+pub struct Turn<'a, P, G> {
+    /// The nodes.
+    pub part: Part<'a, P, G>,
+    /// The world at the round's begin.
+    pub world: Arc<World>,
+    /// The round's number.
+    pub round: u32,
+    /// How it ended, once they have played it: an `Err` where memory ran out.
+    pub ended: Result<(), AllocError>,
 }
 
 /// These nodes play a round under a world.
@@ -57,7 +72,7 @@ pub(crate) fn play_part<'a, P: Planner + Drop, R: Threads + Wait + Sync, G: Gate
         mut planners,
         mut passes,
     } = part;
-    let went = play_all(
+    let went = play_in_turn(
         rt,
         alloc,
         net,
@@ -82,7 +97,7 @@ pub(crate) fn play_part<'a, P: Planner + Drop, R: Threads + Wait + Sync, G: Gate
 }
 
 impl<'a, P: Planner + Drop, G: Gate> Errand for Turn<'a, P, G> {
-    ghost use Rattle.lasting_rounds.specs.Turns.{CanPlayTurn, HasPlayedTurn};
+    ghost use Rattle.lasting_parts.specs.Turns.{CanPlayTurn, HasPlayedTurn};
 
     ghost ready = { CanPlayTurn };
 

@@ -10,21 +10,32 @@ use intersection_actor::Actor;
 use net_simulator::Lights;
 use work_desk::Clerk;
 
-/// All nodes in their order, in four parts.
+/// All nodes of a network in their order, in four parts. The lines of their actors are what a world moves by.
+///
+/// docs/RULES.md, "Rounds in threads".
 #[derive(Drop)]
-pub(crate) struct Quarters<'a, P, G> {
-    pub(crate) first: Part<'a, P, G>,
-    pub(crate) second: Part<'a, P, G>,
-    pub(crate) third: Part<'a, P, G>,
-    pub(crate) own: Part<'a, P, G>,
+pub struct Quarters<'a, P, G> {
+    /// The first nodes, for a thread beside.
+    pub first: Part<'a, P, G>,
+    /// The nodes behind these, for another one.
+    pub second: Part<'a, P, G>,
+    /// The nodes behind these, for a third one.
+    pub third: Part<'a, P, G>,
+    /// The last nodes, for the thread that hands over the others.
+    pub own: Part<'a, P, G>,
 }
 
 /// The ends of three desks at which turns are handed over.
+///
+/// docs/RULES.md, "Rounds in threads".
 #[derive(Drop)]
-pub(crate) struct Clerks<'a, P, G> {
-    pub(crate) first: Clerk<Turn<'a, P, G>>,
-    pub(crate) second: Clerk<Turn<'a, P, G>>,
-    pub(crate) third: Clerk<Turn<'a, P, G>>,
+pub struct Clerks<'a, P, G> {
+    /// That of the desk for the first part.
+    pub first: Clerk<Turn<'a, P, G>>,
+    /// That of the desk for the second part.
+    pub second: Clerk<Turn<'a, P, G>>,
+    /// That of the desk for the third part.
+    pub third: Clerk<Turn<'a, P, G>>,
 }
 
 /// The green that one of these actors shows in a second.
@@ -36,7 +47,7 @@ fn green_in(actors: &[Actor], place: usize, second: u32) -> Option<Green>
 }
 
 impl<'a, P, G> Lights for Quarters<'a, P, G> {
-    ghost use Rattle.lasting_rounds.specs.Quartered.{actors_in};
+    ghost use Rattle.lasting_parts.specs.Quartered.{actors_in};
     ghost use Rattle.round_calls.specs.Resting.{lines_of};
 
     ghost lines = { λ q node. lines_of (actors_in q) node };

@@ -1,11 +1,11 @@
-//! Some of the nodes play a round, one after another.
+//! Some of the nodes play a round, one behind the other.
 ghost use Rattle.std.specs.Prelude.{◌≡◌, OnOk, length};
 ghost use Rattle.round_calls.specs.Rounds.{AreSamePasses, CanAllPlay, HaveAllPlayed};
 
+use crate::playing::play;
 use board_model::Gate;
 use intersection_actor::Actor;
 use net_simulator::World;
-use node_rounds::play;
 use plan_boards::{Boards, Pass};
 use road_net::Network;
 use schedule_meaning::Planner;
@@ -13,11 +13,15 @@ use std::alloc::{AllocError, Global};
 use std::sync::Wait;
 use std::thread::Threads;
 
-/// These nodes play a round, each with its actor, planner and pass: one half after the other, down to single nodes.
+/// These nodes play a round, each with its actor, planner and pass: one half after the other, down to single nodes. Nodes that are not
+/// among them may play at the same time.
 ///
-/// An `Err` comes only where memory runs out; the other nodes still play to their ends.
+/// An `Err` comes only where memory runs out; the other nodes still play to their ends. The passes keep their boards and numbers, and
+/// the calls that were made.
+///
+/// docs/RULES.md, "Rounds in threads".
 #[cycle(halves)]
-pub(crate) fn play_all<P: Planner, R: Threads + Wait + Sync, G: Gate>(
+pub fn play_in_turn<P: Planner, R: Threads + Wait + Sync, G: Gate>(
     rt: &R,
     alloc: Global,
     net: &Network,
@@ -96,7 +100,7 @@ fn play_both<P: Planner, R: Threads + Wait + Sync, G: Gate>(
     ensures back { OnOk result (HaveAllPlayed net.now round world.now back_actors.old back_actors.new back_passes.old back_passes.new) }
     ensures same { AreSamePasses front_passes.old front_passes.new × AreSamePasses back_passes.old back_passes.new }
 {
-    let front = play_all(
+    let front = play_in_turn(
         rt,
         alloc,
         net,
@@ -108,7 +112,7 @@ fn play_both<P: Planner, R: Threads + Wait + Sync, G: Gate>(
         front_planners,
         front_passes,
     );
-    let back = play_all(
+    let back = play_in_turn(
         rt,
         alloc,
         net,

@@ -2,7 +2,7 @@
 ghost use Rattle.std.specs.Prelude.{◌≡◌, ◌≢◌, ◌<◌, ℕ, None, Some, IfOk, OnOk, IsOk, length, vec_len};
 ghost use Rattle.std.specs.Arc.{arc_value};
 ghost use Rattle.board_rule.specs.Passes.{highest, raised};
-ghost use Rattle.lasting_rounds.specs.Quartered.{AreAtDesks, AreFree, AreQuartersOf, AreSameQuarters, actors_in, passes_in};
+ghost use Rattle.lasting_parts.specs.Quartered.{AreAtDesks, AreFree, AreQuartersOf, AreSameQuarters, actors_in, passes_in};
 ghost use Rattle.round_calls.specs.Rounds.{CanAllPlay, HaveAllPlayed};
 
 use crate::parts::{Part, Turn, play_part};
@@ -83,8 +83,15 @@ fn all_well(
     own
 }
 
-/// All nodes play a round: the first three parts are handed over, the last plays here, and the others are taken back.
-pub(crate) fn play_quarters<'a, P: Planner + Drop, R: Threads + Wait + Sync, G: Gate>(
+/// All nodes play a round: the first three parts are handed over, the last plays here, and the others are taken back, each played by a
+/// thread beside or, where that has not begun it, here. The parts come back in any case, of the same nodes, with the passes' boards and
+/// numbers. Nothing is handed over before, and nothing behind.
+///
+/// An `Err` comes only where memory runs out; the world is then gone. Where the answer is `Ok`, it is the world as it was, and each node
+/// has played the round under it. It waits for the boards and the threads.
+///
+/// docs/RULES.md, "Rounds in threads".
+pub fn play_quarters<'a, P: Planner + Drop, R: Threads + Wait + Sync, G: Gate>(
     rt: &R,
     alloc: Global,
     net: &Network,

@@ -6,15 +6,15 @@ use Rattle.std.specs.Prelude.{Option, Some, Result, Ok, Err, IsOk, OnOk, vec_len
 use Rattle.board_rule.specs.Passes.{BoardsView}
 use Rattle.net_numbers.specs.Numbers.{Net}
 use Rattle.net_simulator.specs.Worlds.{Kept}
-use Rattle.lasting_rounds.specs.Quartered.{AreQuartersOf, AreSameQuarters, IsPartOf, actors_in, passes_in}
-use Rattle.lasting_rounds.specs.Turns.{CanPlayTurn, HasPlayedTurn, IsSamePart}
-use Rattle.lasting_rounds.specs.declared.parts.Part.{Part}
-use Rattle.lasting_rounds.specs.declared.parts.Turn.{Turn}
-use Rattle.lasting_rounds.specs.declared.quarters.Quarters.{Quarters}
+use Rattle.lasting_parts.specs.Quartered.{AreQuartersOf, AreSameQuarters, IsPartOf, actors_in, passes_in}
+use Rattle.lasting_parts.specs.Turns.{CanPlayTurn, HasPlayedTurn, IsSamePart}
+use Rattle.lasting_parts.specs.declared.parts.Part.{Part}
+use Rattle.lasting_parts.specs.declared.parts.Turn.{Turn}
+use Rattle.lasting_parts.specs.declared.quarters.Quarters.{Quarters}
 use Rattle.round_calls.specs.Rounds.{AreSamePasses, CanAllPlay, HaveAllPlayed}
 use Rattle.round_calls.proofs.Passes.{same-length}
 use Rattle.work_desk.specs.Places.{IsBack}
-use Rattle.lasting_rounds.proofs.Quartering.{can-four, names-four}
+use Rattle.lasting_parts.proofs.Quartering.{can-four, names-four}
 
 pub on-ok : {X E : Type 0} (r : Result X E) (A : Type 0) → OnOk r A → IsOk r → A
 on-ok (Ok x) A a ok = a

@@ -1,15 +1,15 @@
 -- Four parts of all nodes, one after another.
-use Rattle.std.proofs.Common.{◌≡◌, ℕ, ◌+◌, ◌-◌, inl, inr, max, List, ◌++◌, length, map, get_or, refl, sym, ap, subst, ◌∙◌, arith, length-append}
+use Rattle.std.proofs.Common.{◌≡◌, ℕ, ◌+◌, max, List, ◌++◌, length, map, get_or, refl, sym, ap, subst, ◌∙◌, arith, length-append}
 use Rattle.std.specs.Prelude.{All}
-use Rattle.std.proofs.lemmas.Bool.{cases_lt}
 use Rattle.std.proofs.lemmas.List.{get_or-append-add, get_or_append_left, map-append}
 use Rattle.atomic_table.specs.Seated.{TableId}
 use Rattle.board_rule.specs.Passes.{BoardsView, PassView, highest}
 use Rattle.intersection_actor.specs.Acting.{Acting}
 use Rattle.net_numbers.specs.Numbers.{Net}
 use Rattle.net_simulator.specs.Worlds.{Kept}
+use Rattle.node_rounds.proofs.Joining.{played-two}
 use Rattle.plan_boards.proofs.Meetings.{highest-append}
-use Rattle.round_calls.specs.Nodes.{CanPlay, HasPlayed}
+use Rattle.round_calls.specs.Nodes.{CanPlay}
 use Rattle.round_calls.specs.Rounds.{AreSamePasses, CanAllPlay, HaveAllPlayed, names}
 
 module _ {A : Type 0} (Fits : A → Type 0) where
@@ -79,37 +79,10 @@ module _ (net : Net) (round : ℕ) (world : Kept) where
           can-back (length (r ++ s)) c d r s three cd,
         )
 
-  -- two parts that played a round
-  played-two : (xs a' ys b' : List Acting) (ps p' qs q' : List PassView) → length xs ≡ length ps → HaveAllPlayed net round world xs a' ps p' → HaveAllPlayed net round world ys b' qs q' → HaveAllPlayed net round world (xs ++ ys) (a' ++ b') (ps ++ qs) (p' ++ q')
-  played-two xs a' ys b' ps p' qs q' same one other = record {
-    actors = length-append a' b' ∙ (let x = one.actors in let y = other.actors in let z : length a' + length b' ≡ length xs + length ys = omega arith in z) ∙ sym (length-append xs ys);
-    passes = length-append p' q' ∙ (let x = one.passes in let y = other.passes in let z : length p' + length q' ≡ length ps + length qs = omega arith in z) ∙ sym (length-append ps qs);
-    each = λ k a p inside. elim (cases_lt k (length ps)) [
-      | inl less ↦
-          subst (λ (t : Acting × Acting × PassView × PassView). HasPlayed net round world t.0 t.1 t.2 t.3) (λ i. (
-            sym (get_or_append_left xs ys a k (omega (arith, same))) i,
-            sym (get_or_append_left a' b' a k (omega (arith, one.actors, same))) i,
-            sym (get_or_append_left ps qs p k less) i,
-            sym (get_or_append_left p' q' p k (omega (arith, one.passes))) i,
-          )) (one.each k a p less)
-      | inr past ↦
-          let j : ℕ = k - length ps in
-          let e : length ps + j ≡ k = omega arith in
-          let ea : length xs + j ≡ k = omega (arith, same) in
-          let ea' : length a' + j ≡ k = omega (arith, same, one.actors) in
-          let ep' : length p' + j ≡ k = omega (arith, one.passes) in
-          subst (λ (t : Acting × Acting × PassView × PassView). HasPlayed net round world t.0 t.1 t.2 t.3) (λ i. (
-            (sym (get_or-append-add xs ys j a) ∙ ap (λ n. get_or (xs ++ ys) n a) ea) i,
-            (sym (get_or-append-add a' b' j a) ∙ ap (λ n. get_or (a' ++ b') n a) ea') i,
-            (sym (get_or-append-add ps qs j p) ∙ ap (λ n. get_or (ps ++ qs) n p) e) i,
-            (sym (get_or-append-add p' q' j p) ∙ ap (λ n. get_or (p' ++ q') n p) ep') i,
-          )) (other.each j a p (omega (arith, length-append ps qs)))
-    ];
-  }
-
+  -- four parts that played a round
   pub played-four : (a a' b b' c c' d d' : List Acting) (p p' q q' r r' s s' : List PassView) → length a ≡ length p → length b ≡ length q → length c ≡ length r
       → HaveAllPlayed net round world a a' p p' → HaveAllPlayed net round world b b' q q' → HaveAllPlayed net round world c c' r r' → HaveAllPlayed net round world d d' s s'
       → HaveAllPlayed net round world (a ++ (b ++ (c ++ d))) (a' ++ (b' ++ (c' ++ d'))) (p ++ (q ++ (r ++ s))) (p' ++ (q' ++ (r' ++ s')))
   played-four a a' b b' c c' d d' p p' q q' r r' s s' one two three w x y z =
-      played-two a a' (b ++ (c ++ d)) (b' ++ (c' ++ d')) p p' (q ++ (r ++ s)) (q' ++ (r' ++ s')) one w
-      (played-two b b' (c ++ d) (c' ++ d') q q' (r ++ s) (r' ++ s') two x (played-two c c' d d' r r' s s' three y z))
+      played-two net round world a a' (b ++ (c ++ d)) (b' ++ (c' ++ d')) p p' (q ++ (r ++ s)) (q' ++ (r' ++ s')) one w
+      (played-two net round world b b' (c ++ d) (c' ++ d') q q' (r ++ s) (r' ++ s') two x (played-two net round world c c' d d' r r' s s' three y z))

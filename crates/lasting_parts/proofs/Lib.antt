@@ -1,0 +1,2 @@
+pub mod Quartering
+pub mod Turning

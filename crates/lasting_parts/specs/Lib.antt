@@ -1,0 +1,2 @@
+pub mod Quartered
+pub mod Turns
