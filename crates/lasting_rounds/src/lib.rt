@@ -3,12 +3,9 @@
 #![tactic(auto)]
 
 mod crew;
-mod cuts;
 mod meeting;
 mod nodes;
 mod rounds;
-mod run;
 
 pub use crew::play_lasting;
 pub use nodes::Nodes;
-pub use run::run_lasting;

@@ -16,25 +16,8 @@ fn begun<'a, P: Drop, G>(boards: &Boards, part: Part<'a, P, G>) -> (Part<'a, P, 
     ensures actors { result.0.actors ≡ part.entry.actors }
     ensures same { IsSamePart part.entry result.0 }
 {
-    let Part {
-        alloc,
-        net,
-        boards: own_boards,
-        gate,
-        actors,
-        planners,
-        mut passes,
-    } = part;
-    let meeting = boards.begin_meeting(&mut passes[0]);
-    let part = Part {
-        alloc,
-        net,
-        boards: own_boards,
-        gate,
-        actors,
-        planners,
-        passes,
-    };
+    let mut part = part;
+    let meeting = boards.begin_meeting(&mut part.passes[0]);
     (part, meeting)
 }
 
@@ -51,25 +34,9 @@ fn heard<'a, P: Drop, G>(
     ensures actors { result.actors ≡ part.entry.actors }
     ensures same { IsSamePart part.entry result }
 {
-    let Part {
-        alloc,
-        net,
-        boards: own_boards,
-        gate,
-        actors,
-        planners,
-        mut passes,
-    } = part;
-    boards.hear_all(meeting, passes.as_mut_slice());
-    Part {
-        alloc,
-        net,
-        boards: own_boards,
-        gate,
-        actors,
-        planners,
-        passes,
-    }
+    let mut part = part;
+    boards.hear_all(meeting, part.passes.as_mut_slice());
+    part
 }
 
 /// Tells the passes of a part what all know.
@@ -85,25 +52,9 @@ fn told<'a, P: Drop, G>(
     ensures actors { result.actors ≡ part.entry.actors }
     ensures same { IsSamePart part.entry result }
 {
-    let Part {
-        alloc,
-        net,
-        boards: own_boards,
-        gate,
-        actors,
-        planners,
-        mut passes,
-    } = part;
-    boards.tell_all(meeting, passes.as_mut_slice());
-    Part {
-        alloc,
-        net,
-        boards: own_boards,
-        gate,
-        actors,
-        planners,
-        passes,
-    }
+    let mut part = part;
+    boards.tell_all(meeting, part.passes.as_mut_slice());
+    part
 }
 
 /// The passes of all parts meet.

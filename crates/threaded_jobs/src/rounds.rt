@@ -14,7 +14,7 @@ use arrivals::Arrivals;
 use board_model::{BoardLog, Gate};
 use delay_report::{join_report, law_of_reports, render_outcome, render_steps};
 use histories::{History, merge};
-use lasting_rounds::run_lasting;
+use lasting_runs::run_lasting;
 use plan_boards::{Boards, Pass};
 use pruned_dp::BoundPlanner;
 use road_net::Network;

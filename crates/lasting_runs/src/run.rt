@@ -4,12 +4,11 @@ ghost use Rattle.arrivals.specs.Amounts.{AreArrivals};
 ghost use Rattle.board_rule.specs.Passes.{AreAllPasses, calls_in};
 ghost use Rattle.net_threads.specs.Calls.{AreStepsOf, HaveCallsLeft, IsRunOfCalls, MergeToLawful};
 
-use crate::crew::play_lasting;
 use crate::cuts::{put_together, quartered};
-use crate::nodes::Nodes;
 use arrivals::Arrivals;
 use board_model::Gate;
 use ended_runs::{record_of, room_of};
+use lasting_rounds::{Nodes, play_lasting};
 use merged_calls::law_of_merged_calls;
 use net_simulator::World;
 use plan_boards::{Boards, Pass};

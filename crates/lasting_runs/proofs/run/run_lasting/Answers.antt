@@ -7,7 +7,7 @@ use Rattle.round_calls.specs.Rounds.{Between}
 use Rattle.round_calls.proofs.Starting.{at-first}
 use Rattle.net_threads.proofs.Beginning.{left-at}
 use Rattle.net_threads.proofs.Ending.{are-steps, is-run-of, merge-lawful}
-use Rattle.lasting_rounds.proofs.run.run_lasting.Goals as goal
+use Rattle.lasting_runs.proofs.run.run_lasting.Goals as goal
 
 pub play_lasting-first-requires-clause-between : goal.play_lasting-first-requires-clause-between
 play_lasting-first-requires-clause-between g c κs within =

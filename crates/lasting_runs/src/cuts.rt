@@ -2,8 +2,8 @@
 ghost use Rattle.std.specs.Prelude.{◌≡◌, ◌+◌, ◌++◌, ◌<◌, ◌≤◌, IfOk, drop, length, take, vec_len};
 ghost use Rattle.lasting_rounds.specs.Evenly.{AreEven};
 
-use crate::nodes::Nodes;
 use intersection_actor::Actor;
+use lasting_rounds::Nodes;
 use plan_boards::Pass;
 use std::alloc::AllocError;
 use std::collections::VecDeque;
