@@ -45,29 +45,36 @@ module _ {P G : Type 0} where
         (part-can p net boards round world world refl of can);
   }
 
-  -- a part that came back
-  pub record HasCome (net : Net) (round : ℕ) (world : Kept) (old new : Part P G) (E : Type 0) (X : Type 0) (went : Result X E) : Type 0 where
+  -- a part that has played the round
+  pub record HasPlayedPart (net : Net) (round : ℕ) (world : Kept) (old new : Part P G) : Type 0 where
     pub same : IsSamePart old new
-    pub played : IsOk went → HaveAllPlayed net round world old.actors.items new.actors.items old.passes.items new.passes.items
+    pub played : HaveAllPlayed net round world old.actors.items new.actors.items old.passes.items new.passes.items
 
-  pub has-come : (t u : Turn P G) (o : Option (Turn P G)) (old new : Part P G) (net : Net) (round : ℕ) (world : Kept) {X E : Type 0} (went : Result X E) → o ≡ Some t → IsBack HasPlayedTurn o u → t.part ≡ old → arc_value t.world ≡ world → t.round ≡ round
-      → old.net.now ≡ net → new ≡ u.part → (IsOk went → IsOk u.ended) → HasCome net round world old new E X went
-  has-come t u o old new net round world went sent back part_is world_is round_is net_is new_is well =
+  -- one that came back over a desk, and ended well
+  pub has-come : (t u : Turn P G) (o : Option (Turn P G)) (old new : Part P G) (net : Net) (round : ℕ) (world : Kept) → o ≡ Some t → IsBack HasPlayedTurn o u → t.part ≡ old → arc_value t.world ≡ world → t.round ≡ round
+      → old.net.now ≡ net → new ≡ u.part → IsOk u.ended → HasPlayedPart net round world old new
+  has-come t u o old new net round world sent back part_is world_is round_is net_is new_is well =
       let has : HasPlayedTurn t u = subst (λ (z : Option (Turn P G)). IsBack HasPlayedTurn z u) sent back in record {
         same = subst (λ (z : Part P G × Part P G). IsSamePart z.0 z.1) (λ i. (part_is i, sym new_is i)) has.same;
-        played = λ ok.
-            subst (λ (z : Part P G × Kept × ℕ × Part P G × Net). HaveAllPlayed z.4 z.2 z.1 z.0.actors.items z.3.actors.items z.0.passes.items z.3.passes.items) (λ i. (old, world, round, sym new_is i, net_is i))
-            (subst (λ (z : Part P G × Kept × ℕ). HaveAllPlayed z.0.net.now z.2 z.1 z.0.actors.items u.part.actors.items z.0.passes.items u.part.passes.items) (λ i. (part_is i, world_is i, round_is i)) (on-ok u.ended _ has.played (well ok)));
+        played = subst (λ (z : Part P G × Kept × ℕ × Part P G × Net). HaveAllPlayed z.4 z.2 z.1 z.0.actors.items z.3.actors.items z.0.passes.items z.3.passes.items) (λ i. (old, world, round, sym new_is i, net_is i))
+            (subst (λ (z : Part P G × Kept × ℕ). HaveAllPlayed z.0.net.now z.2 z.1 z.0.actors.items u.part.actors.items z.0.passes.items u.part.passes.items) (λ i. (part_is i, world_is i, round_is i)) (on-ok u.ended _ has.played well));
       }
 
+  -- one that played here
+  pub has-played : (old new : Part P G) (net : Net) (round : ℕ) (world seen : Kept) → IsSamePart old new → old.net.now ≡ net → seen ≡ world → HaveAllPlayed old.net.now round seen old.actors.items new.actors.items old.passes.items new.passes.items
+      → HasPlayedPart net round world old new
+  has-played old new net round world seen same net_is seen_is played = record {
+    same = same;
+    played = subst (λ (z : Net × Kept). HaveAllPlayed z.0 round z.1 old.actors.items new.actors.items old.passes.items new.passes.items) (λ i. (net_is i, seen_is i)) played;
+  }
+
   -- a part that has played is still a part of the network
-  pub part-after : (net : Net) (boards : BoardsView) (round : ℕ) (world : Kept) (old new : Part P G) → IsPartOf net boards old → IsSamePart old new
-      → HaveAllPlayed net round world old.actors.items new.actors.items old.passes.items new.passes.items → IsPartOf net boards new
-  part-after net boards round world old new of same played = record {
-    net_is = ap (λ z. z.now) same.net ∙ of.net_is;
-    boards_is = ap (λ z. z.now) same.boards ∙ of.boards_is;
-    acted = played.actors ∙ of.acted ∙ sym played.passes;
-    planned = same.planners ∙ of.planned ∙ sym played.passes;
+  pub part-after : (net : Net) (boards : BoardsView) (round : ℕ) (world : Kept) (old new : Part P G) → IsPartOf net boards old → HasPlayedPart net round world old new → IsPartOf net boards new
+  part-after net boards round world old new of has = record {
+    net_is = ap (λ z. z.now) has.same.net ∙ of.net_is;
+    boards_is = ap (λ z. z.now) has.same.boards ∙ of.boards_is;
+    acted = has.played.actors ∙ of.acted ∙ sym has.played.passes;
+    planned = has.same.planners ∙ of.planned ∙ sym has.played.passes;
   }
 
   -- a part whose passes have met

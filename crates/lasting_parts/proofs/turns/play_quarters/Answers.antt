@@ -1,11 +1,8 @@
-use Rattle.std.proofs.Common.{◌≡◌, rules, subst, sym, arith}
+use Rattle.std.proofs.Common.{rules, subst, sym, arith}
 use Rattle.std.specs.Prelude.{IfSome, IsOk}
-use Rattle.net_numbers.specs.Numbers.{Net}
-use Rattle.net_simulator.specs.Worlds.{Kept}
 use Rattle.lasting_parts.specs.Turns.{CanPlayTurn}
-use Rattle.round_calls.specs.Rounds.{HaveAllPlayed}
 use Rattle.lasting_parts.proofs.Quartering.{played-four}
-use Rattle.lasting_parts.proofs.Turning.{has-come, on-ok, part-after, part-can, quarters-can, turn-ready}
+use Rattle.lasting_parts.proofs.Turning.{HasPlayedPart, has-come, has-played, on-ok, part-after, part-can, quarters-can, turn-ready}
 use Rattle.lasting_parts.proofs.turns.play_quarters.Goals as goal
 
 pub give-requires-clause-ready : goal.give-requires-clause-ready
@@ -46,37 +43,30 @@ finish-requires-3-clause-ready g c κs within =
     (turn-ready c.turn.result c.args.quarters.first c.args.net.now c.args.boards.now c.args.round c.args.world (search rules) (search rules) (search rules) c.requires.parts.first c.requires.links
     (quarters-can c.args.quarters c.args.net.now c.args.boards.now c.args.round _ c.args.world c.requires.parts c.requires.can).0)
 
+-- all parts have played the round
+all-played : (g : _) (c : goal.In-Ok-all_well g) → HasPlayedPart c.args.net.now c.args.round c.args.world c.args.quarters.first c.ended-first.result.0 × HasPlayedPart c.args.net.now c.args.round c.args.world c.args.quarters.second c.ended-second.result.0
+    × HasPlayedPart c.args.net.now c.args.round c.args.world c.args.quarters.third c.ended-third.result.0 × HasPlayedPart c.args.net.now c.args.round c.args.world c.args.quarters.own c.play_part-own.result.0
+all-played g c =
+    let well = on-ok c.all_well.result _ c.all_well.ensures (search rules) in
+    let one = has-come c.turn.result c.finish-3.result _ c.args.quarters.first c.ended-first.result.0 c.args.net.now c.args.round c.args.world c.give.ensures.1 c.finish-3.ensures.done (search rules) (search rules) (search rules) c.requires.parts.first.net_is c.ended-first.ensures.0 (subst IsOk c.ended-first.ensures.1 well.0) in
+    let two = has-come c.turn-2.result c.finish-2.result _ c.args.quarters.second c.ended-second.result.0 c.args.net.now c.args.round c.args.world c.give-2.ensures.1 c.finish-2.ensures.done (search rules) (search rules) (search rules) c.requires.parts.second.net_is c.ended-second.ensures.0 (subst IsOk c.ended-second.ensures.1 well.1) in
+    let three = has-come c.turn-3.result c.finish.result _ c.args.quarters.third c.ended-third.result.0 c.args.net.now c.args.round c.args.world c.give-3.ensures.1 c.finish.ensures.done (search rules) (search rules) (search rules) c.requires.parts.third.net_is c.ended-third.ensures.0 (subst IsOk c.ended-third.ensures.1 well.2) in
+    let four = has-played c.args.quarters.own c.play_part-own.result.0 c.args.net.now c.args.round c.args.world c.deref.result.now c.play_part-own.ensures.same c.requires.parts.own.net_is (search rules) (on-ok c.play_part-own.result.1 _ c.play_part-own.ensures.played well.3) in
+    (one, two, three, four)
+
 pub returns-in-Ok-all_well-clause-played : goal.returns-in-Ok-all_well-clause-played
 returns-in-Ok-all_well-clause-played g c =
-    let well = on-ok c.all_well.result _ c.all_well.ensures (search rules) in
-    let one = has-come c.turn.result c.finish-3.result _ c.args.quarters.first c.ended-first.result.0 c.args.net.now c.args.round c.args.world c.ended-first.result.1 c.give.ensures.1 c.finish-3.ensures.done (search rules) (search rules) (search rules) c.requires.parts.first.net_is c.ended-first.ensures.0 (λ ok. subst IsOk c.ended-first.ensures.1 ok) in
-    let two = has-come c.turn-2.result c.finish-2.result _ c.args.quarters.second c.ended-second.result.0 c.args.net.now c.args.round c.args.world c.ended-second.result.1 c.give-2.ensures.1 c.finish-2.ensures.done (search rules) (search rules) (search rules) c.requires.parts.second.net_is c.ended-second.ensures.0 (λ ok. subst IsOk c.ended-second.ensures.1 ok) in
-    let three = has-come c.turn-3.result c.finish.result _ c.args.quarters.third c.ended-third.result.0 c.args.net.now c.args.round c.args.world c.ended-third.result.1 c.give-3.ensures.1 c.finish.ensures.done (search rules) (search rules) (search rules) c.requires.parts.third.net_is c.ended-third.ensures.0 (λ ok. subst IsOk c.ended-third.ensures.1 ok) in
-    let x = one.played well.0 in
-    let y = two.played well.1 in
-    let z = three.played well.2 in
-    let e : c.deref.result.now ≡ c.args.world = search rules in
-    let w = subst (λ (z : Net × Kept). HaveAllPlayed z.0 c.args.round z.1 c.args.quarters.own.actors.items c.play_part-own.result.0.actors.items c.args.quarters.own.passes.items c.play_part-own.result.0.passes.items) (λ i. (c.requires.parts.own.net_is i, e i))
-    (on-ok c.play_part-own.result.1 _ c.play_part-own.ensures.played well.3) in
-    (search rules, played-four c.args.net.now c.args.round c.args.world _ _ _ _ _ _ _ _ _ _ _ _ _ _ _ _ c.requires.parts.first.acted c.requires.parts.second.acted c.requires.parts.third.acted x y z w)
+    let all = all-played g c in
+    (search rules, played-four c.args.net.now c.args.round c.args.world _ _ _ _ _ _ _ _ _ _ _ _ _ _ _ _ c.requires.parts.first.acted c.requires.parts.second.acted c.requires.parts.third.acted all.0.played all.1.played all.2.played all.3.played)
 
 pub returns-in-Ok-all_well-clause-parts : goal.returns-in-Ok-all_well-clause-parts
 returns-in-Ok-all_well-clause-parts g c =
-    let well = on-ok c.all_well.result _ c.all_well.ensures (search rules) in
-    let one = has-come c.turn.result c.finish-3.result _ c.args.quarters.first c.ended-first.result.0 c.args.net.now c.args.round c.args.world c.ended-first.result.1 c.give.ensures.1 c.finish-3.ensures.done (search rules) (search rules) (search rules) c.requires.parts.first.net_is c.ended-first.ensures.0 (λ ok. subst IsOk c.ended-first.ensures.1 ok) in
-    let two = has-come c.turn-2.result c.finish-2.result _ c.args.quarters.second c.ended-second.result.0 c.args.net.now c.args.round c.args.world c.ended-second.result.1 c.give-2.ensures.1 c.finish-2.ensures.done (search rules) (search rules) (search rules) c.requires.parts.second.net_is c.ended-second.ensures.0 (λ ok. subst IsOk c.ended-second.ensures.1 ok) in
-    let three = has-come c.turn-3.result c.finish.result _ c.args.quarters.third c.ended-third.result.0 c.args.net.now c.args.round c.args.world c.ended-third.result.1 c.give-3.ensures.1 c.finish.ensures.done (search rules) (search rules) (search rules) c.requires.parts.third.net_is c.ended-third.ensures.0 (λ ok. subst IsOk c.ended-third.ensures.1 ok) in
-    let x = one.played well.0 in
-    let y = two.played well.1 in
-    let z = three.played well.2 in
-    let e : c.deref.result.now ≡ c.args.world = search rules in
-    let w = subst (λ (z : Net × Kept). HaveAllPlayed z.0 c.args.round z.1 c.args.quarters.own.actors.items c.play_part-own.result.0.actors.items c.args.quarters.own.passes.items c.play_part-own.result.0.passes.items) (λ i. (c.requires.parts.own.net_is i, e i))
-    (on-ok c.play_part-own.result.1 _ c.play_part-own.ensures.played well.3) in
+    let all = all-played g c in
     let after = part-after c.args.net.now c.args.boards.now c.args.round c.args.world in
     record {
-      first = after _ _ c.requires.parts.first one.same x;
-      second = after _ _ c.requires.parts.second two.same y;
-      third = after _ _ c.requires.parts.third three.same z;
-      own = after _ _ c.requires.parts.own c.play_part-own.ensures.same w;
-      some = (let many = w.passes in let some = c.requires.parts.some in omega arith);
+      first = after _ _ c.requires.parts.first all.0;
+      second = after _ _ c.requires.parts.second all.1;
+      third = after _ _ c.requires.parts.third all.2;
+      own = after _ _ c.requires.parts.own all.3;
+      some = (let many = all.3.played.passes in let some = c.requires.parts.some in omega arith);
     }
