@@ -9,13 +9,14 @@ and input, the best time of many runs and its ratio, and, where valgrind is ther
 their ratio. The answers must be equal. The exit status is 0 where they are, and 1 where any differs.
 
 The built program's own `net` and `turns` then run by turns on the grid's files, each by as many processors as there are: their
-times, the most memory that each held, and the ratio of both. `replay` of what `net` writes must write the same.
+best and median times, the most memory that each held, and the ratios. `replay` of what `net` writes must write the same.
 """
 
 import argparse
 import os
 import re
 import shutil
+import statistics
 import subprocess
 import sys
 import tempfile
@@ -123,13 +124,15 @@ def compare_threads(program, peer, runs, work):
     written = answer(program, ("net", network, arrivals))
     report.write_bytes(written[1])
     alike = answer(program, ("replay", network, arrivals, str(report))) == written
-    best = [float("inf")] * 2
+    times = ([], [])
     for _ in range(runs):
-        for place, command in enumerate(("net", "turns")):
-            best[place] = min(best[place], seconds(program, (command, network, arrivals)))
+        for taken, command in zip(times, ("net", "turns")):
+            taken.append(seconds(program, (command, network, arrivals)) * 1e3)
     net, turns = (most_memory(program, (command, network, arrivals)) for command in ("net", "turns"))
-    print(f"net, turns    120 rounds         {best[0] * 1e3:8.2f} ms {best[1] * 1e3:8.2f} ms  {best[0] / best[1]:5.2f}"
-          f"   {net:8.1f} MB {turns:8.1f} MB {net / turns:5.2f}" + ("" if alike else "   not replayed"), flush=True)
+    for name, of in (("best", min), ("median", statistics.median)):
+        ours, theirs = (of(taken) for taken in times)
+        print(f"net, turns    120 rounds, {name:6} {ours:8.2f} ms {theirs:8.2f} ms  {ours / theirs:5.2f}", flush=True)
+    print(f"net, turns    120 rounds, memory {net:8.1f} MB {turns:8.1f} MB  {net / turns:5.2f}" + ("" if alike else "   not replayed"), flush=True)
     return alike
 
 
@@ -137,7 +140,7 @@ def main():
     parser = argparse.ArgumentParser(description=__doc__.split("\n", 1)[0])
     parser.add_argument("peer", type=Path, help="the folder with the peer's package")
     parser.add_argument("--program", type=Path, default=HERE.parent / "crates/signal_program/out/signal_program")
-    parser.add_argument("--runs", type=int, default=60, help="of a command on an instance; a sixth of them on a network")
+    parser.add_argument("--runs", type=int, default=60, help="of a command on an instance, and of `net`; a sixth of them of the others on a network")
     parser.add_argument("--only", choices=("instances", "networks", "threads"))
     options = parser.parse_args()
     with tempfile.TemporaryDirectory() as place:
@@ -150,7 +153,7 @@ def main():
         if options.only in (None, "networks"):
             alike &= compare_networks(programs, max(options.runs // 6, 1), work)
         if options.only in (None, "threads"):
-            alike &= compare_threads(*programs, max(options.runs // 6, 1), work)
+            alike &= compare_threads(*programs, options.runs, work)
     return 0 if alike else 1
 
 
