@@ -19,6 +19,11 @@ use road_net::Network;
 use runs::RunRecord;
 use std::alloc::{AllocError, Global};
 
+// Bytes to set aside for each step and for each plan of a report, so that its text seldom has to move as it grows. A step's record takes
+// some 28, and what stands behind the steps a third as much again; a plan's record, with the greens that it brings, some 70.
+const ROOM_FOR_A_STEP: usize = 40;
+const ROOM_FOR_A_PLAN: usize = 80;
+
 /// The report of a run of a history, from which `read_history` reads the history again. An `Err` comes only where memory runs out.
 ///
 /// docs/FORMATS.md, "Report".
@@ -45,7 +50,8 @@ pub fn render_steps(alloc: Global, net: &Network, h: &History) -> Result<Vec<u8>
     ensures text { IfOk result (λ text. text.items ≡ records_text (steps_records net.now h.now)) }
     ensures network { OnOk result (IsNetwork net.now) }
 {
-    let mut out = start(Vec::new(alloc));
+    let room = h.steps().len().saturating_mul(ROOM_FOR_A_STEP);
+    let mut out = start(Vec::with_capacity(alloc, room)?);
     write_header(&mut out)?;
     write_steps(alloc, net, h.steps(), &mut out)?;
     finish(out)
@@ -63,6 +69,8 @@ pub fn render_outcome(
     requires { IsWhole net.now run.now }
     ensures { IfOk result (λ all. all.items ≡ text.items ++ records_text (outcome_records net.now run.now)) }
 {
+    let mut text = text;
+    text.reserve(run.plans.len().saturating_mul(ROOM_FOR_A_PLAN))?;
     let mut out = start(text);
     write_plans(alloc, net, run.plans.as_slice(), &mut out)?;
     write_greens(net, run.timelines.as_slice(), &mut out)?;

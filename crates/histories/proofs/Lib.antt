@@ -6,6 +6,7 @@ pub mod Ordered
 pub mod Players
 pub mod Prefixes
 pub mod Rounds
+pub mod Sorting
 pub mod StepLaws
 pub mod TurnOrder
 pub mod Versions

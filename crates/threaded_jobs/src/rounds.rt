@@ -7,13 +7,14 @@ ghost use Rattle.histories.specs.Histories.{IsLawful};
 ghost use Rattle.histories.specs.Steps.{board_steps};
 ghost use Rattle.runs.specs.Whole.{IsWhole};
 ghost use Rattle.net_threads.specs.Calls.{IsRunOfCalls, MergeToLawful};
-ghost use Rattle.commands.specs.Headline.{IsRunOf, ToldHeadline};
+ghost use Rattle.commands.specs.Headline.{ToldHeadline};
+ghost use Rattle.threaded_jobs.specs.Merged.{IsLawfulMerge, IsRunOfMerge, IsTextOfMerge};
 
 use super::calls::calls_for_pass;
 use arrivals::Arrivals;
 use board_model::{BoardLog, Gate};
 use delay_report::{join_report, law_of_reports, render_outcome, render_steps};
-use histories::{History, merge};
+use histories::merge;
 use lasting_runs::run_lasting;
 use plan_boards::{Boards, Pass};
 use pruned_dp::BoundPlanner;
@@ -23,11 +24,10 @@ use std::alloc::{AllocError, Global};
 use std::sync::Wait;
 use std::thread::{Threads, join};
 
-/// A run, the history that its boards tell, and the logs of these.
+/// A run, and the logs of the boards that tell its history.
 #[derive(Drop)]
 struct Told {
     run: RunRecord,
-    history: History,
     logs: Vec<BoardLog>,
 }
 
@@ -63,7 +63,7 @@ fn closed(alloc: Global, boards: Boards, passes: Vec<Pass>) -> Result<Vec<BoardL
     boards.close(alloc, passes).map_err(|refused| refused.2)
 }
 
-/// The run of a network in threads, each node with a planner and a pass of its own, and the history that its boards tell.
+/// The run of a network in threads, each node with a planner and a pass of its own, and the logs of the boards.
 fn play<R: Threads + Wait + Sync, G: Gate + Sync>(
     rt: &R,
     alloc: Global,
@@ -72,14 +72,13 @@ fn play<R: Threads + Wait + Sync, G: Gate + Sync>(
     gate: &G,
 ) -> Result<Told, AllocError>
     requires { AreArrivals net.now arrivals.now }
-    ensures { IfOk result (λ told. IsRunOf net.now (entering arrivals.now) told.history told.run) }
+    ensures { IfOk result (λ told. IsRunOfMerge net.now (entering arrivals.now) told.logs.items told.run) }
 {
     let calls = calls_for_pass(net);
     let (boards, passes) = Boards::new(alloc, net.links(), net.nodes(), calls)?;
     let (run, passes) = run_by(rt, alloc, net, arrivals, &boards, passes, calls, gate)?;
     let logs = closed(alloc, boards, passes)?;
-    let history = merge(alloc, &logs)?;
-    Ok(Told { run, history, logs })
+    Ok(Told { run, logs })
 }
 
 /// What a run came to, written out. The run is let go here: of so many parts, that takes as long.
@@ -90,17 +89,18 @@ fn outcome_of(alloc: Global, net: &Network, run: RunRecord) -> Result<Vec<u8>, A
     render_outcome(alloc, net, &run, Vec::new(alloc))
 }
 
-/// The steps of a history, written out while another thread lets go the logs that told it.
+/// The steps of the history that logs tell, written out while another thread lets the logs go.
 fn steps_of<R: Threads>(
     rt: &R,
     alloc: Global,
     net: &Network,
-    history: &History,
     logs: Vec<BoardLog>,
 ) -> Result<Vec<u8>, AllocError>
-    requires { IsLawful net.now history.now }
-    ensures { IfOk result (λ text. text.items ≡ records_text (steps_records net.now history.now)) }
+    requires { IsLawfulMerge net.now logs.items }
+    ensures { IfOk result (λ text. IsTextOfMerge logs.items (λ history. records_text (steps_records net.now history)) text.items) }
 {
+    let history = merge(alloc, &logs)?;
+    let history = &history;
     let ((), steps) = join(
         rt,
         move || {
@@ -114,20 +114,19 @@ fn steps_of<R: Threads>(
     steps
 }
 
-/// The report of what was told. Its steps are written out while another thread writes out what the run came to, and what is no more
-/// wanted is let go beside.
+/// The report of what was told. The history is put together and its steps are written out while another thread writes out what the run
+/// came to, and what is no more wanted is let go beside.
 fn told_report<R: Threads>(
     rt: &R,
     alloc: Global,
     net: &Network,
     told: Told,
 ) -> Result<Vec<u8>, AllocError>
-    requires lawful { IsLawful net.now told.history }
+    requires lawful { IsLawfulMerge net.now told.logs.items }
     requires whole { IsWhole net.now told.run }
-    ensures { IfOk result (λ text. text.items ≡ report_text net.now told.run told.history) }
+    ensures { IfOk result (λ text. IsTextOfMerge told.logs.items (report_text net.now told.run) text.items) }
 {
-    let Told { run, history, logs } = told;
-    let history = &history;
+    let Told { run, logs } = told;
     let (outcome, steps) = join(
         rt,
         move || -> Result<Vec<u8>, AllocError>
@@ -135,9 +134,9 @@ fn told_report<R: Threads>(
             ensures { IfOk result (λ text. text.items ≡ records_text (outcome_records net.entry.now run)) }
         { outcome_of(alloc, net, run) },
         move || -> Result<Vec<u8>, AllocError>
-            requires { IsLawful net.now history.now }
-            ensures { IfOk result (λ text. text.items ≡ records_text (steps_records net.entry.now history.entry.now)) }
-        { steps_of(rt, alloc, net, history, logs) },
+            requires { IsLawfulMerge net.now logs.items }
+            ensures { IfOk result (λ text. IsTextOfMerge logs.items (λ history. records_text (steps_records net.entry.now history)) text.items) }
+        { steps_of(rt, alloc, net, logs) },
     );
     let outcome = outcome?;
     join_report(net, steps?, outcome.as_slice())

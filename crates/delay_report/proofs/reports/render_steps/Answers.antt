@@ -9,5 +9,5 @@ pub returns-clause-text : goal.returns-clause-text
 returns-clause-text c =
     IfOk-weaker c.finish.result _ (λ (text : Vec ℕ Global). text.items ≡ records_text (steps_records c.args.net.now c.args.h.now))
     (λ text says. says (records_text (steps_records c.args.net.now c.args.h.now))
-    (front-parts c.args.net.now c.args.h.now c.steps.result.now c.start-out.result c.write_header.new.out c.write_steps.new.out c.steps.ensures (subst (HasWritten c.start-out.result) c.new.ensures.items c.start-out.ensures) c.in_ok-write_header.ensures c.in_ok-write_steps.ensures.records))
+    (front-parts c.args.net.now c.args.h.now c.steps-2.result.now c.start-out.result c.write_header.new.out c.write_steps.new.out c.steps-2.ensures (subst (HasWritten c.start-out.result) c.in_ok-with_capacity.ensures.items c.start-out.ensures) c.in_ok-write_header.ensures c.in_ok-write_steps.ensures.records))
     c.finish.ensures
