@@ -22,6 +22,7 @@ use std::alloc::{AllocError, Global};
 // Bytes to set aside for each step and for each plan of a report, so that its text seldom has to move as it grows. A step's record takes
 // some 28, and what stands behind the steps a third as much again; a plan's record, with the greens that it brings, some 70.
 const ROOM_FOR_A_STEP: usize = 40;
+
 const ROOM_FOR_A_PLAN: usize = 80;
 
 /// The report of a run of a history, from which `read_history` reads the history again. An `Err` comes only where memory runs out.

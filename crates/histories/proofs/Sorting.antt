@@ -48,10 +48,10 @@ put-in x [] ordered = record {
 }
 put-in x (y ∷ ys) ordered = elim (before-or x y) [
   | inl first ↦ record {
-      order = x ∷ y ∷ ys;
-      all = IsPermutation-refl (x ∷ y ∷ ys);
-      ordered = AllPairs-cons IsBefore x (y ∷ ys) (All-cons (IsBefore x) y ys first (All-weaker (IsBefore y) (IsBefore x) (λ z. before-trans x y z first) ys (pairs-head IsBefore y ys ordered))) ordered;
-    }
+    order = x ∷ y ∷ ys;
+    all = IsPermutation-refl (x ∷ y ∷ ys);
+    ordered = AllPairs-cons IsBefore x (y ∷ ys) (All-cons (IsBefore x) y ys first (All-weaker (IsBefore y) (IsBefore x) (λ z. before-trans x y z first) ys (pairs-head IsBefore y ys ordered))) ordered;
+  }
   | inr later ↦
       let rest = put-in x ys (pairs-tail IsBefore y ys ordered) in
       record {

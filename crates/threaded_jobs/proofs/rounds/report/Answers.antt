@@ -21,12 +21,12 @@ returns g c =
     let run = c.in_ok-told.told.run in
     IfOk-weaker c.told_report.result _ (λ (text : Vec ℕ Global). ToldHeadline c.args.net.now (entering c.args.arrivals.now) text.items)
     (λ text told.
-        let ran = c.in_ok-told.ensures told.history told.merge in
-        let spells = subst (λ bytes. IsHistoryText c.args.net.now bytes told.history) (sym told.text_is) (c.law_of_reports.ensures.reads_back run told.history ran.lawful) in
-        record {
-          history = told.history;
-          headline = record { run = run; runs = ran; report = told.text_is };
-          spells = spells;
-          only = λ other also. c.law_of_reports.ensures.one text.items other told.history also spells;
-        })
+    let ran = c.in_ok-told.ensures told.history told.merge in
+    let spells = subst (λ bytes. IsHistoryText c.args.net.now bytes told.history) (sym told.text_is) (c.law_of_reports.ensures.reads_back run told.history ran.lawful) in
+    record {
+      history = told.history;
+      headline = record { run = run; runs = ran; report = told.text_is };
+      spells = spells;
+      only = λ other also. c.law_of_reports.ensures.one text.items other told.history also spells;
+    })
     c.told_report.ensures
