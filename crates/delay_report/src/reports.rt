@@ -19,10 +19,11 @@ use road_net::Network;
 use runs::RunRecord;
 use std::alloc::{AllocError, Global};
 
-// Bytes to set aside for each step and for each plan of a report, so that its text seldom has to move as it grows. A step's record takes
-// some 28, and what stands behind the steps a third as much again; a plan's record, with the greens that it brings, some 70.
+// Bytes to set aside for a step of a report, so that the text seldom has to move as it grows: the record takes some 28, and what stands
+// behind the steps a third as much again.
 const ROOM_FOR_A_STEP: usize = 40;
 
+// Bytes to set aside for a plan: its record takes some 60, and the greens and links behind the plans few more for each.
 const ROOM_FOR_A_PLAN: usize = 80;
 
 /// The report of a run of a history, from which `read_history` reads the history again. An `Err` comes only where memory runs out.
