@@ -9,10 +9,13 @@ and input, the best time of many runs and its ratio, and, where valgrind is ther
 their ratio. The answers must be equal. The exit status is 0 where they are, and 1 where any differs.
 
 The built program's own `net` and `turns` then run by turns on the grid's files, each by as many processors as there are: their
-best and median times, the most memory that each held, and the ratios. `replay` of what `net` writes must write the same.
+best and median times, the most memory that each held, and the ratios. `replay` of what `net` writes must write the same. Between
+them four computations run at once that need nothing but a processor each, and one alone: where the four take longer, the machine
+did not give four processors in that time, and the times of `net` tell of that.
 """
 
 import argparse
+import hashlib
 import os
 import re
 import shutil
@@ -20,6 +23,7 @@ import statistics
 import subprocess
 import sys
 import tempfile
+import threading
 import time
 from pathlib import Path
 
@@ -117,6 +121,25 @@ def most_memory(program, words):
     return int(run.stderr.split()[-1]) / 1000
 
 
+def compute():
+    """Some 60 ms of one processor. Python lets other threads run meanwhile."""
+    hashlib.pbkdf2_hmac("sha256", b"a", b"b", 100_000)
+
+
+def spread():
+    """How long four computations at once take, and how long one does."""
+    begin = time.perf_counter()
+    compute()
+    one = time.perf_counter() - begin
+    threads = [threading.Thread(target=compute) for _ in range(4)]
+    begin = time.perf_counter()
+    for thread in threads:
+        thread.start()
+    for thread in threads:
+        thread.join()
+    return time.perf_counter() - begin, one
+
+
 def compare_threads(program, peer, runs, work):
     """`net` against `turns` of one program. Whether what `net` writes is replayed to the same bytes."""
     subprocess.run([peer, "grid_files", "7", "8", "120", work], check=True)
@@ -124,14 +147,17 @@ def compare_threads(program, peer, runs, work):
     written = answer(program, ("net", network, arrivals))
     report.write_bytes(written[1])
     alike = answer(program, ("replay", network, arrivals, str(report))) == written
-    times = ([], [])
+    times, spreads = ([], []), []
     for _ in range(runs):
         for taken, command in zip(times, ("net", "turns")):
             taken.append(seconds(program, (command, network, arrivals)) * 1e3)
+        spreads.append(spread())
     net, turns = (most_memory(program, (command, network, arrivals)) for command in ("net", "turns"))
     for name, of in (("best", min), ("median", statistics.median)):
         ours, theirs = (of(taken) for taken in times)
         print(f"net, turns    120 rounds, {name:6} {ours:8.2f} ms {theirs:8.2f} ms  {ours / theirs:5.2f}", flush=True)
+    four, one = (statistics.median(column) * 1e3 for column in zip(*spreads))
+    print(f"four, one     computing,  median {four:8.2f} ms {one:8.2f} ms  {four / one:5.2f}", flush=True)
     print(f"net, turns    120 rounds, memory {net:8.1f} MB {turns:8.1f} MB  {net / turns:5.2f}" + ("" if alike else "   not replayed"), flush=True)
     return alike
 

@@ -66,12 +66,11 @@ pub fn render_outcome(
     alloc: Global,
     net: &Network,
     run: &RunRecord,
-    text: Vec<u8>,
+    mut text: Vec<u8>,
 ) -> Result<Vec<u8>, AllocError>
     requires { IsWhole net.now run.now }
     ensures { IfOk result (λ all. all.items ≡ text.items ++ records_text (outcome_records net.now run.now)) }
 {
-    let mut text = text;
     text.reserve(run.plans.len().saturating_mul(ROOM_FOR_A_PLAN))?;
     let mut out = start(text);
     write_plans(alloc, net, run.plans.as_slice(), &mut out)?;

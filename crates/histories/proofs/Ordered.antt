@@ -16,6 +16,12 @@ use Rattle.histories.specs.Merges.{IsMerge, all_events, stamp_and_node}
 abbrev pub IsKeyBefore : ℕ × ℕ → ℕ × ℕ → Type 0
 IsKeyBefore a b = (a.0 < b.0) ⊎ ((a.0 ≡ b.0) × (a.1 ≤ b.1))
 
+pub trans : (a b c : ℕ × ℕ) → IsKeyBefore a b → IsKeyBefore b c → IsKeyBefore a c
+trans a b c (inl p) (inl q) = inl (omega arith)
+trans a b c (inl p) (inr q) = inl (omega arith)
+trans a b c (inr p) (inl q) = inl (omega arith)
+trans a b c (inr p) (inr q) = inr (p.0 ∙ q.0, omega arith)
+
 no-less : (a b c d : ℕ) → is_lt (ordering_then (nat_cmp b a) (nat_cmp d c)) ≡ false → (a < b) ⊎ ((a ≡ b) × (c ≤ d))
 no-less a b c d none = elim (cases_lt b a) [
   | inl less ↦ absurd (false≢true (sym none ∙ ap (λ o. is_lt (ordering_then o (nat_cmp d c))) (sym (nat_cmp_is b a Less less))))
@@ -36,12 +42,6 @@ no-less a b c d none = elim (cases_lt b a) [
 module _ (keys : List (ℕ × ℕ)) (sorted : (k : ℕ) (d : ℕ × ℕ) → 0 ≤ k → k + 1 < length keys → is_lt (ordering_then (nat_cmp (get_or keys (k + 1) d).0 (get_or keys k d).0) (nat_cmp (get_or keys (k + 1) d).1 (get_or keys k d).1)) ≡ false) where
   step : (k : ℕ) (d : ℕ × ℕ) → k + 1 < length keys → IsKeyBefore (get_or keys k d) (get_or keys (k + 1) d)
   step k d inside = no-less (get_or keys k d).0 (get_or keys (k + 1) d).0 (get_or keys k d).1 (get_or keys (k + 1) d).1 (sorted k d (omega arith) inside)
-
-  trans : (a b c : ℕ × ℕ) → IsKeyBefore a b → IsKeyBefore b c → IsKeyBefore a c
-  trans a b c (inl p) (inl q) = inl (omega arith)
-  trans a b c (inl p) (inr q) = inl (omega arith)
-  trans a b c (inr p) (inl q) = inl (omega arith)
-  trans a b c (inr p) (inr q) = inr (p.0 ∙ q.0, omega arith)
 
   apart : (i more : ℕ) (d : ℕ × ℕ) → i + suc more < length keys → IsKeyBefore (get_or keys i d) (get_or keys (i + suc more) d)
   apart i zero d inside = subst (λ j. IsKeyBefore (get_or keys i d) (get_or keys j d)) (let e : i + 1 ≡ i + suc zero = omega arith in e) (step i d (omega arith))

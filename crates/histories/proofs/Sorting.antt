@@ -1,5 +1,5 @@
 -- All logs have a merge.
-use Rattle.std.proofs.Common.{◌≡◌, ℕ, List, [], ◌∷◌, map, refl, ◌∙◌, inl, inr, arith}
+use Rattle.std.proofs.Common.{◌≡◌, ℕ, List, [], ◌∷◌, map, refl, inl, inr, arith}
 use Rattle.std.specs.Prelude.{◌⊎◌, AllPairs, IsPermutation}
 use Rattle.std.proofs.lemmas.Bool.{cases_lt}
 use Rattle.std.proofs.lemmas.List.Elements.{All-cons, All-nil, All-weaker}
@@ -8,10 +8,11 @@ use Rattle.std.proofs.lemmas.List.Sorted.{All-permutation, IsPermutation-cons, I
 use Rattle.board_model.specs.declared.boards.BoardEvent.{BoardEvent}
 use Rattle.board_model.specs.Boards.{Log}
 use Rattle.board_model.specs.Calls.{IsBefore}
-use Rattle.histories.specs.Merges.{IsMerge, all_events}
+use Rattle.histories.specs.Merges.{IsMerge, all_events, stamp_and_node}
 use Rattle.histories.proofs.Lists.{pairs-head, pairs-nil, pairs-tail}
+use Rattle.histories.proofs.Ordered.{trans}
 
--- of two events one is before the other, and what is before that is before this too
+-- of two events one is before the other
 before-or : (a b : BoardEvent) → IsBefore a b ⊎ IsBefore b a
 before-or a b = elim (cases_lt a.stamp b.stamp) [
   | inl less ↦ inl (inl less)
@@ -27,20 +28,14 @@ before-or a b = elim (cases_lt a.stamp b.stamp) [
   ]
 ]
 
-before-trans : (a b c : BoardEvent) → IsBefore a b → IsBefore b c → IsBefore a c
-before-trans a b c (inl p) (inl q) = inl (omega arith)
-before-trans a b c (inl p) (inr q) = inl (omega arith)
-before-trans a b c (inr p) (inl q) = inl (omega arith)
-before-trans a b c (inr p) (inr q) = inr (p.0 ∙ q.0, omega arith)
-
--- events in order
-record Ordered (events : List BoardEvent) : Type 0 where
+-- these events, in order
+record HasOrder (events : List BoardEvent) : Type 0 where
   order : List BoardEvent
   all : IsPermutation events order
   ordered : AllPairs IsBefore order
 
 -- one more event, put in its place
-put-in : (x : BoardEvent) (ys : List BoardEvent) → AllPairs IsBefore ys → Ordered (x ∷ ys)
+put-in : (x : BoardEvent) (ys : List BoardEvent) → AllPairs IsBefore ys → HasOrder (x ∷ ys)
 put-in x [] ordered = record {
   order = x ∷ [];
   all = IsPermutation-refl (x ∷ []);
@@ -50,7 +45,7 @@ put-in x (y ∷ ys) ordered = elim (before-or x y) [
   | inl first ↦ record {
     order = x ∷ y ∷ ys;
     all = IsPermutation-refl (x ∷ y ∷ ys);
-    ordered = AllPairs-cons IsBefore x (y ∷ ys) (All-cons (IsBefore x) y ys first (All-weaker (IsBefore y) (IsBefore x) (λ z. before-trans x y z first) ys (pairs-head IsBefore y ys ordered))) ordered;
+    ordered = AllPairs-cons IsBefore x (y ∷ ys) (All-cons (IsBefore x) y ys first (All-weaker (IsBefore y) (IsBefore x) (λ z. trans (stamp_and_node x) (stamp_and_node y) (stamp_and_node z) first) ys (pairs-head IsBefore y ys ordered))) ordered;
   }
   | inr later ↦
       let rest = put-in x ys (pairs-tail IsBefore y ys ordered) in
@@ -62,7 +57,7 @@ put-in x (y ∷ ys) ordered = elim (before-or x y) [
 ]
 
 -- all events, put in order
-put-all : (events : List BoardEvent) → Ordered events
+put-all : (events : List BoardEvent) → HasOrder events
 put-all [] = record { order = []; all = IsPermutation-refl []; ordered = pairs-nil IsBefore }
 put-all (x ∷ xs) =
     let rest = put-all xs in
@@ -74,12 +69,12 @@ put-all (x ∷ xs) =
     }
 
 -- a history, and that it is the merge of logs
-pub record Merged (logs : List Log) : Type 0 where
+pub record HasMerge (logs : List Log) : Type 0 where
   pub history : List ℕ
   pub merge : IsMerge logs history
 
-pub merged-of : (logs : List Log) → Merged logs
-merged-of logs =
+pub merge-of : (logs : List Log) → HasMerge logs
+merge-of logs =
     let all = put-all (all_events logs) in
     record {
       history = map (λ (event : BoardEvent). event.node) all.order;

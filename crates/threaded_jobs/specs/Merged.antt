@@ -7,9 +7,9 @@ use Rattle.net_numbers.specs.Numbers.{Net}
 use Rattle.runs.specs.declared.records.RunRecord.{RunRecord}
 use Rattle.commands.specs.Headline.{IsRunOf}
 
--- the merge of these logs is a lawful history
-abbrev pub IsLawfulMerge : Net → List Log → Type 0
-IsLawfulMerge net logs = (history : List ℕ) → IsMerge logs history → IsLawful net history
+-- these logs have a lawful merge, whichever it is
+abbrev pub HaveLawfulMerge : Net → List Log → Type 0
+HaveLawfulMerge net logs = (history : List ℕ) → IsMerge logs history → IsLawful net history
 
 -- this is the run of the merge of these logs
 abbrev pub IsRunOfMerge : Net → (ℕ → ℕ → ℕ) → List Log → RunRecord → Type 0

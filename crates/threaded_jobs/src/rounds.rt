@@ -1,5 +1,5 @@
 //! A run in threads, and the history that its boards tell.
-ghost use Rattle.std.specs.Prelude.{◌≡◌, ◌*◌, ◌≤◌, ℕ, IfOk, OnOk, length};
+ghost use Rattle.std.specs.Prelude.{◌≡◌, ◌*◌, ◌≤◌, ℕ, IfOk, length};
 ghost use Rattle.arrivals.specs.Amounts.{AreArrivals, entering};
 ghost use Rattle.board_rule.specs.Passes.{AreAllPasses, AreLogsOfPasses, calls_in, fresh_passes};
 ghost use Rattle.delay_report.specs.Reports.{outcome_records, records_text, report_text, steps_records};
@@ -8,7 +8,7 @@ ghost use Rattle.histories.specs.Steps.{board_steps};
 ghost use Rattle.runs.specs.Whole.{IsWhole};
 ghost use Rattle.net_threads.specs.Calls.{IsRunOfCalls, MergeToLawful};
 ghost use Rattle.commands.specs.Headline.{ToldHeadline};
-ghost use Rattle.threaded_jobs.specs.Merged.{IsLawfulMerge, IsRunOfMerge, IsTextOfMerge};
+ghost use Rattle.threaded_jobs.specs.Merged.{HaveLawfulMerge, IsRunOfMerge, IsTextOfMerge};
 
 use super::calls::calls_for_pass;
 use arrivals::Arrivals;
@@ -96,7 +96,7 @@ fn steps_of<R: Threads>(
     net: &Network,
     logs: Vec<BoardLog>,
 ) -> Result<Vec<u8>, AllocError>
-    requires { IsLawfulMerge net.now logs.items }
+    requires { HaveLawfulMerge net.now logs.items }
     ensures { IfOk result (λ text. IsTextOfMerge logs.items (λ history. records_text (steps_records net.now history)) text.items) }
 {
     let history = merge(alloc, &logs)?;
@@ -114,15 +114,15 @@ fn steps_of<R: Threads>(
     steps
 }
 
-/// The report of what was told. The history is put together and its steps are written out while another thread writes out what the run
-/// came to, and what is no more wanted is let go beside.
+/// The report of what was told. The logs are merged and the steps written out while another thread writes out what the run came to, and
+/// what is no more wanted is let go beside.
 fn told_report<R: Threads>(
     rt: &R,
     alloc: Global,
     net: &Network,
     told: Told,
 ) -> Result<Vec<u8>, AllocError>
-    requires lawful { IsLawfulMerge net.now told.logs.items }
+    requires lawful { HaveLawfulMerge net.now told.logs.items }
     requires whole { IsWhole net.now told.run }
     ensures { IfOk result (λ text. IsTextOfMerge told.logs.items (report_text net.now told.run) text.items) }
 {
@@ -134,12 +134,13 @@ fn told_report<R: Threads>(
             ensures { IfOk result (λ text. text.items ≡ records_text (outcome_records net.entry.now run)) }
         { outcome_of(alloc, net, run) },
         move || -> Result<Vec<u8>, AllocError>
-            requires { IsLawfulMerge net.now logs.items }
+            requires { HaveLawfulMerge net.now logs.items }
             ensures { IfOk result (λ text. IsTextOfMerge logs.items (λ history. records_text (steps_records net.entry.now history)) text.items) }
         { steps_of(rt, alloc, net, logs) },
     );
     let outcome = outcome?;
-    join_report(net, steps?, outcome.as_slice())
+    let steps = steps?;
+    join_report(net, steps, outcome.as_slice())
 }
 
 /// The report of the run of a network in threads, and of the history that its boards tell.

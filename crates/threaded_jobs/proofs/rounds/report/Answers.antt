@@ -2,7 +2,7 @@ use Rattle.std.proofs.Common.{Vec, Global, ℕ, sym, subst}
 use Rattle.std.proofs.lemmas.Result.{IfOk-weaker}
 use Rattle.arrivals.specs.Amounts.{entering}
 use Rattle.delay_report.specs.Texts.{IsHistoryText}
-use Rattle.histories.proofs.Sorting.{merged-of}
+use Rattle.histories.proofs.Sorting.{merge-of}
 use Rattle.commands.specs.Headline.{ToldHeadline}
 use Rattle.threaded_jobs.proofs.rounds.report.Goals as goal
 
@@ -12,7 +12,7 @@ told_report-requires-clause-lawful g c history merge = (c.in_ok-told.ensures his
 pub told_report-requires-clause-whole : goal.told_report-requires-clause-whole
 told_report-requires-clause-whole g c =
     let told = c.in_ok-told in
-    let merged = merged-of told.told.logs.items in
+    let merged = merge-of told.told.logs.items in
     let ran = told.ensures merged.history merged.merge in
     c.law_of_runs.ensures.whole ran.arrivals merged.history told.told.run ran.lawful ran.kept.run
 

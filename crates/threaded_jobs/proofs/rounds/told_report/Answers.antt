@@ -8,5 +8,5 @@ pub returns : goal.returns
 returns g c =
     let steps = subst (λ (r : Result (Vec ℕ Global) _). IfOk r (λ text. IsTextOfMerge c.args.told.logs.items (λ history. records_text (steps_records c.args.net.now history)) text.items)) c.in_ok-steps.was c.join-outcome.ensures.second in
     let outcome = subst (λ (r : Result (Vec ℕ Global) _). IfOk r (λ text. text.items ≡ records_text (outcome_records c.args.net.now c.args.told.run))) c.in_ok-outcome.was c.join-outcome.ensures.first in
-    report-of c.args.net.now c.args.told.run c.args.told.logs.items c.in_ok-steps.field-0.items c.join_report.result steps
+    report-of c.args.net.now c.args.told.run c.args.told.logs.items c.in_ok-steps.steps.items c.join_report.result steps
     (λ history is. c.join_report.ensures.text c.args.told.run history is (c.as_slice.ensures.value ∙ outcome))
