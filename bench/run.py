@@ -10,8 +10,8 @@ their ratio. The answers must be equal. The exit status is 0 where they are, and
 
 The built program's own `net` and `turns` then run by turns on the grid's files, each by as many processors as there are: their
 best and median times, the most memory that each held, and the ratios. `replay` of what `net` writes must write the same. Between
-them four computations run at once that need nothing but a processor each, and one alone: where the four take longer, the machine
-did not give four processors in that time, and the times of `net` tell of that.
+the pairs one computation runs that needs nothing but a processor, and then four of it at once: where the four take longer, the
+machine did not give four processors in that time, and the times of `net` tell of that.
 """
 
 import argparse
