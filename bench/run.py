@@ -122,7 +122,7 @@ def most_memory(program, words):
 
 
 def compute():
-    """Some 60 ms of one processor. Python lets other threads run meanwhile."""
+    """Some 70 ms of one processor. Python lets other threads run meanwhile."""
     hashlib.pbkdf2_hmac("sha256", b"a", b"b", 100_000)
 
 
