@@ -15,7 +15,7 @@ use arrivals::Arrivals;
 use board_model::{BoardLog, Gate};
 use delay_report::{join_report, law_of_reports, render_outcome, render_steps};
 use histories::merge;
-use lasting_runs::run_lasting;
+use net_threads::run_rounds;
 use plan_boards::{Boards, Pass};
 use pruned_dp::BoundPlanner;
 use road_net::Network;
@@ -31,7 +31,7 @@ struct Told {
     logs: Vec<BoardLog>,
 }
 
-/// The run of a network in threads that last, by new passes with so many calls, one for each node, and the passes behind it.
+/// The run of a network in threads, by new passes with this many calls, one for each node, and the passes after it.
 fn run_by<R: Threads + Wait + Sync, G: Gate + Sync>(
     rt: &R,
     alloc: Global,
@@ -52,7 +52,9 @@ fn run_by<R: Threads + Wait + Sync, G: Gate + Sync>(
     ensures run { IfOk result (λ r. IsRunOfCalls net.now arrivals.now (calls_in r.1.items) r.0) }
 {
     let planners = BoundPlanner::many(alloc, net.nodes() as usize)?;
-    run_lasting(rt, alloc, net, arrivals, planners, boards, passes, gate)
+    let mut passes = passes;
+    let run = run_rounds(rt, alloc, net, arrivals, planners, boards, passes.as_mut_slice(), gate)?;
+    Ok((run, passes))
 }
 
 /// The logs of the boards.

@@ -1,2 +1,0 @@
-pub mod Quartering
-pub mod Turning

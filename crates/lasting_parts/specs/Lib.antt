@@ -1,2 +1,0 @@
-pub mod Quartered
-pub mod Turns

@@ -1,2 +1,0 @@
-pub mod Crewed
-pub mod Evenly

@@ -1,5 +1,0 @@
-pub mod Known
-pub mod Places
-pub mod Plays
-pub mod Rule
-pub mod Views
