@@ -5,19 +5,19 @@ use Rattle.std.proofs.lemmas.Bool.{cases_lt}
 use Rattle.schedule_meaning.specs.Instances.{IsInstance}
 use Rattle.dp_certificate.specs.Prefixes.{Stage, key_of, stage_after}
 use Rattle.dp_certificate.specs.Certificates.{Claim}
-use Rattle.dp_certificate.specs.Nexts.{stage_behind}
+use Rattle.dp_certificate.specs.NextEntry.{stage_of_next}
 use Rattle.dp_certificate.specs.Proves.{HasEntry, IsClosed, IsClosedAt, IsTooDear, stage_of_entry}
 use Rattle.dp_certificate.specs.declared.Entry.{Entry}
 use Rattle.dp_certificate.proofs.Stages.{stage-after-phase}
 use Rattle.cert_checker.specs.Places.{IsMet}
 
--- what is next behind an entry, as an option
-mapped : (c : Claim) (next : Option Entry) → IfSome next (IsMet c) → IfSome (option_map stage_behind next) (λ s. HasEntry c.entries (key_of s) s.delay ⊎ IsTooDear c.problem c.answer s)
+-- what is next after an entry, as an option
+mapped : (c : Claim) (next : Option Entry) → IfSome next (IsMet c) → IfSome (option_map stage_of_next next) (λ s. HasEntry c.entries (key_of s) s.delay ⊎ IsTooDear c.problem c.answer s)
 mapped c None h = h
 mapped c (Some e) h = h
 
 -- an entry is closed at a phase where what is next is met
-pub closed-at : (c : Claim) (e : Entry) (k : ℕ) (next : Option Entry) → option_map stage_behind next ≡ stage_after c.problem (stage_of_entry c.problem e) k → IfSome next (IsMet c) → IsClosedAt c e k
+pub closed-at : (c : Claim) (e : Entry) (k : ℕ) (next : Option Entry) → option_map stage_of_next next ≡ stage_after c.problem (stage_of_entry c.problem e) k → IfSome next (IsMet c) → IsClosedAt c e k
 closed-at c e k next same met = subst (λ (o : Option Stage). IfSome o (λ s. HasEntry c.entries (key_of s) s.delay ⊎ IsTooDear c.problem c.answer s)) same (mapped c next met)
 
 -- and at a number that is no phase

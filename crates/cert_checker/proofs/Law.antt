@@ -70,7 +70,7 @@ root-stands c root = stands c (first_stage c.problem) 0 root (omega arith) (λ e
     let at : (e.at == h.at) ≡ true = eq-eqb e.at h.at (ap (λ (k : Key). k.at) same) in
     rw none (rw phase (rw since (rw at refl))))
 
--- a stage behind a step has an entry where its key has one
+-- a stage after a step has an entry where its key has one
 step-stands : (c : Claim) → IsInstance c.problem → (s t : Stage) (k n : ℕ) → length s.counts ≡ 4 → stage_after c.problem s k ≡ Some t → HasEntry c.entries (key_of t) n → n ≤ t.delay → StandsFor c t
 step-stands c lawful s t k n places e h less = stands c t n h less (λ x same.
     let some : (sum x.counts == 0) ≡ false = ne_eqb (sum x.counts) 0 (λ z. omega (arith, ap (λ (y : Key). sum y.counts) same, step-served c.problem lawful s t k places e)) in

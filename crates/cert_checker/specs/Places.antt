@@ -1,13 +1,13 @@
--- Where a key stands among entries.
+-- No public clause names these: where a key stands among entries.
 use Rattle.std.specs.Prelude.{◌≡◌, ℕ, ◌-◌, ◌<◌, ◌≤◌, ◌⊎◌, List, length}
 use Rattle.dp_certificate.specs.Certificates.{Claim, IsBefore, digits_of, entry_at}
-use Rattle.dp_certificate.specs.Nexts.{stage_behind}
+use Rattle.dp_certificate.specs.NextEntry.{stage_of_next}
 use Rattle.dp_certificate.specs.Proves.{HasEntry, IsTooDear, key_of_entry}
 use Rattle.dp_certificate.specs.declared.Entry.{Entry}
 
 -- it is an entry again, of no more delay, or too dear
 abbrev pub IsMet : Claim → Entry → Type 0
-IsMet c next = HasEntry c.entries (key_of_entry next) next.delay ⊎ IsTooDear c.problem c.answer (stage_behind next)
+IsMet c next = HasEntry c.entries (key_of_entry next) next.delay ⊎ IsTooDear c.problem c.answer (stage_of_next next)
 
 -- an entry with this key, if there is one, stands from low to high: the keys below are before it, and those from high
 -- on are not

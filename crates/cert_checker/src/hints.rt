@@ -6,7 +6,7 @@ use dp_certificate::Entry;
 /// How many places are kept for each of four phases: one for each second since which a green may last, modulo 1024.
 const SECONDS: usize = 1024;
 
-/// For each phase the places where the greens begin that are next behind the counts of one entry, and where their
+/// For each phase the places where the greens begin that are next after the counts of one entry, and where their
 /// entries end.
 #[derive(Drop)]
 pub(crate) struct Hints {
@@ -29,7 +29,7 @@ impl Hints {
         }
     }
 
-    /// Notes the places behind these counts, where they are not those of the entry before.
+    /// Notes the places after these counts, where they are not those of the entry before.
     pub(crate) fn turn_to(&mut self, entries: &[Entry], counts: &[u8; 4])
         requires { length entries.now < 2 ^ 32 }
     {
@@ -42,7 +42,7 @@ impl Hints {
         }
     }
 
-    /// Notes the places behind these counts by one phase.
+    /// Notes the places after these counts by one phase.
     fn note(&mut self, entries: &[Entry], counts: &[u8; 4], phase: u8)
         requires few { length entries.now < 2 ^ 32 }
         requires phase { phase < 4 }

@@ -28,14 +28,14 @@ use walk::{first_cheaper, first_open};
 pub enum Why {
     /// The claimed sequence is not feasible, with its first fault.
     Sequence(SeqFault),
-    /// The claimed sequence is feasible, but not with the delay that is said; in thousandths of a vehicle times seconds.
+    /// The claimed sequence is feasible, but not with the claimed delay; in thousandths of a vehicle times seconds.
     Delay { said: u64, is: u64 },
     /// No entry has the key of the start with no delay.
     NoRoot,
-    /// The first entry behind which something can be served next that is no entry and not too dear, and the least
+    /// The first entry after which something can be served next that is no entry and not too dear, and the least
     /// phase of which it can.
     Open { entry: u32, phase: u8 },
-    /// The first entry behind which nothing is left, and which undercuts the answer.
+    /// The first entry after which nothing is left, and which undercuts the answer.
     Cheaper { entry: u32 },
 }
 
@@ -62,9 +62,11 @@ impl CrossesThreads for Verdict {}
 pub fn check<L: Ledger>(c: &Certificate, steps: &mut Steps<L>) -> Verdict
     ensures accepted { result ≡ Verdict.Accepted ↔ Proves c.now }
     ensures least { result ≡ Verdict.Accepted → IsLeast c.now.problem c.now.answer }
-    ensures best { result ≡ Verdict.Accepted → (a : Answer) → IsBest c.now.problem a → answered_delay c.now.answer ≡ answered_delay a }
+    ensures best { result ≡ Verdict.Accepted → (a : Answer) → IsBest c.now.problem a
+        → answered_delay c.now.answer ≡ answered_delay a }
     ensures first { IfRejected result (IsWhy c.now) }
-    ensures steps { steps.new ≤ steps.old + length c.now.problem.plan * length c.now.entries + length (sequence_of c.now.answer) }
+    ensures steps { steps.new ≤ steps.old + length c.now.problem.plan * length c.now.entries
+        + length (sequence_of c.now.answer) }
 {
     if let Some(why) = claim_fault(c, steps) {
         return Verdict::Rejected(why);

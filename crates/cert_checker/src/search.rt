@@ -8,7 +8,7 @@ ghost use Rattle.cert_checker.specs.Places.{IsPlace, IsSpan, StandsAt};
 use dp_certificate::Entry;
 
 /// Whether an entry has the key of this one and at most its delay. A place where it may stand is tested first, and the
-/// one behind it; else it is sought from there on. The place where it stands is noted.
+/// one after it; else it is sought from there on. The place where it stands is noted.
 pub(crate) fn has_entry(entries: &[Entry], next: &Entry, near: &mut u32) -> bool
     requires rising { AreRising entries.now }
     requires few { length entries.now < 2 ^ 32 }

@@ -1,4 +1,4 @@
-//! Walks along the entries: what can be served next behind each, and which of them are at an end.
+//! Walks along the entries: what can be served next after each, and which of them are at an end.
 
 ghost use Rattle.std.specs.Prelude.{◌≡◌, ℕ, ◌+◌, ◌-◌, ◌*◌, ◌<◌, ◌≤◌, ◌↔◌, All, IfNone, IfSome, IsTrue, None, Some, length, slice_get, slice_index, take};
 ghost use Rattle.std.specs.Option.{option_map};
@@ -6,7 +6,7 @@ ghost use Rattle.switch_rules.specs.Serving.{IsCluster};
 ghost use Rattle.schedule_meaning.specs.Instances.{list_at};
 ghost use Rattle.dp_certificate.specs.Prefixes.{stage_after};
 ghost use Rattle.dp_certificate.specs.Certificates.{IsCertificate, IsEntry, entry_at};
-ghost use Rattle.dp_certificate.specs.Nexts.{IsNext, stage_behind};
+ghost use Rattle.dp_certificate.specs.NextEntry.{IsNext, stage_of_next};
 ghost use Rattle.dp_certificate.specs.Proves.{IsClosed, IsEnded, IsNoCheaper, IsTooDear, stage_of_entry};
 ghost use Rattle.cert_checker.specs.Places.{IsMet};
 ghost use Rattle.cert_checker.specs.Verdicts.{IsFirstNot, IsOpenAt};
@@ -35,7 +35,7 @@ pub(crate) fn first_open<L: Ledger>(c: &Certificate, steps: &mut Steps<L>) -> Op
     None
 }
 
-/// The least phase of which the next cluster can be served behind an entry, and leads to no entry and not to what is
+/// The least phase of which the next cluster can be served after an entry, and leads to no entry and not to what is
 /// too dear.
 fn open_phase<L: Ledger>(
     c: &Certificate,
@@ -50,7 +50,7 @@ fn open_phase<L: Ledger>(
 {
     let i = c.instance();
     for phase in 0..i.plan().count() {
-        let next = next_behind(i, entry, phase, steps);
+        let next = next_after(i, entry, phase, steps);
         if !is_closed_by(c, &next, hints) {
             return Some(phase);
         }
@@ -58,8 +58,8 @@ fn open_phase<L: Ledger>(
     None
 }
 
-/// What is served next behind an entry by a phase; none where no cluster is left, or where its serving is unfit.
-fn next_behind<L: Ledger>(
+/// What is served next after an entry by a phase; none where no cluster is left, or where its serving is unfit.
+fn next_after<L: Ledger>(
     i: &Instance,
     entry: &Entry,
     phase: u8,
@@ -68,7 +68,7 @@ fn next_behind<L: Ledger>(
     requires phase { phase < length i.now.plan }
     requires few { length i.now.plan ≤ 4 }
     requires entry { IsEntry i.now entry.now }
-    ensures value { option_map stage_behind result ≡ stage_after i.now (stage_of_entry i.now entry.now) phase }
+    ensures value { option_map stage_of_next result ≡ stage_after i.now (stage_of_entry i.now entry.now) phase }
     ensures bounds { IfSome result (IsNext i.now) }
     ensures steps { steps.new ≤ steps.old + 1 }
 {
@@ -81,7 +81,8 @@ fn next_behind<L: Ledger>(
 fn cluster_at(i: &Instance, phase: u8, index: u8) -> Option<&Cluster>
     requires phase { phase < length i.now.plan }
     ensures none { IfNone result (slice_get (list_at i.now.lists phase) index ≡ None) }
-    ensures some { IfSome result (λ cluster. (slice_get (list_at i.now.lists phase) index ≡ Some cluster.now) × IsCluster cluster.now) }
+    ensures some { IfSome result (λ cluster. (slice_get (list_at i.now.lists phase) index ≡ Some cluster.now)
+        × IsCluster cluster.now) }
 {
     i.list(phase).get(usize::from(index))
 }
@@ -97,10 +98,10 @@ fn is_closed_by(c: &Certificate, next: &Option<Entry>, hints: &mut Hints) -> boo
     hints.has_entry(c.entries(), next) || is_too_dear(c, next)
 }
 
-/// Whether the clusters that are left behind what is served next cost too much to undercut the claimed delay.
+/// Whether the clusters that are left after what is served next cost too much to undercut the claimed delay.
 fn is_too_dear(c: &Certificate, next: &Entry) -> bool
     requires { IsNext c.now.problem next.now }
-    ensures { IsTrue result ↔ IsTooDear c.now.problem c.now.answer (stage_behind next.now) }
+    ensures { IsTrue result ↔ IsTooDear c.now.problem c.now.answer (stage_of_next next.now) }
 {
     let Answer::Plan { delay, .. } = c.answer() else {
         return false;
@@ -108,7 +109,7 @@ fn is_too_dear(c: &Certificate, next: &Entry) -> bool
     *delay <= next.delay + rest_of(c.instance(), &next.counts, next.at)
 }
 
-/// The number, from 1, of the first entry behind which nothing is left, and which undercuts the answer.
+/// The number, from 1, of the first entry after which nothing is left, and which undercuts the answer.
 pub(crate) fn first_cheaper(c: &Certificate) -> Option<u32>
     ensures none { IfNone result (All (IsEnded c.now) c.now.entries) }
     ensures some { IfSome result (IsFirstNot (IsEnded c.now) c.now.entries) }
@@ -122,7 +123,7 @@ pub(crate) fn first_cheaper(c: &Certificate) -> Option<u32>
     None
 }
 
-/// Whether something is left behind an entry, or it does not undercut the answer.
+/// Whether something is left after an entry, or it does not undercut the answer.
 fn is_ended(c: &Certificate, entry: &Entry) -> bool
     requires { IsEntry c.now.problem entry.now }
     ensures { IsTrue result ↔ IsEnded c.now entry.now }

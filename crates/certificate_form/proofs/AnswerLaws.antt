@@ -1,4 +1,4 @@
--- An answer that is read is spelled so, and one that is spelled so is read.
+-- An answer that is read has this text, and one with this text is read.
 use Rattle.std.proofs.Common.{◌≡◌, ℕ, ◌^◌, ◌<◌, ◌≤◌, List, [], ◌∷◌, ◌++◌, length, map, get_or, All, Option, Some, None, Ok, refl, sym, ap, subst, ◌∙◌, append_assoc, length-append, arith}
 use Rattle.std.specs.Prelude.{codes}
 use Rattle.std.specs.Fmt.{decimal}
@@ -18,7 +18,7 @@ use Rattle.certificate_form.specs.Reading.{sequence_at, plan_at, answer_at}
 use Rattle.certificate_form.proofs.Apart.{space, line_feed, literal_apart, field_apart, first_digit}
 use Rattle.line_text.proofs.ManyLaws.{many_take, many_again, few_texts}
 
--- ---- numbers with a space behind each, and a last one
+-- ---- numbers with a space after each, and a last one
 
 abbrev spaced : ℕ → List ℕ
 spaced n = decimal n ++ 32 ∷ []
@@ -100,7 +100,7 @@ sequence_again line k ks rest small = by_parts (last_of k ks)
 
 -- ---- a plan
 
--- behind the first word of its line
+-- after the first word of its line
 plan_text : List ℕ → ℕ → List ℕ → List ℕ
 plan_text [] delay rest = decimal delay ++ 10 ∷ rest
 plan_text (k ∷ ks) delay rest = decimal delay ++ 32 ∷ numbers_text (k ∷ ks) rest

@@ -1,4 +1,4 @@
--- An entry that is read is spelled so, and one that is spelled so is read.
+-- An entry that is read has this text, and one with this text is read.
 use Rattle.std.proofs.Common.{◌≡◌, ℕ, zero, suc, ◌^◌, ◌<◌, ◌≤◌, ◌-◌, Bool, true, false, ltb, eqb, List, [], ◌∷◌, ◌++◌, length, take, drop, get_or, Option, Some, None, refl, sym, ap, subst, ◌∙◌, append_assoc, length-append, arith}
 use Rattle.std.specs.List.{starts_with}
 use Rattle.std.proofs.lemmas.Bool.Decides.{Decides-eqb}
@@ -15,7 +15,7 @@ use Rattle.line_text.specs.Fields.{literal_at, field_at}
 use Rattle.line_text.proofs.Units.{literal_takes, literal_again, field_takes, field_again}
 use Rattle.instance_form.proofs.LineLaws.{then_some}
 use Rattle.certificate_form.specs.CertificateText.{entry_line, IsWritableEntry}
-use Rattle.certificate_form.specs.Lines.{IsFrontText, behind_at, count_at, entry_line_at, front_at}
+use Rattle.certificate_form.specs.Lines.{IsFrontText, entry_after_at, count_at, entry_line_at, front_at}
 use Rattle.certificate_form.specs.declared.lines.Front.{Front}
 use Rattle.dp_certificate.specs.declared.Entry.{Entry}
 use Rattle.certificate_form.proofs.Apart.{space, line_feed, literal_apart}
@@ -48,7 +48,7 @@ count_again false n rest lt absent = ap (λ m. Some (m, rest)) (sym (absent refl
 entry_of : (a b c d phase since at delay : ℕ) → Entry
 entry_of a b c d phase since at delay = record { counts = a ∷ b ∷ c ∷ d ∷ []; phase = phase; since = since; at = at; delay = delay }
 
--- what stands behind the counts
+-- what stands after the counts
 head_text : (phase since at delay : ℕ) (rest : List ℕ) → List ℕ
 head_text phase since at delay rest = decimal phase ++ 32 ∷ (decimal since ++ 32 ∷ (decimal at ++ 32 ∷ (decimal delay ++ 10 ∷ rest)))
 
@@ -73,7 +73,7 @@ none_past phases a b c d p q r s (suc (suc (suc zero))) le = s (le-ltb 3 phases 
 none_past phases a b c d p q r s (suc (suc (suc (suc k)))) le = refl
 
 pub entry_takes : (phases : ℕ) → 2 ≤ phases → phases ≤ 4 → (bytes : List ℕ) (x : Entry × List ℕ) → entry_line_at phases bytes ≡ Some x → (bytes ≡ entry_line phases x.0 ++ x.1) × IsWritableEntry phases x.0
-unfolding entry_line_at front_at behind_at entry_of head_text
+unfolding entry_line_at front_at entry_after_at entry_of head_text
 entry_takes phases low high bytes x e =
     then_some (front_at phases bytes) e (λ front h e_front.
     then_some (literal_at (codes "entry ") bytes) h (λ rest h0 e0.
@@ -83,7 +83,7 @@ entry_takes phases low high bytes x e =
     then_some (count_at (ltb 3 phases) third.1) e3 (λ fourth h4 e4.
     then_some (field_at (2 ^ 8) 32 fourth.1) e4 (λ phase h5 e5.
     let is_front = same_Some (record { counts = first.0 ∷ second.0 ∷ third.0 ∷ fourth.0 ∷ []; phase = phase.0 }, phase.1) front e5 in
-    let e_behind = subst (λ (f : Front × List ℕ). behind_at f.0 f.1 ≡ Some x) (sym is_front) e_front in
+    let e_behind = subst (λ (f : Front × List ℕ). entry_after_at f.0 f.1 ≡ Some x) (sym is_front) e_front in
     then_some (field_at (2 ^ 32) 32 phase.1) e_behind (λ since h6 e6.
     then_some (field_at (2 ^ 32) 32 since.1) e6 (λ at h7 e7.
     then_some (field_at (2 ^ 64) 10 at.1) e7 (λ delay h8 e8.
@@ -123,7 +123,7 @@ entry_takes phases low high bytes x e =
 
 entry_again_of : (phases a b c d phase since at delay : ℕ) (rest : List ℕ) → 2 ≤ phases → phases ≤ 4 → IsWritableEntry phases (entry_of a b c d phase since at delay)
     → entry_line_at phases (entry_line phases (entry_of a b c d phase since at delay) ++ rest) ≡ Some (entry_of a b c d phase since at delay, rest)
-unfolding entry_line_at front_at behind_at entry_of head_text
+unfolding entry_line_at front_at entry_after_at entry_of head_text
 entry_again_of phases a b c d phase since at delay rest low high fits =
     let small = recursion_from_All (λ n. n < 2 ^ 8) (a ∷ b ∷ c ∷ d ∷ []) fits.counts in
     let units = head_text phase since at delay rest in
@@ -242,14 +242,14 @@ pub rest_from : (n : ℕ) (bytes : List ℕ) → take (length bytes - n) (drop n
 rest_from n bytes = ap (λ k. take k (drop n bytes)) (sym (length-drop n bytes)) ∙ take-length (drop n bytes)
 
 -- an entry's line is its front and what follows
-pub line_read : (phases : ℕ) (bytes : List ℕ) (f : Front) (n : ℕ) (o : Option (Entry × List ℕ)) → Some (f, drop n bytes) ≡ front_at phases bytes → o ≡ behind_at f (take (length bytes - n) (drop n bytes))
+pub line_read : (phases : ℕ) (bytes : List ℕ) (f : Front) (n : ℕ) (o : Option (Entry × List ℕ)) → Some (f, drop n bytes) ≡ front_at phases bytes → o ≡ entry_after_at f (take (length bytes - n) (drop n bytes))
     → entry_line_at phases bytes ≡ o
 unfolding entry_line_at
-line_read phases bytes f n o e h = ap (λ (x : Option (Front × List ℕ)). x >>= (λ y. behind_at y.0 y.1)) (sym e) ∙ ap (behind_at f) (sym (rest_from n bytes)) ∙ sym h
+line_read phases bytes f n o e h = ap (λ (x : Option (Front × List ℕ)). x >>= (λ y. entry_after_at y.0 y.1)) (sym e) ∙ ap (entry_after_at f) (sym (rest_from n bytes)) ∙ sym h
 
 pub line_none : (phases : ℕ) (bytes : List ℕ) → None ≡ front_at phases bytes → entry_line_at phases bytes ≡ None
 unfolding entry_line_at
-line_none phases bytes e = ap (λ (x : Option (Front × List ℕ)). x >>= (λ y. behind_at y.0 y.1)) (sym e)
+line_none phases bytes e = ap (λ (x : Option (Front × List ℕ)). x >>= (λ y. entry_after_at y.0 y.1)) (sym e)
 
 -- the last line is no entry's
 pub entry_end : (phases : ℕ) (rest : List ℕ) → entry_line_at phases (codes "end\n" ++ rest) ≡ None

@@ -130,7 +130,7 @@ first_fault bytes never =
 
 -- ---- the instance's lines
 
--- what begins an instance begins a certificate, behind its first line
+-- what begins an instance begins a certificate, after its first line
 begins_in_front : (front : List ℕ) → BeginsText front → BeginsCertificate (codes "certificate 1\n" ++ front)
 unfolding claim_of
 begins_in_front front g =
@@ -143,7 +143,7 @@ begins_in_front front g =
       text = certificate_is (claim_of p NoPlan []) ∙ ap (λ (y : List ℕ). codes "certificate 1\n" ++ y) (ap (λ (y : List ℕ). y ++ tail) g.text ∙ append_assoc front g.rest tail) ∙ sym (append_assoc (codes "certificate 1\n") front (g.rest ++ tail));
     }
 
--- and what begins a certificate behind its first line begins an instance with something after it
+-- and what begins a certificate after its first line begins an instance with something after it
 front_in_begins : (front : List ℕ) → BeginsCertificate (codes "certificate 1\n" ++ front) → BeginsFront front
 front_in_begins front g =
     let c = g.claim in
@@ -175,7 +175,7 @@ instance_fault n bytes rest text fault =
           ];
     }
 
--- ---- the lines behind the instance
+-- ---- the lines after the instance
 
 feeds_in_front : (p : Problem) → HasProblemText p → line_feeds (front_text p) ≡ 1 + line_count p.plan p.lists
 unfolding front_text
@@ -185,7 +185,7 @@ claim_text : (p : Problem) (a : Answer) (es : List Entry) → certificate_text (
 unfolding claim_of
 claim_text p a es = certificate_is (claim_of p a es) ∙ sym (front-append p (tail_text (length p.plan) a es))
 
--- behind a front of it a certificate's text goes on with what its tail goes on with
+-- after a front of it a certificate's text goes on with what its tail goes on with
 behind_front : (p : Problem) (F mid : List ℕ) (g : BeginsCertificate ((front_text p ++ F) ++ mid)) → HasProblemText p → Behind g.claim p (F ++ (mid ++ g.rest))
 behind_front p F mid g fits =
     behind g.claim p (F ++ (mid ++ g.rest)) g.fits fits (g.text ∙ append_assoc (front_text p ++ F) mid g.rest ∙ append_assoc (front_text p) F (mid ++ g.rest))
@@ -212,11 +212,11 @@ module _ (p : Problem) (fits : HasProblemText p) (bytes rest : List ℕ) (text :
         apart = λ u e. never g.claim.answer u g.fits.answer e;
       })
 
-  -- the bytes, behind a further front
+  -- the bytes, after a further front
   spread_out : (F R : List ℕ) → rest ≡ F ++ R → bytes ≡ (front_text p ++ F) ++ R
   spread_out F R e = text ∙ ap (λ (y : List ℕ). front_text p ++ y) e ∙ sym (append_assoc (front_text p) F R)
 
-  -- the line behind these entries
+  -- the line after these entries
   next_of : (R mid more : List ℕ) → entry_line_at (length p.plan) R ≡ None → literal_at (codes "end\n") R ≡ None → (ds : List Entry) → AllByRecursion (IsWritableEntry (length p.plan)) ds → flat_map (entry_line (length p.plan)) ds ++ codes "end\n" ≡ mid ++ more → NextLine mid R
   next_of R mid more no_entry_there no_end_there [] ds_fit e = record {
     text = codes "end\n";

@@ -20,7 +20,7 @@ use Rattle.certificate_form.specs.CertificateText.{HasText, IsWritableAnswer, af
 use Rattle.number_text.proofs.LineLaws.{digits-byte, digits-long, written_line}
 use Rattle.certificate_form.proofs.WritingLaws.{entry_is, text_parts}
 
--- numbers behind a space
+-- numbers after a space
 space-le : (n k : ℕ) → length (decimal n) ≤ k → length (after_space n) ≤ k + 1
 space-le n k h = omega (arith, h)
 

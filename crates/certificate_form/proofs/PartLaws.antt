@@ -15,7 +15,7 @@ use Rattle.dp_certificate.specs.declared.Entry.{Entry}
 use Rattle.certificate_form.specs.CertificateText.{answer_line, certificate_text, entry_line}
 use Rattle.certificate_form.proofs.WritingLaws.{text_parts}
 
--- so much of a text is in the sink, and behind it come what stands in the buffer and what is still to be made
+-- this much of a text is in the sink, and after it come what stands in the buffer and what is still to be made
 pub record HasPut (whole buffer rest : List ℕ) (old now : SinkState) : Type 0 where
   pub sent : List ℕ
   pub gains : Gains old now sent
@@ -38,13 +38,13 @@ gains_more a b c p q first then =
     ∙ ap (λ (s : SinkState). record { written = append_known s.written q; faults = s.faults }) first
     ∙ ap (λ (w : Option (List ℕ)). record { written = w; faults = a.faults }) (known_twice a.written p q)
 
--- a front of the second of three parts, behind the first
+-- a front of the second of three parts, after the first
 take_front : (p q r : List ℕ) (count : ℕ) → take (length p + min count (length q)) (p ++ (q ++ r)) ≡ p ++ take count q
 take_front p q r count =
     take-append-add p (q ++ r) (min count (length q))
     ∙ ap (λ (y : List ℕ). p ++ y) (take-append-le (min count (length q)) q r (omega arith) ∙ take_min count q)
 
--- what is broken off behind a first part is broken off the whole
+-- what is broken off after a first part is broken off the whole
 breaks_more : (a b c : SinkState) (p q r : List ℕ) → Gains a b p → Breaks b c q → Breaks a c (p ++ (q ++ r))
 breaks_more a b c p q r first broken = record {
   rose = subst (λ (n : ℕ). Rose n c.faults) (ap (λ (s : SinkState). s.faults) first) broken.rose;
@@ -64,7 +64,7 @@ module _ (whole buffer rest : List ℕ) (old now next : SinkState) where
   spelled part more buffer' so parts filled =
       so.is ∙ ap (λ (y : List ℕ). so.sent ++ y) (ap (λ (y : List ℕ). buffer ++ y) parts ∙ sym (append_assoc buffer part more) ∙ ap (λ (y : List ℕ). y ++ more) (sym filled))
 
-  -- a part came behind the buffer, which is in the sink now
+  -- a part came after the buffer, which is in the sink now
   pub put_part : (part more buffer' emptied : List ℕ) → HasPut whole buffer rest old now → rest ≡ part ++ more → buffer' ≡ buffer ++ part → Gains now next buffer' → emptied ≡ [] → HasPut whole emptied more old next
   put_part part more buffer' emptied so parts filled gains empty = record {
     sent = so.sent ++ buffer';
@@ -85,7 +85,7 @@ module _ (whole buffer rest : List ℕ) (old now next : SinkState) where
   pub last_broken : (last : List ℕ) → HasPut whole buffer rest old now → last ≡ buffer ++ rest → Breaks now next last → Breaks old next whole
   last_broken last so filled breaks = put_broken rest [] last so (sym (append-nil rest)) filled breaks
 
--- the lines of entries are those of the first so many and of the others
+-- the lines of entries are those of the first this many and of the others
 pub lines_parted : (line : Entry → List ℕ) (n : ℕ) (entries part others : List Entry) (end : List ℕ) → part ≡ take n entries → others ≡ drop n entries → flat_map line entries ++ end ≡ flat_map line part ++ (flat_map line others ++ end)
 lines_parted line n entries part others end front back =
     let parts : entries ≡ part ++ others = sym (take-append-drop n entries) ∙ ap (λ (es : List Entry). es ++ drop n entries) (sym front) ∙ ap (λ (es : List Entry). part ++ es) (sym back) in

@@ -159,7 +159,7 @@ module _ (phases : ℕ) (low : 2 ≤ phases) (high : phases ≤ 4) where
       let same : ◌≡◌ {A = List Entry × List ℕ} (es, codes "end\n" ++ x) (ds, codes "end\n" ++ y) = sym one ∙ ap (many_at (entry_line_at phases) most) first.1 ∙ two in
       (first.0, ap (λ (z : List Entry × List ℕ). z.0) same, append_cancel_left (codes "end\n") x y (ap (λ (z : List Entry × List ℕ). z.1) same))
 
-  -- what entries go on with behind entries
+  -- what entries go on with after entries
   pub record More (w : List ℕ) : Type 0 where
     pub entries : List Entry
     pub fits : AllByRecursion (IsWritableEntry phases) entries
@@ -179,7 +179,7 @@ module _ (phases : ℕ) (low : 2 ≤ phases) (high : phases ≤ 4) where
 
   -- ---- why nothing is read
 
-  -- there is no answer; or, behind the entries so far, neither an entry nor the last line; or something follows that
+  -- there is no answer; or, after the entries so far, neither an entry nor the last line; or something follows that
   pub data TailFault (line n : ℕ) (bytes : List ℕ) : Type 0 where
     no_answer : n ≡ line → ((a : Answer) (u : List ℕ) → IsWritableAnswer a → bytes ≡ answer_line a ++ u → ⊥) → TailFault line n bytes
     no_entry : (a : Answer) (es : List Entry) (rest : List ℕ) → n ≡ line + 1 + length es → IsWritableAnswer a → AllByRecursion (IsWritableEntry phases) es

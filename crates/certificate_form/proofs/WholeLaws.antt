@@ -2,7 +2,7 @@
 use Rattle.std.proofs.Common.{◌≡◌, ℕ, ◌+◌, ◌<◌, ◌≤◌, List, ◌++◌, length, Ok, refl, sym, ap, ◌∙◌, length-append, arith}
 use Rattle.std.specs.Prelude.{codes}
 use Rattle.std.proofs.lemmas.List.{append_cancel_left}
-use Rattle.instance_form.specs.Answers.{IsWant}
+use Rattle.instance_form.specs.Answers.{IsOutOfMemory}
 use Rattle.instance_form.specs.Faults.{BeginsFront, IsFaultOf}
 use Rattle.instance_form.specs.InstanceText.{line_count}
 use Rattle.instance_form.specs.Reading.{Fails}
@@ -67,7 +67,7 @@ module _ (p : Problem) (fits : HasProblemText p) (bytes after : List ℕ) (line 
       ap (λ (x : Problem). let r : Claim = record { problem = x; entries = es; answer = a } in r) (sym again.0)
       ∙ ap (λ (x : Answer × List Entry). let r : Claim = record { problem = c.problem; entries = x.1; answer = x.0 } in r) same
 
-  pub fails_only : (e : FormFault) → Fails e (tail_at (length p.plan) line after) → (c : Claim) → HasText c → bytes ≡ certificate_text c → IsWant e
+  pub fails_only : (e : FormFault) → Fails e (tail_at (length p.plan) line after) → (c : Claim) → HasText c → bytes ≡ certificate_text c → IsOutOfMemory e
   fails_only (Line n) given c c_fits e = no_Err {A = Answer × List Entry} (read_again c c_fits e).1 given
   fails_only NoMemory given c c_fits e = tt
 

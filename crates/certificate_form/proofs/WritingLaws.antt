@@ -19,7 +19,7 @@ use Rattle.dp_certificate.specs.declared.Entry.{Entry}
 use Rattle.schedule_meaning.specs.declared.planners.Answer.TheVariants.{Plan}
 use Rattle.certificate_form.specs.CertificateText.{HasText, IsWritableAnswer, IsWritableEntry, after_space, answer_line, entry_back, entry_front, entry_line, certificate_text}
 
--- a line of a word and numbers behind a text, as it is written
+-- a line of a word and numbers after a text, as it is written
 line_behind : (t word front back : List ℕ) (ns : List ℕ) → word ++ flat_map after_space ns ≡ front ++ back → t ++ line (word ∷ map decimal ns) ≡ (t ++ front) ++ (back ++ 10 ∷ [])
 line_behind t word front back ns e =
     ap (λ (y : List ℕ). t ++ y) (written_line word ns ∙ sym (append_assoc word (flat_map after_space ns) (10 ∷ [])) ∙ ap (λ (y : List ℕ). y ++ 10 ∷ []) e ∙ append_assoc front back (10 ∷ []))
@@ -68,7 +68,7 @@ back_filled e a b c d at since ea eb ec is_at ed is_since =
     ed ∙ ap (λ (y : List ℕ). 32 ∷ (decimal since ++ y)) (ec ∙ ap (λ (y : List ℕ). 32 ∷ (decimal at ++ y)) (eb ∙ ap (λ (y : List ℕ). 32 ∷ (decimal e.delay ++ y)) ea) ∙ ap (λ n. 32 ∷ (decimal n ++ 32 ∷ (decimal e.delay ++ 10 ∷ []))) is_at)
     ∙ ap (λ n. 32 ∷ (decimal n ++ 32 ∷ (decimal e.at ++ 32 ∷ (decimal e.delay ++ 10 ∷ [])))) is_since
 
--- one more entry behind a text
+-- one more entry after a text
 pub entry_behind : (phases : ℕ) (e : Entry) (text now front back : List ℕ) → front ≡ entry_front phases e → back ≡ entry_back e → now ≡ (text ++ front) ++ back → now ≡ text ++ entry_line phases e
 entry_behind phases e text now front back is_front is_back is =
     is ∙ append_assoc text front back ∙ ap (λ (y : List ℕ). text ++ y) (ap (λ (y : List ℕ). y ++ back) is_front ∙ ap (λ (y : List ℕ). entry_front phases e ++ y) is_back ∙ sym (entry_parts phases e))

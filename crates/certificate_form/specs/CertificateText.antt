@@ -1,4 +1,4 @@
--- The one spelling of a certificate.
+-- The one text of a certificate.
 use Rattle.std.specs.Prelude.{◌≡◌, ℕ, ◌^◌, ◌<◌, ◌≤◌, List, [], ◌∷◌, ◌++◌, length, map, take, slice_index, All, codes}
 use Rattle.std.specs.List.{flat_map, concat}
 use Rattle.std.specs.Fmt.{decimal}
@@ -15,7 +15,7 @@ abbrev pub answer_line : Answer → List ℕ
 answer_line (Plan sequence delay) = line (codes "answer" ∷ decimal delay ∷ map decimal sequence)
 answer_line NoPlan = line (codes "answer none" ∷ [])
 
--- the counts of so many phases, the head and the delay
+-- the counts of this many phases, the head and the delay
 abbrev pub entry_line : ℕ → Entry → List ℕ
 entry_line phases e = line (codes "entry" ∷ map decimal (take phases e.counts ++ e.phase ∷ e.since ∷ e.at ∷ e.delay ∷ []))
 
@@ -50,7 +50,7 @@ pub record IsWritableEntry (phases : ℕ) (e : Entry) : Type 0 where
   pub at : e.at < 2 ^ 32
   pub delay : e.delay < 2 ^ 64
 
--- what has a spelling
+-- what has a text
 pub record HasText (c : Claim) : Type 0 where
   pub instance : form.HasText c.problem.plan c.problem.head c.problem.lists
   pub answer : IsWritableAnswer c.answer

@@ -1,4 +1,4 @@
--- Reading an entry from the front of the bytes.
+-- No public clause names these: reading an entry from the front of the bytes.
 use Rattle.std.specs.Prelude.{◌≡◌, ℕ, ◌^◌, Bool, nat_lt, if◌then◌else◌, List, [], ◌∷◌, ◌++◌, Option, Some, codes}
 use Rattle.line_text.specs.Fields.{literal_at, field_at}
 use Rattle.foundation.specs.Options.{◌>>=◌}
@@ -21,18 +21,18 @@ front_at phases bytes = do
   Some (record { counts = first.0 ∷ second.0 ∷ third.0 ∷ fourth.0 ∷ []; phase = phase.0 }, phase.1)
 
 -- the entry with this front, from what follows the front
-unfoldable pub behind_at : Front → List ℕ → Option (Entry × List ℕ)
-behind_at front bytes = do
+unfoldable pub entry_after_at : Front → List ℕ → Option (Entry × List ℕ)
+entry_after_at front bytes = do
   since ← field_at (2 ^ 32) 32 bytes
   at ← field_at (2 ^ 32) 32 since.1
   delay ← field_at (2 ^ 64) 10 at.1
   Some (record { counts = front.counts; phase = front.phase; since = since.0; at = at.0; delay = delay.0 }, delay.1)
 
--- an entry with so many counts
+-- an entry with this many counts
 unfoldable pub entry_line_at : ℕ → List ℕ → Option (Entry × List ℕ)
 entry_line_at phases bytes = do
   front ← front_at phases bytes
-  behind_at front.0 front.1
+  entry_after_at front.0 front.1
 
 -- bytes that are read as this front, whatever follows them
 abbrev pub IsFrontText : ℕ → Front → List ℕ → Type 0

@@ -1,4 +1,4 @@
--- Reading what follows the instance, with the number of the first line that has not the form of its place.
+-- No public clause names these: reading what follows the instance, with the number of the first line that has not the form of its place.
 use Rattle.std.specs.Prelude.{ℕ, ◌+◌, ◌^◌, ◌==◌, if◌then◌else◌, List, [], ◌∷◌, ◌++◌, length, Result, Ok, Err, codes}
 use Rattle.std.specs.Option.{ok_or, option_map_or}
 use Rattle.line_text.specs.Fields.{literal_at, field_at}
@@ -16,7 +16,7 @@ sequence_at line bytes = do
   last ← ok_or (field_at (2 ^ 8) 10 front.1) line
   Ok (front.0 ++ last.0 ∷ [], last.1)
 
--- a delay, and behind it a sequence, which may be empty
+-- a delay, and after it a sequence, which may be empty
 unfoldable pub plan_at : ℕ → List ℕ → Result (Answer × List ℕ) ℕ
 plan_at line bytes = option_map_or (λ delay. Ok (Plan [] delay.0, delay.1)) (field_at (2 ^ 64) 10 bytes) (do
   delay ← ok_or (field_at (2 ^ 64) 32 bytes) line
@@ -29,13 +29,13 @@ answer_at line bytes = option_map_or (λ rest. Ok (NoPlan, rest)) (literal_at (c
   rest ← ok_or (literal_at (codes "answer ") bytes) line
   plan_at line rest)
 
--- the last line, which has this number, and nothing behind it
+-- the last line, which has this number, and nothing after it
 unfoldable pub end_at : ℕ → List ℕ → Result (List ℕ) ℕ
 end_at line bytes = do
   rest ← ok_or (literal_at (codes "end\n") bytes) line
   if length rest == 0 then Ok rest else Err (line + 1)
 
--- what follows an instance of so many phases, whose first line has this number
+-- what follows an instance of this many phases, whose first line has this number
 unfoldable pub tail_at : ℕ → ℕ → List ℕ → Result (Answer × List Entry) ℕ
 tail_at phases line bytes = do
   answer ← answer_at line bytes

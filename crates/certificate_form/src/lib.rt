@@ -1,9 +1,9 @@
-//! The text of a certificate: reading it, and writing its one spelling.
+//! The text of a certificate: reading it, and writing it.
 #![tactic(auto)]
 
 mod lines;
 mod reading;
 mod writing;
 
-pub use reading::{CertText, one_certificate, read_certificate};
-pub use writing::{PutFault, has_text, put_certificate, write_certificate};
+pub use reading::{CertText, law_of_certificates, read_certificate};
+pub use writing::{PutFault, law_of_certificate_text, put_certificate, write_certificate};

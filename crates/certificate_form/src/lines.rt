@@ -4,7 +4,7 @@ ghost use Rattle.std.specs.Prelude.{◌≡◌, ◌+◌, ◌^◌, ◌<◌, ◌≤
 ghost use Rattle.std.specs.Option.{option_map};
 ghost use Rattle.line_text.specs.Fields.{field_at};
 ghost use Rattle.instance_form.specs.Lines.{seen};
-ghost use Rattle.certificate_form.specs.Lines.{IsFrontText, behind_at, count_at, entry_line_at, front_at};
+ghost use Rattle.certificate_form.specs.Lines.{IsFrontText, entry_after_at, count_at, entry_line_at, front_at};
 ghost use Rattle.line_text.specs.Many.{many_at};
 
 use dp_certificate::Entry;
@@ -31,7 +31,7 @@ struct Front {
     phase: u8,
 }
 
-/// The front of an entry's line in an instance with so many phases, and the bytes after it.
+/// The front of an entry's line in an instance with this many phases, and the bytes after it.
 #[tactic(auto, unfolding(crate::specs::Lines::front_at))]
 fn entry_front(phases: u8, bytes: &[u8]) -> Option<(Front, &[u8])>
     ensures exact { option_map seen result ≡ front_at phases bytes.now }
@@ -65,9 +65,9 @@ fn next_front(phases: u8, last: Option<(Front, &[u8])>, bytes: &[u8]) -> Option<
 }
 
 /// The entry with this front, from the bytes after the front, and the bytes after its line.
-#[tactic(auto, unfolding(crate::specs::Lines::behind_at))]
-fn behind(front: Front, bytes: &[u8]) -> Option<(Entry, &[u8])>
-    ensures exact { option_map seen result ≡ behind_at front bytes.now }
+#[tactic(auto, unfolding(crate::specs::Lines::entry_after_at))]
+fn entry_after_front(front: Front, bytes: &[u8]) -> Option<(Entry, &[u8])>
+    ensures exact { option_map seen result ≡ entry_after_at front bytes.now }
     ensures shorter { IfSome result (λ x. length x.1.now < length bytes.now) }
 {
     let (since, rest) = field_u32(b' ', bytes)?;
@@ -84,7 +84,7 @@ fn behind(front: Front, bytes: &[u8]) -> Option<(Entry, &[u8])>
     Some((entry, rest))
 }
 
-/// The entries of an instance with so many phases, as many as follow one another, and the bytes after them.
+/// The entries of an instance with this many phases, as many as follow one another, and the bytes after them.
 ///
 /// docs/FORMATS.md, "Certificate text".
 pub(crate) fn entry_lines(
@@ -92,7 +92,8 @@ pub(crate) fn entry_lines(
     phases: u8,
     bytes: &[u8],
 ) -> Result<(Vec<Entry>, &[u8]), AllocError>
-    ensures exact { IfOk result (λ x. many_at (entry_line_at phases) (length bytes.now) bytes.now ≡ (x.0.items, x.1.now)) }
+    ensures exact { IfOk result (λ x. many_at (entry_line_at phases) (length bytes.now) bytes.now
+        ≡ (x.0.items, x.1.now)) }
     ensures few { IfOk result (λ x. length x.0.items + length x.1.now ≤ length bytes.now) }
     ensures stop { IfOk result (λ x. entry_line_at phases x.1.now ≡ None) }
 {
@@ -100,7 +101,7 @@ pub(crate) fn entry_lines(
     let mut rest = bytes;
     let mut last = None;
     while let Some((front, end)) = next_front(phases, last, rest) {
-        let Some((entry, after)) = behind(front, &rest[end..]) else {
+        let Some((entry, after)) = entry_after_front(front, &rest[end..]) else {
             break;
         };
         entries.push(entry)?;
@@ -110,9 +111,10 @@ pub(crate) fn entry_lines(
     Ok((entries, rest))
 }
 
-/// The numbers with a space behind each, as many as follow one another, and the bytes after them.
+/// The numbers with a space after each, as many as follow one another, and the bytes after them.
 pub(crate) fn spaced_numbers(alloc: Global, bytes: &[u8]) -> Result<(Vec<u8>, &[u8]), AllocError>
-    ensures exact { IfOk result (λ x. many_at (field_at (2 ^ 8) 32) (length bytes.now) bytes.now ≡ (x.0.items, x.1.now)) }
+    ensures exact { IfOk result (λ x. many_at (field_at (2 ^ 8) 32) (length bytes.now) bytes.now
+        ≡ (x.0.items, x.1.now)) }
     ensures few { IfOk result (λ x. length x.0.items + length x.1.now ≤ length bytes.now) }
 {
     let mut numbers = Vec::new(alloc);

@@ -4,7 +4,7 @@ ghost use Rattle.std.specs.Prelude.{◌≡◌, ◌+◌, ◌^◌, ◌<◌, ◌≤
 ghost use Rattle.instance_form.specs.Answers as form;
 ghost use Rattle.instance_form.specs.Lines.{seen};
 ghost use Rattle.instance_form.specs.Reading.{Gives};
-ghost use Rattle.certificate_form.specs.Answers.{IsTextFault, IsWant, said_by};
+ghost use Rattle.certificate_form.specs.Answers.{IsTextFault, IsOutOfMemory, claim_of_lines};
 ghost use Rattle.certificate_form.specs.CertificateText.{HasText, certificate_text};
 ghost use Rattle.dp_certificate.specs.Certificates.{Claim, IsCertificate};
 ghost use Rattle.dp_certificate.specs.Numbers.{IsShort};
@@ -59,9 +59,9 @@ struct Lines {
     entries: Vec<Entry>,
 }
 
-/// The certificate whose one spelling the bytes are, fewer than 2^32 of them.
+/// The certificate whose one text the bytes are, fewer than 2^32 of them.
 ///
-/// A fault other than want of memory comes only where the bytes are the spelling of no certificate: the first line that
+/// A fault other than out of memory comes only where the bytes are the text of no certificate: the first line that
 /// has not its form, or else the fault of the plan, or else that of the instance, or else that of the certificate.
 ///
 /// docs/FORMATS.md, "Certificate text".
@@ -71,7 +71,7 @@ pub fn read_certificate(alloc: Global, bytes: &[u8]) -> Result<Certificate, Cert
     ensures text { IfOk result HasText }
     ensures lawful { IfOk result IsCertificate }
     ensures only { (c : Claim) → HasText c → IsCertificate c → bytes.now ≡ certificate_text c
-        → MatchResult result (λ v. v ≡ c) IsWant }
+        → MatchResult result (λ v. v ≡ c) IsOutOfMemory }
     ensures first { IfErr result (IsTextFault bytes.now) }
 {
     let Lines {
@@ -96,17 +96,17 @@ pub fn read_certificate(alloc: Global, bytes: &[u8]) -> Result<Certificate, Cert
 /// No two certificates share a text.
 ///
 /// docs/FORMATS.md, "Certificate text".
-pub fn one_certificate()
+pub fn law_of_certificates()
     ensures { (c d : Claim) → HasText c → HasText d → certificate_text c ≡ certificate_text d → c ≡ d }
 {}
 
 /// What the lines of a certificate's text say.
 fn read_lines(alloc: Global, bytes: &[u8]) -> Result<Lines, FormFault>
     requires { length bytes.now < 2 ^ 32 }
-    ensures text { IfOk result (λ x. HasText (said_by x)) }
-    ensures ok { IfOk result (λ x. bytes.now ≡ certificate_text (said_by x)) }
+    ensures text { IfOk result (λ x. HasText (claim_of_lines x)) }
+    ensures ok { IfOk result (λ x. bytes.now ≡ certificate_text (claim_of_lines x)) }
     ensures only { (c : Claim) → HasText c → bytes.now ≡ certificate_text c
-        → MatchResult result (λ x. said_by x ≡ c) form.IsWant }
+        → MatchResult result (λ x. claim_of_lines x ≡ c) form.IsOutOfMemory }
     ensures first { IfErr result (IsLineFault bytes.now) }
     ensures short { IfOk result (λ x. IsShort x.answer) }
     ensures few { IfOk result (λ x. length x.entries.items < 2 ^ 32) }
@@ -167,7 +167,7 @@ fn answer(alloc: Global, line: u32, bytes: &[u8]) -> Result<(Answer, &[u8]), For
     plan(alloc, line, rest)
 }
 
-/// Nothing behind the last line, which has this number.
+/// Nothing after the last line, which has this number.
 #[tactic(auto, unfolding(crate::specs::Reading::end_at))]
 fn end(line: u32, bytes: &[u8]) -> Result<&[u8], FormFault>
     requires { line + length bytes.now ≤ 2 ^ 32 }
@@ -181,7 +181,7 @@ fn end(line: u32, bytes: &[u8]) -> Result<&[u8], FormFault>
     }
 }
 
-/// The answer and the entries behind an instance with so many phases, the answer in the line with this number.
+/// The answer and the entries after an instance with this many phases, the answer in the line with this number.
 #[tactic(auto, unfolding(crate::specs::Reading::tail_at))]
 fn tail(
     alloc: Global,

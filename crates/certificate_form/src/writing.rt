@@ -6,7 +6,7 @@ ghost use Rattle.instance_form.specs.InstanceText.{instance_text};
 ghost use Rattle.instance_form.specs.InstanceText as form;
 ghost use Rattle.dp_certificate.specs.Certificates.{IsCertificate};
 ghost use Rattle.dp_certificate.specs.Numbers.{sequence_of};
-ghost use Rattle.certificate_form.specs.Answers.{Spells};
+ghost use Rattle.certificate_form.specs.Answers.{IsCertificateText};
 ghost use Rattle.outside_world.specs.Sink.{Breaks, Gains};
 ghost use Rattle.certificate_form.specs.CertificateText.{HasText, IsWritableAnswer, after_space, answer_line, certificate_text, entry_back, entry_front, entry_line};
 
@@ -20,19 +20,19 @@ use std::alloc::{AllocError, Global};
 const PART: usize = 512;
 
 /// How many bytes a part of the lines of entries, and the last line, have at the most.
-const PART_ROOM: usize = 106 * PART + 4;
+const PART_CAPACITY: usize = 106 * PART + 4;
 
-/// The one spelling of a certificate, which `read_certificate` reads as that certificate where it has fewer than 2^32
-/// bytes: 48 for each entry at the most, 4 for each place of the answer's sequence, and 3,000. An `Err` comes where
-/// memory runs out.
+/// The one text of a certificate, which `read_certificate` reads as that certificate where it has fewer than 2^32
+/// bytes: 48 for each entry at the most, 4 for each place of the answer's sequence, and 3,000. `Err`: out of memory.
 ///
 /// docs/FORMATS.md, "Certificate text".
 #[tactic(auto, using(crate::proofs::WritingLaws::text_parts))]
 pub fn write_certificate(alloc: Global, c: &Certificate) -> Result<Vec<u8>, AllocError>
     ensures text { IfOk result (λ text. text.items ≡ certificate_text c.now) }
     ensures lawful { IsCertificate c.now }
-    ensures spells { IfOk result (λ text. Spells text.items c.now) }
-    ensures short { IfOk result (λ text. length text.items ≤ 48 * length c.now.entries + 4 * length (sequence_of c.now.answer) + 3000) }
+    ensures spells { IfOk result (λ text. IsCertificateText text.items c.now) }
+    ensures short { IfOk result (λ text. length text.items
+        ≤ 48 * length c.now.entries + 4 * length (sequence_of c.now.answer) + 3000) }
 {
     let entries = c.entries();
     let phases = usize::from(c.instance().plan().count());
@@ -73,77 +73,79 @@ impl From<Failed> for PutFault {
     }
 }
 
-/// Writes the one spelling of a certificate to a sink, in parts. All memory that it takes, a buffer for one part and one
+/// Writes the one text of a certificate to a sink, in parts. All memory that it takes, a buffer for one part and one
 /// for the instance's lines, it takes before anything is written.
 ///
 /// docs/FORMATS.md, "Certificate text".
 #[tactic(auto, using(crate::proofs::WritingLaws::text_parts))]
 pub fn put_certificate<O: Sink>(alloc: Global, c: &Certificate, out: &mut O) -> Result<(), PutFault>
     ensures ok { OnOk result (Gains (O.state out.old) (O.state out.new) (certificate_text c.now)) }
-    ensures breaks { IsErrOf result PutFault.Unwritten → Breaks (O.state out.old) (O.state out.new) (certificate_text c.now) }
+    ensures breaks { IsErrOf result PutFault.Unwritten
+        → Breaks (O.state out.old) (O.state out.new) (certificate_text c.now) }
     ensures no_memory { IsErrOf result PutFault.NoMemory → O.state out.new ≡ O.state out.old }
 {
     let phases = usize::from(c.instance().plan().count());
-    let mut text = Vec::with_capacity(alloc, PART_ROOM + 10_000)?;
+    let mut text = Vec::with_capacity(alloc, PART_CAPACITY + 10_000)?;
     write_front(alloc, c.instance(), &mut text)?;
     write_answer(&mut text, c.answer())?;
-    text.reserve(PART_ROOM)?;
+    text.reserve(PART_CAPACITY)?;
     put_rest(phases, c.entries(), &mut text, out)?;
     Ok(())
 }
 
-/// Each certificate has a spelling, of a few bytes for each of its entries and places.
+/// Each certificate has a text, of a few bytes for each of its entries and places.
 ///
 /// docs/FORMATS.md, "Certificate text".
-pub fn has_text(c: &Certificate)
+pub fn law_of_certificate_text(c: &Certificate)
     ensures lawful { IsCertificate c.now }
     ensures spells { HasText c.now }
-    ensures short { length (certificate_text c.now) ≤ 48 * length c.now.entries + 4 * length (sequence_of c.now.answer) + 3000 }
+    ensures short { length (certificate_text c.now)
+        ≤ 48 * length c.now.entries + 4 * length (sequence_of c.now.answer) + 3000 }
 {
-    instance_has_text(c.instance());
-    answer_has_text(c.answer());
-    entries_have_places(c.entries());
+    law_of_instance(c.instance());
+    law_of_answer(c.answer());
+    law_of_entries(c.entries());
 }
 
 /// The numbers of an instance are below their types' limits.
-fn instance_has_text(i: &Instance)
+fn law_of_instance(i: &Instance)
     ensures { form.HasText i.now.plan i.now.head i.now.lists }
 {
     let _ = i.plan();
 }
 
 /// The numbers of an answer are below their types' limits.
-fn answer_has_text(answer: &Answer)
+fn law_of_answer(answer: &Answer)
     ensures { IsWritableAnswer answer.now }
 {
     if let Answer::Plan { sequence, delay } = answer {
-        phases_are_bytes(sequence.as_slice());
+        law_of_phases(sequence.as_slice());
         let _delay = *delay;
     }
 }
 
 /// Each phase is below its type's limit.
-fn phases_are_bytes(sequence: &[u8])
+fn law_of_phases(sequence: &[u8])
     ensures { All (λ k. k < 2 ^ 8) sequence.now }
 {}
 
 /// Each entry has four counts. The loop does nothing when it runs.
-fn entries_have_places(entries: &[Entry])
+fn law_of_entries(entries: &[Entry])
     ensures { All (λ e. length e.counts ≡ 4) entries.now }
 {
     for entry in entries {
-        four_counts(entry);
+        law_of_counts(entry);
     }
 }
 
 /// An entry has four counts.
-fn four_counts(entry: &Entry)
+fn law_of_counts(entry: &Entry)
     ensures { length entry.now.counts ≡ 4 }
 {
     let _ = entry.counts[0];
 }
 
-/// Writes a text and the lines of entries with so many counts behind it, and the last line, to a sink, a part at a time.
+/// Writes a text and after it the lines of entries with this many counts, and the last line, to a sink, a part at a time.
 fn put_rest<O: Sink>(
     phases: usize,
     entries: &[Entry],
@@ -152,8 +154,10 @@ fn put_rest<O: Sink>(
 ) -> Result<(), Failed>
     requires phases { phases ≤ 4 }
     requires room { vec_len text.old + 54276 ≤ vec_capacity text.old }
-    ensures ok { OnOk result (Gains (O.state out.old) (O.state out.new) (text.old.items ++ (flat_map (entry_line phases) entries.now ++ codes "end\n"))) }
-    ensures breaks { OnErr result (Breaks (O.state out.old) (O.state out.new) (text.old.items ++ (flat_map (entry_line phases) entries.now ++ codes "end\n"))) }
+    ensures ok { OnOk result (Gains (O.state out.old) (O.state out.new)
+        (text.old.items ++ (flat_map (entry_line phases) entries.now ++ codes "end\n"))) }
+    ensures breaks { OnErr result (Breaks (O.state out.old) (O.state out.new)
+        (text.old.items ++ (flat_map (entry_line phases) entries.now ++ codes "end\n"))) }
 {
     let mut left = entries;
     while left.len() > PART {
@@ -168,10 +172,11 @@ fn put_rest<O: Sink>(
     out.put(text.as_slice())
 }
 
-/// Writes the first line, and an instance behind it, into an empty text.
+/// Writes the first line, and an instance after it, into an empty text.
 fn write_front(alloc: Global, i: &Instance, text: &mut Vec<u8>) -> Result<(), AllocError>
     requires { text.old.items ≡ [] }
-    ensures text { OnOk result (text.new.items ≡ codes "certificate 1\n" ++ instance_text i.now.plan i.now.head i.now.lists) }
+    ensures text { OnOk result (text.new.items
+        ≡ codes "certificate 1\n" ++ instance_text i.now.plan i.now.head i.now.lists) }
     ensures fits { OnOk result (form.HasText i.now.plan i.now.head i.now.lists) }
 {
     let instance = write_instance(alloc, i)?;
@@ -180,7 +185,7 @@ fn write_front(alloc: Global, i: &Instance, text: &mut Vec<u8>) -> Result<(), Al
     Ok(())
 }
 
-/// Writes the lines behind an instance with so many phases.
+/// Writes the lines after an instance with this many phases.
 fn write_tail(
     phases: usize,
     answer: &Answer,
@@ -188,7 +193,8 @@ fn write_tail(
     text: &mut Vec<u8>,
 ) -> Result<(), AllocError>
     requires { phases ≤ 4 }
-    ensures text { OnOk result (text.new.items ≡ text.old.items ++ (answer_line answer.now ++ (flat_map (entry_line phases) entries.now ++ codes "end\n"))) }
+    ensures text { OnOk result (text.new.items
+        ≡ text.old.items ++ (answer_line answer.now ++ (flat_map (entry_line phases) entries.now ++ codes "end\n"))) }
     ensures answer { OnOk result (IsWritableAnswer answer.now) }
     ensures places { OnOk result (All (λ e. length e.counts ≡ 4) entries.now) }
 {
@@ -198,7 +204,7 @@ fn write_tail(
     Ok(())
 }
 
-/// Writes the line of an answer behind a text.
+/// Appends the line of an answer to a text.
 fn write_answer(text: &mut Vec<u8>, answer: &Answer) -> Result<(), AllocError>
     ensures text { OnOk result (text.new.items ≡ text.old.items ++ answer_line answer.now) }
     ensures fits { OnOk result (IsWritableAnswer answer.now) }
@@ -209,7 +215,7 @@ fn write_answer(text: &mut Vec<u8>, answer: &Answer) -> Result<(), AllocError>
     }
 }
 
-/// Writes the line of a plan behind a text.
+/// Appends the line of a plan to a text.
 fn write_plan(text: &mut Vec<u8>, sequence: &[u8], delay: u64) -> Result<(), AllocError>
     ensures text { OnOk result (text.new.items ≡ text.old.items ++ answer_line (Answer.Plan sequence.now delay)) }
     ensures fits { OnOk result (All (λ k. k < 2 ^ 8) sequence.now × (delay < 2 ^ 64)) }
@@ -220,7 +226,7 @@ fn write_plan(text: &mut Vec<u8>, sequence: &[u8], delay: u64) -> Result<(), All
     text.extend_from_slice(b"\n")
 }
 
-/// Writes the lines of entries with so many counts behind a text. Lines that follow one another with the same counts and
+/// Appends the lines of entries with this many counts to a text. Lines that follow one another with the same counts and
 /// phase begin alike, so what they begin with is made once.
 fn write_entries(text: &mut Vec<u8>, phases: usize, entries: &[Entry]) -> Result<(), AllocError>
     requires { phases ≤ 4 }
@@ -255,7 +261,7 @@ fn begins_like(last: Option<Entry>, entry: &Entry) -> bool
     }
 }
 
-/// Makes the front of an entry's line with so many counts.
+/// Makes the front of an entry's line with this many counts.
 fn put_front(line: &mut Line, phases: usize, entry: &Entry)
     requires { phases ≤ 4 }
     ensures text { line.new ≡ entry_front phases entry.now }

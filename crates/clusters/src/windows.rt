@@ -10,10 +10,7 @@ use crate::shapes::{Platoon, Window};
 use foundation::items::Items;
 use std::alloc::{AllocError, Global};
 use std::mem;
-use switch_rules::{MOST_ORDERS, ways};
-
-/// The most clusters that one planning takes up.
-const MOST_CLUSTERS: u32 = 40;
+use switch_rules::{MOST_CLUSTERS, MOST_ORDERS, ways};
 
 /// The window of these platoons: of all phases together, in the order in which they arrive, the longest front that can be
 /// planned at once, phase by phase; and how many platoons wait. There are at most 4 lists, each of at most 180 platoons

@@ -3,7 +3,7 @@ use Rattle.std.specs.Prelude.{◌≡◌, ◌≢◌, ℕ, ◌<◌, ◌≤◌, Lis
 use Rattle.outside_world.specs.Shelf.{Files, file_of}
 use Rattle.instance_form.specs.InstanceText.{instance_text}
 use Rattle.schedule_meaning.specs.Instances.{Problem, IsInstance}
-use Rattle.schedule_meaning.specs.Texts.{IsTextFault, IsWant}
+use Rattle.schedule_meaning.specs.Texts.{IsTextFault, IsOutOfMemory}
 use Rattle.dp_certificate.specs.Certificates.{Claim, IsCertificate}
 use Rattle.certificate_form.specs.Answers as cert
 use Rattle.net_draft.specs.declared.faults.NetFault.TheVariants as net
@@ -48,7 +48,7 @@ pub record IsBroughtBy (net : Net) (text : List ℕ) (enters : ℕ → ℕ → �
 -- a text spells this
 abbrev pub Spells : (kind : Kind) → List ℕ → Said kind → Type 0
 Spells InstanceText text p = IsInstance p × (text ≡ instance_text p.plan p.head p.lists)
-Spells CertificateText text c = IsCertificate c × cert.Spells text c
+Spells CertificateText text c = IsCertificate c × cert.IsCertificateText text c
 Spells NetworkText text net = IsNetworkText text net
 Spells (ArrivalsText net) text enters = IsBroughtBy net text enters
 Spells (HistoryText net) text history = IsHistoryText net text history
@@ -59,8 +59,8 @@ Reads kind text said = (length text ≤ most_bytes) × Spells kind text said
 
 -- the first fault for which a text within the limit is refused
 abbrev pub IsFault : Kind → List ℕ → BadText → Type 0
-IsFault InstanceText text (Fault fault) = IsTextFault text fault × ¬ IsWant fault
-IsFault CertificateText text (Certificate fault) = cert.IsTextFault text fault × ¬ cert.IsWant fault
+IsFault InstanceText text (Fault fault) = IsTextFault text fault × ¬ IsOutOfMemory fault
+IsFault CertificateText text (Certificate fault) = cert.IsTextFault text fault × ¬ cert.IsOutOfMemory fault
 IsFault NetworkText text (Network fault) = IsCause text fault × (fault ≢ net.NoMemory)
 IsFault (ArrivalsText net) text (Arrivals fault) = arrivals.IsTextFault net text fault × (fault ≢ row.NoMemory)
 IsFault (HistoryText net) text (History fault) = histories.IsTextFault net text fault × (fault ≢ history.NoMemory)

@@ -6,16 +6,16 @@ use Rattle.std.proofs.lemmas.Bool.{cases_lt, cond_below, cond_above, cond_both, 
 use Rattle.std.proofs.lemmas.List.Elements.{All-nil, All-cons, All-head, All-tail, All-append, All-weaker}
 use Rattle.phase_plan.specs.Phases.{IsPlan, next_phase, passed_numbers, phase_at, passing, switch_time}
 use Rattle.phase_plan.specs.declared.Phase.{Phase}
-use Rattle.switch_rules.specs.Serving.{IsHead, earliest_end, earliest_green, head_behind}
+use Rattle.switch_rules.specs.Serving.{IsHead, earliest_end, earliest_green, head_after}
 use Rattle.switch_rules.specs.declared.Head.{Head}
 use Rattle.switch_rules.specs.declared.Served.{Served}
 use Rattle.control_flow.specs.declared.greens.Green.{Green}
 use Rattle.control_flow.specs.Greens.{no_green, row_at, end_of, IsGreen, IsLawful, GoesOn, BeginBy}
-use Rattle.control_flow.specs.Timelines.{IsServingOf, AreServings, IsGreenOf, HasGreens, shortest_greens, begin_behind, last_end, left_for, green_behind, turning, turned, line_of, rotation_of}
+use Rattle.control_flow.specs.Timelines.{IsServingOf, AreServings, IsGreenOf, HasGreens, shortest_greens, begin_after, last_end, left_for, green_after, turning, turned, line_of, rotation_of}
 use Rattle.control_flow.proofs.RowLaws.{lawful-nil, lawful-cons, end_of-last}
 use Rattle.foundation.proofs.RangeLaws.{range-more}
 use Rattle.phase_plan.proofs.RingLaws.{IsWalk, phase-bounds, next_phase-below, walk-passed}
-use Rattle.control_flow.proofs.RingLaws.{begin_behind-append, begin_behind-later, begin_behind-passed}
+use Rattle.control_flow.proofs.RingLaws.{begin_after-append, begin_after-later, begin_after-passed}
 use Rattle.control_flow.proofs.ServingLaws.{IsAnyServing, IsServingOf-keeps, IsServingOf-head}
 
 -- what the timelines from a head have in common
@@ -24,10 +24,10 @@ pub record IsLineFrom (plan : List Phase) (head : Head) (until : ℕ) (rows : Li
   pub begin : GoesOn head rows
   pub end : until < end_of rows
 
--- a green of the ring behind a row
+-- a green of the ring after a row
 
-green_behind-green : (plan : List Phase) (s to : ℕ) → IsPlan plan → IsGreen plan (green_behind plan s to)
-green_behind-green plan s to p =
+green_after-green : (plan : List Phase) (s to : ℕ) → IsPlan plan → IsGreen plan (green_after plan s to)
+green_after-green plan s to p =
     let below = next_phase-below plan s p in
     let times = phase-bounds plan (next_phase plan s) p below in
     record { phase = below; least = omega arith; greatest = omega (arith, times.greatest) }
@@ -38,20 +38,20 @@ alone plan row green = lawful-cons plan row [] green (λ h. absurd (omega arith)
 turning-lawful : (plan : List Phase) (until most : ℕ) (row : Green) → IsPlan plan → IsGreen plan row → IsLawful plan (row ∷ turning plan most until row.phase row.to)
 turning-lawful plan until zero row p green = alone plan row green
 turning-lawful plan until (suc most) row p green =
-    let next = green_behind plan row.phase row.to in
-    let later = turning-lawful plan until most next p (green_behind-green plan row.phase row.to p) in
+    let next = green_after plan row.phase row.to in
+    let later = turning-lawful plan until most next p (green_after-green plan row.phase row.to p) in
     cond_both (ltb until row.to) [] (next ∷ turning plan most until next.phase next.to) (λ rows. IsLawful plan (row ∷ rows))
     (λ e. alone plan row green)
     (λ e. lawful-cons plan row (next ∷ turning plan most until next.phase next.to) green (λ h. record { phase = refl; begins = omega arith }) later)
 
-green_behind-later : (plan : List Phase) (s to : ℕ) → IsPlan plan → to + 1 ≤ (green_behind plan s to).to
-green_behind-later plan s to p = let times = phase-bounds plan (next_phase plan s) p (next_phase-below plan s p) in omega (arith, times.least)
+green_after-later : (plan : List Phase) (s to : ℕ) → IsPlan plan → to + 1 ≤ (green_after plan s to).to
+green_after-later plan s to p = let times = phase-bounds plan (next_phase plan s) p (next_phase-below plan s p) in omega (arith, times.least)
 
 turning-end : (plan : List Phase) (until most : ℕ) (row : Green) → IsPlan plan → until + 1 ≤ most + row.to → until < end_of (row ∷ turning plan most until row.phase row.to)
 turning-end plan until zero row p enough = omega arith
 turning-end plan until (suc most) row p enough =
-    let next = green_behind plan row.phase row.to in
-    let later = green_behind-later plan row.phase row.to p in
+    let next = green_after plan row.phase row.to in
+    let later = green_after-later plan row.phase row.to p in
     let others = turning-end plan until most next p (omega (arith, later)) in
     cond_both (ltb until row.to) [] (next ∷ turning plan most until next.phase next.to) (λ rows. until < end_of (row ∷ rows))
     (λ e. ltb-true until row.to e)
@@ -60,7 +60,7 @@ turning-end plan until (suc most) row p enough =
 turning-by : (plan : List Phase) (until most s to : ℕ) → IsPlan plan → s < length plan → BeginBy (until + 20) (turning plan most until s to)
 turning-by plan until zero s to p h = All-nil (λ (row : Green). row.from ≤ until + 20)
 turning-by plan until (suc most) s to p h =
-    let next = green_behind plan s to in
+    let next = green_after plan s to in
     let times = phase-bounds plan s p h in
     let others = turning-by plan until most next.phase next.to p (next_phase-below plan s p) in
     cond_both (ltb until to) [] (next ∷ turning plan most until next.phase next.to) (BeginBy (until + 20))
@@ -70,21 +70,21 @@ turning-by plan until (suc most) s to p h =
 -- enough greens are enough
 turning-enough : (plan : List Phase) (until m n s to : ℕ) → IsPlan plan → until + 1 ≤ m + to → until + 1 ≤ n + to → turning plan m until s to ≡ turning plan n until s to
 turning-enough plan until zero zero s to p a b = refl
-turning-enough plan until zero (suc n) s to p a b = cond_below until to [] (green_behind plan s to ∷ turning plan n until (green_behind plan s to).phase (green_behind plan s to).to) (omega arith)
-turning-enough plan until (suc m) zero s to p a b = sym (cond_below until to [] (green_behind plan s to ∷ turning plan m until (green_behind plan s to).phase (green_behind plan s to).to) (omega arith))
+turning-enough plan until zero (suc n) s to p a b = cond_below until to [] (green_after plan s to ∷ turning plan n until (green_after plan s to).phase (green_after plan s to).to) (omega arith)
+turning-enough plan until (suc m) zero s to p a b = sym (cond_below until to [] (green_after plan s to ∷ turning plan m until (green_after plan s to).phase (green_after plan s to).to) (omega arith))
 turning-enough plan until (suc m) (suc n) s to p a b =
-    let next = green_behind plan s to in
-    let later = green_behind-later plan s to p in
+    let next = green_after plan s to in
+    let later = green_after-later plan s to p in
     let same = turning-enough plan until m n next.phase next.to p (omega (arith, later)) (omega (arith, later)) in
     ap (λ (rows : List Green). cond (ltb until to) [] (next ∷ rows)) same
 
--- the next green of the ring, where the row does not end behind `until`
+-- the next green of the ring, where the row does not end after `until`
 pub turning-step : (plan : List Phase) (until s to : ℕ) → IsPlan plan → to ≤ until
-    → turning plan (until + 1 - to) until s to ≡ green_behind plan s to ∷ turning plan (until + 1 - (green_behind plan s to).to) until (green_behind plan s to).phase (green_behind plan s to).to
+    → turning plan (until + 1 - to) until s to ≡ green_after plan s to ∷ turning plan (until + 1 - (green_after plan s to).to) until (green_after plan s to).phase (green_after plan s to).to
 turning-step plan until s to p h =
-    let next = green_behind plan s to in
+    let next = green_after plan s to in
     let m = until + 1 - to in
-    let later = green_behind-later plan s to p in
+    let later = green_after-later plan s to p in
     turning-enough plan until m (suc m) s to p (omega arith) (omega arith)
     ∙ sym (cond_above until to [] (next ∷ turning plan m until next.phase next.to) (next ∷ turning plan m until next.phase next.to) h refl)
     ∙ ap (λ (rows : List Green). next ∷ rows) (turning-enough plan until m (until + 1 - next.to) next.phase next.to p (omega (arith, later)) (omega arith))
@@ -126,11 +126,11 @@ rotation_of-by plan head until n p h since last = turned-by plan head (earliest_
 
 -- the greens that the ring passes, up to a second at which the wanted green can begin
 
-shortest-by : (plan : List Phase) (from : ℕ) (ks : List ℕ) (b : ℕ) → begin_behind plan from ks ≤ b → BeginBy b (shortest_greens plan from ks)
+shortest-by : (plan : List Phase) (from : ℕ) (ks : List ℕ) (b : ℕ) → begin_after plan from ks ≤ b → BeginBy b (shortest_greens plan from ks)
 shortest-by plan from [] b h = All-nil (λ (row : Green). row.from ≤ b)
 shortest-by plan from (k ∷ ks) b h =
     let next = from + passing (phase_at plan k) in
-    All-cons (λ (row : Green). row.from ≤ b) (record { phase = k; from = from; to = from + (phase_at plan k).least }) (shortest_greens plan next ks) (omega (arith, begin_behind-later plan next ks)) (shortest-by plan next ks b h)
+    All-cons (λ (row : Green). row.from ≤ b) (record { phase = k; from = from; to = from + (phase_at plan k).least }) (shortest_greens plan next ks) (omega (arith, begin_after-later plan next ks)) (shortest-by plan next ks b h)
 
 -- a lawful rest that begins with phase j, at second b or later
 pub record IsRest (plan : List Phase) (j b : ℕ) (rest : List Green) : Type 0 where
@@ -140,7 +140,7 @@ pub record IsRest (plan : List Phase) (j b : ℕ) (rest : List Green) : Type 0 w
   pub begins : b ≤ (row_at rest 0).from
 
 shortest-lawful : (plan : List Phase) (ks : List ℕ) (row : Green) (j b : ℕ) (rest : List Green) → IsPlan plan → IsGreen plan row → IsWalk plan row.phase ks j
-    → begin_behind plan (row.to + (phase_at plan row.phase).yellow + (phase_at plan row.phase).clear) ks ≤ b → IsRest plan j b rest
+    → begin_after plan (row.to + (phase_at plan row.phase).yellow + (phase_at plan row.phase).clear) ks ≤ b → IsRest plan j b rest
     → IsLawful plan (row ∷ shortest_greens plan (row.to + (phase_at plan row.phase).yellow + (phase_at plan row.phase).clear) ks ++ rest)
 shortest-lawful plan [] row j b rest p green walk time others =
     lawful-cons plan row rest green (λ h. record { phase = others.phase ∙ walk; begins = omega (arith, others.begins) }) others.lawful
@@ -150,7 +150,7 @@ shortest-lawful plan (k ∷ ks) row j b rest p green walk time others =
     let times = phase-bounds plan k p walk.0 in
     let next : IsGreen plan first = record { phase = walk.0; least = omega arith; greatest = omega (arith, times.greatest) } in
     let same : from + passing (phase_at plan k) ≡ first.to + (phase_at plan k).yellow + (phase_at plan k).clear = omega arith in
-    let short : begin_behind plan (first.to + (phase_at plan k).yellow + (phase_at plan k).clear) ks ≤ b = omega (arith, ap (λ t. begin_behind plan t ks) same) in
+    let short : begin_after plan (first.to + (phase_at plan k).yellow + (phase_at plan k).clear) ks ≤ b = omega (arith, ap (λ t. begin_after plan t ks) same) in
     let later = shortest-lawful plan ks first j b rest p next walk.2 short others in
     lawful-cons plan row (first ∷ shortest_greens plan (from + passing (phase_at plan k)) ks ++ rest) green (λ h. record { phase = walk.1; begins = omega arith })
     (rw same later)
@@ -158,7 +158,7 @@ shortest-lawful plan (k ∷ ks) row j b rest p green walk time others =
 -- a green that goes on
 
 kept-line : (plan : List Phase) (head : Head) (k : ℕ) (s : Served) (until : ℕ) (rows : List Green) → (k ≡ head.phase) × (s.green ≡ head.since) × (head.at ≤ s.finish)
-    → IsLineFrom plan (head_behind k s) until rows → IsLineFrom plan head until rows
+    → IsLineFrom plan (head_after k s) until rows → IsLineFrom plan head until rows
 kept-line plan head k s until rows stood line = record {
   lawful = line.lawful;
   begin = record { some = line.begin.some; phase = line.begin.phase ∙ stood.0; begin = line.begin.begin ∙ stood.1; spent = omega (arith, stood.2, line.begin.spent) };
@@ -167,16 +167,16 @@ kept-line plan head k s until rows stood line = record {
 
 -- a green that is left
 
--- the wanted green can begin behind those that the ring passes
+-- the wanted green can begin after those that the ring passes
 left-short : (plan : List Phase) (head : Head) (k b : ℕ) → IsHead plan head → k < length plan → earliest_green plan head k ≤ b
-    → begin_behind plan (last_end plan head k b + (phase_at plan head.phase).yellow + (phase_at plan head.phase).clear) (passed_numbers plan head.phase k) ≤ b
+    → begin_after plan (last_end plan head k b + (phase_at plan head.phase).yellow + (phase_at plan head.phase).clear) (passed_numbers plan head.phase k) ≤ b
 left-short plan head k b h below earliest =
     let to = last_end plan head k b in
     let in_time : to + switch_time plan head.phase k ≤ b = omega (arith, earliest) in
-    omega (arith, begin_behind-passed plan to head.phase k, in_time)
+    omega (arith, begin_after-passed plan to head.phase k, in_time)
 
 left-line : (plan : List Phase) (head : Head) (k : ℕ) (s : Served) (until : ℕ) (rest : List Green) → IsPlan plan → IsHead plan head → head.at ≤ 104000 → k < length plan → IsAnyServing plan head k s
-    → earliest_green plan head k ≤ s.green → IsLineFrom plan (head_behind k s) until rest
+    → earliest_green plan head k ≤ s.green → IsLineFrom plan (head_after k s) until rest
     → IsLineFrom plan head until (left_for plan head (last_end plan head k s.green) (passed_numbers plan head.phase k) ++ rest)
 left-line plan head k s until rest p h reach below keeps earliest line =
     let times = phase-bounds plan head.phase p h.phase in
@@ -203,7 +203,7 @@ line_of-line plan (k ∷ ks) [] head until p h reach servings = absurd servings
 line_of-line plan (k ∷ ks) (s ∷ ss) head until p h reach servings =
     let one = servings.0 in
     let keeps = IsServingOf-keeps plan head k s p h one in
-    let next = head_behind k s in
+    let next = head_after k s in
     let rest = line_of plan next ks ss until in
     let line = line_of-line plan ks ss next until p (IsServingOf-head plan head k s p h one) (omega (arith, keeps.reach)) servings.1 in
     cond_both s.kept rest (left_for plan head (last_end plan head k s.green) (passed_numbers plan head.phase k) ++ rest) (IsLineFrom plan head until)
@@ -219,7 +219,7 @@ left-by plan head k b n rest h below earliest since early others =
     let row : Green = record { phase = head.phase; from = head.since; to = to } in
     let ks = passed_numbers plan head.phase k in
     let from = to + (phase_at plan head.phase).yellow + (phase_at plan head.phase).clear in
-    let short : begin_behind plan from ks ≤ n = omega (arith, left-short plan head k b h below earliest) in
+    let short : begin_after plan from ks ≤ n = omega (arith, left-short plan head k b h below earliest) in
     All-cons (λ (r : Green). r.from ≤ n) row (shortest_greens plan from ks ++ rest) since
     (All-append (λ (r : Green). r.from ≤ n) (shortest_greens plan from ks) rest (shortest-by plan from ks n short) others)
 
@@ -230,7 +230,7 @@ line_of-by plan (k ∷ ks) [] head until n p h servings since last greens = absu
 line_of-by plan (k ∷ ks) (s ∷ ss) head until n p h servings since last greens =
     let one = servings.0 in
     let keeps = IsServingOf-keeps plan head k s p h one in
-    let next = head_behind k s in
+    let next = head_after k s in
     let rest = line_of plan next ks ss until in
     let early = All-head (λ (t : Served). t.green ≤ n) s ss greens in
     let others = line_of-by plan ks ss next until n p (IsServingOf-head plan head k s p h one) servings.1 early last (All-tail (λ (t : Served). t.green ≤ n) s ss greens) in
@@ -263,7 +263,7 @@ line_of-greens plan (k ∷ ks) [] head until p h reach servings = tt
 line_of-greens plan (k ∷ ks) (s ∷ ss) head until p h reach servings =
     let one = servings.0 in
     let keeps = IsServingOf-keeps plan head k s p h one in
-    let next = head_behind k s in
+    let next = head_after k s in
     let behind = IsServingOf-head plan head k s p h one in
     let low : next.at ≤ 104000 = omega (arith, keeps.reach) in
     let rest = line_of plan next ks ss until in
@@ -277,12 +277,12 @@ line_of-greens plan (k ∷ ks) (s ∷ ss) head until p h reach servings =
 
 -- steps of the loops
 
-shortest-append : (plan : List Phase) (from : ℕ) (ks ls : List ℕ) → shortest_greens plan from (ks ++ ls) ≡ shortest_greens plan from ks ++ shortest_greens plan (begin_behind plan from ks) ls
+shortest-append : (plan : List Phase) (from : ℕ) (ks ls : List ℕ) → shortest_greens plan from (ks ++ ls) ≡ shortest_greens plan from ks ++ shortest_greens plan (begin_after plan from ks) ls
 shortest-append plan from [] ls = refl
 shortest-append plan from (k ∷ ks) ls =
     ap (λ (rows : List Green). record { phase = k; from = from; to = from + (phase_at plan k).least } ∷ rows) (shortest-append plan (from + passing (phase_at plan k)) ks ls)
 
-pub shortest-more : (plan : List Phase) (from low k at : ℕ) (p : Phase) (old rows : List Green) → low ≤ k → rows ≡ old ++ shortest_greens plan from (range_with_len low (k - low)) → at ≡ begin_behind plan from (range_with_len low (k - low))
+pub shortest-more : (plan : List Phase) (from low k at : ℕ) (p : Phase) (old rows : List Green) → low ≤ k → rows ≡ old ++ shortest_greens plan from (range_with_len low (k - low)) → at ≡ begin_after plan from (range_with_len low (k - low))
     → p ≡ phase_at plan k → rows ++ record { phase = k; from = at; to = at + p.least } ∷ [] ≡ old ++ shortest_greens plan from (range_with_len low (k + 1 - low))
 shortest-more plan from low k at p old rows h so_far behind times =
     let ks = range_with_len low (k - low) in
@@ -290,23 +290,23 @@ shortest-more plan from low k at p old rows h so_far behind times =
     ap (λ (rs : List Green). rs ++ row at p ∷ []) so_far
     ∙ append_assoc old (shortest_greens plan from ks) (row at p ∷ [])
     ∙ ap (λ (b : ℕ). old ++ (shortest_greens plan from ks ++ row b p ∷ [])) behind
-    ∙ ap (λ (q : Phase). old ++ (shortest_greens plan from ks ++ row (begin_behind plan from ks) q ∷ [])) times
+    ∙ ap (λ (q : Phase). old ++ (shortest_greens plan from ks ++ row (begin_after plan from ks) q ∷ [])) times
     ∙ ap (λ (rs : List Green). old ++ rs) (sym (ap (shortest_greens plan from) (range-more low k h) ∙ shortest-append plan from ks (k ∷ [])))
 
-pub behind-more : (plan : List Phase) (from low k : ℕ) → low ≤ k → begin_behind plan from (range_with_len low (k + 1 - low)) ≡ begin_behind plan from (range_with_len low (k - low)) + passing (phase_at plan k)
-behind-more plan from low k h = ap (begin_behind plan from) (range-more low k h) ∙ begin_behind-append plan from (range_with_len low (k - low)) (k ∷ [])
+pub behind-more : (plan : List Phase) (from low k : ℕ) → low ≤ k → begin_after plan from (range_with_len low (k + 1 - low)) ≡ begin_after plan from (range_with_len low (k - low)) + passing (phase_at plan k)
+behind-more plan from low k h = ap (begin_after plan from) (range-more low k h) ∙ begin_after-append plan from (range_with_len low (k - low)) (k ∷ [])
 
 -- greens of the phases up to the end of the ring, and then of those from its begin
-pub shortest-both : (plan : List Phase) (from behind : ℕ) (ks ls : List ℕ) (old rows whole : List Green) → rows ≡ old ++ shortest_greens plan from ks → behind ≡ begin_behind plan from ks → whole ≡ rows ++ shortest_greens plan behind ls
+pub shortest-both : (plan : List Phase) (from behind : ℕ) (ks ls : List ℕ) (old rows whole : List Green) → rows ≡ old ++ shortest_greens plan from ks → behind ≡ begin_after plan from ks → whole ≡ rows ++ shortest_greens plan behind ls
     → whole ≡ old ++ shortest_greens plan from (ks ++ ls)
 shortest-both plan from behind ks ls old rows whole first at second =
     second
     ∙ ap (λ (b : ℕ). rows ++ shortest_greens plan b ls) at
-    ∙ ap (λ (rs : List Green). rs ++ shortest_greens plan (begin_behind plan from ks) ls) first
-    ∙ append_assoc old (shortest_greens plan from ks) (shortest_greens plan (begin_behind plan from ks) ls)
+    ∙ ap (λ (rs : List Green). rs ++ shortest_greens plan (begin_after plan from ks) ls) first
+    ∙ append_assoc old (shortest_greens plan from ks) (shortest_greens plan (begin_after plan from ks) ls)
     ∙ ap (λ (rs : List Green). old ++ rs) (sym (shortest-append plan from ks ls))
 
-pub turning-more : (plan : List Phase) (until s to : ℕ) (next : Green) (rows whole : List Green) → IsPlan plan → to ≤ until → next ≡ green_behind plan s to
+pub turning-more : (plan : List Phase) (until s to : ℕ) (next : Green) (rows whole : List Green) → IsPlan plan → to ≤ until → next ≡ green_after plan s to
     → rows ++ turning plan (until + 1 - to) until s to ≡ whole → (rows ++ next ∷ []) ++ turning plan (until + 1 - next.to) until next.phase next.to ≡ whole
 turning-more plan until s to next rows whole p h is so_far =
     append_assoc rows (next ∷ []) (turning plan (until + 1 - next.to) until next.phase next.to)
@@ -320,11 +320,11 @@ turning-more plan until s to next rows whole p h is so_far =
 abbrev pub no_served : Served
 no_served = record { green = 0; start = 0; finish = 0; cost = 0; kept = false }
 
--- the serving at an index, and those behind it
+-- the serving at an index, and those after it
 pub record IsNext (plan : List Phase) (head : Head) (phases : List ℕ) (served : List Served) (index : ℕ) : Type 0 where
   pub below : index < length served
   pub one : IsServingOf plan head (get_or phases index 0) (get_or served index no_served)
-  pub others : AreServings plan (head_behind (get_or phases index 0) (get_or served index no_served)) (drop (index + 1) phases) (drop (index + 1) served)
+  pub others : AreServings plan (head_after (get_or phases index 0) (get_or served index no_served)) (drop (index + 1) phases) (drop (index + 1) served)
 
 pub next-serving : (plan : List Phase) (head : Head) (phases : List ℕ) (served : List Served) (index : ℕ) → index < length phases → AreServings plan head (drop index phases) (drop index served) → IsNext plan head phases served index
 next-serving plan head phases served index h servings =
@@ -350,11 +350,11 @@ line_of-next plan head phases served index until h below =
 -- the serving goes on in the green that stands
 pub line-kept : (plan : List Phase) (head : Head) (phases : List ℕ) (served : List Served) (index until : ℕ) (rows whole : List Green) → index < length phases → index < length served
     → (get_or served index no_served).kept ≡ true → rows ++ line_of plan head (drop index phases) (drop index served) until ≡ whole
-    → rows ++ line_of plan (head_behind (get_or phases index 0) (get_or served index no_served)) (drop (index + 1) phases) (drop (index + 1) served) until ≡ whole
+    → rows ++ line_of plan (head_after (get_or phases index 0) (get_or served index no_served)) (drop (index + 1) phases) (drop (index + 1) served) until ≡ whole
 line-kept plan head phases served index until rows whole h below kept so_far =
     let k = get_or phases index 0 in
     let s = get_or served index no_served in
-    let rest = line_of plan (head_behind k s) (drop (index + 1) phases) (drop (index + 1) served) until in
+    let rest = line_of plan (head_after k s) (drop (index + 1) phases) (drop (index + 1) served) until in
     let left = left_for plan head (last_end plan head k s.green) (passed_numbers plan head.phase k) in
     ap (λ (rs : List Green). rows ++ rs) (sym (line_of-next plan head phases served index until h below ∙ ap (λ (b : Bool). cond b rest (left ++ rest)) kept)) ∙ so_far
 
@@ -362,11 +362,11 @@ line-kept plan head phases served index until rows whole h below kept so_far =
 pub line-left : (plan : List Phase) (head : Head) (phases : List ℕ) (served : List Served) (index until : ℕ) (rows more whole : List Green) → index < length phases → index < length served
     → (get_or served index no_served).kept ≡ false → rows ++ line_of plan head (drop index phases) (drop index served) until ≡ whole
     → more ≡ rows ++ left_for plan head (last_end plan head (get_or phases index 0) (get_or served index no_served).green) (passed_numbers plan head.phase (get_or phases index 0))
-    → more ++ line_of plan (head_behind (get_or phases index 0) (get_or served index no_served)) (drop (index + 1) phases) (drop (index + 1) served) until ≡ whole
+    → more ++ line_of plan (head_after (get_or phases index 0) (get_or served index no_served)) (drop (index + 1) phases) (drop (index + 1) served) until ≡ whole
 line-left plan head phases served index until rows more whole h below left_is so_far more_is =
     let k = get_or phases index 0 in
     let s = get_or served index no_served in
-    let rest = line_of plan (head_behind k s) (drop (index + 1) phases) (drop (index + 1) served) until in
+    let rest = line_of plan (head_after k s) (drop (index + 1) phases) (drop (index + 1) served) until in
     let left = left_for plan head (last_end plan head k s.green) (passed_numbers plan head.phase k) in
     ap (λ (rs : List Green). rs ++ rest) more_is
     ∙ append_assoc rows left rest

@@ -128,7 +128,7 @@ rows_before-place (r ∷ rs) second (suc i) before here =
     sym (cond_below r.from second (r ∷ rows_before rs second) [] (before 0 (omega arith)))
     ∙ ap (λ (rows : List Green). r ∷ rows) (rows_before-place rs second i (λ k h. before (suc k) (omega arith)) (λ h. here (omega arith)))
 
--- the row that covers a second is the first that ends behind it
+-- the row that covers a second is the first that ends after it
 
 none-before : (first : Green) (rows : List Green) (second : ℕ) → IsInOrder (first ∷ rows) → second < first.from → green_at (first ∷ rows) second ≡ None
 none-before first [] second o h =
@@ -190,7 +190,7 @@ has-later r rs first h has = later has.index has.below has.same_phase has.same_b
     later zero below phase begin = absurd (omega (arith, begin))
     later (suc i) below phase begin = record { index = i; below = omega arith; same_phase = phase; same_begin = begin }
 
--- the first row behind a kept one begins no earlier than that one ends
+-- the first row after a kept one begins no earlier than that one ends
 first-behind : (r : Green) (rs : List Green) (first : Green) (rest : List Green) → IsInOrder (r ∷ rs) → HasRow rs first.phase first.from → r.to ≤ (row_at (rows_before rs first.from ++ first ∷ rest) 0).from
 first-behind r [] first rest o has = absurd (omega (arith, has.below))
 first-behind r (s ∷ rs) first rest o has = elim (cases_lt s.from first.from) [
@@ -219,7 +219,7 @@ pub spliced-order : (old next : List Green) → IsInOrder old → IsInOrder next
 spliced-order old [] o n joins = o
 spliced-order old (first ∷ rest) o n joins = splice-order old first rest o n joins
 
--- a row that ends behind a second is one of the rows
+-- a row that ends after a second is one of the rows
 pub row_after-has : (rows : List Green) (now : ℕ) (row : Green) → row_after rows now ≡ Some row → HasRow rows row.phase row.from
 row_after-has [] now row e = let impossible : ⊥ = cc in absurd impossible
 row_after-has (r ∷ rs) now row e = elim (cases_lt now r.to) [

@@ -48,7 +48,7 @@ pub end_of-last : (xs rows : List Green) → 0 < length rows → end_of (xs ++ r
 end_of-last xs [] h = absurd (omega arith)
 end_of-last xs (y ∷ ys) h = end_of-append xs y ys
 
--- where no row ends behind a second, the timeline does not
+-- where no row ends after a second, the timeline does not
 pub row_after-none : (rows : List Green) (now : ℕ) → row_after rows now ≡ None → end_of rows ≤ now
 row_after-none [] now e = omega arith
 row_after-none (row ∷ []) now e = elim (cases_lt now row.to) [
@@ -60,7 +60,7 @@ row_after-none (row ∷ next ∷ rows) now e = elim (cases_lt now row.to) [
   | inr h ↦ row_after-none (next ∷ rows) now (cond_above now row.to (Some row) (row_after (next ∷ rows) now) (row_after (next ∷ rows) now) h refl ∙ e)
 ]
 
--- the row that ends behind a second does so, and is one of the rows
+-- the row that ends after a second does so, and is one of the rows
 pub row_after-some : (P : Green → Type 0) (rows : List Green) (now : ℕ) (row : Green) → All P rows → row_after rows now ≡ Some row → P row × (now < row.to)
 row_after-some P [] now row all e = let impossible : ⊥ = cc in absurd impossible
 row_after-some P (first ∷ rows) now row all e = elim (cases_lt now first.to) [

@@ -3,7 +3,7 @@ use Rattle.std.proofs.Common.{◌≡◌, ℕ, List, [], ◌∷◌, length, All, 
 use Rattle.std.specs.Option.{option_map}
 use Rattle.phase_plan.specs.Phases.{IsPlan}
 use Rattle.phase_plan.specs.declared.Phase.{Phase}
-use Rattle.switch_rules.specs.Serving.{IsHead, IsCluster, head_behind}
+use Rattle.switch_rules.specs.Serving.{IsHead, IsCluster, head_after}
 use Rattle.switch_rules.specs.Orders.{one_less}
 use Rattle.switch_rules.specs.Sequences.{AreNextServings, timed_from}
 use Rattle.switch_rules.specs.declared.Head.{Head}
@@ -22,7 +22,7 @@ module _ (plan : List Phase) (lists : List (List Cluster)) (p : IsPlan plan) (ea
       let one = next.0 in
       let within = next-within IsCluster lists left k one.cluster bounds one.next in
       let serving_is : IsServingOf plan head k s = record { phase = omega (arith, each, within.0); cluster = one.cluster; bounds = within.1; fit = one.fit } in
-      (serving_is, next-servings ks (one_less left k) (head_behind k s) ss next.1)
+      (serving_is, next-servings ks (one_less left k) (head_after k s) ss next.1)
 
   -- and so is the list of what a feasible sequence serves
   pub listed-servings : (ks left : List ℕ) (head : Head) (list : List Served) → IsHead plan head → option_map (λ t. t.0) (timed_from plan lists left head ks) ≡ Some list → AreServings plan head ks list

@@ -3,7 +3,7 @@ use Rattle.std.proofs.Common.{◌≡◌, ℕ, ◌+◌, ◌<◌, ◌≤◌, true,
 use Rattle.phase_plan.specs.Phases.{IsPlan, phase_at}
 use Rattle.phase_plan.specs.declared.Phase.{Phase}
 use Rattle.phase_plan.proofs.RingLaws.{phase-bounds}
-use Rattle.switch_rules.specs.Serving.{IsHead, IsCluster, earliest_green, head_behind, serving}
+use Rattle.switch_rules.specs.Serving.{IsHead, IsCluster, earliest_green, head_after, serving}
 use Rattle.switch_rules.specs.declared.Head.{Head}
 use Rattle.switch_rules.specs.declared.Cluster.{Cluster}
 use Rattle.switch_rules.specs.declared.Served.{Served}
@@ -18,14 +18,14 @@ pub record IsAnyServing (plan : List Phase) (head : Head) (k : ℕ) (s : Served)
   pub stood : s.kept ≡ true → (k ≡ head.phase) × (s.green ≡ head.since) × (head.at ≤ s.finish)
   pub anew : s.kept ≡ false → earliest_green plan head k ≤ s.green
 
--- the head behind a fit serving is the one that its definition gives
+-- the head after a fit serving is the one that its definition gives
 pub serving-behind : (plan : List Phase) (head : Head) (k : ℕ) (c : Cluster) (s : Served) (next : Head) → IsPlan plan → IsHead plan head → k < length plan → IsCluster c
-    → serving plan head k c ≡ Ok (s, next) → next ≡ head_behind k s
+    → serving plan head k c ≡ Ok (s, next) → next ≡ head_after k s
 serving-behind plan head k c s next plan_is h below bounds fit = (serving-keeps plan head k c s next below (phase-bounds plan k plan_is below) h bounds fit).behind
 
 pub IsServingOf-keeps : (plan : List Phase) (head : Head) (k : ℕ) (s : Served) → IsPlan plan → IsHead plan head → IsServingOf plan head k s → IsAnyServing plan head k s
 IsServingOf-keeps plan head k s plan_is h serving_is =
-    let keeps = serving-keeps plan head k serving_is.cluster s (head_behind k s) serving_is.phase (phase-bounds plan k plan_is serving_is.phase) h serving_is.bounds serving_is.fit in
+    let keeps = serving-keeps plan head k serving_is.cluster s (head_after k s) serving_is.phase (phase-bounds plan k plan_is serving_is.phase) h serving_is.bounds serving_is.fit in
     record {
       begun = omega (arith, keeps.times.in_green, keeps.times.ends);
       within = keeps.times.within;
@@ -34,8 +34,8 @@ IsServingOf-keeps plan head k s plan_is h serving_is =
       anew = keeps.anew;
     }
 
--- behind it stands a head of the plan
-pub IsServingOf-head : (plan : List Phase) (head : Head) (k : ℕ) (s : Served) → IsPlan plan → IsHead plan head → IsServingOf plan head k s → IsHead plan (head_behind k s)
+-- after it stands a head of the plan
+pub IsServingOf-head : (plan : List Phase) (head : Head) (k : ℕ) (s : Served) → IsPlan plan → IsHead plan head → IsServingOf plan head k s → IsHead plan (head_after k s)
 IsServingOf-head plan head k s plan_is h serving_is =
     let keeps = IsServingOf-keeps plan head k s plan_is h serving_is in
     record { phase = serving_is.phase; begun = keeps.begun; within = keeps.within }
@@ -51,21 +51,21 @@ IsServingOf-from plan head k c s next plan_is h below bounds fit = record {
   fit = fit ∙ ap (λ (n : Head). Ok (s, n)) (serving-behind plan head k c s next plan_is h below bounds fit);
 }
 
--- the head behind servings
-abbrev pub head_after : Head → List ℕ → List Served → Head
-head_after head [] ss = head
-head_after head (k ∷ ks) [] = head
-head_after head (k ∷ ks) (s ∷ ss) = head_after (head_behind k s) ks ss
+-- the head after servings
+abbrev pub last_head : Head → List ℕ → List Served → Head
+last_head head [] ss = head
+last_head head (k ∷ ks) [] = head
+last_head head (k ∷ ks) (s ∷ ss) = last_head (head_after k s) ks ss
 
-pub AreServings-push : (plan : List Phase) (head : Head) (ks : List ℕ) (ss : List Served) (k : ℕ) (s : Served) → AreServings plan head ks ss → IsServingOf plan (head_after head ks ss) k s
+pub AreServings-push : (plan : List Phase) (head : Head) (ks : List ℕ) (ss : List Served) (k : ℕ) (s : Served) → AreServings plan head ks ss → IsServingOf plan (last_head head ks ss) k s
     → AreServings plan head (ks ++ k ∷ []) (ss ++ s ∷ [])
 AreServings-push plan head [] [] k s all one = (one, tt)
 AreServings-push plan head [] (t ∷ ss) k s all one = absurd all
 AreServings-push plan head (j ∷ ks) [] k s all one = absurd all
-AreServings-push plan head (j ∷ ks) (t ∷ ss) k s all one = (all.0, AreServings-push plan (head_behind j t) ks ss k s all.1 one)
+AreServings-push plan head (j ∷ ks) (t ∷ ss) k s all one = (all.0, AreServings-push plan (head_after j t) ks ss k s all.1 one)
 
-pub head_after-push : (plan : List Phase) (head : Head) (ks : List ℕ) (ss : List Served) (k : ℕ) (s : Served) → AreServings plan head ks ss → head_after head (ks ++ k ∷ []) (ss ++ s ∷ []) ≡ head_behind k s
-head_after-push plan head [] [] k s all = refl
-head_after-push plan head [] (t ∷ ss) k s all = absurd all
-head_after-push plan head (j ∷ ks) [] k s all = absurd all
-head_after-push plan head (j ∷ ks) (t ∷ ss) k s all = head_after-push plan (head_behind j t) ks ss k s all.1
+pub last_head-push : (plan : List Phase) (head : Head) (ks : List ℕ) (ss : List Served) (k : ℕ) (s : Served) → AreServings plan head ks ss → last_head head (ks ++ k ∷ []) (ss ++ s ∷ []) ≡ head_after k s
+last_head-push plan head [] [] k s all = refl
+last_head-push plan head [] (t ∷ ss) k s all = absurd all
+last_head-push plan head (j ∷ ks) [] k s all = absurd all
+last_head-push plan head (j ∷ ks) (t ∷ ss) k s all = last_head-push plan (head_after j t) ks ss k s all.1

@@ -50,7 +50,7 @@ row-of-some plan rows now head (Some row) found e =
 pub row-of-head : (plan : List Phase) (rows : List Green) (now : ℕ) (head : Head) → head_at plan rows now ≡ Some head → IsRowOf plan rows now head
 row-of-head plan rows now head e = row-of-some plan rows now head (row_after rows now) refl e
 
--- in a lawful timeline, rows begin behind those before them
+-- in a lawful timeline, rows begin after those before them
 
 begins-later : (plan : List Phase) (first : Green) (rows : List Green) (now : ℕ) (row : Green) → IsLawful plan (first ∷ rows) → row_after rows now ≡ Some row → first.to ≤ row.from
 begins-later plan first [] now row lawful e = let impossible : first.to ≤ row.from = cc in impossible
@@ -101,7 +101,7 @@ past-row plan r rs now row first p lawful e same h =
     let long = green-length plan r p (lawful-first plan r rs lawful) in
     (found, omega (arith, same.from, later, long))
 
--- the first row of what is kept, or else of what comes behind it, is where the old one is
+-- the first row of what is kept, or else of what comes after it, is where the old one is
 first-of-splice : (plan : List Phase) (before : Green) (old : List Green) (now : ℕ) (row first : Green) (rest : List Green) → IsPlan plan → IsLawful plan (before ∷ old) → row_after old now ≡ Some row → Replaces first row
     → Follows plan before (row_at (rows_before old first.from ++ first ∷ rest) 0)
 first-of-splice plan before [] now row first rest p lawful e same = let impossible : Follows plan before first = cc in impossible

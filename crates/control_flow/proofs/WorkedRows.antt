@@ -2,7 +2,7 @@
 use Rattle.std.proofs.Common.{◌≡◌, ℕ, true, false, List, [], ◌∷◌, Some, None, Ok, refl}
 use Rattle.phase_plan.specs.declared.Phase.{Phase}
 use Rattle.phase_plan.specs.Phases.{passed_numbers}
-use Rattle.switch_rules.specs.Serving.{head_behind, serving}
+use Rattle.switch_rules.specs.Serving.{head_after, serving}
 use Rattle.switch_rules.specs.declared.Cluster.{Cluster}
 use Rattle.switch_rules.specs.declared.Head.{Head}
 use Rattle.switch_rules.specs.declared.Served.{Served}
@@ -37,10 +37,10 @@ first_served = record { green = 20; start = 20; finish = 22; cost = 0; kept = fa
 abbrev second_served : Served
 second_served = record { green = 50; start = 50; finish = 52; cost = 0; kept = false }
 
-first_fit : serving two (head 0 0 0) 1 (cluster 1000 20 2) ≡ Ok (first_served, head_behind 1 first_served)
+first_fit : serving two (head 0 0 0) 1 (cluster 1000 20 2) ≡ Ok (first_served, head_after 1 first_served)
 first_fit = refl
 
-second_fit : serving two (head_behind 1 first_served) 0 (cluster 1000 50 2) ≡ Ok (second_served, head_behind 0 second_served)
+second_fit : serving two (head_after 1 first_served) 0 (cluster 1000 50 2) ≡ Ok (second_served, head_after 0 second_served)
 second_fit = refl
 
 other_first : line_of two (head 0 0 0) (1 ∷ 0 ∷ []) (first_served ∷ second_served ∷ []) 60 ≡ green 0 0 15 ∷ green 1 20 45 ∷ green 0 50 80 ∷ []
@@ -59,7 +59,7 @@ held_longer = refl
 abbrev late_served : Served
 late_served = record { green = 60; start = 60; finish = 62; cost = 0; kept = false }
 
-late_fit : serving two (head 0 0 0) 1 (cluster 1000 60 2) ≡ Ok (late_served, head_behind 1 late_served)
+late_fit : serving two (head 0 0 0) 1 (cluster 1000 60 2) ≡ Ok (late_served, head_after 1 late_served)
 late_fit = refl
 
 abbrev late : List Green
@@ -114,7 +114,7 @@ late-end = refl
 abbrev third_served : Served
 third_served = record { green = 0; start = 20; finish = 22; cost = 0; kept = true }
 
-third_fit : serving two (head 0 0 0) 0 (cluster 1000 20 2) ≡ Ok (third_served, head_behind 0 third_served)
+third_fit : serving two (head 0 0 0) 0 (cluster 1000 20 2) ≡ Ok (third_served, head_after 0 third_served)
 third_fit = refl
 
 goes_on : line_of two (head 0 0 0) (0 ∷ []) (third_served ∷ []) 30 ≡ green 0 0 30 ∷ green 1 35 40 ∷ []
@@ -134,7 +134,7 @@ passing_round = refl
 abbrev round_served : Served
 round_served = record { green = 60; start = 60; finish = 62; cost = 0; kept = false }
 
-round_fit : serving three (head 1 10 12) 1 (cluster 1000 60 2) ≡ Ok (round_served, head_behind 1 round_served)
+round_fit : serving three (head 1 10 12) 1 (cluster 1000 60 2) ≡ Ok (round_served, head_after 1 round_served)
 round_fit = refl
 
 round : line_of three (head 1 10 12) (1 ∷ []) (round_served ∷ []) 60 ≡ green 1 10 35 ∷ green 2 40 45 ∷ green 0 50 55 ∷ green 1 60 90 ∷ []

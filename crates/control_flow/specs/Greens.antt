@@ -17,13 +17,13 @@ no_green = record { phase = 0; from = 0; to = 0 }
 abbrev pub row_at : List Green → ℕ → Green
 row_at rows index = slice_index_or rows index no_green
 
--- the second behind the last row
+-- the second after the last row
 abbrev pub end_of : List Green → ℕ
 end_of [] = 0
 end_of (row ∷ []) = row.to
 end_of (row ∷ next ∷ rows) = end_of (next ∷ rows)
 
--- each row ends behind its begin, and begins no earlier than the row before it ends
+-- each row ends after its begin, and begins no earlier than the row before it ends
 pub record IsInOrder (rows : List Green) : Type 0 where
   pub long : All (λ row. row.from < row.to) rows
   pub order : (k : ℕ) → k + 1 < length rows → (row_at rows k).to ≤ (row_at rows (k + 1)).from
@@ -34,7 +34,7 @@ pub record IsGreen (plan : List Phase) (row : Green) : Type 0 where
   pub least : row.from + (phase_at plan row.phase).least ≤ row.to
   pub greatest : row.to ≤ row.from + (phase_at plan row.phase).greatest
 
--- the row after a row is of the next phase of the ring, and begins behind yellow and all-red at the earliest
+-- the row after a row is of the next phase of the ring, and begins after yellow and all-red at the earliest
 pub record Follows (plan : List Phase) (row next : Green) : Type 0 where
   pub phase : next.phase ≡ next_phase plan row.phase
   pub begins : row.to + (phase_at plan row.phase).yellow + (phase_at plan row.phase).clear ≤ next.from
@@ -59,7 +59,7 @@ BeginBy second rows = All (λ row. row.from ≤ second) rows
 abbrev pub covers : Green → ℕ → Bool
 covers row second = nat_le row.from second && nat_lt second row.to
 
--- whether the yellow behind a row, of so many seconds, covers a second
+-- whether the yellow after a row, of this many seconds, covers a second
 abbrev pub covers_yellow : Green → ℕ → ℕ → Bool
 covers_yellow row yellow second = nat_le row.to second && nat_lt second (row.to + yellow)
 
@@ -81,7 +81,7 @@ standing rows second = option_map (λ row. (row.phase, row.from)) (green_at rows
 abbrev pub is_green : List Green → ℕ → ℕ → Bool
 is_green rows k second = list_any (λ row. (row.phase == k) && covers row second) rows
 
--- whether the yellow behind a row of the phase covers a second
+-- whether the yellow after a row of the phase covers a second
 abbrev pub is_yellow : List Phase → List Green → ℕ → ℕ → Bool
 is_yellow plan rows k second = list_any (λ row. (row.phase == k) && covers_yellow row (phase_at plan k).yellow second) rows
 
@@ -89,7 +89,7 @@ is_yellow plan rows k second = list_any (λ row. (row.phase == k) && covers_yell
 abbrev pub colour_at : List Phase → List Green → ℕ → ℕ → Colour
 colour_at plan rows k second = if is_green rows k second then colours.Green else if is_yellow plan rows k second then colours.Yellow else colours.Red
 
--- the first row that ends behind a second
+-- the first row that ends after a second
 abbrev pub row_after : List Green → ℕ → Option Green
 row_after rows now = find (λ row. nat_lt now row.to) rows
 
@@ -99,7 +99,7 @@ head_in plan now row =
     if nat_le row.from now then record { phase = row.phase; since = row.from; at = now; fresh = nat_lt now (row.from + (phase_at plan row.phase).loss) }
     else record { phase = row.phase; since = row.from; at = row.from; fresh = true }
 
--- the signal's state at a second, where some row ends behind it
+-- the signal's state at a second, where some row ends after it
 abbrev pub head_at : List Phase → List Green → ℕ → Option Head
 head_at plan rows now = option_map (head_in plan now) (row_after rows now)
 

@@ -2,7 +2,7 @@
 use Rattle.std.specs.Prelude.{◌≡◌, ℕ, zero, suc, ◌+◌, ◌-◌, ◌<◌, ◌≤◌, max, min, nat_lt, if◌then◌else◌, List, [], ◌∷◌, ◌++◌, length, Ok}
 use Rattle.phase_plan.specs.Phases.{next_phase, passed_numbers, phase_at, passing, switch_time}
 use Rattle.phase_plan.specs.declared.Phase.{Phase}
-use Rattle.switch_rules.specs.Serving.{IsCluster, earliest_end, head_behind, serving}
+use Rattle.switch_rules.specs.Serving.{IsCluster, earliest_end, head_after, serving}
 use Rattle.switch_rules.specs.declared.Head.{Head}
 use Rattle.switch_rules.specs.declared.Cluster.{Cluster}
 use Rattle.switch_rules.specs.declared.Served.{Served}
@@ -14,14 +14,14 @@ pub record IsServingOf (plan : List Phase) (head : Head) (k : ℕ) (s : Served) 
   pub phase : k < length plan
   pub cluster : Cluster
   pub bounds : IsCluster cluster
-  pub fit : serving plan head k cluster ≡ Ok (s, head_behind k s)
+  pub fit : serving plan head k cluster ≡ Ok (s, head_after k s)
 
--- these are servings of these phases, each from the head behind the one before it
+-- these are servings of these phases, each from the head after the one before it
 abbrev pub AreServings : List Phase → Head → List ℕ → List Served → Type 0
 AreServings plan head [] [] = Unit {0}
 AreServings plan head [] (s ∷ ss) = ⊥
 AreServings plan head (k ∷ ks) [] = ⊥
-AreServings plan head (k ∷ ks) (s ∷ ss) = IsServingOf plan head k s × AreServings plan (head_behind k s) ks ss
+AreServings plan head (k ∷ ks) (s ∷ ss) = IsServingOf plan head k s × AreServings plan (head_after k s) ks ss
 
 -- some row is the green of a serving of phase k: it begins with that green, and does not end before the serving
 pub record IsGreenOf (rows : List Green) (k : ℕ) (s : Served) : Type 0 where
@@ -37,42 +37,42 @@ HasGreens rows [] served = Unit {0}
 HasGreens rows (k ∷ ks) [] = Unit {0}
 HasGreens rows (k ∷ ks) (s ∷ ss) = IsGreenOf rows k s × HasGreens rows ks ss
 
--- greens of these phases, each of its least length, the first from this second, each next one behind yellow and all-red
+-- greens of these phases, each of its least length, the first from this second, each next one after yellow and all-red
 abbrev pub shortest_greens : List Phase → ℕ → List ℕ → List Green
 shortest_greens plan from [] = []
 shortest_greens plan from (k ∷ ks) =
     record { phase = k; from = from; to = from + (phase_at plan k).least } ∷ shortest_greens plan (from + passing (phase_at plan k)) ks
 
--- when the next green can begin behind greens of these phases, each of its least length, the first from this second
-abbrev pub begin_behind : List Phase → ℕ → List ℕ → ℕ
-begin_behind plan from [] = from
-begin_behind plan from (k ∷ ks) = begin_behind plan (from + passing (phase_at plan k)) ks
+-- when the next green can begin after greens of these phases, each of its least length, the first from this second
+abbrev pub begin_after : List Phase → ℕ → List ℕ → ℕ
+begin_after plan from [] = from
+begin_after plan from (k ∷ ks) = begin_after plan (from + passing (phase_at plan k)) ks
 
 -- when the green of a head ends for a wanted green of phase j that begins at b: as late as it may
 abbrev pub last_end : List Phase → Head → ℕ → ℕ → ℕ
 last_end plan head j b = max (earliest_end plan head) (min (head.since + (phase_at plan head.phase).greatest) (b - switch_time plan head.phase j))
 
--- the green of a head up to this second, and behind it greens of these phases, each of its least length
+-- the green of a head up to this second, and after it greens of these phases, each of its least length
 abbrev pub left_for : List Phase → Head → ℕ → List ℕ → List Green
 left_for plan head to ks =
     record { phase = head.phase; from = head.since; to = to } ∷ shortest_greens plan (to + (phase_at plan head.phase).yellow + (phase_at plan head.phase).clear) ks
 
--- the green behind one of phase s up to this second: of the next phase of the ring, as early as it may be, of its least
+-- the green after one of phase s up to this second: of the next phase of the ring, as early as it may be, of its least
 -- length
-abbrev pub green_behind : List Phase → ℕ → ℕ → Green
-green_behind plan s to =
+abbrev pub green_after : List Phase → ℕ → ℕ → Green
+green_after plan s to =
     let k = next_phase plan s in
     let from = to + (phase_at plan s).yellow + (phase_at plan s).clear in
     record { phase = k; from = from; to = from + (phase_at plan k).least }
 
--- the ring turns behind a green of phase s up to this second, until a green ends behind `until`; at most so many greens
+-- the ring turns after a green of phase s up to this second, until a green ends after `until`; at most this many greens
 abbrev pub turning : List Phase → ℕ → ℕ → ℕ → ℕ → List Green
 turning plan zero until s to = []
 turning plan (suc most) until s to =
     if nat_lt until to then []
-    else green_behind plan s to ∷ turning plan most until (green_behind plan s to).phase (green_behind plan s to).to
+    else green_after plan s to ∷ turning plan most until (green_after plan s to).phase (green_after plan s to).to
 
--- the green of a head up to this second, and then the ring turns until a green ends behind `until`
+-- the green of a head up to this second, and then the ring turns until a green ends after `until`
 abbrev pub turned : List Phase → Head → ℕ → ℕ → List Green
 turned plan head to until = record { phase = head.phase; from = head.since; to = to } ∷ turning plan (until + 1) until head.phase to
 
@@ -82,8 +82,8 @@ abbrev pub line_of : List Phase → Head → List ℕ → List Served → ℕ �
 line_of plan head [] served until = turned plan head (head.since + (phase_at plan head.phase).greatest) until
 line_of plan head (k ∷ ks) [] until = turned plan head (head.since + (phase_at plan head.phase).greatest) until
 line_of plan head (k ∷ ks) (s ∷ ss) until =
-    if s.kept then line_of plan (head_behind k s) ks ss until
-    else left_for plan head (last_end plan head k s.green) (passed_numbers plan head.phase k) ++ line_of plan (head_behind k s) ks ss until
+    if s.kept then line_of plan (head_after k s) ks ss until
+    else left_for plan head (last_end plan head k s.green) (passed_numbers plan head.phase k) ++ line_of plan (head_after k s) ks ss until
 
 -- the timeline with no plan: the green of the head ends as soon as it may, and then the ring turns
 abbrev pub rotation_of : List Phase → Head → ℕ → List Green

@@ -17,7 +17,7 @@ pub struct Green {
     pub phase: u8,
     /// The first second of the green.
     pub from: u32,
-    /// The first second behind it.
+    /// The first second after it.
     pub to: u32,
 }
 
@@ -31,7 +31,7 @@ pub enum Colour {
     Red,
 }
 
-/// The greens of a signal, one after another: each ends behind its begin, and begins no earlier than the one before it
+/// The greens of a signal, one after another: each ends after its begin, and begins no earlier than the one before it
 /// ends. Contracts see it as the list of its rows.
 ///
 /// docs/RULES.md, "Timeline".
@@ -60,7 +60,7 @@ impl Timeline {
     ghost use Rattle.switch_rules.specs.declared.Head.{Head};
     ghost use Rattle.control_flow.specs.Greens.{GoesOn, IsContinued, IsInOrder, IsLawful, Joins, head_at, spliced};
 
-    /// The timeline of these rows, each of which ends behind its begin, and begins no earlier than the one before it ends.
+    /// The timeline of these rows, each of which ends after its begin, and begins no earlier than the one before it ends.
     ///
     /// docs/RULES.md, "Timeline".
     pub fn from_rows(rows: Vec<Green>) -> Self
@@ -81,7 +81,7 @@ impl Timeline {
     }
 
     /// Replaces the rows from the begin of the first row of `next` on by `next`; an empty one replaces nothing. Some row
-    /// has the phase and the begin of that first row. Where memory is wanting, all is as before.
+    /// has the phase and the begin of that first row. At an `Err`, out of memory, all is as it was.
     ///
     /// Where the timeline is lawful for a plan, and `next` is and goes on in the head that the timeline has at a second
     /// `now`, the new timeline is lawful too; in every second before `now` the same phase is green in it, since the same
@@ -100,7 +100,8 @@ impl Timeline {
     }
 }
 
-/// Replaces the rows from the begin of the first new one on by the new ones; where memory is wanting, all is as before.
+/// Replaces the rows from the begin of the first new one on by the new ones; at an `Err`, out of memory, all is as it
+/// was.
 fn replace(rows: &mut Vec<Green>, next: &[Green]) -> Result<(), AllocError>
     requires { IsInOrder rows.old.items }
     ensures ok { OnOk result (rows.new.items ≡ spliced rows.old.items next.now) }

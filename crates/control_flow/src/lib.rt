@@ -2,9 +2,9 @@
 #![tactic(auto)]
 
 pub mod greens;
-mod making;
 mod seconds;
 mod splicing;
+mod timelines;
 
-pub use making::{rotation, timeline};
 pub use seconds::{colour, green_at, head_at};
+pub use timelines::{rotation, timeline};

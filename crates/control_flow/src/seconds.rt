@@ -10,11 +10,11 @@ use super::greens::{Colour, Green, Timeline};
 use phase_plan::PhasePlan;
 use switch_rules::Head;
 
-/// The state of the signal at a second: by the first row that ends behind it, whose green stands then or is the next
+/// The state of the signal at a second: by the first row that ends after it, whose green stands then or is the next
 /// to come.
 ///
 /// Where the row covers the second, its time is spent up to that second, and it is fresh within the start-up loss of
-/// its phase. Else the head stands at the begin of the row, fresh. The line is lawful for the plan and ends behind the
+/// its phase. Else the head stands at the begin of the row, fresh. The line is lawful for the plan and ends after the
 /// second.
 ///
 /// docs/RULES.md, "Head at a second".
@@ -28,7 +28,7 @@ pub fn head_at(plan: &PhasePlan, line: &Timeline, now: u32) -> Head
     ensures joins { (next : List Green) → GoesOn result next → Joins line.now next }
     ensures apart { AreApart plan.now line.now }
 {
-    // What it says of the plan is wanted here, and not the count.
+    // Called for its clause `plan`.
     let _ = plan.count();
     let Some(row) = row_after(line, now) else {
         unreachable!()
@@ -36,7 +36,7 @@ pub fn head_at(plan: &PhasePlan, line: &Timeline, now: u32) -> Head
     head_in(plan, now, &row)
 }
 
-/// The first row that ends behind a second. It searches by halves.
+/// The first row that ends after a second. It searches by halves.
 fn row_after(line: &Timeline, now: u32) -> Option<Green>
     ensures value { result ≡ row_after line.now now }
     ensures order { IsInOrder line.now }
@@ -53,7 +53,7 @@ fn rows_by(rows: &[Green], second: u32) -> usize
     rows.partition_point(|row| row.to <= second)
 }
 
-/// The state of the signal at a second, by a row that ends behind it.
+/// The state of the signal at a second, by a row that ends after it.
 fn head_in(plan: &PhasePlan, now: u32, row: &Green) -> Head
     requires green { IsGreen plan.now row.now }
     requires behind { now < row.now.to }
@@ -98,7 +98,7 @@ fn covers(row: &Green, second: u32) -> bool
 }
 
 /// What a phase of the plan shows at a second: green where a row of it covers the second, else yellow where the yellow
-/// behind such a row does, else red.
+/// after such a row does, else red.
 ///
 /// docs/RULES.md, "Colours".
 pub fn colour(plan: &PhasePlan, line: &Timeline, phase: u8, second: u32) -> Colour
@@ -123,7 +123,7 @@ fn is_green(line: &Timeline, phase: u8, second: u32) -> bool
         .any(|row| row.phase == phase && covers(row, second))
 }
 
-/// Whether the yellow behind a row of the phase covers a second.
+/// Whether the yellow after a row of the phase covers a second.
 fn is_yellow(plan: &PhasePlan, line: &Timeline, phase: u8, second: u32) -> bool
     requires { phase < length plan.now }
     ensures { result ≡ is_yellow plan.now line.now phase second }
@@ -132,7 +132,7 @@ fn is_yellow(plan: &PhasePlan, line: &Timeline, phase: u8, second: u32) -> bool
     line.rows().iter().any(|row| row.phase == phase && is_in_yellow(row, yellow, second))
 }
 
-/// Whether the yellow of so many seconds behind a row covers a second.
+/// Whether the yellow of this many seconds after a row covers a second.
 fn is_in_yellow(row: &Green, yellow: u32, second: u32) -> bool
     ensures { result ≡ covers_yellow row.now yellow second }
 {

@@ -1,5 +1,5 @@
 pub mod LimitLaws
-mod LineLaws
+mod LowerBoundLaws
 pub mod NextLaws
 pub mod RestLaws
 pub mod Servings

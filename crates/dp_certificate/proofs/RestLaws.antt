@@ -104,7 +104,7 @@ more-at f g j more here others a (suc n) = elim (cases_eq a j) [
       omega (arith, sum_by-cons f a (range_with_len (a + 1) n), sum_by-cons g a (range_with_len (a + 1) n), others a other, more-at f g j more here others (a + 1) n)
 ]
 
--- the rest at a stage, and behind a serving of phase k, which ends no earlier
+-- the rest at a stage, and after a serving of phase k, which ends no earlier
 rest-step : (p : Problem) (counts : List ℕ) (k t u : ℕ) (c : Cluster) → k < length counts → slice_get (list_at p.lists k) (get_or counts k 0) ≡ Some c → t ≤ u → rest_of p counts t ≤ wait_until t c + rest_of p (one_more counts k) u
 rest-step p counts k t u c place e h =
     let more : left_cost p counts t k ≤ wait_until t c + left_cost p (one_more counts k) u k =
@@ -127,7 +127,7 @@ IsAllServed p counts = (k : ℕ) → get_or counts k 0 ≡ length (list_at p.lis
 pub no-rest : (p : Problem) (counts : List ℕ) (t : ℕ) → IsAllServed p counts → rest_of p counts t ≡ 0
 no-rest p counts t all = none-summed (left_cost p counts t) (λ k. ap (sum_by (wait_until t)) (ap (λ i. drop i (list_at p.lists k)) (all k) ∙ drop-length (list_at p.lists k))) 0 (length p.lists)
 
--- a step: the rest behind it with its cost is no less than the rest before it
+-- a step: the rest after it with its cost is no less than the rest before it
 pub step-rest : (p : Problem) → IsInstance p → (s t : Stage) (k : ℕ) → length s.counts ≡ 4 → stage_after p s k ≡ Some t → s.delay + rest_of p s.counts s.head.at ≤ t.delay + rest_of p t.counts t.head.at
 step-rest p lawful s t k places e = step-begins p s t k e (λ c r ec er same.
     let place : k < length s.counts = omega (arith, stage-after-phase p lawful s t k e, lawful.plan.count.1) in
@@ -178,7 +178,7 @@ none-wait t (c ∷ cs) late =
     let none : wait_until t c ≡ 0 = ap (λ n. c.size * n) (let e : t - c.arr ≡ 0 = omega arith in e) ∙ mul-zero c.size in
     omega (arith, none, sum_by-cons (wait_until t) c cs, none-wait t cs (λ k h. late (suc k) (omega arith)))
 
--- behind the first that arrives from t on, none waits until t
+-- after the first that arrives from t on, none waits until t
 pub late-rest : (t i : ℕ) (cs : List Cluster) (d : Cluster) → IsSpaced cs → i < length cs → t ≤ (get_or cs i d).arr → sum_by (wait_until t) cs ≡ sum_by (wait_until t) (take i cs)
 late-rest t i cs d spaced inside late =
     let same : cluster_at cs i ≡ get_or cs i d = get_or_default cs i no_cluster d inside in

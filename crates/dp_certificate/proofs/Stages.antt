@@ -20,7 +20,7 @@ use Rattle.schedule_meaning.specs.Timing.{next_cluster, timed_from, timed, delay
 use Rattle.schedule_meaning.proofs.Sequences.{get_or-counts, option-cases, result-cases, timed-begins, timed-fit, next-left, left-phase}
 use Rattle.dp_certificate.specs.Prefixes.{Stage, one_more, stage_after, stage_from, first_stage, stage_of}
 
--- the stage behind a fit serving of phase k
+-- the stage after a fit serving of phase k
 abbrev pub behind : Stage → ℕ → Served × Head → Stage
 behind s k r = record { counts = one_more s.counts k; head = r.1; delay = s.delay + r.0.cost }
 
@@ -46,7 +46,7 @@ step-begins p s t k e use_it =
     (λ r er. use_it c r ec er (some-same (behind s k r) t (sym (step-fit p s k c r ec er) ∙ e)))
     (λ why ew. let gone = step-unfit p s k c why ec ew in absurd (cc)))
 
--- the steps behind a first one
+-- the steps after a first one
 pub from-none : (p : Problem) (s : Stage) (k : ℕ) (ks : List ℕ) → stage_after p s k ≡ None → stage_from p s (k ∷ ks) ≡ None
 from-none p s k ks e = ap (option_and_then (λ (t : Stage). stage_from p t ks)) e
 

@@ -1,5 +1,6 @@
 -- Certificates: an instance, an answer, and entries that are to prove the answer; and what makes one well formed.
 use Rattle.std.specs.Prelude.{◌≡◌, ℕ, ◌+◌, ◌<◌, ◌≤◌, ◌⊎◌, Bool, false, List, [], ◌∷◌, ◌++◌, length, All, slice_index, slice_index_or}
+use Rattle.switch_rules.specs.Bounds.{greatest_delay, latest_time}
 use Rattle.switch_rules.specs.Serving.{IsHead}
 use Rattle.switch_rules.specs.declared.Head.{Head}
 use Rattle.schedule_meaning.specs.Instances.{Problem, IsInstance, list_at}
@@ -20,8 +21,8 @@ head_of e fresh = record { phase = e.phase; since = e.since; at = e.at; fresh = 
 pub record IsEntry (p : Problem) (e : Entry) : Type 0 where
   pub counts : (k : ℕ) → slice_index e.counts k ≤ length (list_at p.lists k)
   pub head : IsHead p.plan (head_of e false)
-  pub reach : e.at ≤ 104000
-  pub delay : e.delay ≤ 2880000000000
+  pub reach : e.at ≤ latest_time
+  pub delay : e.delay ≤ greatest_delay
 
 -- what an entry is sorted by
 abbrev pub digits_of : Entry → List ℕ

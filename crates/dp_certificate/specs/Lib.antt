@@ -1,8 +1,8 @@
 pub mod Certificates
 pub mod Faults
 pub mod Limits
-pub mod Lines
-pub mod Nexts
+pub mod LowerBound
+pub mod NextEntry
 pub mod Numbers
 pub mod Prefixes
 pub mod Proves

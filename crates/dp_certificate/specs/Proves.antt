@@ -47,14 +47,14 @@ abbrev pub IsTooDear : Problem → Answer → Stage → Type 0
 IsTooDear p (Plan sequence claimed) s = claimed ≤ s.delay + rest_of p s.counts s.head.at
 IsTooDear p NoPlan s = ⊥
 
--- what is served next behind an entry by phase k is an entry again, of no more delay, or too dear
+-- what is served next after an entry by phase k is an entry again, of no more delay, or too dear
 abbrev pub IsClosedAt : Claim → Entry → ℕ → Type 0
 IsClosedAt c e k = IfSome (stage_after c.problem (stage_of_entry c.problem e) k) (λ s. HasEntry c.entries (key_of s) s.delay ⊎ IsTooDear c.problem c.answer s)
 
 abbrev pub IsClosed : Claim → Entry → Type 0
 IsClosed c e = (k : ℕ) → IsClosedAt c e k
 
--- an entry behind which nothing is left does not undercut the claimed delay; with no plan there is none
+-- an entry after which nothing is left does not undercut the claimed delay; with no plan there is none
 abbrev pub IsNoCheaper : Answer → Entry → Type 0
 IsNoCheaper (Plan sequence claimed) e = claimed ≤ e.delay
 IsNoCheaper NoPlan e = ⊥
@@ -63,7 +63,7 @@ abbrev pub IsEnded : Claim → Entry → Type 0
 IsEnded c e = ((k : ℕ) → slice_index e.counts k ≡ length (list_at c.problem.lists k)) → IsNoCheaper c.answer e
 
 -- the entries prove the answer: the plan is what is claimed, the first stage is an entry, all that can be served next
--- behind an entry is an entry again or too dear, and no entry at the end undercuts the claimed delay
+-- after an entry is an entry again or too dear, and no entry at the end undercuts the claimed delay
 pub record Proves (c : Claim) : Type 0 where
   pub planned : IsPlanned c.problem c.answer
   pub root : HasRoot c

@@ -1,3 +1,5 @@
+//! Certificates: their bounds, the order of their entries, and why parts make none.
+
 ghost use Rattle.std.specs.Prelude.{◌≡◌, ◌+◌, ◌^◌, ◌<◌, ◌≤◌, ◌↔◌, ℕ, All, length, slice_index, IfNone, IfSome, IsTrue, false};
 ghost use Rattle.switch_rules.specs.Serving.{IsHead};
 ghost use Rattle.schedule_meaning.specs.Instances.{list_at};
@@ -9,6 +11,7 @@ use super::Entry;
 use foundation::threads::CrossesThreads;
 use schedule_meaning::{Answer, Instance};
 use std::marker::Model;
+use switch_rules::{GREATEST_DELAY, LATEST_TIME};
 
 /// An instance, an answer, and entries that are to prove the answer: each within its bounds, and sorted by their keys.
 /// Contracts see it as a `Claim`.
@@ -65,9 +68,18 @@ impl Certificate {
     ) -> Result<Certificate, CertFault>
         requires few { vec_len entries < 2 ^ 32 }
         requires short { IsShort answer }
-        ensures ok { IfOk result (λ c. (c ≡ record { problem = instance; entries = entries.items; answer = answer }) × IsCertificate c) }
-        ensures refused { OnErr result (¬ IsCertificate (record { problem = instance; entries = entries.items; answer = answer })) }
-        ensures first { IfErr result (IsCertFault (record { problem = instance; entries = entries.items; answer = answer })) }
+        ensures ok { IfOk result (λ c. (c ≡ record { problem = instance; entries = entries.items; answer = answer })
+            × IsCertificate c) }
+        ensures refused { OnErr result (¬ IsCertificate (record {
+          problem = instance;
+          entries = entries.items;
+          answer = answer;
+        })) }
+        ensures first { IfErr result (IsCertFault (record {
+          problem = instance;
+          entries = entries.items;
+          answer = answer;
+        })) }
     {
         if let Some(index) = first_out_of_bounds(&instance, entries.as_slice()) {
             return Err(CertFault::Entry(index as u32 + 1));
@@ -82,8 +94,8 @@ impl Certificate {
         })
     }
 
-    /// The certificate of these parts, of which it is known that they are one: `new` without its tests. There are fewer than
-    /// 2^32 entries, and fewer than 2^32 numbers in the sequence of the answer. It takes no memory.
+    /// The certificate of these parts, of which it is known that they are one: `new` without its tests. There are
+    /// fewer than 2^32 entries, and fewer than 2^32 numbers in the sequence of the answer. It takes no memory.
     ///
     /// docs/RULES.md, "Certificate".
     pub fn of_lawful(instance: Instance, entries: Vec<Entry>, answer: Answer) -> Certificate
@@ -159,7 +171,7 @@ fn is_in_bounds(i: &Instance, lengths: &[u8; 4], entry: &Entry) -> bool
     requires { AreLengths i.now.lists lengths.now }
     ensures { IsTrue result ↔ IsEntry i.now entry.now }
 {
-    if entry.at > 104_000 || entry.delay > 2_880_000_000_000 {
+    if entry.at > LATEST_TIME || entry.delay > GREATEST_DELAY {
         return false;
     }
     is_head(i, entry) && are_counts(lengths, &entry.counts)

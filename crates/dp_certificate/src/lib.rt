@@ -2,15 +2,13 @@
 #![tactic(auto)]
 
 mod certificates;
-mod lines;
-mod nexts;
-mod rests;
+mod lower_bound;
+mod next_entry;
 
 pub use certificates::{CertFault, Certificate, list_lengths};
 use foundation::threads::CrossesThreads;
-pub use lines::Rests;
-pub use nexts::serve_next;
-pub use rests::rest_of;
+pub use lower_bound::{RemainingCost, rest_of};
+pub use next_entry::serve_next;
 
 /// One entry of a table of least delays: a key, which is what decides how a plan can go on, with a delay.
 ///

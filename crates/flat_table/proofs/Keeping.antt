@@ -21,7 +21,7 @@ no-worse-trans a b d o (inr x) (inr y) = inr (x.0 ∙ y.0, omega arith)
 pub has-self : (rows : List Row) (r : Row) → Contains rows r → HasRow rows (time_of r) r.entry.delay r.order
 has-self rows r h = record { row = r; among = h; time_is = refl; no_worse = no-worse-self r }
 
--- a row put behind the others
+-- a row put after the others
 pub best-push : (xs : List Row) (c : Row) → AreBestOf (λ r. Contains xs r ⊎ (r ≡ c)) (xs ++ c ∷ [])
 best-push xs c = record {
   from = All-push (λ r. Contains xs r ⊎ (r ≡ c)) xs c (λ k d h. inl (All-contains_itself xs k d h)) (inr refl);

@@ -11,7 +11,7 @@ use Rattle.flat_table.proofs.Merging.{IsAmongFirst}
 abbrev pub Passed : List Row → List Row → ℕ → ℕ → Row → Type 0
 Passed left right i n r = IsAmongFirst left i r ⊎ IsAmongFirst right n r
 
--- so many of each of two lists are passed, and what is kept of them is earlier than what comes next
+-- this many of each of two lists are passed, and what is kept of them is earlier than what comes next
 pub record AreMeeting (left right : List Row) (i n : ℕ) (out : List Row) : Type 0 where
   pub later : AreLater out
   pub best : AreBestOf (Passed left right i n) out
@@ -85,7 +85,7 @@ meeting-both left right i n out x y z rising_left rising_right m inside_x there_
     (λ d h. omega (arith, next-later left i x d rising_left inside_x there_x h, time_z))
     (λ d h. omega (arith, next-later right n y d rising_right inside_y there_y h, time_z, alike))
 
--- what stands behind the rows that were there
+-- what stands after the rows that were there
 pub record AreBehind (left right : List Row) (i n : ℕ) (old now : List Row) : Type 0 where
   pub merged : List Row
   pub is : now ≡ old ++ merged

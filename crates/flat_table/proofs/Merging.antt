@@ -2,7 +2,7 @@
 use Rattle.std.proofs.Common.{◌≡◌, ℕ, ◌<◌, List, length, get_or}
 use Rattle.flat_table.specs.declared.rows.Row.{Row}
 
--- one of the first so many rows
+-- one of the first this many rows
 pub record IsAmongFirst (rows : List Row) (count : ℕ) (r : Row) : Type 0 where
   pub place : ℕ
   pub first : place < count

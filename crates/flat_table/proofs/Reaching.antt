@@ -15,7 +15,7 @@ use Rattle.phase_plan.specs.Phases.{no_phase}
 use Rattle.dp_certificate.specs.Prefixes.{Stage, stage_after}
 use Rattle.dp_certificate.specs.declared.Entry.{Entry}
 use Rattle.dp_certificate.specs.Certificates.{head_of}
-use Rattle.dp_certificate.specs.Nexts.{stage_behind}
+use Rattle.dp_certificate.specs.NextEntry.{stage_of_next}
 use Rattle.dp_certificate.specs.Limits.{IsWithin}
 use Rattle.dp_certificate.specs.Proves.{stage_of_entry}
 use Rattle.flat_table.specs.Greens.{IsNewGreen, IsShaped}
@@ -50,7 +50,7 @@ some-inside : {X : Type 0} (x y : X) → Some x ≡ Some y → x ≡ y
 some-inside x y e = same_Some x y e
 
 -- rows with one stage and one order
-same-row : (c d : Row) → stage_behind c.entry ≡ stage_behind d.entry → c.order ≡ d.order → c ≡ d
+same-row : (c d : Row) → stage_of_next c.entry ≡ stage_of_next d.entry → c.order ≡ d.order → c ≡ d
 same-row c d e o =
     ap (λ (s : Stage). let r : Row = record { entry = record { counts = s.counts; phase = s.head.phase; since = s.head.since; at = s.head.at; delay = s.delay }; order = c.order } in r) e
     ∙ ap (λ n. let r : Row = record { entry = d.entry; order = n } in r) o
@@ -58,7 +58,7 @@ same-row c d e o =
 -- the row at a place reaches one row alone
 one-arrival : (p : Problem) (limit : Option ℕ) (k : ℕ) (cluster : Cluster) (source : List Row) (n m : ℕ) (kept other : Bool) (c d : Row) (a : IsArrival p limit k cluster source n kept c) (b : IsArrival p limit k cluster source m other d) → a.place ≡ b.place → c ≡ d
 one-arrival p limit k cluster source n m kept other c d a b same =
-    same-row c d (some-inside (stage_behind c.entry) (stage_behind d.entry) (sym a.leads ∙ ap (λ i. stage_after p (stage_of_entry p (row_at source i).entry) k) same ∙ b.leads))
+    same-row c d (some-inside (stage_of_next c.entry) (stage_of_next d.entry) (sym a.leads ∙ ap (λ i. stage_after p (stage_of_entry p (row_at source i).entry) k) same ∙ b.leads))
     (a.order ∙ ap (λ i. (row_at source i).order * 4 + k) same ∙ sym b.order)
 
 ok-inside : (x y : Served × Head) → (let o : Result (Served × Head) Unfit = Ok x in o ≡ Ok y) → x ≡ y
@@ -76,12 +76,12 @@ true-false e = absurd (cc)
 best-same : (C D : Row → Type 0) (xs : List Row) → AreBestOf C xs → ((r : Row) → C r → D r) → ((r : Row) → D r → C r) → AreBestOf D xs
 best-same C D xs best wider only = record { from = λ k d h. wider (get_or xs k d) (best.from k d h); all = λ r h. best.all r (only r h) }
 
--- a row behind which nothing can be served that is within the limit
+-- a row after which nothing can be served that is within the limit
 pub reached-none : (p : Problem) (limit : Option ℕ) (k : ℕ) (cluster : Cluster) (source : List Row) (n : ℕ) (reached : Reached) (row : Row) → row_at source n ≡ row → IfSome (stage_after p (stage_of_entry p row.entry) k) (λ s. ¬ IsWithin p limit s)
     → AreReachedBy p limit k cluster source n reached → AreReachedBy p limit k cluster source (n + 1) reached
 reached-none p limit k cluster source n reached row at left h =
     let gone : (kept : Bool) (c : Row) → IsArrival p limit k cluster source (n + 1) kept c → IsArrival p limit k cluster source n kept c = λ kept c a. arrival-last p limit k cluster source n kept c a (λ old. old) (λ last.
-    absurd (if-some (λ s. ¬ IsWithin p limit s) (stage_after p (stage_of_entry p row.entry) k) (stage_behind c.entry) (ap (λ (r : Row). stage_after p (stage_of_entry p r.entry) k) (sym at) ∙ ap (λ i. stage_after p (stage_of_entry p (row_at source i).entry) k) (sym last) ∙ a.leads) left a.within)) in
+    absurd (if-some (λ s. ¬ IsWithin p limit s) (stage_after p (stage_of_entry p row.entry) k) (stage_of_next c.entry) (ap (λ (r : Row). stage_after p (stage_of_entry p r.entry) k) (sym at) ∙ ap (λ i. stage_after p (stage_of_entry p (row_at source i).entry) k) (sym last) ∙ a.leads) left a.within)) in
     record {
       kept_later = h.kept_later;
       kept_best = best-same (IsArrival p limit k cluster source n true) (IsArrival p limit k cluster source (n + 1) true) reached.kept.items h.kept_best (arrival-wider p limit k cluster source n true) (gone true);
@@ -98,7 +98,7 @@ pub record ArrivesBy (p : Problem) (limit : Option ℕ) (k : ℕ) (cluster : Clu
 
 -- what is reached from the next row
 pub arrives : (p : Problem) (limit : Option ℕ) (k : ℕ) (cluster : Cluster) (source : List Row) (n : ℕ) (row : Row) (served : Served) (entry : Entry) (m : ℕ) → row_at source n ≡ row → n < length source
-    → serving p.plan (stage_of_entry p row.entry).head k cluster ≡ Ok (served, head_of entry false) → Some (stage_behind entry) ≡ stage_after p (stage_of_entry p row.entry) k → m ≡ row.order * 4 + k → entry.at ≤ 104000 → IsWithin p limit (stage_behind entry)
+    → serving p.plan (stage_of_entry p row.entry).head k cluster ≡ Ok (served, head_of entry false) → Some (stage_of_next entry) ≡ stage_after p (stage_of_entry p row.entry) k → m ≡ row.order * 4 + k → entry.at ≤ 104000 → IsWithin p limit (stage_of_next entry)
     → ArrivesBy p limit k cluster source n served (record { entry = entry; order = m })
 arrives p limit k cluster source n row served entry m at inside serves leads is reach within = record {
   arrival = record {
@@ -284,7 +284,7 @@ joined-made p limit k cluster source reached old new h j = record {
     arrived c true a = (let x = h.kept_best.all c a in by c x.row (inr x.among) x.time_is x.no_worse)
     arrived c false a = (let x = h.new_all c a in by c x.row (inl (x.place, x.there)) x.time_is x.no_worse)
 
--- what is drained and what goes on, merged behind others, is joined
+-- what is drained and what goes on, merged after others, is joined
 pub joined : (reached : Reached) (left right old new fresh : List Row) → left ≡ fresh → right ≡ reached.kept.items → AreBestOf (IsPlaced reached.greens) fresh
     → (merged : List Row) × (new ≡ old ++ merged) × AreLater merged × AreBestOf (λ c. Contains left c ⊎ Contains right c) merged → AreJoined reached old new
 joined reached left right old new fresh is_left is_right drained m = record {
@@ -334,7 +334,7 @@ arrival-of p limit k cluster source place t is inside e stale reach within =
 pub arrival-phase : (p : Problem) (limit : Option ℕ) (k : ℕ) (cluster : Cluster) (source : List Row) (n : ℕ) (kept : Bool) (c : Row) → IsArrival p limit k cluster source n kept c → c.entry.phase ≡ k
 arrival-phase p limit k cluster source n kept c a = (arrival-shape p limit k cluster source n kept c a).phase
 
--- what is said of a stage holds where the stage is known, and of none where there is none
+-- what is claimed of a stage holds where the stage is known, and of none where there is none
 pub of-none : (o : Option Stage) (P : Stage → Type 0) → None ≡ o → IfSome o P
 of-none o P e = subst (λ (o : Option Stage). IfSome o P) e tt
 

@@ -69,7 +69,7 @@ new-same times c w a b x y = elim x.since [
   | inr p ↦ elim y.since [ inl q ↦ omega (arith, p.0, p.1, q.0, q.1, x.at, y.at) | inr q ↦ omega (arith, p.0, p.1, q.0, q.1, x.at, y.at) ]
 ]
 
--- a fresh green whose time is spent behind the arrival
+-- a fresh green whose time is spent after the arrival
 start-fresh : (fresh : Bool) (arr at : ℕ) → (fresh && nat_le arr at) ≡ false → fresh ≡ true → arr ≤ at → ⊥
 start-fresh true arr at h e early = grind (arith, nat_tests, h, early)
 start-fresh false arr at h e early = absurd (cc)

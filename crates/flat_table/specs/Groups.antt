@@ -2,12 +2,13 @@
 use Rattle.std.specs.Prelude.{◌≡◌, ℕ, ◌+◌, ◌*◌, ◌^◌, ◌<◌, ◌≤◌, ◌⊎◌, ◌++◌, Bool, true, false, List, [], AllPairs, All, Contains, length, slice_get, slice_index, slice_index_or, Option, Some, None, Ok}
 use Rattle.phase_plan.specs.Phases.{phase_at}
 use Rattle.switch_rules.specs.Serving.{serving}
+use Rattle.switch_rules.specs.Bounds.{latest_time}
 use Rattle.switch_rules.specs.declared.Cluster.{Cluster}
 use Rattle.switch_rules.specs.declared.Served.{Served}
 use Rattle.schedule_meaning.specs.Instances.{Problem, IsInstance, list_at}
 use Rattle.dp_certificate.specs.Prefixes.{stage_after}
 use Rattle.dp_certificate.specs.Certificates.{IsEntry, head_of, no_entry}
-use Rattle.dp_certificate.specs.Nexts.{stage_behind}
+use Rattle.dp_certificate.specs.NextEntry.{stage_of_next}
 use Rattle.dp_certificate.specs.Limits.{IsWithin}
 use Rattle.dp_certificate.specs.Proves.{stage_of_entry}
 use Rattle.flat_table.specs.Greens.{IsNewGreen}
@@ -23,8 +24,8 @@ no_row = record { entry = no_entry; order = 0 }
 abbrev pub row_at : List Row → ℕ → Row
 row_at rows place = slice_index_or rows place no_row
 
--- rows of an instance behind each of which this cluster is the next of phase k: entries within their bounds; of those with one green
--- phase the later ones stand behind the others; and either each green is fresh or none
+-- rows of an instance after each of which this cluster is the next of phase k: entries within their bounds; of those with one green
+-- phase the later ones stand after the others; and either each green is fresh or none
 pub record IsSource (p : Problem) (k : ℕ) (cluster : Cluster) (source : List Row) : Type 0 where
   pub lawful : IsInstance p
   pub entries : All (λ r. IsEntry p r.entry) source
@@ -42,10 +43,10 @@ pub record IsArrival (p : Problem) (limit : Option ℕ) (k : ℕ) (cluster : Clu
   pub served : Served
   pub serves : serving p.plan (stage_of_entry p (row_at source place).entry).head k cluster ≡ Ok (served, head_of c.entry false)
   pub on : served.kept ≡ kept
-  pub leads : stage_after p (stage_of_entry p (row_at source place).entry) k ≡ Some (stage_behind c.entry)
+  pub leads : stage_after p (stage_of_entry p (row_at source place).entry) k ≡ Some (stage_of_next c.entry)
   pub order : c.order ≡ (row_at source place).order * 4 + k
-  pub reach : c.entry.at ≤ 104000
-  pub within : IsWithin p limit (stage_behind c.entry)
+  pub reach : c.entry.at ≤ latest_time
+  pub within : IsWithin p limit (stage_of_next c.entry)
 
 -- a row in one of the places has this time, and is no worse
 pub record HasPlaced (places : List (Option Row)) (time delay order : ℕ) : Type 0 where
@@ -69,14 +70,14 @@ pub record IsEmpty (reached : Reached) : Type 0 where
   pub greens : (w : ℕ) → row_in reached.greens w ≡ None
   pub fresh : reached.fresh.items ≡ []
 
--- behind the rows stand, in the order of their times, the best of what is reached
+-- after the rows stand, in the order of their times, the best of what is reached
 pub record AreJoined (reached : Reached) (old new : List Row) : Type 0 where
   pub made : List Row
   pub is : new ≡ old ++ made
   pub later : AreLater made
   pub best : AreBestOf (λ c. IsPlaced reached.greens c ⊎ Contains reached.kept.items c) made
 
--- behind the rows stand, in the order of their times, the best of what is reached from the source
+-- after the rows stand, in the order of their times, the best of what is reached from the source
 pub record AreMade (p : Problem) (limit : Option ℕ) (k : ℕ) (cluster : Cluster) (source old new : List Row) : Type 0 where
   pub made : List Row
   pub is : new ≡ old ++ made

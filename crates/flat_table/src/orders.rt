@@ -2,8 +2,8 @@
 
 use std::marker::Model;
 
-/// The number of a sequence: its phases as digits to the base 4, at most 40. It stands in two halves, so that a row takes no more
-/// memory than its parts.
+/// The number of a sequence: its phases as digits to the base 4, at most 40. It stands in two halves, so that a row
+/// takes no more memory than its parts.
 #[derive(Debug, Clone, Copy, PartialEq, Eq)]
 pub struct Order {
     high: u64,

@@ -50,7 +50,7 @@ fn time_of(row: &Row) -> u64
     u64::from(since) * 4_294_967_296 + u64::from(at)
 }
 
-/// Puts a row behind rows none of which is later; of two with one time the better stays.
+/// Appends a row to rows none of which is later; of two with one time the better stays.
 pub fn push_row(rows: &mut Vec<Row>, row: Row) -> Result<(), AllocError>
     requires later { AreLater rows.old.items }
     requires last { AreUpTo (time_of row) rows.old.items }
@@ -69,11 +69,12 @@ pub fn push_row(rows: &mut Vec<Row>, row: Row) -> Result<(), AllocError>
     Ok(())
 }
 
-/// Puts two lists of rows, each in the order of their times, behind others as one.
+/// Appends two lists of rows, each in the order of their times, to others as one.
 pub fn merge(left: &[Row], right: &[Row], rows: &mut Vec<Row>) -> Result<(), AllocError>
     requires left { AreLater left.now }
     requires right { AreLater right.now }
-    ensures { OnOk result ((merged : List Row) × (rows.new.items ≡ rows.old.items ++ merged) × AreLater merged × AreBestOf (λ c. Contains left.now c ⊎ Contains right.now c) merged) }
+    ensures { OnOk result ((merged : List Row) × (rows.new.items ≡ rows.old.items ++ merged) × AreLater merged
+        × AreBestOf (λ c. Contains left.now c ⊎ Contains right.now c) merged) }
 {
     let mut next = 0;
     for row in left {

@@ -13,7 +13,7 @@ use Rattle.schedule_meaning.proofs.Sequences.{left-phase}
 use Rattle.dp_certificate.specs.Prefixes.{Stage, stage_from}
 use Rattle.dp_certificate.proofs.Stages.{IsSplit, behind, from-begins, split-step, step-begins}
 
--- what stands in one of several blocks, and behind one more phase
+-- what stands in one of several blocks, and after one more phase
 among-blocks : (f : ℕ → List (List ℕ)) (a n i : ℕ) (o : List ℕ) → i < n → Contains (f (a + i)) o → Contains (flat_map f (range_with_len a n)) o
 among-blocks f a zero i o h has = absurd (omega arith)
 among-blocks f a (suc n) zero o h has =
@@ -29,7 +29,7 @@ among-longer k os o has = (
   get_or-map (λ (order : List ℕ). k ∷ order) os has.0 o (k ∷ o) has.1 ∙ ap (λ (order : List ℕ). k ∷ order) has.2,
 )
 
--- an order of what is left behind phase k, with phase k before it
+-- an order of what is left after phase k, with phase k before it
 order-more : (left : List ℕ) (k : ℕ) (o : List ℕ) → 0 < get_or left k 0 → Contains (orders (one_less left k)) o → Contains (orders left) (k ∷ o)
 order-more left k o some has =
     let at : 0 + k ≡ k = omega arith in

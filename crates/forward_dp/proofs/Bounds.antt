@@ -11,7 +11,7 @@ use Rattle.dp_certificate.specs.Prefixes.{Stage, stage_after, stage_from, first_
 use Rattle.dp_certificate.proofs.Servings.{serving-keeps}
 use Rattle.dp_certificate.proofs.Stages.{behind, from-begins, listed-cluster, listed-phase, more-within, none-counted, some-same, step-begins, sum-one_more}
 
--- a stage within its bounds, behind so many servings
+-- a stage within its bounds, after this many servings
 pub record IsStage (p : Problem) (served : ℕ) (s : Stage) : Type 0 where
   pub places : length s.counts ≡ 4
   pub counts : (k : ℕ) → get_or s.counts k 0 ≤ length (list_at p.lists k)

@@ -17,7 +17,7 @@ two-bits (suc n) =
 joined : (a k unit rest : ℕ) → a * (unit * 4) + (k * unit + rest) ≡ (a * 4 + k) * unit + rest
 joined a k unit rest = omega arith
 
--- the phase at index i, with n phases behind it
+-- the phase at index i, with n phases after it
 digit-at : (s : List ℕ) (i n : ℕ) → length s ≡ i + 1 + n → All (λ k. k < 4) s → bit_and (order_number s / 2 ^ (2 * n)) 3 ≡ get_or s i 0
 digit-at s i n long below =
     let front = order_number (take i s) in

@@ -77,11 +77,11 @@ rows-keys p limit rows keys are within all =
           mapped number_of keys (key_of (stage_of_entry p (get_or rows i d).entry)) (if-some (λ s. IsWithin p limit s → Contains keys (key_of s)) (stage_of p r.prefix) (stage_of_entry p (get_or rows i d).entry) r.leads (all r.prefix) (within i d inside))),
     )
 
--- the number of the key that so many servings of an order reach
+-- the number of the key that this many servings of an order reach
 number_at : Problem → ℕ → List ℕ → ℕ
 number_at p n o = unwrap_or (option_map (λ (s : Stage). number_of (key_of s)) (stage_of p (take n o))) 0
 
--- the numbers of the keys that at most so many servings reach
+-- the numbers of the keys that at most this many servings reach
 numbers_to : Problem → ℕ → List ℕ
 numbers_to p zero = number_at p 0 [] ∷ []
 numbers_to p (suc n) = map (number_at p (suc n)) (orders (counts_of p.lists)) ++ numbers_to p n

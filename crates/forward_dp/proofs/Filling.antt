@@ -128,7 +128,7 @@ can-fill p limit counts k first rows initial ends can phase some table e = recor
   behind = λ place h. omega (arith, e.ahead k (omega arith) place h);
 }
 
--- the ends behind a group that is filled
+-- the ends after a group that is filled
 pub ends-filled : (p : Problem) (limit : Option ℕ) (counts : List ℕ) (k end : ℕ) (rows new : List Row) (ends : List ℕ) → k < length p.plan → length p.plan ≤ 4 → AreEnds (length p.plan) rows (counts_number counts + 1) k ends → IsFilled p limit counts k rows new end → AreEnds (length p.plan) new (counts_number counts + 1) (k + 1) (set ends k end)
 ends-filled p limit counts k end rows new ends phase few e f =
     let longer : length new ≡ length rows + length f.made = ap length f.longer ∙ length-append rows f.made in

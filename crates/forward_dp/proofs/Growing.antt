@@ -7,7 +7,7 @@ use Rattle.std.proofs.lemmas.List.Elements.{All-append, All-cons, All-nil, Conta
 use Rattle.switch_rules.specs.declared.Cluster.{Cluster}
 use Rattle.schedule_meaning.specs.Instances.{Problem, IsInstance, list_at}
 use Rattle.dp_certificate.specs.Limits.{IsSomeDelay, IsWithin}
-use Rattle.dp_certificate.specs.Nexts.{stage_behind}
+use Rattle.dp_certificate.specs.NextEntry.{stage_of_next}
 use Rattle.dp_certificate.specs.Prefixes.{Key, Stage, first_stage, key_of, one_more, stage_after, stage_of}
 use Rattle.dp_certificate.specs.Proves.{key_of_entry, stage_of_entry}
 use Rattle.dp_certificate.proofs.LimitLaws.{first-within, step-within, within-less}
@@ -83,15 +83,15 @@ module _ (p : Problem) (limit : Option ℕ) (lawful : IsInstance p) (t : List �
   arrived-new c kept a =
       let r = row_at source a.place in
       let h : IsReached p r = subst (IsReached p) (sym (cell.slice.at a.place a.inside)) (table.made.each (start + a.place) no_row (omega (arith, a.inside, cell.slice.inside))) in
-      let leads : stage_of p (h.prefix ++ k ∷ []) ≡ Some (stage_behind c.entry) = stage-push p (first_stage p) h.prefix k ∙ ap (option_and_then (λ s. stage_after p s k)) h.leads ∙ a.leads in
-      let same : stage_of_entry p c.entry ≡ stage_behind c.entry = entry-stage p lawful (h.prefix ++ k ∷ []) (stage_behind c.entry) c.entry leads refl in
+      let leads : stage_of p (h.prefix ++ k ∷ []) ≡ Some (stage_of_next c.entry) = stage-push p (first_stage p) h.prefix k ∙ ap (option_and_then (λ s. stage_after p s k)) h.leads ∙ a.leads in
+      let same : stage_of_entry p c.entry ≡ stage_of_next c.entry = entry-stage p lawful (h.prefix ++ k ∷ []) (stage_of_next c.entry) c.entry leads refl in
       record {
         reached = record {
           prefix = h.prefix ++ k ∷ [];
           leads = leads ∙ ap (λ (s : Stage). let o : Option Stage = Some s in o) (sym same);
           order = a.order ∙ ap (λ n. n * 4 + k) h.order ∙ sym (order-push h.prefix k);
         };
-        counts = sym (step-counts p (stage_of_entry p r.entry) (stage_behind c.entry) k a.leads) ∙ ap (λ xs. one_more xs k) (cell.each a.place a.inside) ∙ back t k places small some;
+        counts = sym (step-counts p (stage_of_entry p r.entry) (stage_of_next c.entry) k a.leads) ∙ ap (λ xs. one_more xs k) (cell.each a.place a.inside) ∙ back t k places small some;
         phase = arrival-phase p limit k cluster source (length source) kept c a;
         within = a.within;
       }
@@ -299,7 +299,7 @@ none-of-phase p lawful t k places digits small none some w s e less = elim (case
       ])
 ]
 
--- the phases behind the last of the plan
+-- the phases after the last of the plan
 pub none-past : (p : Problem) → IsInstance p → (n : ℕ) (w : List ℕ) (s : Stage) → stage_of p w ≡ Some s → stage_group s < n * 4 + 4 → stage_group s < n * 4 + length p.plan
 none-past p lawful n w s e less =
     let l = led p lawful w s e in

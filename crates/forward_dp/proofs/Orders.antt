@@ -26,7 +26,7 @@ order-push s k = fold-append (λ n k. n * 4 + k) 0 s (k ∷ [])
 spread : (n k unit rest : ℕ) → (n * 4 + k) * unit + rest ≡ n * (unit * 4) + ((0 * 4 + k) * unit + rest)
 spread n k unit rest = omega arith
 
--- the phases of a sequence behind a number
+-- the phases of a sequence after a number
 order-behind : (n : ℕ) (s : List ℕ) → fold (λ n k. n * 4 + k) n s ≡ n * 4 ^ length s + order_number s
 order-behind n [] = omega arith
 order-behind n (k ∷ s) =
@@ -34,7 +34,7 @@ order-behind n (k ∷ s) =
     ∙ ap (λ m. m + ((0 * 4 + k) * 4 ^ length s + order_number s)) (ap (λ u. n * u) (sym (pow-suc 4 (length s))))
     ∙ ap (λ m. n * 4 ^ length (k ∷ s) + m) (sym (order-behind (0 * 4 + k) s))
 
--- one sequence behind another
+-- one sequence after another
 pub order-append : (s t : List ℕ) → order_number (s ++ t) ≡ order_number s * 4 ^ length t + order_number t
 order-append s t = fold-append (λ n k. n * 4 + k) 0 s t ∙ order-behind (order_number s) t
 
@@ -42,7 +42,7 @@ order-append s t = fold-append (λ n k. n * 4 + k) 0 s t ∙ order-behind (order
 pub order-cons : (k : ℕ) (s : List ℕ) → order_number (k ∷ s) ≡ k * 4 ^ length s + order_number s
 order-cons k s = order-behind (0 * 4 + k) s ∙ ap (λ n. n * 4 ^ length s + order_number s) (omega arith)
 
--- a number with so many digits
+-- a number with this many digits
 pub order-below : (s : List ℕ) → All (λ k. k < 4) s → order_number s < 4 ^ length s
 order-below [] all = omega arith
 order-below (k ∷ s) all =
@@ -83,7 +83,7 @@ all-blocks : (P : List ℕ → Type 0) (f : ℕ → List (List ℕ)) → ((k : �
 all-blocks P f each a zero = All-nil P
 all-blocks P f each a (suc n) = All-append P (f a) (flat_map f (range_with_len (a + 1) n)) (each a) (all-blocks P f each (a + 1) n)
 
--- the orders of so many clusters have that length
+-- the orders of this many clusters have that length
 orders-long : (total : ℕ) (counts : List ℕ) → All (λ s. length s ≡ total) (orders_of total counts)
 orders-long zero counts = All-cons (λ s. length s ≡ zero) [] [] refl (All-nil (λ s. length s ≡ zero))
 orders-long (suc total) counts =

@@ -1,4 +1,4 @@
--- The rows that are kept among all rows: where a group is reached from, and what its rows are put behind.
+-- The rows that are kept among all rows: where a group is reached from, and what its rows are put after.
 use Rattle.std.proofs.Common.{◌≡◌, ℕ, zero, suc, ◌+◌, ◌-◌, ◌*◌, ◌<◌, ◌≤◌, Bool, true, false, cond, List, [], ◌∷◌, ◌++◌, length, get_or, set, take, drop, All, Option, refl, sym, ap, subst, ◌∙◌, inl, inr, append_assoc, append-nil, length-append, length-drop, arith}
 use Rattle.std.proofs.Math.Seq.{drop-append-add, drop-append_seam}
 use Rattle.std.proofs.lemmas.Bool.{cases_Bool, cases_lt}
@@ -13,14 +13,14 @@ use Rattle.flat_table.specs.declared.groups.Reached.{Reached}
 use Rattle.flat_table.specs.declared.rows.Row.{Row}
 use Rattle.forward_dp.specs.Numbers.{counts_number}
 use Rattle.forward_dp.specs.Tables.{AreBetween, AreEnds, AreStanding, CanFill, IsCellMade, IsCellReady, IsEntered, IsFrom, IsGroupFilled, IsGroupReady, IsLastCounts, IsLeft, IsNextCounts, IsTable, IsTableMade, all_rows, base_of, counts_number_at, row_group, source_of, unit_of}
-use Rattle.forward_dp.specs.declared.kept.Rows.{Rows}
+use Rattle.forward_dp.specs.declared.live_rows.Rows.{Rows}
 use Rattle.forward_dp.proofs.Cells.{IsCell, cell-is}
 use Rattle.forward_dp.proofs.Few.{rows-few}
 use Rattle.forward_dp.proofs.Filling.{IsFound, can-fill, cell-filled, cell-ready, ends-filled, ends-passed, ends-start, filled, found, small-digits, small-last, table-filled, table-passed}
 use Rattle.forward_dp.proofs.Growing.{table-first, table-whole}
 use Rattle.forward_dp.proofs.Rows.{back, before-four, before-is, before_of, number-more}
 
--- a source stands among all rows: those before it have lower counts than a number, and those behind it higher ones
+-- a source stands among all rows: those before it have lower counts than a number, and those after it higher ones
 pub record IsAmid (front source behind all : List Row) (number : ℕ) : Type 0 where
   pub is : all ≡ front ++ source ++ behind
   pub low : All (λ r. counts_number r.entry.counts < number) front
@@ -136,7 +136,7 @@ module _ (p : Problem) (k : ℕ) (counts : List ℕ) (gone : List Row) (rows : R
   first : get_or (set counts (suc k) (get_or counts (suc k) 0 - 1)) 0 0 ≡ get_or counts 0 0
   first = get_or-set_other counts (suc k) 0 (get_or counts (suc k) 0 - 1) 0 (λ same. absurd (omega (arith, same)))
 
-  -- among the latest rows, with no row behind them
+  -- among the latest rows, with no row after them
   between-shared : rows.apart ≡ false → IsBetween (suc k) gone rows (counts_number (set counts (suc k) (get_or counts (suc k) 0 - 1)))
   between-shared shared =
       let parted = standing.shared shared in
@@ -151,7 +151,7 @@ module _ (p : Problem) (k : ℕ) (counts : List ℕ) (gone : List Row) (rows : R
         });
       }
 
-  -- among the earlier rows, with the last cell behind them
+  -- among the earlier rows, with the last cell after them
   between-apart : rows.apart ≡ true → IsBetween (suc k) gone rows (counts_number (set counts (suc k) (get_or counts (suc k) 0 - 1)))
   between-apart apart =
       let parts = (standing.apart apart).parts in
@@ -220,11 +220,11 @@ ready-found p limit counts k from base skip start end source gone rows list d re
 cancel : (front xs ys : List Row) → front ++ xs ≡ front ++ ys → xs ≡ ys
 cancel front xs ys e = sym (drop-append_seam front xs) ∙ ap (drop (length front)) e ∙ drop-append_seam front ys
 
--- rows behind the latest ones are behind all
+-- rows after the latest ones are after all
 joined-all : (front old new : List Row) (reached : Reached) → AreJoined reached old new → AreJoined reached (front ++ old) (front ++ new)
 joined-all front old new reached joined = record { made = joined.made; is = ap (λ xs. front ++ xs) joined.is ∙ sym (append_assoc front old joined.made); later = joined.later; best = joined.best }
 
--- rows behind the latest ones, with counts as these have
+-- rows after the latest ones, with counts as these have
 made-between : (low middle high number : ℕ) (gone made : List Row) (old new : Rows) → AreBetween low middle high gone old → middle ≤ number → number < high → new.earlier.items ≡ old.earlier.items → new.latest.items ≡ old.latest.items ++ made → All (λ r. counts_number r.entry.counts ≡ number) made → AreBetween low middle high gone new
 made-between low middle high number gone made old new parts up below same_earlier latest each = record {
   past = parts.past;
@@ -233,7 +233,7 @@ made-between low middle high number gone made old new parts up below same_earlie
       (All-append (λ r. (middle ≤ counts_number r.entry.counts) × (counts_number r.entry.counts < high)) old.latest.items made parts.latest (λ i d h. (omega (arith, each i d h), omega (arith, each i d h))));
 }
 
--- what is known of the rows behind the first ones
+-- what is known of the rows after the first ones
 all-behind : (P : Row → Type 0) (front xs : List Row) → All P (front ++ xs) → All P xs
 all-behind P front xs h = subst (All P) (drop-append_seam front xs) (All-drop P (length front) (front ++ xs) h)
 
@@ -336,7 +336,7 @@ pub record IsUnderWay (p : Problem) (limit : Option ℕ) (counts : List ℕ) (k 
   pub ends_are : AreEnds (length p.plan) (all_rows gone rows) (counts_number counts + 1) k ends
   pub standing : AreStanding p k counts gone rows
 
--- and some rows are let go
+-- and some rows are dropped
 pub record HasCome (Holds : List Row → Type 0) (p : Problem) (limit : Option ℕ) (counts : List ℕ) (k : ℕ) (rows : Rows) (ends : List ℕ) : Type 0 where
   pub gone : List Row
   pub held : Holds gone
@@ -486,7 +486,7 @@ latest-cell p limit lawful gone rows last start end made lengths first second =
     (from-all front source [] all number amid 0 number start (omega arith) first) (from-all front source [] all number amid start (number + 1) end (omega arith) second)
     (λ place h. in-front front source [] all number amid place (omega (arith, h))))
 
--- ---- rows that are let go
+-- ---- rows that are dropped
 
 -- the latest rows are the earlier ones now
 turned-same : (gone past : List Row) (old new : Rows) → past ≡ gone ++ old.earlier.items → new.earlier.items ≡ old.latest.items → new.latest.items ≡ [] → all_rows past new ≡ all_rows gone old

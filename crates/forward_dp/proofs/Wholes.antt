@@ -34,7 +34,7 @@ use Rattle.forward_dp.proofs.Few.{rows-few}
 use Rattle.forward_dp.proofs.Growing.{no-more}
 use Rattle.forward_dp.proofs.KeyOrder.{keys-rise}
 use Rattle.forward_dp.proofs.Orders.{best-none, best-plan}
-use Rattle.forward_dp.specs.declared.kept.Rows.{Rows}
+use Rattle.forward_dp.specs.declared.live_rows.Rows.{Rows}
 use Rattle.forward_dp.proofs.Parting.{latest-cell}
 use Rattle.forward_dp.proofs.Rows.{entry_for, entry-stage, four, led, reached-led, same-parts}
 
@@ -90,7 +90,7 @@ within-or : (p : Problem) (answer : Answer) (limit : Option ℕ) (s : Stage) →
 within-or p answer None s least delay = inl tt
 within-or p answer (Some most) s least delay = elim (cases_lt most (s.delay + rest_of p s.counts s.head.at)) [ inl above ↦ inr (above-dear p answer most s least delay above) | inr low ↦ inl low ]
 
--- what is served next behind an entry has an entry, or is too dear
+-- what is served next after an entry has an entry, or is too dear
 entry-closed : (c : Claim) (limit : Option ℕ) → IsInstance c.problem → IsSomeDelay c.problem limit → IsLeast c.problem c.answer → IsLimited c.problem limit c.entries → (e : Entry) → IsOfPrefix c.problem e → IsClosed c e
 entry-closed c limit lawful delay least whole e o k =
     let p = c.problem in

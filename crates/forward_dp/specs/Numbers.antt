@@ -1,4 +1,4 @@
--- Counts and sequences as numbers.
+-- No public clause names these: counts and sequences as numbers.
 use Rattle.std.specs.Prelude.{ℕ, ◌+◌, ◌*◌, List, slice_index, fold}
 
 -- four counts as digits to the base 64

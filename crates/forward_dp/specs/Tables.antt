@@ -1,4 +1,4 @@
--- The table: its rows, and how far it is made.
+-- No public clause names these: the rows of a table, and how far it is filled, as its loops keep it.
 use Rattle.std.specs.Prelude.{◌≡◌, ℕ, zero, suc, ◌+◌, ◌-◌, ◌*◌, ◌<◌, ◌≤◌, ◌++◌, Bool, true, false, cond, List, [], length, map, slice_index, AllPairs, All, Contains, Option, Some}
 use Rattle.schedule_meaning.specs.Instances.{Problem, IsInstance, list_at}
 use Rattle.dp_certificate.specs.Limits.{IsSomeDelay, IsWithin}
@@ -9,8 +9,8 @@ use Rattle.flat_table.specs.Groups.{row_at}
 use Rattle.flat_table.specs.Rows.{IsNoWorse, time_of}
 use Rattle.flat_table.specs.declared.rows.Row.{Row}
 use Rattle.forward_dp.specs.Numbers.{counts_number, order_number}
-use Rattle.forward_dp.specs.declared.kept.Past.{Past}
-use Rattle.forward_dp.specs.declared.kept.Rows.{Rows}
+use Rattle.forward_dp.specs.declared.live_rows.DroppedRows.{DroppedRows}
+use Rattle.forward_dp.specs.declared.live_rows.Rows.{Rows}
 
 -- the counts and the phase of a row as one number: its group
 abbrev pub row_group : Row → ℕ
@@ -100,7 +100,7 @@ pub record CanFill (p : Problem) (limit : Option ℕ) (counts : List ℕ) (k fro
   pub known : from ≤ length rows
   pub behind : AreBelow rows k (counts_number counts) from
 
--- and are reached, by rows behind the others, from rows that end at a place
+-- and are reached, by rows after the others, from rows that end at a place
 pub record IsFilled (p : Problem) (limit : Option ℕ) (counts : List ℕ) (k : ℕ) (old new : List Row) (end : ℕ) : Type 0 where
   pub table : IsTable p limit (counts_number counts * 4 + k + 1) new
   pub made : List Row
@@ -134,11 +134,11 @@ pub record IsCellFilled (p : Problem) (limit : Option ℕ) (counts : List ℕ) (
 
 -- ---- the rows that are kept
 
--- all rows: those that are let go, and the others
+-- all rows: those that are dropped, and the others
 abbrev pub all_rows : List Row → Rows → List Row
 all_rows gone rows = gone ++ rows.earlier.items ++ rows.latest.items
 
--- no row is kept, and none is let go
+-- no row is kept, and none is dropped
 pub record HasNone (rows : Rows) : Type 0 where
   pub gone : rows.gone ≡ 0
   pub earlier : rows.earlier.items ≡ []
@@ -155,14 +155,14 @@ abbrev pub base_of : Rows → ℕ → ℕ
 base_of rows zero = rows.gone
 base_of rows (suc k) = cond rows.apart rows.gone (rows.gone + length rows.earlier.items)
 
--- the rows that are let go have counts which, with one more of the first phase, are below a number, the earlier rows counts below
+-- the rows that are dropped have counts which, with one more of the first phase, are below a number, the earlier rows counts below
 -- another one, and the latest rows counts from there on and below a third
 pub record AreBetween (low middle high : ℕ) (gone : List Row) (rows : Rows) : Type 0 where
   pub past : All (λ r. counts_number r.entry.counts + 262144 < low) gone
   pub earlier : All (λ r. counts_number r.entry.counts < middle) rows.earlier.items
   pub latest : All (λ r. (middle ≤ counts_number r.entry.counts) × (counts_number r.entry.counts < high)) rows.latest.items
 
--- the latest rows have so many clusters of the first phase, the earlier ones fewer, and those that are let go at least two fewer
+-- the latest rows have this many clusters of the first phase, the earlier ones fewer, and those that are dropped at least two fewer
 abbrev pub AreParted : ℕ → List Row → Rows → Type 0
 AreParted first gone rows = AreBetween (first * 262144) (first * 262144) (first * 262144 + 262144) gone rows
 
@@ -171,7 +171,7 @@ abbrev pub IsLastCounts : Problem → List ℕ → Type 0
 IsLastCounts p counts = (c : List ℕ) → ((k : ℕ) → slice_index c k ≤ length (list_at p.lists k)) → counts_number c ≤ counts_number counts
 
 -- the cell with these counts is the last one, and stands apart: the first phase is served, the latest rows have these counts, the
--- earlier ones lower counts, and those that are let go fewer clusters of the first phase
+-- earlier ones lower counts, and those that are dropped fewer clusters of the first phase
 pub record IsApart (p : Problem) (k : ℕ) (counts : List ℕ) (gone : List Row) (rows : Rows) : Type 0 where
   pub served : 0 < k
   pub last : IsLastCounts p counts
@@ -183,9 +183,9 @@ pub record AreStanding (p : Problem) (k : ℕ) (counts : List ℕ) (gone : List 
   pub shared : rows.apart ≡ false → AreParted (slice_index counts 0) gone rows
   pub apart : rows.apart ≡ true → IsApart p k counts gone rows
 
--- what is kept of the rows that are let go are their entries, where they are wanted
-abbrev pub HasEntries : Past → List Row → Type 0
-HasEntries past gone = past.wanted ≡ true → past.entries.items ≡ map (λ r. r.entry) gone
+-- what is kept of the rows that are dropped are their entries, where they are kept
+abbrev pub HasEntries : DroppedRows → List Row → Type 0
+HasEntries past gone = past.keeps_entries ≡ true → past.entries.items ≡ map (λ r. r.entry) gone
 
 -- rows that were parted by one number of clusters of the first phase are parted by another one, and are all the same
 pub record IsEntered (Holds : List Row → Type 0) (first next : ℕ) (gone : List Row) (old new : Rows) : Type 0 where
@@ -196,7 +196,7 @@ pub record IsEntered (Holds : List Row → Type 0) (first next : ℕ) (gone : Li
   pub apart : new.apart ≡ old.apart
   pub same : all_rows past new ≡ all_rows gone old
 
--- all rows are the same, and where it ends the earlier ones are let go, and the last cell stands apart
+-- all rows are the same, and where it ends the earlier ones are dropped, and the last cell stands apart
 pub record IsLeft (Holds : List Row → Type 0) (ends : Bool) (gone : List Row) (old new : Rows) : Type 0 where
   pub past : List Row
   pub held : Holds past
@@ -210,7 +210,7 @@ pub record IsGroupReady (p : Problem) (limit : Option ℕ) (counts : List ℕ) (
   pub can : CanFill p limit counts k from (all_rows gone rows)
   pub standing : AreStanding p k counts gone rows
 
--- and is, and perhaps further rows are let go
+-- and is, and perhaps further rows are dropped
 pub record IsGroupFilled (Holds : List Row → Type 0) (p : Problem) (limit : Option ℕ) (counts : List ℕ) (k : ℕ) (gone : List Row) (old new : Rows) (end : ℕ) : Type 0 where
   pub past : List Row
   pub held : Holds past
@@ -222,14 +222,14 @@ pub record IsCellReady (p : Problem) (limit : Option ℕ) (counts : List ℕ) (g
   pub can : CanFillCell p limit counts (all_rows gone rows) ends
   pub standing : AreStanding p 0 counts gone rows
 
--- and is, and some rows are let go
+-- and is, and some rows are dropped
 pub record IsCellMade (Holds : List Row → Type 0) (p : Problem) (limit : Option ℕ) (counts : List ℕ) (rows : Rows) (ends : List ℕ) : Type 0 where
   pub gone : List Row
   pub held : Holds gone
   pub filled : IsCellFilled p limit counts (all_rows gone rows) ends
   pub standing : AreStanding p 4 counts gone rows
 
--- the whole table, of which some rows are let go; those before the latest have lower counts than the last
+-- the whole table, of which some rows are dropped; those before the latest have lower counts than the last
 pub record IsTableMade (p : Problem) (limit : Option ℕ) (gone : List Row) (rows : Rows) : Type 0 where
   pub table : IsWholeTable p limit (all_rows gone rows)
   pub before : (last : List ℕ) → AreLengths p.lists last → All (λ r. counts_number r.entry.counts < counts_number last) (gone ++ rows.earlier.items)

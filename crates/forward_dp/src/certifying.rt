@@ -1,6 +1,7 @@
 //! The whole table as a certificate.
 
 ghost use Rattle.std.specs.Prelude.{◌≡◌, ◌+◌, ◌*◌, ◌≤◌, List, length, IfOk};
+ghost use Rattle.switch_rules.specs.Bounds.{most_clusters, most_entries};
 ghost use Rattle.schedule_meaning.specs.Best.{IsBest};
 ghost use Rattle.dp_certificate.specs.Limits.{HasKeysWithin, IsLimited, IsSomeDelay};
 ghost use Rattle.dp_certificate.specs.Numbers.{sequence_of};
@@ -9,9 +10,9 @@ ghost use Rattle.dp_certificate.specs.Proves.{Proves};
 ghost use Rattle.dp_certificate.specs.Whole.{IsWhole};
 
 use crate::answer_of;
-use crate::kept::Past;
 use crate::lists::Lists;
-use crate::table::{room, table};
+use crate::live_rows::DroppedRows;
+use crate::table::{row_capacity, table};
 use dp_certificate::Certificate;
 use foundation::steps::Steps;
 use schedule_meaning::Instance;
@@ -21,7 +22,7 @@ use std::sync::ledger::Ledger;
 /// The whole table with the best answer: a certificate with an entry for each key that a fit prefix reaches, with the
 /// least delay of the prefixes that reach it. It proves its answer.
 ///
-/// There are at most as many servings as phases for each such key. An `Err` comes where memory runs out.
+/// There are at most as many servings as phases for each such key. `Err`: out of memory.
 ///
 /// docs/RULES.md, "Certificate".
 pub fn certify<L: Ledger>(
@@ -33,17 +34,19 @@ pub fn certify<L: Ledger>(
     ensures whole { IfOk result (λ c. IsWhole i.now c.entries) }
     ensures best { IfOk result (λ c. IsBest i.now c.answer) }
     ensures proves { IfOk result Proves }
-    ensures few { IfOk result (λ c. (length c.entries ≤ 2000001) × (length (sequence_of c.answer) ≤ 40)) }
-    ensures servings { (keys : List Key) → HasAllKeys i.now keys → steps.new ≤ steps.old + length i.now.plan * length keys }
+    ensures few { IfOk result (λ c. (length c.entries ≤ most_entries)
+        × (length (sequence_of c.answer) ≤ most_clusters)) }
+    ensures servings { (keys : List Key) → HasAllKeys i.now keys
+        → steps.new ≤ steps.old + length i.now.plan * length keys }
 {
     certify_within(alloc, i, None, steps)
 }
 
-/// The table with a limit, with the best answer: a certificate with an entry for each key that a fit prefix within the limit
-/// reaches, with the least delay of the prefixes that reach it. It proves its answer. The limit is the delay of a feasible
-/// sequence, in thousandths of a vehicle times seconds; with none the table is the whole one.
+/// The table with a limit, with the best answer: a certificate with an entry for each key that a fit prefix within
+/// the limit reaches, with the least delay of the prefixes that reach it. It proves its answer. The limit is the
+/// delay of a feasible sequence, in thousandths of a vehicle times seconds; with none the table is the whole one.
 ///
-/// There are at most as many servings as phases for each such key. An `Err` comes where memory runs out.
+/// There are at most as many servings as phases for each such key. `Err`: out of memory.
 ///
 /// docs/RULES.md, "Bounded table".
 pub fn certify_within<L: Ledger>(
@@ -57,12 +60,14 @@ pub fn certify_within<L: Ledger>(
     ensures table { IfOk result (λ c. IsLimited i.now limit c.entries) }
     ensures best { IfOk result (λ c. IsBest i.now c.answer) }
     ensures proves { IfOk result Proves }
-    ensures few { IfOk result (λ c. (length c.entries ≤ 2000001) × (length (sequence_of c.answer) ≤ 40)) }
-    ensures servings { (keys : List Key) → HasKeysWithin i.now limit keys → steps.new ≤ steps.old + length i.now.plan * length keys }
+    ensures few { IfOk result (λ c. (length c.entries ≤ most_entries)
+        × (length (sequence_of c.answer) ≤ most_clusters)) }
+    ensures servings { (keys : List Key) → HasKeysWithin i.now limit keys
+        → steps.new ≤ steps.old + length i.now.plan * length keys }
 {
-    let mut past = Past {
-        wanted: true,
-        entries: Vec::with_capacity(alloc, 2 * room(i))?,
+    let mut past = DroppedRows {
+        keeps_entries: true,
+        entries: Vec::with_capacity(alloc, 2 * row_capacity(i))?,
     };
     let Lists {
         mut reached,

@@ -1,5 +1,5 @@
-//! The best answer of an instance by a table that grows forward: one row is kept for each key that fit prefixes reach. The
-//! whole table can be had as a certificate of that answer.
+//! The best answer of an instance by a table that grows forward: one row is kept for each key that fit prefixes
+//! reach. The whole table can be had as a certificate of that answer.
 #![tactic(auto)]
 
 ghost use Rattle.std.specs.Prelude.{◌≡◌, ◌⊎◌, ◌+◌, ◌*◌, ◌≤◌, ◌<◌, [], All, Contains, List, length, sum, slice_index, IfNone, IfOk, IfSome};
@@ -13,8 +13,8 @@ ghost use Rattle.forward_dp.specs.Tables.{HasAnswers};
 
 mod answers;
 mod certifying;
-mod kept;
 mod lists;
+mod live_rows;
 mod table;
 
 use answers::sequence_of;
@@ -24,19 +24,19 @@ use flat_table::{Row, better_of};
 use foundation::items::Items;
 use foundation::steps::Steps;
 use foundation::threads::CrossesThreads;
-use kept::{Past, Rows};
 pub use lists::Lists;
+use live_rows::{DroppedRows, Rows};
 use schedule_meaning::{Answer, Instance, Planner};
 use std::alloc::{AllocError, Global};
 use std::mem::replace;
 use std::sync::ledger::Ledger;
 use table::{cell, table};
 
-/// The best answer of an instance by a table with a row for each key that fit prefixes reach. A key is how many clusters of
-/// each phase are served, the green phase, since when, and up to which second its time is spent.
+/// The best answer of an instance by a table with a row for each key that fit prefixes reach. A key is how many
+/// clusters of each phase are served, the green phase, since when, and up to which second its time is spent.
 ///
 /// It takes at most as many steps, for each key that fit prefixes reach at all, as the instance has phases; also where
-/// it fails. An `Err` comes where memory runs out.
+/// it fails. `Err`: out of memory.
 ///
 /// docs/RULES.md, "Best answer".
 pub fn layered<L: Ledger>(
@@ -46,17 +46,18 @@ pub fn layered<L: Ledger>(
 ) -> Result<Answer, AllocError>
     ensures best { IfOk result (IsBest i.now) }
     ensures least { IfOk result (IsLeast i.now) }
-    ensures servings { (keys : List Key) → HasAllKeys i.now keys → steps.new ≤ steps.old + length i.now.plan * length keys }
+    ensures servings { (keys : List Key) → HasAllKeys i.now keys
+        → steps.new ≤ steps.old + length i.now.plan * length keys }
 {
     layered_within(alloc, i, None, steps)
 }
 
-/// The best answer of an instance, as `layered` gives it, by a table with a limit: no row is kept whose delay, with what the
-/// clusters that are left cost at the least, is above it. The limit is the delay of a feasible sequence, in thousandths of a
-/// vehicle times seconds; with none the table is the whole one.
+/// The best answer of an instance, as `layered` gives it, by a table with a limit: no row is kept whose delay, with
+/// what the clusters that are left cost at the least, is above it. The limit is the delay of a feasible sequence, in
+/// thousandths of a vehicle times seconds; with none the table is the whole one.
 ///
-/// It takes at most as many steps, for each key that fit prefixes within the limit reach, as the instance has phases; also
-/// where it fails. An `Err` comes where memory runs out.
+/// It takes at most as many steps, for each key that fit prefixes within the limit reach, as the instance has phases;
+/// also where it fails. `Err`: out of memory.
 ///
 /// docs/RULES.md, "Bounded table".
 pub fn layered_within<L: Ledger>(
@@ -68,13 +69,14 @@ pub fn layered_within<L: Ledger>(
     requires { IsSomeDelay i.now limit }
     ensures best { IfOk result (IsBest i.now) }
     ensures least { IfOk result (IsLeast i.now) }
-    ensures servings { (keys : List Key) → HasKeysWithin i.now limit keys → steps.new ≤ steps.old + length i.now.plan * length keys }
+    ensures servings { (keys : List Key) → HasKeysWithin i.now limit keys
+        → steps.new ≤ steps.old + length i.now.plan * length keys }
 {
     layered_in(alloc, &mut Lists::new(alloc), i, limit, steps)
 }
 
-/// The best answer of an instance by a table with a limit, as `layered_within` gives it, in these lists, in as few steps. After an
-/// `Err`, which comes where memory runs out, the lists have given their memory back.
+/// The best answer of an instance by a table with a limit, as `layered_within` gives it, in these lists, in as few
+/// steps. After an `Err`, which comes where memory runs out, the lists have given their memory back.
 ///
 /// docs/RULES.md, "Bounded table".
 pub fn layered_in<L: Ledger>(
@@ -87,10 +89,11 @@ pub fn layered_in<L: Ledger>(
     requires { IsSomeDelay i.now limit }
     ensures best { IfOk result (IsBest i.now) }
     ensures least { IfOk result (IsLeast i.now) }
-    ensures servings { (keys : List Key) → HasKeysWithin i.now limit keys → steps.new ≤ steps.old + length i.now.plan * length keys }
+    ensures servings { (keys : List Key) → HasKeysWithin i.now limit keys
+        → steps.new ≤ steps.old + length i.now.plan * length keys }
 {
-    let mut past = Past {
-        wanted: false,
+    let mut past = DroppedRows {
+        keeps_entries: false,
         entries: Vec::new(alloc),
     };
     let Lists {
@@ -165,7 +168,8 @@ impl Planner for LayerPlanner {
         ensures best { IfOk result (IsBest i.now) }
         ensures least { IfOk result (IsLeast i.now) }
         ensures only { IfOk result (λ answer. (other : Answer) → IsBest i.now other → other ≡ answer) }
-        ensures servings { (keys : List Key) → HasAllKeys i.now keys → steps.new ≤ steps.old + length i.now.plan * length keys }
+        ensures servings { (keys : List Key) → HasAllKeys i.now keys
+            → steps.new ≤ steps.old + length i.now.plan * length keys }
     {
         layered(alloc, i, steps)
     }

@@ -1,8 +1,8 @@
 //! The lists of a table, which are kept from one planning to the next.
 ghost use Rattle.flat_table.specs.Groups.{IsEmpty};
 
-use crate::kept::Rows;
-use crate::table::room;
+use crate::live_rows::Rows;
+use crate::table::row_capacity;
 use flat_table::Reached;
 use foundation::threads::CrossesThreads;
 use schedule_meaning::Instance;
@@ -34,7 +34,7 @@ impl Lists {
         }
     }
 
-    /// These lists with no row, and with room for the table of an instance. An `Err` comes where memory runs out.
+    /// These lists with no row, with capacity for the table of an instance. `Err`: out of memory.
     pub(crate) fn for_table(self, i: &Instance) -> Result<Lists, AllocError>
         ensures { IfOk result (λ lists. HasNone lists.rows) }
     {
@@ -42,9 +42,9 @@ impl Lists {
             mut reached,
             mut rows,
         } = self;
-        let room = room(i);
-        reached.make_room(room / 8)?;
-        rows.clear(room)?;
+        let capacity = row_capacity(i);
+        reached.reserve_rows(capacity / 8)?;
+        rows.clear(capacity)?;
         Ok(Lists { reached, rows })
     }
 }

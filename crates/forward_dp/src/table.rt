@@ -9,7 +9,7 @@ ghost use Rattle.forward_dp.specs.Numbers.{counts_number};
 ghost use Rattle.forward_dp.specs.Tables.{HasEntries, IsCellMade, IsCellReady, IsFrom, IsGroupFilled, IsGroupReady, IsLastCounts, IsNextCounts, HasNone, IsTableMade, all_rows};
 ghost use Rattle.flat_table.specs.declared.rows.Row.{Row};
 
-use crate::kept::{Past, Rows};
+use crate::live_rows::{DroppedRows, Rows};
 use dp_certificate::{Entry, list_lengths};
 use flat_table::{Order, Reached, Row};
 use foundation::steps::Steps;
@@ -18,15 +18,15 @@ use std::alloc::AllocError;
 use std::sync::ledger::Ledger;
 use switch_rules::ways;
 
-/// The greatest room for rows from the start.
-const MOST_ROOM: u32 = 32_768;
+/// The greatest capacity for rows from the start.
+const MOST_CAPACITY: u32 = 32_768;
 
-/// Makes the whole table out of no rows: a row for each key that a fit prefix reaches. Where there is a limit, which is the delay of
-/// a feasible sequence, only with what is within it.
+/// Makes the whole table out of no rows: a row for each key that a fit prefix reaches. Where there is a limit, which
+/// is the delay of a feasible sequence, only with what is within it.
 pub(crate) fn table<L: Ledger>(
     i: &Instance,
     limit: Option<u64>,
-    past: &mut Past,
+    past: &mut DroppedRows,
     reached: &mut Reached,
     rows: &mut Rows,
     steps: &mut Steps<L>,
@@ -36,36 +36,47 @@ pub(crate) fn table<L: Ledger>(
     requires empty { IsEmpty reached.old }
     requires none { HasNone rows.old }
     ensures whole { OnOk result ((gone : List Row) × HasEntries past.new gone × IsTableMade i.now limit gone rows.new) }
-    ensures wanted { past.new.wanted ≡ past.old.wanted }
+    ensures keeps_entries { past.new.keeps_entries ≡ past.old.keeps_entries }
     ensures empty { OnOk result (IsEmpty reached.new) }
-    ensures servings { (keys : List Key) → HasKeysWithin i.now limit keys → steps.new ≤ steps.old + length i.now.plan * length keys }
+    ensures servings { (keys : List Key) → HasKeysWithin i.now limit keys
+        → steps.new ≤ steps.old + length i.now.plan * length keys }
 {
+    let task = Task { i, limit };
     let last = list_lengths(i);
     rows.latest.push(first_row(i))?;
     let mut counts = [0; 4];
     let mut ends = [0; 4];
     while let Some(next) = next_counts(&counts, &last) {
         rows.enter(&counts, &next, past)?;
-        fill_cell(i, limit, &next, &mut ends, reached, rows, past, steps)?;
+        fill_cell(&task, &next, &mut ends, reached, rows, past, steps)?;
         counts = next;
     }
     Ok(())
 }
 
-/// For how many rows there is room from the start, so that the lists of a large table lie in pages of their own and seldom move:
-/// for as many as there are orders, up to a bound. Only what is filled takes memory.
-pub(crate) fn room(i: &Instance) -> usize
+/// For how many rows memory is reserved from the start, so that the lists of a large table lie in pages of their own
+/// and seldom move: for as many as there are orders, up to a bound. Only what is filled takes memory.
+pub(crate) fn row_capacity(i: &Instance) -> usize
     ensures { result ≤ 32768 }
 {
     let mut counts = [0; 4];
     let counts = &mut counts[..i.plan().count() as usize];
     i.count(counts);
-    ways(counts).min(MOST_ROOM) as usize
+    ways(counts).min(MOST_CAPACITY) as usize
 }
 
 /// The row of the sequence of no places.
 fn first_row(i: &Instance) -> Row
-    ensures row { result ≡ record { entry = record { counts = 0 ∷ 0 ∷ 0 ∷ 0 ∷ []; phase = i.now.head.phase; since = i.now.head.since; at = i.now.head.at; delay = 0 }; order = 0 } }
+    ensures row { result ≡ record {
+      entry = record {
+        counts = 0 ∷ 0 ∷ 0 ∷ 0 ∷ [];
+        phase = i.now.head.phase;
+        since = i.now.head.since;
+        at = i.now.head.at;
+        delay = 0;
+      };
+      order = 0;
+    } }
     ensures instance { IsInstance i.now }
 {
     let head = i.head();
@@ -81,12 +92,13 @@ fn first_row(i: &Instance) -> Row
     }
 }
 
-/// The next counts, in their order, none of which is above the last; none behind the last.
+/// The next counts, in their order, none of which is above the last; none after the last.
 fn next_counts(counts: &[u8; 4], last: &[u8; 4]) -> Option<[u8; 4]>
     requires small { (k : ℕ) → slice_index last.now k < 64 }
     requires within { (k : ℕ) → slice_index counts.now k ≤ slice_index last.now k }
     ensures some { IfSome result (IsNextCounts last.now counts.now) }
-    ensures none { IfNone result ((c : List ℕ) → ((k : ℕ) → slice_index c k ≤ slice_index last.now k) → counts_number c ≤ counts_number counts.now) }
+    ensures none { IfNone result ((c : List ℕ) → ((k : ℕ) → slice_index c k ≤ slice_index last.now k)
+        → counts_number c ≤ counts_number counts.now) }
 {
     let [first, second, third, fourth] = *counts;
     if fourth < last[3] {
@@ -104,78 +116,102 @@ fn next_counts(counts: &[u8; 4], last: &[u8; 4]) -> Option<[u8; 4]>
     None
 }
 
-/// Puts the rows with these counts behind the others. For each phase it is known where the last rows end from which the
+/// What a table is made for.
+#[derive(Clone, Copy)]
+struct Task<'a> {
+    /// The instance.
+    i: &'a Instance,
+    /// What a row, with what is left at the least, may cost, where there is a limit.
+    limit: Option<u64>,
+}
+
+/// The rows with the same counts and the same green phase.
+#[derive(Clone, Copy)]
+struct Group {
+    counts: [u8; 4],
+    phase: u8,
+    /// The rows from which they are reached stand from this place on.
+    from: usize,
+}
+
+/// Appends the rows with these counts to the others. For each phase it is known where the last rows end from which the
 /// phase was served.
 fn fill_cell<L: Ledger>(
-    i: &Instance,
-    limit: Option<u64>,
+    task: &Task<'_>,
     counts: &[u8; 4],
     ends: &mut [usize; 4],
     reached: &mut Reached,
     rows: &mut Rows,
-    past: &mut Past,
+    past: &mut DroppedRows,
     steps: &mut Steps<L>,
 ) -> Result<(), AllocError>
-    requires cell { (gone : List Row) × HasEntries past.old gone × IsCellReady i.now limit counts.now gone rows.old ends.old }
+    requires cell { (gone : List Row) × HasEntries past.old gone
+        × IsCellReady task.now.i.now task.now.limit counts.now gone rows.old ends.old }
     requires empty { IsEmpty reached.old }
-    ensures filled { (gone : List Row) → HasEntries past.old gone → IsCellReady i.now limit counts.now gone rows.old ends.old → OnOk result (IsCellMade (HasEntries past.new) i.now limit counts.now rows.new ends.new) }
-    ensures wanted { past.new.wanted ≡ past.old.wanted }
+    ensures filled { (gone : List Row) → HasEntries past.old gone
+        → IsCellReady task.now.i.now task.now.limit counts.now gone rows.old ends.old
+        → OnOk result (IsCellMade (HasEntries past.new) task.now.i.now task.now.limit counts.now rows.new ends.new) }
+    ensures keeps_entries { past.new.keeps_entries ≡ past.old.keeps_entries }
     ensures empty { OnOk result (IsEmpty reached.new) }
     ensures steps { OnOk result (steps.new + sum ends.old ≤ steps.old + sum ends.new) }
-    ensures most { (keys : List Key) → HasKeysWithin i.now limit keys → steps.new + sum ends.old ≤ steps.old + length i.now.plan * length keys }
+    ensures most { (keys : List Key) → HasKeysWithin task.now.i.now task.now.limit keys
+        → steps.new + sum ends.old ≤ steps.old + length task.now.i.now.plan * length keys }
 {
-    for phase in 0..i.plan().count() {
+    for phase in 0..task.i.plan().count() {
         if counts[phase as usize] > 0 {
-            ends[phase as usize] = fill_group(
-                i,
-                limit,
-                counts,
+            let group = Group {
+                counts: *counts,
                 phase,
-                ends[phase as usize],
-                reached,
-                rows,
-                past,
-                steps,
-            )?;
+                from: ends[phase as usize],
+            };
+            ends[phase as usize] = fill_group(task, &group, reached, rows, past, steps)?;
         }
     }
     Ok(())
 }
 
-/// Puts the rows with these counts and this phase behind the others, and tells where the rows end from which they are
-/// reached; these stand from a place on.
+/// Appends the rows of a group to the others. The result is where the rows end from which they are reached.
 fn fill_group<L: Ledger>(
-    i: &Instance,
-    limit: Option<u64>,
-    counts: &[u8; 4],
-    phase: u8,
-    from: usize,
+    task: &Task<'_>,
+    group: &Group,
     reached: &mut Reached,
     rows: &mut Rows,
-    past: &mut Past,
+    past: &mut DroppedRows,
     steps: &mut Steps<L>,
 ) -> Result<usize, AllocError>
-    requires group { (gone : List Row) × IsGroupReady i.now limit counts.now phase from gone rows.old }
+    requires group { (gone : List Row) × IsGroupReady task.now.i.now task.now.limit group.now.counts group.now.phase group.now.from gone rows.old }
     requires empty { IsEmpty reached.old }
-    ensures filled { (gone : List Row) → HasEntries past.old gone → IsGroupReady i.now limit counts.now phase from gone rows.old → IfOk result (IsGroupFilled (HasEntries past.new) i.now limit counts.now phase gone rows.old rows.new) }
-    ensures wanted { past.new.wanted ≡ past.old.wanted }
+    ensures filled { (gone : List Row) → HasEntries past.old gone
+        → IsGroupReady task.now.i.now task.now.limit group.now.counts group.now.phase group.now.from gone rows.old
+        → IfOk result (IsGroupFilled (HasEntries past.new) task.now.i.now task.now.limit group.now.counts group.now.phase gone rows.old rows.new) }
+    ensures keeps_entries { past.new.keeps_entries ≡ past.old.keeps_entries }
     ensures empty { OnOk result (IsEmpty reached.new) }
-    ensures steps { IfOk result (λ end. steps.new + from ≤ steps.old + end) }
-    ensures most { (gone : List Row) → IsGroupReady i.now limit counts.now phase from gone rows.old → steps.new + from ≤ steps.old + length (all_rows gone rows.old) }
+    ensures steps { IfOk result (λ end. steps.new + group.now.from ≤ steps.old + end) }
+    ensures most { (gone : List Row) → IsGroupReady task.now.i.now task.now.limit group.now.counts group.now.phase group.now.from gone rows.old
+        → steps.new + group.now.from ≤ steps.old + length (all_rows gone rows.old) }
 {
-    let mut before = *counts;
+    let phase = group.phase;
+    let mut before = group.counts;
     before[phase as usize] -= 1;
-    let cluster = &i.list(phase)[before[phase as usize] as usize];
+    let cluster = &task.i.list(phase)[before[phase as usize] as usize];
     let base = rows.base(phase);
     let source = rows.source(phase);
-    let (start, end) = cell(source, from.saturating_sub(base), &before);
-    reached.reach(i, &source[start..end], phase, cluster, limit, steps)?;
-    rows.leave(is_last(i, counts, phase), past)?;
-    reached.put_behind(&mut rows.latest)?;
+    let (start, end) = cell(source, group.from.saturating_sub(base), &before);
+    reached.reach(
+        task.i,
+        &source[start..end],
+        phase,
+        cluster,
+        task.limit,
+        steps,
+    )?;
+    rows.leave(is_last(task.i, &group.counts, phase), past)?;
+    reached.append_to(&mut rows.latest)?;
     Ok(base + end)
 }
 
-/// Whether these counts are the last, and the phase is the first, which alone is served from rows with fewer clusters of it.
+/// Whether these counts are the last, and the phase is the first, which alone is served from rows with fewer clusters
+/// of it.
 fn is_last(i: &Instance, counts: &[u8; 4], phase: u8) -> bool
     ensures { IsTrue result ↔ (phase ≡ 0) × IsLastCounts i.now counts.now }
 {

@@ -30,6 +30,6 @@ pub All-middle : {X : Type 0} (P : X → Type 0) (xs ys : List X) (y : X) → Al
 All-middle P [] ys y all = All-head P y ys all
 All-middle P (x ∷ xs) ys y all = All-middle P xs ys y (All-tail P x (xs ++ y ∷ ys) all)
 
--- a list is what comes before an element, the element, and what comes behind it
+-- a list is what comes before an element, the element, and what comes after it
 pub split-at : {X : Type 0} (xs : List X) (i : ℕ) (d : X) → i < length xs → xs ≡ take i xs ++ get_or xs i d ∷ drop (i + 1) xs
 split-at xs i d h = sym (take-append-drop i xs) ∙ ap (λ l. take i xs ++ l) (rw add-one (drop-cons xs i d h))

@@ -59,7 +59,7 @@ writable_no_head : IsWritableHead no_head
 unfolding no_head
 writable_no_head = record { phase = omega arith; since = omega arith; at = omega arith }
 
--- no clusters for each of so many phases
+-- no clusters for each of this many phases
 no_lists : ℕ → List (List Cluster)
 no_lists n = replicate n []
 

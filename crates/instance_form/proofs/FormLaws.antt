@@ -18,7 +18,7 @@ use Rattle.instance_form.specs.declared.form.Form.{Form}
 use Rattle.instance_form.specs.declared.form.FormFault.{FormFault}
 use Rattle.instance_form.specs.declared.form.FormFault.TheVariants.{Line, NoMemory}
 use Rattle.instance_form.specs.Lines.{count_line_at, phase_line_at, head_line_at, cluster_line_at}
-use Rattle.instance_form.specs.Answers.{HasParts, IsWant}
+use Rattle.instance_form.specs.Answers.{HasParts, IsOutOfMemory}
 use Rattle.instance_form.specs.InstanceText.{count_line, phase_line, head_line, cluster_line, cluster_lines, instance_text, line_count, IsWritable, IsWritableCluster, HasText}
 use Rattle.instance_form.proofs.LineLaws.{count_takes, count_again, phase_takes, phase_again, head_takes, head_again, cluster_takes, cluster_again, cluster_other, cluster_end}
 use Rattle.instance_form.specs.Reading.{◌>>=◌, Fails, Gives, Parts, parts_of, opening_at, phases_at, lists_at, form_at}
@@ -216,7 +216,7 @@ front_takes line bytes (Ok x) given = form_takes line bytes (front_seen x) given
 front_takes line bytes (Err e) given = tt
 
 pub front_only : (line : ℕ) (bytes : List ℕ) (r : Result (Form × ℕ × Bor (List ℕ)) FormFault) → Gives (λ x. (parts_of x.0, x.1, x.2.now)) r (form_at line bytes)
-    → (plan : List Phase) (h : Head) (lists : List (List Cluster)) (rest : List ℕ) → HasText plan h lists → bytes ≡ instance_text plan h lists ++ rest → MatchResult r (λ x. HasParts x.0 plan h lists × (x.2.now ≡ rest)) IsWant
+    → (plan : List Phase) (h : Head) (lists : List (List Cluster)) (rest : List ℕ) → HasText plan h lists → bytes ≡ instance_text plan h lists ++ rest → MatchResult r (λ x. HasParts x.0 plan h lists × (x.2.now ≡ rest)) IsOutOfMemory
 front_only line bytes (Ok x) given plan h lists rest fits e =
     let same = same_Ok (front_seen x) (record { plan = plan; head = h; lists = lists }, line + line_count plan lists, rest) (sym given ∙ ap (form_at line) e ∙ form_again line plan h lists rest fits) in (
       record {

@@ -13,7 +13,7 @@ pub record HasParts (form : Form) (plan : List Phase) (h : Head) (lists : List (
   pub head : form.head ≡ h
   pub each : form.lists.items ≡ lists
 
--- only memory is wanting
-abbrev pub IsWant : FormFault → Type 0
-IsWant (Line n) = ⊥
-IsWant NoMemory = Unit {0}
+-- it is out of memory
+abbrev pub IsOutOfMemory : FormFault → Type 0
+IsOutOfMemory (Line n) = ⊥
+IsOutOfMemory NoMemory = Unit {0}

@@ -1,4 +1,4 @@
--- The one spelling of an intersection's instance.
+-- The one text of an intersection's instance.
 use Rattle.std.specs.Prelude.{◌≡◌, ℕ, ◌+◌, ◌^◌, ◌<◌, ◌≤◌, Bool, true, false, List, [], ◌∷◌, ◌++◌, length, map, sum_by, All, codes}
 use Rattle.std.specs.List.{flat_map, concat}
 use Rattle.std.specs.Fmt.{decimal}
@@ -62,7 +62,7 @@ pub record IsWritableCluster (c : Cluster) : Type 0 where
   pub arr : c.arr < 2 ^ 32
   pub len : c.len < 2 ^ 32
 
--- what has a spelling: two to four phases, with a list of clusters for each
+-- what has a text: two to four phases, with a list of clusters for each
 pub record HasText (plan : List Phase) (h : Head) (lists : List (List Cluster)) : Type 0 where
   pub count : (2 ≤ length plan) × (length plan ≤ 4)
   pub each : length lists ≡ length plan

@@ -30,7 +30,7 @@ abbrev pub Gives : {X Y : Type 0} → (X → Y) → Result X FormFault → Resul
 Gives view (Ok x) read = read ≡ Ok (view x)
 Gives view (Err e) read = Fails e read
 
--- so many lines of phases, the first with this number
+-- this many lines of phases, the first with this number
 unfoldable pub phases_at : ℕ → ℕ → List ℕ → Result (List Phase × List ℕ) ℕ
 phases_at zero line bytes = Ok ([], bytes)
 phases_at (suc count) line bytes = do
@@ -38,7 +38,7 @@ phases_at (suc count) line bytes = do
   others ← phases_at count (line + 1) first.1
   Ok (first.0 ∷ others.0, others.1)
 
--- the lines of clusters of so many phases, from this one on
+-- the lines of clusters of this many phases, from this one on
 unfoldable pub lists_at : ℕ → ℕ → List ℕ → List (List Cluster) × List ℕ
 lists_at zero phase bytes = ([], bytes)
 lists_at (suc count) phase bytes =

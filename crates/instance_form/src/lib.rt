@@ -8,5 +8,5 @@ mod reading;
 mod writing;
 
 pub use form::{Form, FormFault};
-pub use reading::{one_text, read_form, read_front};
+pub use reading::{law_of_instance_texts, read_form, read_front};
 pub use writing::write_form;

@@ -12,7 +12,7 @@ use phase_plan::Phase;
 use std::alloc::{AllocError, Global};
 use switch_rules::Cluster;
 
-/// So many phases, the first of them in this line, and the bytes after them.
+/// `count` phases, the first of them in this line, and the bytes after them.
 ///
 /// docs/FORMATS.md, "Instance text".
 pub fn phases(
@@ -39,7 +39,8 @@ pub fn phases(
 ///
 /// docs/FORMATS.md, "Instance text".
 pub fn clusters(alloc: Global, phase: u8, bytes: &[u8]) -> Result<(Vec<Cluster>, &[u8]), AllocError>
-    ensures exact { IfOk result (λ x. many_at (cluster_line_at phase) (length bytes.now) bytes.now ≡ (x.0.items, x.1.now)) }
+    ensures exact { IfOk result (λ x. many_at (cluster_line_at phase) (length bytes.now) bytes.now
+        ≡ (x.0.items, x.1.now)) }
     ensures few { IfOk result (λ x. length x.0.items + length x.1.now ≤ length bytes.now) }
 {
     let mut list = Vec::new(alloc);
@@ -51,7 +52,7 @@ pub fn clusters(alloc: Global, phase: u8, bytes: &[u8]) -> Result<(Vec<Cluster>,
     Ok((list, rest))
 }
 
-/// The clusters of each of so many phases, how many they are in all, and the bytes after them.
+/// The clusters of each of this many phases, how many they are in all, and the bytes after them.
 ///
 /// docs/FORMATS.md, "Instance text".
 pub fn lists(

@@ -4,7 +4,7 @@ ghost use Rattle.std.specs.Prelude.{◌≡◌, ◌+◌, ◌^◌, ◌<◌, ◌≤
 ghost use Rattle.phase_plan.specs.declared.Phase.{Phase};
 ghost use Rattle.switch_rules.specs.declared.Head.{Head};
 ghost use Rattle.switch_rules.specs.declared.Cluster.{Cluster};
-ghost use Rattle.instance_form.specs.Answers.{HasParts, IsWant};
+ghost use Rattle.instance_form.specs.Answers.{HasParts, IsOutOfMemory};
 ghost use Rattle.instance_form.specs.Faults.{BeginsText, BeginsFront, IsFaultOf};
 ghost use Rattle.instance_form.specs.InstanceText.{HasText, instance_text, line_count};
 ghost use Rattle.instance_form.specs.Reading.{Gives, parts_of, opening_at, form_at};
@@ -81,7 +81,7 @@ pub fn read_front(alloc: Global, line: u32, bytes: &[u8]) -> Result<(Form, u32, 
     ensures next { IfOk result (λ x. x.1 ≡ line + line_count x.0.phases.items x.0.lists.items) }
     ensures only { (plan : List Phase) (h : Head) (lists : List (List Cluster)) (rest : List ℕ)
         → HasText plan h lists → bytes.now ≡ instance_text plan h lists ++ rest
-        → MatchResult result (λ x. HasParts x.0 plan h lists × (x.2.now ≡ rest)) IsWant }
+        → MatchResult result (λ x. HasParts x.0 plan h lists × (x.2.now ≡ rest)) IsOutOfMemory }
     ensures first { IfErr result (IsFaultOf BeginsFront line bytes.now) }
 {
     form_front(alloc, line, bytes)
@@ -98,7 +98,7 @@ pub fn read_form(alloc: Global, bytes: &[u8]) -> Result<Form, FormFault>
         × (bytes.now ≡ instance_text form.phases.items form.head form.lists.items)) }
     ensures only { (plan : List Phase) (h : Head) (lists : List (List Cluster))
         → HasText plan h lists → bytes.now ≡ instance_text plan h lists
-        → MatchResult result (λ form. HasParts form plan h lists) IsWant }
+        → MatchResult result (λ form. HasParts form plan h lists) IsOutOfMemory }
     ensures first { IfErr result (IsFaultOf BeginsText 1 bytes.now) }
 {
     let (form, line, rest) = read_front(alloc, 1, bytes)?;
@@ -112,7 +112,7 @@ pub fn read_form(alloc: Global, bytes: &[u8]) -> Result<Form, FormFault>
 /// Each text is that of one form, and none begins another.
 ///
 /// docs/FORMATS.md, "Instance text".
-pub fn one_text()
+pub fn law_of_instance_texts()
     ensures { (plan others : List Phase) (h g : Head) (lists queues : List (List Cluster)) (x y : List ℕ)
         → HasText plan h lists → HasText others g queues
         → instance_text plan h lists ++ x ≡ instance_text others g queues ++ y

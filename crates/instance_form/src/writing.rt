@@ -10,8 +10,7 @@ use phase_plan::Phase;
 use std::alloc::{AllocError, Global};
 use switch_rules::{Cluster, Head};
 
-/// The text of these phases, this head and the clusters of each phase, whatever their numbers. An `Err` comes where
-/// memory runs out.
+/// The text of these phases, this head and the clusters of each phase, whatever their numbers. `Err`: out of memory.
 ///
 /// docs/FORMATS.md, "Instance text".
 #[tactic(auto, unfolding(crate::specs::InstanceText::instance_text))]
@@ -32,7 +31,7 @@ pub fn write_form(
     Ok(text)
 }
 
-/// Writes the lines of phases behind a text.
+/// Appends the lines of phases to a text.
 fn write_phases(text: &mut Vec<u8>, phases: &[Phase]) -> Result<(), AllocError>
     ensures { OnOk result (text.new.items ≡ text.old.items ++ flat_map phase_line phases.now) }
 {
@@ -42,7 +41,7 @@ fn write_phases(text: &mut Vec<u8>, phases: &[Phase]) -> Result<(), AllocError>
     Ok(())
 }
 
-/// Writes the line of a phase behind a text.
+/// Appends the line of a phase to a text.
 fn write_phase(text: &mut Vec<u8>, phase: &Phase) -> Result<(), AllocError>
     ensures { OnOk result (text.new.items ≡ text.old.items ++ phase_line phase.now) }
 {
@@ -57,7 +56,7 @@ fn write_phase(text: &mut Vec<u8>, phase: &Phase) -> Result<(), AllocError>
     push_line(text, b"phase", &numbers)
 }
 
-/// Writes the line of a head behind a text.
+/// Appends the line of a head to a text.
 fn write_head(text: &mut Vec<u8>, head: &Head) -> Result<(), AllocError>
     ensures { OnOk result (text.new.items ≡ text.old.items ++ head_line head.now) }
 {
@@ -78,7 +77,7 @@ fn head_end(fresh: bool) -> &'static [u8]
     if fresh { b" fresh\n" } else { b" kept\n" }
 }
 
-/// Writes the lines of the clusters of each phase behind a text.
+/// Appends the lines of the clusters of each phase to a text.
 fn write_lists(text: &mut Vec<u8>, lists: &[Items<Cluster>]) -> Result<(), AllocError>
     ensures { OnOk result (text.new.items ≡ text.old.items ++ cluster_lines 0 lists.now) }
 {
@@ -88,7 +87,7 @@ fn write_lists(text: &mut Vec<u8>, lists: &[Items<Cluster>]) -> Result<(), Alloc
     Ok(())
 }
 
-/// Writes the lines of the clusters of this phase behind a text.
+/// Appends the lines of the clusters of this phase to a text.
 fn write_list(text: &mut Vec<u8>, phase: u64, list: &[Cluster]) -> Result<(), AllocError>
     ensures { OnOk result (text.new.items ≡ text.old.items ++ flat_map (cluster_line phase) list.now) }
 {
@@ -98,7 +97,7 @@ fn write_list(text: &mut Vec<u8>, phase: u64, list: &[Cluster]) -> Result<(), Al
     Ok(())
 }
 
-/// Writes the line of a cluster of this phase behind a text.
+/// Appends the line of a cluster of this phase to a text.
 fn write_cluster(text: &mut Vec<u8>, phase: u64, cluster: &Cluster) -> Result<(), AllocError>
     ensures { OnOk result (text.new.items ≡ text.old.items ++ cluster_line phase cluster.now) }
 {

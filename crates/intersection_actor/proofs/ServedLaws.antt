@@ -8,7 +8,7 @@ use Rattle.phase_plan.specs.declared.Phase.{Phase}
 use Rattle.phase_plan.proofs.RingLaws.{phase-bounds}
 use Rattle.switch_rules.specs.Orders.{one_less}
 use Rattle.switch_rules.specs.Sequences.{AreNextServings}
-use Rattle.switch_rules.specs.Serving.{IsCluster, IsHead, head_behind}
+use Rattle.switch_rules.specs.Serving.{IsCluster, IsHead, head_after}
 use Rattle.switch_rules.specs.declared.Cluster.{Cluster}
 use Rattle.switch_rules.specs.declared.Head.{Head}
 use Rattle.switch_rules.specs.declared.Served.{Served}
@@ -30,7 +30,7 @@ served-few plan lists (k ∷ ks) left head [] next = absurd next
 served-few plan lists (k ∷ ks) left head (s ∷ ss) next =
     let one = next.0 in
     let some = next-left lists left k one.cluster one.next in
-    omega (arith, sum-one_less left k some, served-few plan lists ks (one_less left k) (head_behind k s) ss next.1)
+    omega (arith, sum-one_less left k some, served-few plan lists ks (one_less left k) (head_after k s) ss next.1)
 
 -- greens begin no later than clusters arrive and may wait
 module _ (plan : List Phase) (lists : List (List Cluster)) (p : IsPlan plan) (each : length lists ≡ length plan) (bounds : All (All IsCluster) lists) (n : ℕ) (soon : ArriveBy n lists) where
@@ -44,9 +44,9 @@ module _ (plan : List Phase) (lists : List (List Cluster)) (p : IsPlan plan) (ea
       let by = next-within (λ (c : Cluster). c.arr ≤ n) lists left k one.cluster soon one.next in
       let below : k < length plan = omega (arith, each, within.0) in
       let times = phase-bounds plan k p below in
-      let keeps = serving-keeps plan head k one.cluster s (head_behind k s) below times h within.1 one.fit in
+      let keeps = serving-keeps plan head k one.cluster s (head_after k s) below times h within.1 one.fit in
       let early : s.green ≤ 100000 = omega (arith, keeps.times.in_green, keeps.times.waited, by.1, times.wait, few) in
-      All-cons (λ (x : Served). x.green ≤ 100000) s ss early (greens-by ks (one_less left k) (head_behind k s) ss keeps.bounds.head few next.1)
+      All-cons (λ (x : Served). x.green ≤ 100000) s ss early (greens-by ks (one_less left k) (head_after k s) ss keeps.bounds.head few next.1)
 
 -- a feasible sequence is short
 pub feasible-short : (p : Problem) (sequence : List ℕ) (delay : ℕ) → IsInstance p → delay_of p sequence ≡ Some delay → length sequence < 4294967296

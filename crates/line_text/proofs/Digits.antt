@@ -56,7 +56,7 @@ no_zero_first : (v n c : ℕ) (cs : List ℕ) → n < 2 ^ 64 → decimal n ≡ d
 no_zero_first zero n c cs lt e = absurd (zero_alone n c cs lt (e ∙ ap (λ (x : List ℕ). x ++ c ∷ cs) (decimal_digit 0 (omega arith))))
 no_zero_first (suc v) n c cs lt e = omega arith
 
--- what was read of a number after so many bytes
+-- what was read of a number after this many bytes
 pub record IsFront (i v : ℕ) (bytes : List ℕ) : Type 0 where
   pub nothing : i ≡ 0 → v ≡ 0
   pub digits_so_far : 0 < i → take i bytes ≡ decimal v
@@ -171,7 +171,7 @@ one_number m n s x y m_lt n_lt apart e =
         let head : c ≡ s = cc in
         absurd (apart (subst IsAsciiDigit head (digit_from_value c all.0)))
 
--- what follows from a spelling of a number that is at most m, wherever reading has come to
+-- what follows from the text of a number that is at most m, wherever reading has come to
 record Reading (i v m s : ℕ) (bytes : List ℕ) : Type 0 where
   pub front : IsFront i v bytes
   pub bound : v ≤ m
@@ -220,7 +220,7 @@ one_digit bytes c some at digit =
     let front : IsFront 1 (0 * 10 + (c - 48)) bytes = one_more 0 0 c bytes (omega arith) digit some at (λ h. absurd (omega arith)) (record { nothing = λ _. refl; digits_so_far = λ h. absurd (omega arith) }) in
     front.digits_so_far (omega arith) ∙ ap decimal (omega arith)
 
--- what a spelling of a number that is at most `most` says, where reading has come to a place at which it can't go on
+-- what the text of a number that is at most `most` says, where reading has come to a place at which it can't go on
 pub ends_here : (most place number s : ℕ) (bytes : List ℕ) → 0 < place → take place bytes ≡ decimal number → (number ≡ 0) ⊎ (IsAsciiDigit (get_or bytes place 0) → ⊥) → number < 2 ^ 64 → most < 2 ^ 64 → ¬ IsAsciiDigit s
     → (n : ℕ) (r : List ℕ) → n ≤ most → bytes ≡ decimal n ++ s ∷ r → (get_or bytes place 0 ≡ s) × (place < length bytes) × (number ≡ n) × (drop (place + 1) bytes ≡ r)
 ends_here most place number s bytes some front last fits wide apart n r le e =
@@ -245,7 +245,7 @@ digit-more i v c bytes some front positive fits digit lt at =
     let more = one_more i v c bytes fits digit lt at (λ _. positive) (record { nothing = λ h. absurd (omega arith); digits_so_far = λ _. front }) in
     more.digits_so_far (omega arith)
 
--- so many digits make less than this
+-- this many digits make less than this
 pub short : (i v c : ℕ) → IsAsciiDigit c → v < 10 ^ i → v * 10 + (c - 48) < 10 ^ (i + 1)
 short i v c digit h = omega (arith, pow_more 10 i)
 

@@ -56,7 +56,7 @@ feeds_in_words (w ∷ v ∷ words) all =
     let space = line_feeds-cons 32 (join_with_byte 32 (v ∷ words)) in
     omega (arith, joined, space, more, this)
 
--- a word with numbers behind it
+-- a word with numbers after it
 pub feeds_in_numbers : (word : List ℕ) (ns : List ℕ) → line_feeds word ≡ 0 → AllByRecursion (λ n. n < 2 ^ 64) ns → line_feeds (join_with_byte 32 (word ∷ map decimal ns)) ≡ 0
 feeds_in_numbers word [] none all = none
 feeds_in_numbers word (n ∷ ns) none all =

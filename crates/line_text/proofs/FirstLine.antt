@@ -18,7 +18,7 @@ no_line R mid more n e one =
     n.apart (w.0 ++ more) (e ∙ spread mid n.text w.0 more w.1)
 
 module _ (Begins BeginsLonger : List ℕ → Type 0) (first : ℕ) (bytes : List ℕ) where
-  -- the line behind the front F
+  -- the line after the front F
   pub faulty-here : (F R : List ℕ) → bytes ≡ F ++ R → Begins F → ((mid : List ℕ) → BeginsLonger (F ++ mid) → NextLine mid R) → IsFirstFaultyLine Begins BeginsLonger first (first + line_feeds F) bytes
   faulty-here F R parts begins follows = record {
     front = F;

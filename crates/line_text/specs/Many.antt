@@ -2,7 +2,7 @@
 use Rattle.std.specs.Prelude.{ℕ, zero, suc, List, [], ◌∷◌, Option}
 use Rattle.std.specs.Option.{option_map_or}
 
--- what a reader reads one after another, up to so many, and the bytes after them
+-- what a reader reads one after another, up to this many, and the bytes after them
 unfoldable pub many_at : {A : Type 0} → (List ℕ → Option (A × List ℕ)) → ℕ → List ℕ → List A × List ℕ
 many_at read zero bytes = ([], bytes)
 many_at read (suc most) bytes =

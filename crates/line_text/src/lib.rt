@@ -183,7 +183,7 @@ fn long_field(
 /// Bytes begin with at most one number before a separator.
 ///
 /// docs/FORMATS.md, "Numbers and lines".
-pub fn one_field()
+pub fn law_of_fields()
     ensures { (m n separator : ℕ) (x y : List ℕ) → m < 2 ^ 64 → n < 2 ^ 64 → ¬ IsAsciiDigit separator
         → decimal m ++ separator ∷ x ≡ decimal n ++ separator ∷ y → (m ≡ n) × (x ≡ y) }
 {}

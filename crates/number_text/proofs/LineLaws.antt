@@ -7,7 +7,7 @@ use Rattle.std.proofs.lemmas.List.{append-nil, drop_more}
 use Rattle.line_text.specs.Lines.{line}
 use Rattle.number_text.specs.Numbers.{after_space}
 
--- words joined by spaces are the first with the others behind a space each
+-- words joined by spaces are the first with the others after a space each
 spaced-join : (word : List ℕ) (ns : List ℕ) → join_with_byte 32 (word ∷ map decimal ns) ≡ word ++ flat_map after_space ns
 spaced-join word [] = sym (append-nil word)
 spaced-join word (n ∷ ns) = ap (λ (y : List ℕ). word ++ 32 ∷ y) (spaced-join (decimal n) ns)
@@ -16,7 +16,7 @@ spaced-join word (n ∷ ns) = ap (λ (y : List ℕ). word ++ 32 ∷ y) (spaced-j
 pub written_line : (word : List ℕ) (ns : List ℕ) → line (word ∷ map decimal ns) ≡ word ++ (flat_map after_space ns ++ 10 ∷ [])
 written_line word ns = ap (λ (y : List ℕ). y ++ 10 ∷ []) (spaced-join word ns) ∙ append_assoc word (flat_map after_space ns) (10 ∷ [])
 
--- one more number in front of those behind it
+-- one more number in front of those after it
 pub numbers-more : (ns : List ℕ) (i : ℕ) (line now initial : List ℕ) → i < length ns → now ≡ 32 ∷ (decimal (get_or ns i 0) ++ line) → line ≡ flat_map after_space (drop (i + 1) ns) ++ initial → now ≡ flat_map after_space (drop i ns) ++ initial
 numbers-more ns i line now initial h a b =
     a ∙ ap (λ (y : List ℕ). 32 ∷ (decimal (get_or ns i 0) ++ y)) b

@@ -2,6 +2,6 @@
 use Rattle.std.specs.Prelude.{ℕ, List, ◌∷◌}
 use Rattle.std.specs.Fmt.{decimal}
 
--- a number behind a space
+-- a number after a space
 abbrev pub after_space : ℕ → List ℕ
 after_space n = 32 ∷ decimal n

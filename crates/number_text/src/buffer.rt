@@ -3,13 +3,13 @@
 use itoa::write_digits;
 use std::marker::Model;
 
-/// How many bytes a line has room for.
-const ROOM: usize = 160;
+/// How many bytes a line can hold.
+const CAPACITY: usize = 160;
 
 /// A line of at most 160 bytes that grows at its front. Contracts see its bytes.
 #[derive(Drop)]
 pub struct Line {
-    bytes: [u8; ROOM],
+    bytes: [u8; CAPACITY],
     start: usize,
 }
 
@@ -32,8 +32,8 @@ impl Line {
         ensures { result ≡ [] }
     {
         Line {
-            bytes: [0; ROOM],
-            start: ROOM,
+            bytes: [0; CAPACITY],
+            start: CAPACITY,
         }
     }
 
@@ -42,7 +42,7 @@ impl Line {
     pub fn clear(&mut self)
         ensures { self.new ≡ [] }
     {
-        self.start = ROOM;
+        self.start = CAPACITY;
     }
 
     /// Puts one byte in front.

@@ -12,7 +12,7 @@ mod buffer;
 pub use buffer::Line;
 use std::alloc::AllocError;
 
-/// Writes a number behind a text. An `Err` comes where memory runs out.
+/// Appends a number to a text. `Err`: out of memory.
 ///
 /// docs/FORMATS.md, "Numbers and lines".
 pub fn push_number(text: &mut Vec<u8>, number: u64) -> Result<(), AllocError>
@@ -23,7 +23,7 @@ pub fn push_number(text: &mut Vec<u8>, number: u64) -> Result<(), AllocError>
     text.extend_from_slice(line.as_bytes())
 }
 
-/// Writes numbers behind a text, each after one space. An `Err` comes where memory runs out.
+/// Appends numbers to a text, each after one space. `Err`: out of memory.
 ///
 /// docs/FORMATS.md, "Numbers and lines".
 pub fn push_numbers(text: &mut Vec<u8>, numbers: &[u8]) -> Result<(), AllocError>
@@ -37,7 +37,7 @@ pub fn push_numbers(text: &mut Vec<u8>, numbers: &[u8]) -> Result<(), AllocError
     Ok(())
 }
 
-/// Writes the line of a word and numbers behind a text. An `Err` comes where memory runs out.
+/// Appends the line of a word and numbers to a text. `Err`: out of memory.
 ///
 /// docs/FORMATS.md, "Numbers and lines".
 pub fn push_line(text: &mut Vec<u8>, word: &[u8], numbers: &[u64]) -> Result<(), AllocError>

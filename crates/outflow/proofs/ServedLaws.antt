@@ -11,7 +11,7 @@ use Rattle.phase_plan.specs.Phases.{IsPlan, phase_at}
 use Rattle.phase_plan.specs.declared.Phase.{Phase}
 use Rattle.switch_rules.specs.Orders.{one_less}
 use Rattle.switch_rules.specs.Sequences.{AreNextServings, IsNextServing, next_cluster}
-use Rattle.switch_rules.specs.Serving.{start_in_green, goes_on, earliest_green, head_behind, served_from, serving}
+use Rattle.switch_rules.specs.Serving.{start_in_green, goes_on, earliest_green, head_after, served_from, serving}
 use Rattle.switch_rules.specs.declared.Head.{Head}
 use Rattle.switch_rules.specs.declared.Cluster.{Cluster}
 use Rattle.switch_rules.specs.declared.Served.{Served}
@@ -109,7 +109,7 @@ next-of net node now plan lists left head k s of h = elim (cases_lt k (length li
               some = omega (arith, inside);
               place = inside;
               platoon = All-get_or (IsPlatoon net now (phase_links_at net node k)) (platoons_at lists k) (length (platoons_at lists k) - get_or left k 0) no_platoon inside (of.each k below);
-              times = subst P (sym same) (serving-departs plan head k h.cluster s (head_behind k s) h.fit);
+              times = subst P (sym same) (serving-departs plan head k h.cluster s (head_after k s) h.fit);
             }
       ]
 ]
@@ -135,7 +135,7 @@ coming-early net node exit now d plan lists left head (k ∷ ks) (s ∷ ss) of h
       arith,
       sum_by-cons (departure_coming net exit (link_at net exit).travel d) (record { platoon = next_platoon lists left k; start = s.start }) (departures lists (one_less left k) ks ss),
       departure-early net exit (link_at net exit).travel d s.start (next_platoon lists left k).parts (omega (arith, next.times.arrived, next.platoon.arr)),
-      coming-early net node exit now d plan lists (one_less left k) (head_behind k s) ks ss of h.1 lt,
+      coming-early net node exit now d plan lists (one_less left k) (head_after k s) ks ss of h.1 lt,
     )
 
 -- The first i servings have been added: so many platoons of each phase are taken, and the others are left; from the head on,
@@ -183,7 +183,7 @@ pub record IsAt (net : Net) (node now : ℕ) (lists : List (List Platoon)) (left
   pub next : IsNext net node now lists left head (get_or ks i 0) (get_or ss i d)
   pub phases : drop i ks ≡ get_or ks i 0 ∷ drop (i + 1) ks
   pub served : drop i ss ≡ get_or ss i d ∷ drop (i + 1) ss
-  pub rest : AreNextServings (plan_at net node) (cluster_lists lists) (one_less left (get_or ks i 0)) (head_behind (get_or ks i 0) (get_or ss i d)) (drop (i + 1) ks) (drop (i + 1) ss)
+  pub rest : AreNextServings (plan_at net node) (cluster_lists lists) (one_less left (get_or ks i 0)) (head_after (get_or ks i 0) (get_or ss i d)) (drop (i + 1) ks) (drop (i + 1) ss)
 
 more-servings : (plan : List Phase) (lists : List (List Cluster)) (left : List ℕ) (head : Head) (k : ℕ) (ks : List ℕ) (ss : List Served) → AreNextServings plan lists left head (k ∷ ks) ss → 0 < length ss
 more-servings plan lists left head k ks [] h = absurd h
@@ -296,7 +296,7 @@ filling-more net node exit now lists ks ss taken amounts more i first d platoon 
     let zero_before : (k : ℕ) → first ≤ k → get_or amounts k 0 ≡ 0 = λ k le. h.clear k (omega arith) in
     record {
       left = one_less h.left (get_or ks i 0);
-      head = head_behind (get_or ks i 0) (get_or ss i d);
+      head = head_after (get_or ks i 0) (get_or ss i d);
       servings = at.rest;
       size = length-set taken (get_or ks i 0) (get_or taken (get_or ks i 0) 0 + 1) ∙ h.size;
       few = λ k. elim (eqb_tells k (get_or ks i 0)) [

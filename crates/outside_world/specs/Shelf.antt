@@ -3,11 +3,11 @@ use Rattle.std.specs.Prelude.{◌≡◌, ℕ, List, [], ◌∷◌, ◌++◌, Opt
 use Rattle.std.specs.Option.{option_map}
 use Rattle.std.specs.Str.{bytes_eq}
 
--- the files that a shelf tells, each a name and a content
+-- the files that a shelf exposes, each a name and a content
 abbrev pub Files : Type 0
 Files = Option (List (List ℕ × List ℕ))
 
--- a shelf as contracts see it: its files, where it tells them, and the names whose fetch failed, the oldest first
+-- a shelf as contracts see it: its files, where it exposes them, and the names whose fetch failed, the oldest first
 pub record ShelfState : Type 0 where
   pub files : Files
   pub failed : List (List ℕ)

@@ -2,7 +2,7 @@
 use Rattle.std.specs.Prelude.{◌≡◌, ℕ, ◌+◌, ◌-◌, ◌^◌, ◌≤◌, min, List, take, Option}
 use Rattle.std.specs.Io.KnownBytes.{append_known}
 
--- a sink as contracts see it: the bytes written so far, where it tells them, and how often it failed
+-- a sink as contracts see it: the bytes written so far, where it exposes them, and how often it failed
 pub record SinkState : Type 0 where
   pub written : Option (List ℕ)
   pub faults : ℕ

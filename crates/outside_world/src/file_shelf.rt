@@ -13,7 +13,7 @@ use std::rt::Files;
 /// How many bytes are asked for in one read.
 const READ_SIZE: usize = 8192;
 
-/// The files of a runtime, by path. It tells no content. Contracts see it as the list of the names
+/// The files of a runtime, by path. It does not expose its contents. Contracts see it as the list of the names
 /// whose fetch failed.
 #[derive(Drop)]
 pub struct FileShelf<F: Files> {
@@ -51,7 +51,7 @@ impl<F: Files> Shelf for FileShelf<F> {
         ensures no_memory { IsErrOf result ShelfFault.NoMemory → self.new ≡ self.old }
         ensures cause { IsErrOf result ShelfFault.Failed → self.new ≡ self.old ++ name.now ∷ [] }
     {
-        // Room for the name first, so that a failure can always be written down.
+        // Memory for the name first, so that a failure can always be recorded.
         let failed_name = Text::from_string(String::from_str(alloc, name)?);
         self.failed.reserve(1)?;
         let fetched = read_file(alloc, &self.files, name, most);

@@ -1,6 +1,6 @@
 //! The world outside the program: a shelf that texts are fetched from, and a sink that bytes are put into.
 //! Each is a trait with a record of its failures that code over it can't add to by itself, an
-//! implementation in memory that fails as it is told to, and an adapter over std's files and streams.
+//! implementation in memory that fails at the calls that it is given, and an adapter over std's files and streams.
 #![tactic(auto)]
 
 mod file_shelf;

@@ -1,4 +1,4 @@
-//! A shelf in memory, which fails at the calls that it is told.
+//! A shelf in memory, which fails at the calls that it is given.
 ghost use Rattle.std.specs.Prelude.{◌≡◌, ◌≤◌, ◌↔◌, [], ◌∷◌, ◌++◌, Some, length, take, Contains, IsTrue, IfOk, OnOk, OnErr, IsErrOf};
 ghost use Rattle.std.specs.Option.{option_map};
 ghost use Rattle.outside_world.specs.Shelf.{file_of, front_of, Continues};
@@ -47,7 +47,7 @@ impl MemoryShelf {
     }
 
     // The fault of a fetch that fails: the name joins the list of failed names, where there is memory.
-    fn failing(&mut self, alloc: Global, name: &str) -> ShelfFault
+    fn fail(&mut self, alloc: Global, name: &str) -> ShelfFault
         ensures same { self.new ≡ record self.old { failed = self.new.failed } }
         ensures continues { Continues self.old.failed self.new.failed }
         ensures failed { result ≡ ShelfFault.Failed → self.new.failed ≡ self.old.failed ++ name.now ∷ [] }
@@ -83,11 +83,11 @@ impl Shelf for MemoryShelf {
     {
         self.calls = self.calls.saturating_add(1);
         if is_named(&self.fails, self.calls) {
-            return Err(self.failing(alloc, name));
+            return Err(self.fail(alloc, name));
         }
         match content(&self.files, name) {
             Some(content) => Ok(front(content, most).to_vec(alloc)?),
-            None => Err(self.failing(alloc, name)),
+            None => Err(self.fail(alloc, name)),
         }
     }
 }

@@ -1,4 +1,4 @@
-//! A sink in memory, which fails at the calls that it is told and where its room ends.
+//! A sink in memory, which fails at the calls that it is given and where its capacity ends.
 ghost use Rattle.std.specs.Prelude.{◌≡◌, ◌≤◌, ◌↔◌, [], ◌++◌, if◌then◌else◌, Some, length, vec_capacity, is_ok, IsErr, OnOk, OnErr, IfOk};
 ghost use Rattle.outside_world.specs.Sink.{one_more, Gains, Breaks};
 ghost use Rattle.outside_world.specs.MemorySink.{SinkInMemory, sink_seen, kept_at, taken_at, RefusesAt};
@@ -12,7 +12,7 @@ use std::marker::Model;
 pub struct SinkFail {
     /// The number of the call, the first being 1.
     pub call: u32,
-    /// How many bytes of its piece are appended, where the piece and the room have so many.
+    /// How many bytes of its piece are appended, where the piece and the capacity have this many.
     pub kept: usize,
 }
 
@@ -21,7 +21,7 @@ pub struct SinkFail {
 #[derive(Drop)]
 pub struct MemorySink {
     bytes: Vec<u8>,
-    room: usize,
+    capacity: usize,
     fails: Vec<SinkFail>,
     calls: u64,
     faults: u64,
@@ -32,25 +32,30 @@ impl Model for MemorySink {
 
     ghost view = { λ sink. record {
       bytes = sink.bytes.items;
-      room = sink.room;
+      capacity = sink.capacity;
       fails = sink.fails.items;
       calls = sink.calls;
       faults = sink.faults;
     } };
 
-    ghost invariant = { λ sink. (length sink.bytes.items ≤ sink.room) × (sink.room ≤ vec_capacity sink.bytes) };
+    ghost invariant = { λ sink. (length sink.bytes.items ≤ sink.capacity) × (sink.capacity ≤ vec_capacity sink.bytes) };
 }
 
 impl MemorySink {
-    /// An empty sink with room for this many bytes, which are set aside at once. The calls of `put`
-    /// that `fails` names will fail; of two entries for one call the first counts. An `Err` comes
-    /// where memory runs out.
-    pub fn new(alloc: Global, room: usize, fails: Vec<SinkFail>) -> Result<Self, AllocError>
-        ensures { IfOk result (λ sink. sink ≡ record { bytes = []; room = room; fails = fails.items; calls = 0; faults = 0 }) }
+    /// An empty sink with capacity for this many bytes, which are set aside at once. The calls of `put`
+    /// that `fails` names will fail; of two entries for one call the first counts. `Err`: out of memory.
+    pub fn new(alloc: Global, capacity: usize, fails: Vec<SinkFail>) -> Result<Self, AllocError>
+        ensures { IfOk result (λ sink. sink ≡ record {
+          bytes = [];
+          capacity = capacity;
+          fails = fails.items;
+          calls = 0;
+          faults = 0;
+        }) }
     {
         Ok(MemorySink {
-            bytes: Vec::with_capacity(alloc, room)?,
-            room,
+            bytes: Vec::with_capacity(alloc, capacity)?,
+            capacity,
             fails,
             calls: 0,
             faults: 0,
@@ -69,12 +74,12 @@ impl Sink for MemorySink {
     ghost state = { λ sink. sink_seen sink };
 
     /// As the trait says. Besides, it fails exactly where this call is one of those that were named
-    /// to fail or the piece passes the room, and the bytes that it appends are told.
+    /// to fail or the piece passes the capacity, and the bytes that it appends are told.
     fn put(&mut self, piece: &[u8]) -> Result<(), Failed>
         ensures calls { self.new.calls ≡ one_more self.old.calls }
         ensures refused { IsErr result ↔ RefusesAt self.old self.new.calls piece.now }
         ensures taken { self.new.bytes ≡ self.old.bytes ++ taken_at self.old self.new.calls piece.now }
-        ensures room { self.new.room ≡ self.old.room }
+        ensures capacity { self.new.capacity ≡ self.old.capacity }
         ensures fails { self.new.fails ≡ self.old.fails }
 
         ensures ok { OnOk result (Gains (sink_seen self.old) (sink_seen self.new) piece.now) }
@@ -84,8 +89,11 @@ impl Sink for MemorySink {
     {
         self.calls = self.calls.saturating_add(1);
         let kept = kept(&self.fails, self.calls);
-        let room_left = self.room - self.bytes.len();
-        let count = kept.unwrap_or(piece.len()).min(piece.len()).min(room_left);
+        let capacity_left = self.capacity - self.bytes.len();
+        let count = kept
+            .unwrap_or(piece.len())
+            .min(piece.len())
+            .min(capacity_left);
         self.bytes.extend_from_slice(&piece[..count]).unwrap();
         if kept.is_some() || count < piece.len() {
             self.faults = self.faults.saturating_add(1);

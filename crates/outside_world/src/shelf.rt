@@ -24,7 +24,7 @@ impl From<AllocError> for ShelfFault {
 
 /// Files by name.
 pub trait Shelf {
-    /// The shelf as contracts see it: its files, each a name and a content, where it tells them, and the names whose
+    /// The shelf as contracts see it: its files, each a name and a content, where it exposes them, and the names whose
     /// fetch failed, the oldest first. Of two files with one name the first counts.
     ghost state: { Self → ShelfState };
 
@@ -39,7 +39,8 @@ pub trait Shelf {
 
         ensures ok { OnOk result (state self.new ≡ state self.old) }
         ensures no_memory { IsErrOf result ShelfFault.NoMemory → state self.new ≡ state self.old }
-        ensures cause { IsErrOf result ShelfFault.Failed → GainsLast (state self.old).failed (state self.new).failed name.now }
+        ensures cause { IsErrOf result ShelfFault.Failed
+            → GainsLast (state self.old).failed (state self.new).failed name.now }
         ensures files { (state self.new).files ≡ (state self.old).files }
         ensures continues { Continues (state self.old).failed (state self.new).failed };
 }

@@ -8,7 +8,7 @@ pub struct Failed;
 
 /// What bytes are written to.
 pub trait Sink {
-    /// The sink as contracts see it: the bytes written so far, where it tells them, and how often it has failed, as a
+    /// The sink as contracts see it: the bytes written so far, where it exposes them, and how often it has failed, as a
     /// u64 that stays at its last value.
     ghost state: { Self → SinkState };
 

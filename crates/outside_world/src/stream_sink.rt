@@ -1,4 +1,4 @@
-// The sink that writes to a stream.
+//! The sink that writes to a stream.
 ghost use Rattle.std.specs.Prelude.{◌≡◌, ◌≤◌, if◌then◌else◌, None, is_ok, OnOk, OnErr};
 ghost use Rattle.std.specs.Io.KnownBytes.{Appends};
 ghost use Rattle.outside_world.specs.Sink.{one_more};
@@ -8,7 +8,7 @@ use crate::sink::{Failed, Sink};
 use std::io::Write;
 use std::marker::Model;
 
-/// A stream of std, such as standard output. It tells no content. Contracts see the stream and the
+/// A stream of std, such as standard output. It does not expose its contents. Contracts see the stream and the
 /// count of faults.
 #[derive(Drop)]
 pub struct StreamSink<W: Write> {
@@ -35,10 +35,11 @@ impl<W: Write> Sink for StreamSink<W> {
     ghost state = { λ sink. record { written = None; faults = sink.faults } };
 
     /// As the trait says. Besides, the stream is given the piece, or a front of it at `Failed`, where
-    /// it tells what it holds, and the count rises by one at `Failed`.
+    /// it exposes its contents, and the count rises by one at `Failed`.
     fn put(&mut self, piece: &[u8]) -> Result<(), Failed>
         ensures ok { OnOk result (Appends (W.contents self.old.stream) (W.contents self.new.stream) piece.now) }
-        ensures breaks { OnErr result (AppendsFront (W.contents self.old.stream) (W.contents self.new.stream) piece.now) }
+        ensures breaks { OnErr result
+            (AppendsFront (W.contents self.old.stream) (W.contents self.new.stream) piece.now) }
         ensures later { self.old.faults ≤ self.new.faults }
         ensures faults { self.new.faults ≡ (if is_ok result then self.old.faults else one_more self.old.faults) }
     {

@@ -132,7 +132,7 @@ impl PhasePlan {
         })
     }
 
-    /// An equal plan, on this allocator. An `Err` comes where memory runs out.
+    /// An equal plan, on this allocator. `Err`: out of memory.
     ///
     /// docs/RULES.md, "Phases".
     pub fn copy(&self, alloc: Global) -> Result<PhasePlan, AllocError>

@@ -1,4 +1,4 @@
--- The state of the search for the cluster that comes next.
+-- No public clause names these: the state of the search for the cluster that comes next.
 use Rattle.std.specs.Prelude.{◌≡◌, ℕ, ◌<◌, ◌≤◌, List, Option, Some, None, length, slice_index}
 use Rattle.switch_rules.specs.Arriving.{ComesFirst}
 use Rattle.switch_rules.specs.declared.Cluster.{Cluster}

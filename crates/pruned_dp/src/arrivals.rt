@@ -11,8 +11,8 @@ use std::alloc::{AllocError, Global};
 use std::sync::ledger::Ledger;
 use switch_rules::Cluster;
 
-/// The delay of the sequence in order of arrival, in one step at most for each cluster; none where it is not feasible. An
-/// `Err` comes where memory runs out.
+/// The delay of the sequence in order of arrival, in one step at most for each cluster; none where it is not
+/// feasible. `Err`: out of memory.
 pub(crate) fn arrival_delay<L: Ledger>(
     alloc: Global,
     i: &Instance,
@@ -28,7 +28,7 @@ pub(crate) fn arrival_delay<L: Ledger>(
     }
 }
 
-/// The sequence in order of arrival. An `Err` comes where memory runs out.
+/// The sequence in order of arrival. `Err`: out of memory.
 fn by_arrival(alloc: Global, i: &Instance) -> Result<Vec<u8>, AllocError>
     ensures order { IfOk result (λ v. IsByArrival i.now v.items) }
     ensures places { IfOk result (λ v. length v.items ≡ sum (counts_of i.now.lists)) }
@@ -67,7 +67,7 @@ fn first_left(i: &Instance, counts: &[u8; 4]) -> Option<(u32, u8)>
     first
 }
 
-/// When the cluster behind the first `served` arrives, if there is one.
+/// When the cluster after the first `served` arrives, if there is one.
 fn next_arrival(list: &[Cluster], served: u8) -> Option<u32>
     ensures { IsNextArrival list.now served result }
 {

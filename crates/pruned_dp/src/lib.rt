@@ -1,8 +1,9 @@
-//! The best answer of an instance by a smaller table: what is kept has less delay at the least than serving all as they arrive,
-//! or as much.
+//! The best answer of an instance by a smaller table: what is kept has less delay at the least than serving all as
+//! they arrive, or as much.
 #![tactic(auto)]
 
 ghost use Rattle.std.specs.Prelude.{◌≡◌, ◌+◌, ◌*◌, ◌≤◌, List, length, sum, IfOk};
+ghost use Rattle.switch_rules.specs.Bounds.{most_clusters, most_entries};
 ghost use Rattle.schedule_meaning.specs.Best.{IsBest, IsLeast};
 ghost use Rattle.schedule_meaning.specs.Instances.{counts_of};
 ghost use Rattle.schedule_meaning.specs.declared.planners.Answer.{Answer};
@@ -22,11 +23,12 @@ use schedule_meaning::{Answer, Instance, Planner};
 use std::alloc::{AllocError, Global};
 use std::sync::ledger::Ledger;
 
-/// The best answer of an instance, by its bounded table: the sequence in order of arrival is timed first, and where it is
-/// feasible nothing is kept whose delay, with what the clusters that are left cost at the least, is above that sequence's.
+/// The best answer of an instance, by its bounded table: the sequence in order of arrival is timed first, and where
+/// it is feasible nothing is kept whose delay, with what the clusters that are left cost at the least, is above that
+/// sequence's.
 ///
-/// It takes at most as many steps, for each entry of the bounded table, as the instance has phases, and one for each cluster;
-/// also where it fails. An `Err` comes where memory runs out.
+/// It takes at most as many steps, for each entry of the bounded table, as the instance has phases, and one for each
+/// cluster; also where it fails. `Err`: out of memory.
 ///
 /// docs/RULES.md, "Bounded table".
 pub fn bounded<L: Ledger>(
@@ -36,7 +38,8 @@ pub fn bounded<L: Ledger>(
 ) -> Result<Answer, AllocError>
     ensures best { IfOk result (IsBest i.now) }
     ensures least { IfOk result (IsLeast i.now) }
-    ensures servings { (entries : List Entry) → IsBounded i.now entries → steps.new ≤ steps.old + length i.now.plan * length entries + sum (counts_of i.now.lists) }
+    ensures servings { (entries : List Entry) → IsBounded i.now entries
+        → steps.new ≤ steps.old + length i.now.plan * length entries + sum (counts_of i.now.lists) }
 {
     bounded_in(alloc, &mut Lists::new(alloc), i, steps)
 }
@@ -50,7 +53,8 @@ fn bounded_in<L: Ledger>(
 ) -> Result<Answer, AllocError>
     ensures best { IfOk result (IsBest i.now) }
     ensures least { IfOk result (IsLeast i.now) }
-    ensures servings { (entries : List Entry) → IsBounded i.now entries → steps.new ≤ steps.old + length i.now.plan * length entries + sum (counts_of i.now.lists) }
+    ensures servings { (entries : List Entry) → IsBounded i.now entries
+        → steps.new ≤ steps.old + length i.now.plan * length entries + sum (counts_of i.now.lists) }
 {
     let limit = arrival_delay(alloc, i, steps)?;
     layered_in(alloc, lists, i, limit, steps)
@@ -60,8 +64,8 @@ fn bounded_in<L: Ledger>(
 /// clusters that are left cost at the least, is not above the delay of the sequence in order of arrival; with all entries
 /// where that sequence is not feasible. It proves its answer.
 ///
-/// It takes at most as many steps, for each entry, as the instance has phases, and one for each cluster. An `Err` comes where
-/// memory runs out.
+/// It takes at most as many steps, for each entry, as the instance has phases, and one for each cluster. `Err`: out
+/// of memory.
 ///
 /// docs/RULES.md, "Bounded table".
 pub fn certify_bound<L: Ledger>(
@@ -73,14 +77,17 @@ pub fn certify_bound<L: Ledger>(
     ensures bounded { IfOk result (λ c. IsBounded i.now c.entries) }
     ensures best { IfOk result (λ c. IsBest i.now c.answer) }
     ensures proves { IfOk result Proves }
-    ensures few { IfOk result (λ c. (length c.entries ≤ 2000001) × (length (sequence_of c.answer) ≤ 40)) }
-    ensures servings { (entries : List Entry) → IsBounded i.now entries → steps.new ≤ steps.old + length i.now.plan * length entries + sum (counts_of i.now.lists) }
+    ensures few { IfOk result (λ c. (length c.entries ≤ most_entries)
+        × (length (sequence_of c.answer) ≤ most_clusters)) }
+    ensures servings { (entries : List Entry) → IsBounded i.now entries
+        → steps.new ≤ steps.old + length i.now.plan * length entries + sum (counts_of i.now.lists) }
 {
     let limit = arrival_delay(alloc, i, steps)?;
     certify_within(alloc, i, limit, steps)
 }
 
-/// The planner that answers by `bounded`, in as few steps. It keeps the lists of its tables from one planning to the next.
+/// The planner that answers by `bounded`, in as few steps. It keeps the lists of its tables from one planning to the
+/// next.
 ///
 /// docs/RULES.md, "Bounded table".
 #[derive(Drop)]
@@ -102,7 +109,7 @@ impl BoundPlanner {
         }
     }
 
-    /// So many planners that have not planned yet. An `Err` comes where memory runs out.
+    /// This many planners that have not planned yet. `Err`: out of memory.
     ///
     /// docs/RULES.md, "Bounded table".
     pub fn many(alloc: Global, count: usize) -> Result<Vec<BoundPlanner>, AllocError>
@@ -126,7 +133,8 @@ impl Planner for BoundPlanner {
         ensures best { IfOk result (IsBest i.now) }
         ensures least { IfOk result (IsLeast i.now) }
         ensures only { IfOk result (λ answer. (other : Answer) → IsBest i.now other → other ≡ answer) }
-        ensures servings { (entries : List Entry) → IsBounded i.now entries → steps.new ≤ steps.old + length i.now.plan * length entries + sum (counts_of i.now.lists) }
+        ensures servings { (entries : List Entry) → IsBounded i.now entries
+            → steps.new ≤ steps.old + length i.now.plan * length entries + sum (counts_of i.now.lists) }
     {
         bounded_in(alloc, &mut self.lists, i, steps)
     }

@@ -20,7 +20,7 @@ use Rattle.switch_rules.proofs.Counting.{count-le-sum, sum-one_less}
 use Rattle.schedule_meaning.specs.Instances.{Problem, counts_of}
 use Rattle.schedule_meaning.specs.Timing.{next_cluster, timed_from, timed, timing, delay_of, total_cost, onward}
 use Rattle.schedule_meaning.specs.Best.{AllAbove, IsBestPlan, IsBestAmong, IsBest, IsLeast}
-use Rattle.schedule_meaning.specs.Choice.{better, better_behind, best_behind}
+use Rattle.schedule_meaning.specs.Choice.{better, better_after, best_after}
 use Rattle.schedule_meaning.specs.declared.planners.Answer.{Answer}
 use Rattle.schedule_meaning.specs.declared.planners.Answer.TheVariants.{Plan, NoPlan}
 use Rattle.schedule_meaning.proofs.Sequences.{option-cases, timed-unfit, timed-begins, timing-fit, next-left, left-phase}
@@ -56,25 +56,25 @@ orders-none left h = ap (λ m. orders_of m left) h
 
 -- the search goes on from phase to phase
 pub best-phase : (p : Problem) (prefix : List ℕ) (answer : Answer) (f : ℕ → List (List ℕ)) (k : ℕ)
-    → best_behind p prefix answer (flat_map f (range_with_len 0 (k + 1))) ≡ best_behind p prefix (best_behind p prefix answer (flat_map f (range_with_len 0 k))) (f k)
+    → best_after p prefix answer (flat_map f (range_with_len 0 (k + 1))) ≡ best_after p prefix (best_after p prefix answer (flat_map f (range_with_len 0 k))) (f k)
 best-phase p prefix answer f k =
-    ap (λ ks. best_behind p prefix answer (flat_map f ks)) (range-push 0 k)
-    ∙ ap (best_behind p prefix answer) (flat_map-append f (range_with_len 0 k) ((0 + k) ∷ []))
-    ∙ fold-append (better_behind p prefix) answer (flat_map f (range_with_len 0 k)) (flat_map f ((0 + k) ∷ []))
-    ∙ ap (best_behind p prefix (best_behind p prefix answer (flat_map f (range_with_len 0 k)))) (append-nil (f (0 + k)) ∙ ap f (omega arith))
+    ap (λ ks. best_after p prefix answer (flat_map f ks)) (range-push 0 k)
+    ∙ ap (best_after p prefix answer) (flat_map-append f (range_with_len 0 k) ((0 + k) ∷ []))
+    ∙ fold-append (better_after p prefix) answer (flat_map f (range_with_len 0 k)) (flat_map f ((0 + k) ∷ []))
+    ∙ ap (best_after p prefix (best_after p prefix answer (flat_map f (range_with_len 0 k)))) (append-nil (f (0 + k)) ∙ ap f (omega arith))
 
--- behind an unfit serving nothing is better
-pub best-unfit : (p : Problem) (prefix : List ℕ) (k : ℕ) → ((order : List ℕ) → delay_of p (prefix ++ k ∷ order) ≡ None) → (answer : Answer) (rests : List (List ℕ)) → best_behind p prefix answer (map (λ order. k ∷ order) rests) ≡ answer
+-- after an unfit serving nothing is better
+pub best-unfit : (p : Problem) (prefix : List ℕ) (k : ℕ) → ((order : List ℕ) → delay_of p (prefix ++ k ∷ order) ≡ None) → (answer : Answer) (rests : List (List ℕ)) → best_after p prefix answer (map (λ order. k ∷ order) rests) ≡ answer
 best-unfit p prefix k h answer [] = refl
 best-unfit p prefix k h answer (order ∷ rests) =
-    ap (λ a. best_behind p prefix a (map (λ order. k ∷ order) rests)) (ap (better answer (prefix ++ k ∷ order)) (h order)) ∙ best-unfit p prefix k h answer rests
+    ap (λ a. best_after p prefix a (map (λ order. k ∷ order) rests)) (ap (better answer (prefix ++ k ∷ order)) (h order)) ∙ best-unfit p prefix k h answer rests
 
--- behind a fit one the prefix is longer
-pub best-fit : (p : Problem) (prefix : List ℕ) (k : ℕ) (answer : Answer) (rests : List (List ℕ)) → best_behind p prefix answer (map (λ order. k ∷ order) rests) ≡ best_behind p (prefix ++ k ∷ []) answer rests
+-- after a fit one the prefix is longer
+pub best-fit : (p : Problem) (prefix : List ℕ) (k : ℕ) (answer : Answer) (rests : List (List ℕ)) → best_after p prefix answer (map (λ order. k ∷ order) rests) ≡ best_after p (prefix ++ k ∷ []) answer rests
 best-fit p prefix k answer [] = refl
 best-fit p prefix k answer (order ∷ rests) =
-    ap (λ a. best_behind p prefix a (map (λ order. k ∷ order) rests)) (ap (λ s. better answer s (delay_of p s)) (sym (append_assoc prefix (k ∷ []) order)))
-    ∙ best-fit p prefix k (better_behind p (prefix ++ k ∷ []) answer order) rests
+    ap (λ a. best_after p prefix a (map (λ order. k ∷ order) rests)) (ap (λ s. better answer s (delay_of p s)) (sym (append_assoc prefix (k ∷ []) order)))
+    ∙ best-fit p prefix k (better_after p (prefix ++ k ∷ []) answer order) rests
 
 delay-timing : (p : Problem) (s : List ℕ) → delay_of p s ≡ option_map (λ t. t.0) (timing p s)
 delay-timing p s = first (timed p s)
@@ -148,14 +148,14 @@ best-more p all order (Plan sequence least) (Some d) e h = elim (cases_lt d leas
   | inr worse ↦ subst (IsBestAmong p (all ++ order ∷ [])) (cond_above d least (Plan order d) (Plan sequence least) (Plan sequence least) worse refl) (best-worse p all order sequence d least e worse h)
 ]
 
-pub best-of-all : (p : Problem) (all : List (List ℕ)) (answer : Answer) (rests : List (List ℕ)) → IsBestAmong p all answer → IsBestAmong p (all ++ rests) (best_behind p [] answer rests)
+pub best-of-all : (p : Problem) (all : List (List ℕ)) (answer : Answer) (rests : List (List ℕ)) → IsBestAmong p all answer → IsBestAmong p (all ++ rests) (best_after p [] answer rests)
 best-of-all p all answer [] h = subst (λ xs. IsBestAmong p xs answer) (sym (append-nil all)) h
 best-of-all p all answer (order ∷ rests) h =
-    subst (λ xs. IsBestAmong p xs (best_behind p [] answer (order ∷ rests))) (append_assoc all (order ∷ []) rests)
+    subst (λ xs. IsBestAmong p xs (best_after p [] answer (order ∷ rests))) (append_assoc all (order ∷ []) rests)
     (best-of-all p (all ++ order ∷ []) (better answer order (delay_of p order)) rests (best-more p all order answer (delay_of p order) refl h))
 
 -- what a search through all orders finds is the best answer
-pub search-best : (p : Problem) → IsBest p (best_behind p [] NoPlan (orders (counts_of p.lists)))
+pub search-best : (p : Problem) → IsBest p (best_after p [] NoPlan (orders (counts_of p.lists)))
 search-best p = best-of-all p [] NoPlan (orders (counts_of p.lists)) (All-nil (λ s. delay_of p s ≡ None))
 
 -- what holds of each order holds of each sequence that is timed
@@ -259,24 +259,24 @@ best-only p (Ok answer) best = λ other h. best-one p other answer h best
 best-only p (Err e) best = tt
 
 -- the best of the orders that begin with a phase below k, and then with phase k: where nothing of k is left, where
--- its next cluster is unfit, and where the orders behind it were tried
-pub step-none : (p : Problem) (prefix left : List ℕ) (first answer : Answer) (k : ℕ) → answer ≡ best_behind p prefix first (flat_map (beginning_with left) (range_with_len 0 k)) → get_or left k 0 ≡ 0
-    → answer ≡ best_behind p prefix first (flat_map (beginning_with left) (range_with_len 0 (k + 1)))
+-- its next cluster is unfit, and where the orders after it were tried
+pub step-none : (p : Problem) (prefix left : List ℕ) (first answer : Answer) (k : ℕ) → answer ≡ best_after p prefix first (flat_map (beginning_with left) (range_with_len 0 k)) → get_or left k 0 ≡ 0
+    → answer ≡ best_after p prefix first (flat_map (beginning_with left) (range_with_len 0 (k + 1)))
 step-none p prefix left first answer k so_far none =
-    so_far ∙ sym (best-phase p prefix first (beginning_with left) k ∙ ap (best_behind p prefix (best_behind p prefix first (flat_map (beginning_with left) (range_with_len 0 k)))) (beginning-none left k none))
+    so_far ∙ sym (best-phase p prefix first (beginning_with left) k ∙ ap (best_after p prefix (best_after p prefix first (flat_map (beginning_with left) (range_with_len 0 k)))) (beginning-none left k none))
 
-pub step-unfit : (p : Problem) (prefix left : List ℕ) (first answer : Answer) (k : ℕ) → answer ≡ best_behind p prefix first (flat_map (beginning_with left) (range_with_len 0 k)) → 0 < get_or left k 0
-    → ((order : List ℕ) → delay_of p (prefix ++ k ∷ order) ≡ None) → answer ≡ best_behind p prefix first (flat_map (beginning_with left) (range_with_len 0 (k + 1)))
+pub step-unfit : (p : Problem) (prefix left : List ℕ) (first answer : Answer) (k : ℕ) → answer ≡ best_after p prefix first (flat_map (beginning_with left) (range_with_len 0 k)) → 0 < get_or left k 0
+    → ((order : List ℕ) → delay_of p (prefix ++ k ∷ order) ≡ None) → answer ≡ best_after p prefix first (flat_map (beginning_with left) (range_with_len 0 (k + 1)))
 step-unfit p prefix left first answer k so_far some unfit =
-    let before = best_behind p prefix first (flat_map (beginning_with left) (range_with_len 0 k)) in
-    so_far ∙ sym (best-phase p prefix first (beginning_with left) k ∙ ap (best_behind p prefix before) (beginning-some left k some) ∙ best-unfit p prefix k unfit before (orders (one_less left k)))
+    let before = best_after p prefix first (flat_map (beginning_with left) (range_with_len 0 k)) in
+    so_far ∙ sym (best-phase p prefix first (beginning_with left) k ∙ ap (best_after p prefix before) (beginning-some left k some) ∙ best-unfit p prefix k unfit before (orders (one_less left k)))
 
-pub step-fit : (p : Problem) (prefix left : List ℕ) (first answer now : Answer) (k : ℕ) → answer ≡ best_behind p prefix first (flat_map (beginning_with left) (range_with_len 0 k)) → 0 < get_or left k 0
-    → now ≡ best_behind p (prefix ++ k ∷ []) answer (orders (one_less left k)) → now ≡ best_behind p prefix first (flat_map (beginning_with left) (range_with_len 0 (k + 1)))
+pub step-fit : (p : Problem) (prefix left : List ℕ) (first answer now : Answer) (k : ℕ) → answer ≡ best_after p prefix first (flat_map (beginning_with left) (range_with_len 0 k)) → 0 < get_or left k 0
+    → now ≡ best_after p (prefix ++ k ∷ []) answer (orders (one_less left k)) → now ≡ best_after p prefix first (flat_map (beginning_with left) (range_with_len 0 (k + 1)))
 step-fit p prefix left first answer now k so_far some behind =
-    let before = best_behind p prefix first (flat_map (beginning_with left) (range_with_len 0 k)) in
-    behind ∙ ap (λ a. best_behind p (prefix ++ k ∷ []) a (orders (one_less left k))) so_far
-    ∙ sym (best-phase p prefix first (beginning_with left) k ∙ ap (best_behind p prefix before) (beginning-some left k some) ∙ best-fit p prefix k before (orders (one_less left k)))
+    let before = best_after p prefix first (flat_map (beginning_with left) (range_with_len 0 k)) in
+    behind ∙ ap (λ a. best_after p (prefix ++ k ∷ []) a (orders (one_less left k))) so_far
+    ∙ sym (best-phase p prefix first (beginning_with left) k ∙ ap (best_after p prefix before) (beginning-some left k some) ∙ best-fit p prefix k before (orders (one_less left k)))
 
 -- a count that is lowered and raised again
 pub raised-again : (left : List ℕ) (k : ℕ) → 0 < get_or left k 0 → set (one_less left k) k (get_or (one_less left k) k 0 + 1) ≡ left

@@ -111,7 +111,7 @@ under-way-fit p left head delay j s way some fit = record {
   delay = omega (arith, fit.cost, way.delay, sum-one_less left j some);
 }
 
--- what a sequence names is left, and one less of it behind its first place
+-- what a sequence names is left, and one less of it after its first place
 pub named-left : (left : List ℕ) (j : ℕ) (js : List ℕ) → ((k : ℕ) → times_of k (j ∷ js) ≡ get_or left k 0) → 0 < get_or left j 0
 named-left left j js h =
     let e = sum_by-cons (λ x. cond (x == j) 1 0) j js in
@@ -131,7 +131,7 @@ pub none-left : (left : List ℕ) → ((k : ℕ) → get_or left k 0 ≡ 0) → 
 none-left [] h = refl
 none-left (n ∷ left) h = sum_by-cons (λ x. x) n left ∙ omega (arith, h 0, none-left left (λ k. h (suc k)))
 
--- the delay of a sequence is that so far with that of what follows: at the start, behind each fit serving, and at the end
+-- the delay of a sequence is that so far with that of what follows: at the start, after each fit serving, and at the end
 pub timing-start : (p : Problem) (sequence : List ℕ) → timing p sequence ≡ option_map (onward 0) (timed p sequence)
 timing-start p sequence = start (timed p sequence)
   where

@@ -10,7 +10,7 @@ use Rattle.switch_rules.specs.declared.Cluster.{Cluster}
 use Rattle.instance_form.specs.InstanceText.{line, count_line, phase_line, head_line, cluster_line, cluster_lines, instance_text}
 use Rattle.instance_form.proofs.LengthLaws.{text-le}
 use Rattle.schedule_meaning.specs.Instances.{Problem, counts_of}
-use Rattle.schedule_meaning.specs.Texts.{Spells}
+use Rattle.schedule_meaning.specs.Texts.{IsInstanceText}
 
 -- a list is no longer than what has at least one element for each of its own
 longer-flat_map : {X A : Type 0} (f : X → List A) → ((x : X) → 1 ≤ length (f x)) → (xs : List X) → length xs ≤ length (flat_map f xs)
@@ -43,13 +43,13 @@ lists-below-text plan h lists bytes e short = λ i d inside.
     (ap length e) short
 
 -- the text of an instance has fewer than 2^32 bytes
-short-text : (bytes : List ℕ) (p : Problem) → Spells bytes p → sum (counts_of p.lists) ≤ 40 → length bytes < 2 ^ 32
+short-text : (bytes : List ℕ) (p : Problem) → IsInstanceText bytes p → sum (counts_of p.lists) ≤ 40 → length bytes < 2 ^ 32
 short-text bytes p spells few =
     fits (length bytes) (length (instance_text p.plan p.head p.lists)) (sum_by (λ list. length list) p.lists) (sum (counts_of p.lists)) (ap length spells.1) (text-le p.plan p.head p.lists spells.0) (sum-map length p.lists) few
   where
     fits : (n m c s : ℕ) → n ≡ m → m ≤ 56 * c + 500 → s ≡ c → s ≤ 40 → n < 2 ^ 32
     fits n m c s e f g h = omega arith
 
-pub short-texts : {X E : Type 0} (bytes : X → List ℕ) (p : Problem) (r : Result X E) → IfOk r (λ x. Spells (bytes x) p) → sum (counts_of p.lists) ≤ 40 → IfOk r (λ x. length (bytes x) < 2 ^ 32)
+pub short-texts : {X E : Type 0} (bytes : X → List ℕ) (p : Problem) (r : Result X E) → IfOk r (λ x. IsInstanceText (bytes x) p) → sum (counts_of p.lists) ≤ 40 → IfOk r (λ x. length (bytes x) < 2 ^ 32)
 short-texts bytes p (Ok x) spells few = short-text (bytes x) p spells few
 short-texts bytes p (Err e) spells few = tt

@@ -46,7 +46,7 @@ Lists-fits p sequence left head list k ks c plan r so_far ec er same =
 less-spent : (p : Problem) (left : List ℕ) (head : Head) (spent : ℕ) → IsUnderWay p left head spent → IsUnderWay p left head 0
 less-spent p left head spent way = record { head = way.head; reach = way.reach; lists = way.lists; left = way.left; delay = omega (arith, way.delay) }
 
--- behind that serving it is on its way still
+-- after that serving it is on its way still
 pub Lists-next : (p : Problem) (sequence left : List ℕ) (head : Head) (list : List Served) (k : ℕ) (ks : List ℕ) (c : Cluster) (plan : List Phase) (r : Result (Served × Head) Unfit) (s : Served × Head) → Lists p sequence left head list (k ∷ ks)
     → next_cluster p.lists left k ≡ Some c → r ≡ serving plan head k c → plan ≡ p.plan → r ≡ Ok s → IfOk r (λ s. IsServing plan s) → Lists p sequence (one_less left k) s.1 (list ++ s.0 ∷ []) ks
 Lists-next p sequence left head list k ks c plan r s so_far ec er same ok bounds =

@@ -11,7 +11,7 @@ use Rattle.switch_rules.proofs.Counting.{length-orders_of}
 use Rattle.schedule_meaning.specs.Instances.{Problem, counts_of}
 use Rattle.schedule_meaning.specs.Timing.{timed, timing, delay_of}
 use Rattle.schedule_meaning.specs.Best.{IsBest}
-use Rattle.schedule_meaning.specs.Choice.{best_behind}
+use Rattle.schedule_meaning.specs.Choice.{best_after}
 use Rattle.schedule_meaning.specs.declared.planners.Answer.{Answer}
 use Rattle.schedule_meaning.specs.declared.planners.Answer.TheVariants.{Plan, NoPlan}
 use Rattle.schedule_meaning.proofs.Choosing.{search-best}
@@ -39,7 +39,7 @@ two_phases first second = record { plan = usual ∷ usual ∷ []; head = head 0 
 
 -- what is found along all orders
 abbrev found : Problem → Answer
-found p = best_behind p [] NoPlan (orders (counts_of p.lists))
+found p = best_after p [] NoPlan (orders (counts_of p.lists))
 
 -- the time of a switch, on a ring of two and on one of three
 

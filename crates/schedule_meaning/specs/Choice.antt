@@ -16,9 +16,9 @@ better answer sequence None = answer
 better answer sequence (Some delay) = if undercuts delay answer then Plan sequence delay else answer
 
 -- the better of an answer and a sequence that begins with a prefix
-abbrev pub better_behind : Problem → List ℕ → Answer → List ℕ → Answer
-better_behind p prefix answer rest = better answer (prefix ++ rest) (delay_of p (prefix ++ rest))
+abbrev pub better_after : Problem → List ℕ → Answer → List ℕ → Answer
+better_after p prefix answer rest = better answer (prefix ++ rest) (delay_of p (prefix ++ rest))
 
 -- the best of an answer and of sequences that begin with a prefix, each tried in its turn
-abbrev pub best_behind : Problem → List ℕ → Answer → List (List ℕ) → Answer
-best_behind p prefix answer rests = fold (better_behind p prefix) answer rests
+abbrev pub best_after : Problem → List ℕ → Answer → List (List ℕ) → Answer
+best_after p prefix answer rests = fold (better_after p prefix) answer rests

@@ -2,7 +2,7 @@
 use Rattle.std.specs.Prelude.{◌≡◌, ◌≢◌, ℕ, ◌+◌, ◌-◌, ◌<◌, ◌≤◌, ◌⊎◌, List, [], ◌∷◌, length, take, All, sum, slice_index, Option, Some, Err}
 use Rattle.std.specs.Result.{result_ok}
 use Rattle.phase_plan.specs.declared.Phase.{Phase}
-use Rattle.switch_rules.specs.Bounds.{most_clusters, most_orders}
+use Rattle.switch_rules.specs.Bounds.{latest_arrival, most_clusters, most_orders}
 use Rattle.switch_rules.specs.Serving.{IsHead, IsCluster, serving}
 use Rattle.switch_rules.specs.Orders.{one_less, orders}
 use Rattle.switch_rules.specs.declared.Head.{Head}
@@ -20,7 +20,7 @@ use Rattle.schedule_meaning.specs.declared.faults.SeqFault.TheVariants as fault
 
 -- a head of the plan that began in time
 abbrev pub IsStart : List Phase → Head → Type 0
-IsStart plan head = IsHead plan head × (head.since ≤ 100000)
+IsStart plan head = IsHead plan head × (head.since ≤ latest_arrival)
 
 -- the head's phase is none of the plan, or else its times are out of bounds
 abbrev pub IsHeadFault : List Phase → Head → InstanceFault → Type 0
@@ -56,7 +56,7 @@ IsInstanceFault p (ClusterBound phase place) = IsStart p.plan p.head × (length 
 IsInstanceFault p (Order phase place) = IsStart p.plan p.head × (length p.lists ≡ length p.plan) × All (All IsCluster) p.lists × IsOrderFault p.lists (Order phase place)
 IsInstanceFault p Many = IsStart p.plan p.head × (length p.lists ≡ length p.plan) × All (All IsCluster) p.lists × All IsSpaced p.lists × AreMany p.lists
 
--- how many clusters are left, and the head, behind fit servings; none where one is unfit or has no cluster
+-- how many clusters are left, and the head, after fit servings; none where one is unfit or has no cluster
 abbrev pub reached_from : Problem → List ℕ → Head → List ℕ → Option (List ℕ × Head)
 reached_from p left head [] = Some (left, head)
 reached_from p left head (k ∷ ks) = do
@@ -64,7 +64,7 @@ reached_from p left head (k ∷ ks) = do
   served ← result_ok (serving p.plan head k cluster)
   reached_from p (one_less left k) served.1 ks
 
--- the serving behind these is unfit
+-- the serving after these is unfit
 pub record IsUnfitAt (p : Problem) (before : List ℕ) (phase : ℕ) (why : Unfit) : Type 0 where
   pub left : List ℕ
   pub h : Head

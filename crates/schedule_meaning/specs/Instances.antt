@@ -2,7 +2,7 @@
 use Rattle.std.specs.Prelude.{◌≡◌, ◌≤◌, List, length, All, sum}
 use Rattle.phase_plan.specs.Phases.{IsPlan}
 use Rattle.phase_plan.specs.declared.Phase.{Phase}
-use Rattle.switch_rules.specs.Bounds.{most_clusters, most_orders}
+use Rattle.switch_rules.specs.Bounds.{latest_arrival, most_clusters, most_orders}
 use Rattle.switch_rules.specs.Serving.{IsHead, IsCluster}
 use Rattle.switch_rules.specs.Orders.{orders}
 pub use Rattle.switch_rules.specs.Sequences.{IsSpaced, cluster_at, counts_of, list_at, no_cluster}
@@ -19,7 +19,7 @@ pub record Problem : Type 0 where
 pub record IsInstance (p : Problem) : Type 0 where
   pub plan : IsPlan p.plan
   pub head : IsHead p.plan p.head
-  pub since : p.head.since ≤ 100000
+  pub since : p.head.since ≤ latest_arrival
   pub lists : length p.lists ≡ length p.plan
   pub clusters : All (All IsCluster) p.lists
   pub spaced : All IsSpaced p.lists

@@ -10,26 +10,26 @@ use Rattle.schedule_meaning.specs.Faults.{IsInstanceFault}
 use Rattle.schedule_meaning.specs.declared.texts.TextFault.{TextFault}
 use Rattle.schedule_meaning.specs.declared.texts.TextFault.TheVariants.{Line, Plan, Instance, NoMemory}
 
--- it is want of memory
-abbrev pub IsWant : TextFault → Type 0
-IsWant (Line n) = ⊥
-IsWant (Plan fault) = ⊥
-IsWant (Instance fault) = ⊥
-IsWant NoMemory = Unit {0}
+-- it is out of memory
+abbrev pub IsOutOfMemory : TextFault → Type 0
+IsOutOfMemory (Line n) = ⊥
+IsOutOfMemory (Plan fault) = ⊥
+IsOutOfMemory (Instance fault) = ⊥
+IsOutOfMemory NoMemory = Unit {0}
 
--- a fault of the lines, handed on
+-- a fault of the lines, passed on
 abbrev pub of_form : FormFault → TextFault
 of_form (form.Line n) = Line n
 of_form form.NoMemory = NoMemory
 
 -- the bytes have the form of a text, and this is what they say
-abbrev pub Spells : List ℕ → Problem → Type 0
-Spells bytes p = HasText p.plan p.head p.lists × (bytes ≡ instance_text p.plan p.head p.lists)
+abbrev pub IsInstanceText : List ℕ → Problem → Type 0
+IsInstanceText bytes p = HasText p.plan p.head p.lists × (bytes ≡ instance_text p.plan p.head p.lists)
 
 -- why bytes are no instance's text: they have not the form of a text, and this is the first line that has not the form
 -- of its place; or else the fault of the phases; or else that of the instance
 abbrev pub IsTextFault : List ℕ → TextFault → Type 0
-IsTextFault bytes (Line n) = IsFaultOf BeginsText 1 bytes (form.Line n) × ((p : Problem) → ¬ Spells bytes p)
-IsTextFault bytes (Plan fault) = (p : Problem) × Spells bytes p × IsPlanFault p.plan fault
-IsTextFault bytes (Instance fault) = (p : Problem) × Spells bytes p × IsPlan p.plan × IsInstanceFault p fault
+IsTextFault bytes (Line n) = IsFaultOf BeginsText 1 bytes (form.Line n) × ((p : Problem) → ¬ IsInstanceText bytes p)
+IsTextFault bytes (Plan fault) = (p : Problem) × IsInstanceText bytes p × IsPlanFault p.plan fault
+IsTextFault bytes (Instance fault) = (p : Problem) × IsInstanceText bytes p × IsPlan p.plan × IsInstanceFault p fault
 IsTextFault bytes NoMemory = Unit {0}

@@ -9,7 +9,7 @@ use Rattle.switch_rules.specs.declared.Head.{Head}
 use Rattle.switch_rules.specs.declared.Served.{Served}
 use Rattle.schedule_meaning.specs.Instances.{Problem, list_at, counts_of}
 
--- the rest of a sequence from a head, where so many clusters of each phase are left
+-- the rest of a sequence from a head, given how many clusters of each phase are left
 abbrev pub timed_from : Problem → List ℕ → Head → List ℕ → Option (List Served × Head)
 timed_from p left head ks = sequences.timed_from p.plan p.lists left head ks
 
@@ -21,7 +21,7 @@ timed p sequence = timed_from p (counts_of p.lists) p.head sequence
 abbrev pub total_cost : List Served → ℕ
 total_cost served = sum_by (λ s. s.cost) served
 
--- the delay of a sequence and the head behind it; none where it is not feasible
+-- the delay of a sequence and the head after it; none where it is not feasible
 abbrev pub timing : Problem → List ℕ → Option (ℕ × Head)
 timing p sequence = option_map (λ t. (total_cost t.0, t.1)) (timed p sequence)
 
@@ -33,7 +33,7 @@ delay_of p sequence = option_map (λ t. total_cost t.0) (timed p sequence)
 abbrev pub times_of : ℕ → List ℕ → ℕ
 times_of k sequence = count_by (λ x. x == k) sequence
 
--- a sequence on its way: so many clusters are left, a head is reached, and the delay has room for what is left
+-- a sequence on its way: this many clusters are left, a head is reached, and the delay leaves enough for what is left
 pub record IsUnderWay (p : Problem) (counts : List ℕ) (h : Head) (spent : ℕ) : Type 0 where
   pub head : IsHead p.plan h
   pub reach : h.at ≤ latest_time

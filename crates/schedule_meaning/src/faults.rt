@@ -24,7 +24,7 @@ pub enum InstanceFault {
 
 /// Why a sequence is not feasible. Places are numbered from 1.
 ///
-/// docs/RULES.md, "Instance".
+/// docs/RULES.md, "Sequence, feasibility, delay".
 #[derive(Debug, Clone, Copy, PartialEq, Eq)]
 pub enum SeqFault {
     /// The first number that is no phase.

@@ -3,7 +3,7 @@
 ghost use Rattle.std.specs.Prelude.{◌≡◌, ◌+◌, ◌^◌, ◌<◌, ◌≤◌, All, length, map, sum, take, IfOk, IfErr, IfNone, IfSome, IsTrue, OnOk, ◌↔◌};
 ghost use Rattle.foundation.specs.Firsts.{IsFirstWithout};
 ghost use Rattle.phase_plan.specs.Phases.{IsPlan};
-ghost use Rattle.switch_rules.specs.Bounds.{most_clusters, most_orders};
+ghost use Rattle.switch_rules.specs.Bounds.{latest_arrival, most_clusters, most_orders};
 ghost use Rattle.switch_rules.specs.Serving.{IsHead, IsCluster};
 ghost use Rattle.switch_rules.specs.Orders.{orders};
 ghost use Rattle.schedule_meaning.specs.Instances.{IsSpaced, cluster_at, counts_of};
@@ -15,7 +15,9 @@ use foundation::threads::CrossesThreads;
 use phase_plan::PhasePlan;
 use std::alloc::{AllocError, Global};
 use std::marker::Model;
-use switch_rules::{Cluster, Head, MOST_ORDERS, ways};
+use switch_rules::{
+    Cluster, GREATEST_SIZE, Head, LATEST_ARRIVAL, MOST_CLUSTERS, MOST_ORDERS, ways,
+};
 
 /// What one intersection plans: its phases, its signal head, and the clusters of each phase in the
 /// order of their arrival, all within bounds. Contracts see it as a `Problem`.
@@ -39,9 +41,6 @@ impl Model for Instance {
 }
 
 impl CrossesThreads for Instance {}
-
-/// The greatest number of clusters in an instance.
-const MOST_CLUSTERS: u64 = 40;
 
 impl Instance {
     ghost use Rattle.std.specs.Prelude.{◌≡◌, ◌^◌, ◌<◌, All, length, IfOk, IfErr, OnErr, vec_len};
@@ -78,7 +77,7 @@ impl Instance {
         })
     }
 
-    /// An equal instance, on this allocator. An `Err` comes where memory runs out.
+    /// An equal instance, on this allocator. `Err`: out of memory.
     ///
     /// docs/RULES.md, "Instance".
     pub fn copy(&self, alloc: Global) -> Result<Instance, AllocError>
@@ -111,8 +110,8 @@ impl Instance {
         self.head
     }
 
-    /// The clusters of a phase, in the order of their arrival; with all phases at most 40. A number that is no phase of the
-    /// plan has none.
+    /// The clusters of a phase, in the order of their arrival; with all phases at most 40. A number that is no phase
+    /// of the plan has none.
     ///
     /// docs/RULES.md, "Clusters".
     pub fn list(&self, phase: u8) -> &[Cluster]
@@ -158,14 +157,14 @@ fn copy_lists(alloc: Global, lists: &[Items<Cluster>]) -> Result<Items<Items<Clu
 
 /// Refuses a head whose phase is none of the plan, or whose times are out of bounds.
 fn check_head(plan: &PhasePlan, head: &Head) -> Result<(), InstanceFault>
-    ensures ok { OnOk result (IsPlan plan.now × IsHead plan.now head.now × (head.now.since ≤ 100000)) }
+    ensures ok { OnOk result (IsPlan plan.now × IsHead plan.now head.now × (head.now.since ≤ latest_arrival)) }
     ensures first { IfErr result (IsHeadFault plan.now head.now) }
 {
     if head.phase >= plan.count() {
         return Err(InstanceFault::HeadPhase);
     }
     let greatest = plan.phase(head.phase).greatest;
-    if head.since > 100_000 || head.at < head.since || head.at - head.since > greatest {
+    if head.since > LATEST_ARRIVAL || head.at < head.since || head.at - head.since > greatest {
         return Err(InstanceFault::HeadTime);
     }
     Ok(())
@@ -192,7 +191,8 @@ fn check_bounds(lists: &[Items<Cluster>]) -> Result<(), InstanceFault>
 /// The index of the first cluster that is out of bounds.
 fn first_out_of_bounds(list: &[Cluster]) -> Option<usize>
     ensures none { IfNone result (All IsCluster list.now) }
-    ensures some { IfSome result (λ index. (index < length list.now) × All IsCluster (take index list.now) × ¬ IsCluster (cluster_at list.now index)) }
+    ensures some { IfSome result (λ index. (index < length list.now) × All IsCluster (take index list.now)
+        × ¬ IsCluster (cluster_at list.now index)) }
 {
     list.iter().position(|cluster| !is_in_bounds(cluster))
 }
@@ -201,8 +201,8 @@ fn first_out_of_bounds(list: &[Cluster]) -> Option<usize>
 fn is_in_bounds(cluster: &Cluster) -> bool
     ensures { IsTrue result ↔ IsCluster cluster.now }
 {
-    (1..=20_000_000).contains(&cluster.size)
-        && cluster.arr <= 100_000
+    (1..=GREATEST_SIZE).contains(&cluster.size)
+        && cluster.arr <= LATEST_ARRIVAL
         && (1..=240).contains(&cluster.len)
 }
 
@@ -244,13 +244,14 @@ fn first_too_early(list: &[Cluster]) -> Option<usize>
 fn check_number(lists: &[Items<Cluster>]) -> Result<(), InstanceFault>
     requires few { length lists.now ≤ 4 }
     requires short { All (λ list. length list < 2 ^ 32) lists.now }
-    ensures ok { OnOk result ((sum (counts_of lists.now) ≤ most_clusters) × (length (orders (counts_of lists.now)) ≤ most_orders)) }
+    ensures ok { OnOk result ((sum (counts_of lists.now) ≤ most_clusters)
+        × (length (orders (counts_of lists.now)) ≤ most_orders)) }
     ensures first { IfErr result (λ fault. (fault ≡ InstanceFault.Many) × AreMany lists.now) }
 {
     let mut counts = [0; 4];
     let counts = &mut counts[..lists.len()];
     count_clusters(lists, counts);
-    if total_of(counts) > MOST_CLUSTERS || ways(counts) > MOST_ORDERS {
+    if total_of(counts) > u64::from(MOST_CLUSTERS) || ways(counts) > MOST_ORDERS {
         return Err(InstanceFault::Many);
     }
     Ok(())

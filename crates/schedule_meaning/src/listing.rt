@@ -40,11 +40,11 @@ pub fn servings(alloc: Global, i: &Instance, seq: &[u8]) -> Result<Vec<Served>, 
     ensures ok { IfOk result (λ list. option_map (λ t. t.0) (timed i.now seq.now) ≡ Some list.items) }
     ensures first { IfErr result (IsServingsFault i.now seq.now) }
 {
-    counted::<Brand>(alloc, i, seq, Blank::new(1))
+    servings_in_ledger::<Brand>(alloc, i, seq, Blank::new(1))
 }
 
-/// What a sequence serves, its steps counted in the ledger of this blank.
-fn counted<L: Ledger>(
+/// What a sequence serves, its steps servings_in_ledger in the ledger of this blank.
+fn servings_in_ledger<L: Ledger>(
     alloc: Global,
     i: &Instance,
     seq: &[u8],
@@ -59,7 +59,7 @@ fn counted<L: Ledger>(
 {
     let mut steps = Steps::<L>::new(blank);
     match replay(i, seq, &mut steps) {
-        Ok(_) => match listed(alloc, i, seq, &mut steps) {
+        Ok(_) => match list_servings(alloc, i, seq, &mut steps) {
             Ok(list) => Ok(list),
             Err(_) => Err(ServingsFault::NoMemory),
         },
@@ -68,7 +68,7 @@ fn counted<L: Ledger>(
 }
 
 /// What a feasible sequence serves.
-fn listed<L: Ledger>(
+fn list_servings<L: Ledger>(
     alloc: Global,
     i: &Instance,
     seq: &[u8],

@@ -6,7 +6,7 @@ ghost use Rattle.switch_rules.specs.Orders.{orders};
 ghost use Rattle.schedule_meaning.specs.Timing.{IsUnderWay, onward, timed_from, timing};
 ghost use Rattle.schedule_meaning.specs.declared.planners.Answer.{Answer};
 ghost use Rattle.schedule_meaning.specs.Best.{IsBest, IsLeast};
-ghost use Rattle.schedule_meaning.specs.Choice.{best_behind, better};
+ghost use Rattle.schedule_meaning.specs.Choice.{best_after, better};
 
 use super::instances::Instance;
 use super::replays::next_cluster;
@@ -36,7 +36,7 @@ impl CrossesThreads for Answer {}
 /// docs/RULES.md, "Best answer".
 pub trait Planner {
     /// The sequence of least delay, and of several that reach it the lexicographically first; or
-    /// no plan, exactly where no sequence is feasible. An `Err` comes where memory runs out.
+    /// no plan, exactly where no sequence is feasible. `Err`: out of memory.
     fn best<L: Ledger>(
         &mut self,
         alloc: Global,
@@ -74,7 +74,7 @@ impl Planner for PlainPlanner {
     }
 }
 
-/// Walks along all orders of the clusters that are left, behind a sequence that reached this head
+/// Walks along all orders of the clusters that are left, after a sequence that reached this head
 /// with this delay, and keeps the best of them and the best so far.
 fn walk_on<L: Ledger>(
     i: &Instance,
@@ -86,12 +86,13 @@ fn walk_on<L: Ledger>(
     steps: &mut Steps<L>,
 ) -> Result<(), AllocError>
     requires way { IsUnderWay i.now left.old head delay }
-    requires reached { (rest : List ℕ) → timing i.now (sequence.old.items ++ rest) ≡ option_map (onward delay) (timed_from i.now left.old head rest) }
+    requires reached { (rest : List ℕ) → timing i.now (sequence.old.items ++ rest)
+        ≡ option_map (onward delay) (timed_from i.now left.old head rest) }
     ensures left { OnOk result (left.new ≡ left.old) }
     ensures sequence { OnOk result (sequence.new.items ≡ sequence.old.items) }
-    ensures best { OnOk result (best.new ≡ best_behind i.now sequence.old.items best.old (orders left.old)) }
+    ensures best { OnOk result (best.new ≡ best_after i.now sequence.old.items best.old (orders left.old)) }
 {
-    if remaining(left) == 0 {
+    if total_left(left) == 0 {
         return keep_better(best, sequence, delay);
     }
     for phase in 0..i.plan().count() {
@@ -111,7 +112,7 @@ fn walk_on<L: Ledger>(
 }
 
 /// How many clusters are left in all.
-fn remaining(left: &[u32]) -> u32
+fn total_left(left: &[u32]) -> u32
     requires { sum left.now < 2 ^ 32 }
     ensures { result ≡ sum left.now }
 {
@@ -134,8 +135,7 @@ fn keep_better(best: &mut Answer, sequence: &Vec<u8>, delay: u64) -> Result<(), 
     Ok(())
 }
 
-/// The best answer of an instance by this planner, for callers that count no steps. An `Err` comes where memory
-/// runs out.
+/// The best answer of an instance by this planner, for callers that count no steps. `Err`: out of memory.
 ///
 /// docs/RULES.md, "Best answer".
 pub fn best_answer<P: Planner>(
@@ -147,11 +147,11 @@ pub fn best_answer<P: Planner>(
     ensures least { IfOk result (IsLeast i.now) }
     ensures only { IfOk result (λ answer. (other : Answer) → IsBest i.now other → other ≡ answer) }
 {
-    counted::<P, Brand>(alloc, planner, i, Blank::new(1))
+    best_in_ledger::<P, Brand>(alloc, planner, i, Blank::new(1))
 }
 
 /// The best answer of an instance, its steps counted in the ledger of this blank.
-fn counted<P: Planner, L: Ledger>(
+fn best_in_ledger<P: Planner, L: Ledger>(
     alloc: Global,
     planner: &mut P,
     i: &Instance,

@@ -14,14 +14,14 @@ use foundation::threads::CrossesThreads;
 use std::sync::ledger::Ledger;
 use switch_rules::{Cluster, Head, serve};
 
-/// A feasible sequence, timed: its delay, and the head behind its last serving.
+/// A feasible sequence, timed: its delay, and the head after its last serving.
 ///
 /// docs/RULES.md, "Sequence, feasibility, delay".
 #[derive(Debug, Clone, Copy, PartialEq, Eq)]
 pub struct Timed {
     /// Thousandths of a vehicle times seconds.
     pub delay: u64,
-    /// The head behind the last serving; the instance's where the sequence is empty.
+    /// The head after the last serving; the instance's where the sequence is empty.
     pub head: Head,
 }
 
@@ -59,15 +59,18 @@ pub fn replay<L: Ledger>(i: &Instance, seq: &[u8], steps: &mut Steps<L>) -> Resu
 /// The index of the first number that is no phase.
 fn first_unknown(seq: &[u8], phases: u8) -> Option<usize>
     ensures none { IfNone result (All (λ k. k < phases) seq.now) }
-    ensures some { IfSome result (λ i. (i < length seq.now) × All (λ k. k < phases) (take i seq.now) × (phases ≤ slice_index seq.now i)) }
+    ensures some { IfSome result (λ i. (i < length seq.now) × All (λ k. k < phases) (take i seq.now)
+        × (phases ≤ slice_index seq.now i)) }
 {
     seq.iter().position(|phase| *phase >= phases)
 }
 
 /// The least phase that the sequence has not as often as it has clusters.
 fn wrong_count(i: &Instance, seq: &[u8]) -> Option<u8>
-    ensures none { IfNone result ((k : ℕ) → k < length i.now.lists → times_of k seq.now ≡ length (list_at i.now.lists k)) }
-    ensures some { IfSome result (IsFirstWithout (λ k. times_of k seq.now ≡ length (list_at i.now.lists k)) (length i.now.lists)) }
+    ensures none { IfNone result ((k : ℕ) → k < length i.now.lists
+        → times_of k seq.now ≡ length (list_at i.now.lists k)) }
+    ensures some { IfSome result (IsFirstWithout
+        (λ k. times_of k seq.now ≡ length (list_at i.now.lists k)) (length i.now.lists)) }
 {
     for phase in 0..i.plan().count() {
         let times = seq.iter().filter(|named| **named == phase).count();
@@ -116,7 +119,7 @@ fn walk<L: Ledger>(
     Ok(Timed { delay, head })
 }
 
-/// The next cluster of a phase, where so many of each phase are left, and of this phase at least one.
+/// The next cluster of a phase, given how many of each phase are left, and of this phase at least one.
 ///
 /// docs/RULES.md, "Sequence, feasibility, delay".
 pub fn next_cluster<'a>(i: &'a Instance, phase: u8, left: &[u32]) -> &'a Cluster

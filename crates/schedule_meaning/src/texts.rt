@@ -3,7 +3,7 @@
 ghost use Rattle.std.specs.Prelude.{◌≡◌, ◌^◌, ◌<◌, IfOk, IfErr, MatchResult, length};
 ghost use Rattle.instance_form.specs.InstanceText.{instance_text};
 ghost use Rattle.schedule_meaning.specs.Instances.{Problem, IsInstance};
-ghost use Rattle.schedule_meaning.specs.Texts.{IsTextFault, IsWant, Spells};
+ghost use Rattle.schedule_meaning.specs.Texts.{IsTextFault, IsOutOfMemory, IsInstanceText};
 
 use super::faults::InstanceFault;
 use super::instances::Instance;
@@ -43,9 +43,9 @@ impl From<FormFault> for TextFault {
     }
 }
 
-/// The instance whose one spelling the bytes are, fewer than 2^32 of them.
+/// The instance whose one text the bytes are, fewer than 2^32 of them.
 ///
-/// A fault other than want of memory comes only where the bytes are the spelling of no instance: the
+/// A fault other than out of memory comes only where the bytes are the text of no instance: the
 /// first line that has not its form, or else the fault of the plan, or else that of the instance.
 ///
 /// docs/FORMATS.md, "Instance text".
@@ -54,7 +54,7 @@ pub fn read_instance(alloc: Global, bytes: &[u8]) -> Result<Instance, TextFault>
     ensures ok { IfOk result (λ i. bytes.now ≡ instance_text i.plan i.head i.lists) }
     ensures lawful { IfOk result IsInstance }
     ensures only { (p : Problem) → IsInstance p → bytes.now ≡ instance_text p.plan p.head p.lists
-        → MatchResult result (λ i. i ≡ p) IsWant }
+        → MatchResult result (λ i. i ≡ p) IsOutOfMemory }
     ensures first { IfErr result (IsTextFault bytes.now) }
 {
     let form = read_form(alloc, bytes)?;
@@ -68,14 +68,14 @@ pub fn read_instance(alloc: Global, bytes: &[u8]) -> Result<Instance, TextFault>
     }
 }
 
-/// The one spelling of an instance, in fewer than 2^32 bytes, which `read_instance` reads as that instance. An `Err`
-/// comes where memory runs out.
+/// The one text of an instance, in fewer than 2^32 bytes, which `read_instance` reads as that instance. `Err`: out of
+/// memory.
 ///
 /// docs/FORMATS.md, "Instance text".
 pub fn write_instance(alloc: Global, i: &Instance) -> Result<Vec<u8>, AllocError>
     ensures text { IfOk result (λ text. text.items ≡ instance_text i.now.plan i.now.head i.now.lists) }
     ensures lawful { IsInstance i.now }
-    ensures spells { IfOk result (λ text. Spells text.items i.now) }
+    ensures spells { IfOk result (λ text. IsInstanceText text.items i.now) }
     ensures short { IfOk result (λ text. length text.items < 2 ^ 32) }
 {
     write_form(alloc, i.plan().phases(), &i.head(), i.lists())

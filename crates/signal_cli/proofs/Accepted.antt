@@ -1,5 +1,9 @@
 -- That `check` accepts what `certify` writes.
-use Rattle.std.proofs.Common.{◌≡◌, ℕ, ◌+◌, ◌*◌, ◌≤◌, ◌∙◌, List, length, arith, sym}
+use Rattle.std.proofs.Common.{◌≡◌, ℕ, ◌+◌, ◌*◌, ◌≤◌, ◌∙◌, List, length, arith, refl, subst, sym}
+use Rattle.switch_rules.specs.Bounds.{most_clusters, most_entries}
+use Rattle.schedule_meaning.specs.Best.{IsBest}
+use Rattle.schedule_meaning.specs.Instances.{Problem}
+use Rattle.dp_certificate.specs.declared.Entry.{Entry}
 use Rattle.dp_certificate.specs.Certificates.{Claim, IsCertificate}
 use Rattle.dp_certificate.specs.Proves.{Proves}
 use Rattle.certificate_form.specs.Answers as cert
@@ -7,18 +11,30 @@ use Rattle.certificate_form.specs.CertificateText.{HasText, certificate_text}
 use Rattle.commands.specs.Commands.{IsAcceptedText}
 use Rattle.command_texts.specs.Limits.{most_bytes}
 
--- so many entries and places make a text within the limit
-few-bytes : (bytes entries places : ℕ) → bytes ≤ 48 * entries + 4 * places + 3000 → entries ≤ 2000001 → places ≤ 40 → bytes ≤ most_bytes
+-- this many entries and places make a text within the limit
+few-bytes : (bytes entries places : ℕ) → bytes ≤ 48 * entries + 4 * places + 3000 → entries ≤ most_entries → places ≤ most_clusters → bytes ≤ most_bytes
 few-bytes bytes entries places short few small = omega arith
 
 -- a certificate's text is accepted, where the certificate is small and proves its answer
 pub accepted : (bytes : List ℕ) (c : Claim) (places : ℕ)
     → ((d e : Claim) → HasText d → HasText e → certificate_text d ≡ certificate_text e → d ≡ e)
-    → length bytes ≤ 48 * length c.entries + 4 * places + 3000 → length c.entries ≤ 2000001 → places ≤ 40
-    → IsCertificate c → cert.Spells bytes c → Proves c → IsAcceptedText bytes c
+    → length bytes ≤ 48 * length c.entries + 4 * places + 3000 → length c.entries ≤ most_entries → places ≤ most_clusters
+    → IsCertificate c → cert.IsCertificateText bytes c → Proves c → IsAcceptedText bytes c
 accepted bytes c places one short few small lawful spells proves = record {
   short = few-bytes (length bytes) (length c.entries) places short few small;
   spells = (lawful, spells);
   only = λ other spelled. one other c spelled.1.0 spells.0 (sym spelled.1.1 ∙ spells.1);
   proves = proves;
 }
+
+-- and is the text of a certificate with the wanted table and the best answer
+pub written : (IsTable : Problem → List Entry → Type 0) (p : Problem) (c : Claim) → c.problem ≡ p → IsTable p c.entries → IsBest p c.answer → IsAcceptedText (certificate_text c) c
+    → (d : Claim) × (d.problem ≡ p) × IsTable d.problem d.entries × IsBest d.problem d.answer × (certificate_text c ≡ certificate_text d) × IsAcceptedText (certificate_text c) d
+written IsTable p c same table best is_accepted = (
+  c,
+  same,
+  subst (λ (q : Problem). IsTable q c.entries) (sym same) table,
+  subst (λ (q : Problem). IsBest q c.answer) (sym same) best,
+  refl,
+  is_accepted,
+)

@@ -6,7 +6,7 @@ use number_text::{push_number, push_numbers};
 use schedule_meaning::Answer;
 use std::alloc::{AllocError, Global};
 
-/// The text that `plan` writes for an answer. An `Err` comes where memory runs out.
+/// The text that `plan` writes for an answer. `Err`: out of memory.
 ///
 /// docs/FORMATS.md, "Answer text".
 pub fn answer_text(alloc: Global, answer: &Answer) -> Result<Vec<u8>, AllocError>

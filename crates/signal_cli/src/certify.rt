@@ -1,15 +1,17 @@
-//! The command `certify FILE`.
+//! The commands `certify FILE` and `certify_bound FILE`.
 ghost use Rattle.std.specs.Prelude.{◌≡◌, ◌<◌, ◌≤◌, IfOk, length};
+ghost use Rattle.switch_rules.specs.Bounds.{most_clusters, most_entries};
 ghost use Rattle.schedule_meaning.specs.Best.{IsBest};
 ghost use Rattle.dp_certificate.specs.Numbers.{sequence_of};
 ghost use Rattle.dp_certificate.specs.Proves.{Proves};
 ghost use Rattle.dp_certificate.specs.Whole.{IsWhole};
-ghost use Rattle.commands.specs.Commands.{Certify};
+ghost use Rattle.pruned_dp.specs.Bounded.{IsBounded};
+ghost use Rattle.commands.specs.Commands.{Certify, CertifyBound};
 ghost use Rattle.commands.specs.Ending.{MakesCertificate};
 ghost use Rattle.commands.specs.Outcome.{Outcome};
 
 use crate::delivery::deliver;
-use certificate_form::{has_text, one_certificate};
+use certificate_form::{law_of_certificate_text, law_of_certificates};
 use command_texts::{Place, Refusal, Status, fetch_instance};
 use dp_certificate::Certificate;
 use foundation::steps::Steps;
@@ -19,60 +21,98 @@ use std::alloc::{AllocError, Global};
 use std::marker::Brand;
 use std::sync::ledger::{Blank, Ledger};
 
-// The certificate of an instance.
-fn certified(alloc: Global, i: &Instance) -> Result<Certificate, AllocError>
-    ensures instance { IfOk result (λ c. c.problem ≡ i.now) }
-    ensures whole { IfOk result (λ c. IsWhole i.now c.entries) }
-    ensures best { IfOk result (λ c. IsBest i.now c.answer) }
-    ensures proves { IfOk result Proves }
-    ensures few { IfOk result (λ c. (length c.entries ≤ 2000001) × (length (sequence_of c.answer) ≤ 40)) }
-{
-    counted::<Brand>(alloc, i, Blank::new(1))
+/// Which table of entries a certificate is made with.
+///
+/// docs/RULES.md, "Certificate".
+#[derive(Debug, Clone, Copy, PartialEq, Eq)]
+pub enum Table {
+    /// The whole table, as `certify` writes it.
+    Whole,
+    /// The bounded table, as `certify_bound` writes it.
+    Bounded,
 }
 
-// The certificate of an instance, its steps counted in the ledger of this blank.
-fn counted<L: Ledger>(alloc: Global, i: &Instance, blank: Blank) -> Result<Certificate, AllocError>
+/// The certificate of an instance by this table.
+fn certificate_of(alloc: Global, table: Table, i: &Instance) -> Result<Certificate, AllocError>
+    ensures instance { IfOk result (λ c. c.problem ≡ i.now) }
+    ensures whole { table ≡ Table.Whole → IfOk result (λ c. IsWhole i.now c.entries) }
+    ensures bounded { table ≡ Table.Bounded → IfOk result (λ c. IsBounded i.now c.entries) }
+    ensures best { IfOk result (λ c. IsBest i.now c.answer) }
+    ensures proves { IfOk result Proves }
+    ensures few { IfOk result (λ c. (length c.entries ≤ most_entries)
+        × (length (sequence_of c.answer) ≤ most_clusters)) }
+{
+    certificate_in_ledger::<Brand>(alloc, table, i, Blank::new(1))
+}
+
+/// The certificate of an instance by this table, its steps counted in the ledger of this blank.
+fn certificate_in_ledger<L: Ledger>(
+    alloc: Global,
+    table: Table,
+    i: &Instance,
+    blank: Blank,
+) -> Result<Certificate, AllocError>
     requires name { blank.name ≡ L.name }
     requires parts { blank.parts ≡ L.parts }
     requires some { 0 < L.parts }
     ensures instance { IfOk result (λ c. c.problem ≡ i.now) }
-    ensures whole { IfOk result (λ c. IsWhole i.now c.entries) }
+    ensures whole { table ≡ Table.Whole → IfOk result (λ c. IsWhole i.now c.entries) }
+    ensures bounded { table ≡ Table.Bounded → IfOk result (λ c. IsBounded i.now c.entries) }
     ensures best { IfOk result (λ c. IsBest i.now c.answer) }
     ensures proves { IfOk result Proves }
-    ensures few { IfOk result (λ c. (length c.entries ≤ 2000001) × (length (sequence_of c.answer) ≤ 40)) }
+    ensures few { IfOk result (λ c. (length c.entries ≤ most_entries)
+        × (length (sequence_of c.answer) ≤ most_clusters)) }
 {
     let mut steps = Steps::<L>::new(blank);
-    forward_dp::certify(alloc, i, &mut steps)
+    match table {
+        Table::Whole => forward_dp::certify(alloc, i, &mut steps),
+        Table::Bounded => pruned_dp::certify_bound(alloc, i, &mut steps),
+    }
 }
 
-// The certificate of the instance that a file's text spells, of which what is to be promised of its text is known.
-fn made<S: Shelf>(alloc: Global, shelf: &mut S, file: &str) -> Result<Certificate, Refusal>
-    ensures { MakesCertificate (Certify file.now) (S.state shelf.old) (S.state shelf.new) result }
+/// The certificate by this table of the instance in a file, with what is promised of its text.
+fn certificate_of_file<S: Shelf>(
+    alloc: Global,
+    table: Table,
+    shelf: &mut S,
+    file: &str,
+) -> Result<Certificate, Refusal>
+    ensures whole { table ≡ Table.Whole
+        → MakesCertificate (Certify file.now) (S.state shelf.old) (S.state shelf.new) result }
+    ensures bounded { table ≡ Table.Bounded
+        → MakesCertificate (CertifyBound file.now) (S.state shelf.old) (S.state shelf.new) result }
 {
     let instance = fetch_instance(alloc, shelf, Place::First, file)?;
-    let certificate = certified(alloc, &instance)?;
-    has_text(&certificate);
-    one_certificate();
+    let certificate = certificate_of(alloc, table, &instance)?;
+    // Called for its clauses `lawful`, `spells` and `short`.
+    law_of_certificate_text(&certificate);
+    // Called for its clause: no other certificate has this text.
+    law_of_certificates();
     Ok(certificate)
 }
 
-/// The command `certify FILE`: writes the certificate of the instance that the file's text spells, with its best answer
-/// and the whole table of entries, which prove it. `check` accepts that text: it is within the limit of a text, and spells
-/// this certificate and no other.
+/// The commands `certify FILE`, by the whole table, and `certify_bound FILE`, by the bounded one: writes the
+/// certificate of the instance in the file, with its best answer and that table of entries, which prove it. `check`
+/// accepts that text: it is within the limit of a text, and is the text of this certificate and of no other.
 ///
 /// Each status has its cause, and each refusal writes its line to `err`, as `signal` says.
 ///
 /// docs/FORMATS.md, "Words".
 pub fn certify_job<S: Shelf, O: Sink, E: Sink>(
     alloc: Global,
+    table: Table,
     file: &str,
     shelf: &mut S,
     out: &mut O,
     err: &mut E,
 ) -> Status
-    ensures { Outcome (Certify file.now)
+    ensures whole { table ≡ Table.Whole → Outcome (Certify file.now)
+        (record { shelf = S.state shelf.old; out = O.state out.old; err = E.state err.old })
+        (record { shelf = S.state shelf.new; out = O.state out.new; err = E.state err.new }) result }
+    ensures bounded { table ≡ Table.Bounded → Outcome (CertifyBound file.now)
         (record { shelf = S.state shelf.old; out = O.state out.old; err = E.state err.old })
         (record { shelf = S.state shelf.new; out = O.state out.new; err = E.state err.new }) result }
 {
-    deliver(alloc, made(alloc, shelf, file), out, err)
+    let made = certificate_of_file(alloc, table, shelf, file);
+    deliver(alloc, made, out, err)
 }

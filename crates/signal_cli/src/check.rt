@@ -18,17 +18,17 @@ use std::alloc::{AllocError, Global};
 use std::marker::Brand;
 use std::sync::ledger::{Blank, Ledger};
 
-// The verdict on a certificate.
+/// The verdict on a certificate.
 fn verdict_of(c: &Certificate) -> Verdict
     ensures accepted { result ≡ Verdict.Accepted ↔ Proves c.now }
     ensures least { result ≡ Verdict.Accepted → IsLeast c.now.problem c.now.answer }
     ensures first { IfRejected result (IsWhy c.now) }
 {
-    counted::<Brand>(c, Blank::new(1))
+    verdict_in_ledger::<Brand>(c, Blank::new(1))
 }
 
-// The verdict on a certificate, its steps counted in the ledger of this blank.
-fn counted<L: Ledger>(c: &Certificate, blank: Blank) -> Verdict
+/// The verdict on a certificate, its steps counted in the ledger of this blank.
+fn verdict_in_ledger<L: Ledger>(c: &Certificate, blank: Blank) -> Verdict
     requires name { blank.name ≡ L.name }
     requires parts { blank.parts ≡ L.parts }
     requires some { 0 < L.parts }
@@ -40,7 +40,7 @@ fn counted<L: Ledger>(c: &Certificate, blank: Blank) -> Verdict
     cert_checker::check(c, &mut steps)
 }
 
-// The verdict on a certificate, as it is written, whatever file it stands in.
+/// The verdict on a certificate, as it is written, whatever file it stands in.
 fn verdict(alloc: Global, c: &Certificate) -> Result<Made, AllocError>
     ensures { (file : List ℕ) → IfOk result (λ made. IsMadeOf (Check file) made (c.now, tt)) }
 {
@@ -56,8 +56,8 @@ fn verdict(alloc: Global, c: &Certificate) -> Result<Made, AllocError>
     }
 }
 
-// The verdict on the certificate that a file's text spells.
-fn judged<S: Shelf>(alloc: Global, shelf: &mut S, file: &str) -> Result<Made, Refusal>
+/// The verdict on the certificate in a file.
+fn check_file<S: Shelf>(alloc: Global, shelf: &mut S, file: &str) -> Result<Made, Refusal>
     ensures { Makes (Check file.now) (S.state shelf.old) (S.state shelf.new) result }
 {
     let certificate = fetch_certificate(alloc, shelf, Place::First, file)?;
@@ -65,7 +65,7 @@ fn judged<S: Shelf>(alloc: Global, shelf: &mut S, file: &str) -> Result<Made, Re
     Ok(made)
 }
 
-/// The command `check FILE`: writes the verdict on the certificate that the file's text spells, that it is accepted, or
+/// The command `check FILE`: writes the verdict on the certificate in the file, that it is accepted, or
 /// the first reason why it is rejected.
 ///
 /// Each status has its cause, and each refusal writes its line to `err`, as `signal` says.
@@ -82,5 +82,5 @@ pub fn check_job<S: Shelf, O: Sink, E: Sink>(
         (record { shelf = S.state shelf.old; out = O.state out.old; err = E.state err.old })
         (record { shelf = S.state shelf.new; out = O.state out.new; err = E.state err.new }) result }
 {
-    end(alloc, judged(alloc, shelf, file), out, err)
+    end(alloc, check_file(alloc, shelf, file), out, err)
 }

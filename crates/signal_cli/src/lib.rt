@@ -3,15 +3,13 @@
 
 mod answers;
 mod certify;
-mod certify_bound;
 mod check;
 mod delivery;
 mod plan;
 mod top;
 mod verdicts;
 
-pub use certify::certify_job;
-pub use certify_bound::certify_bound_job;
+pub use certify::{Table, certify_job};
 pub use check::check_job;
 pub use command_texts::Status;
 pub use network_jobs::{grid_job, instance_job, replay_job, turns_job};

@@ -11,8 +11,8 @@ use outside_world::{Shelf, Sink};
 use schedule_meaning::best_answer;
 use std::alloc::Global;
 
-// The text of the best answer of the instance that a file's text spells.
-fn planned<S: Shelf>(alloc: Global, shelf: &mut S, file: &str) -> Result<Made, Refusal>
+/// The text of the best answer of the instance in a file.
+fn plan_of_file<S: Shelf>(alloc: Global, shelf: &mut S, file: &str) -> Result<Made, Refusal>
     ensures { Makes (Plan file.now) (S.state shelf.old) (S.state shelf.new) result }
 {
     let instance = fetch_instance(alloc, shelf, Place::First, file)?;
@@ -21,7 +21,7 @@ fn planned<S: Shelf>(alloc: Global, shelf: &mut S, file: &str) -> Result<Made, R
     Ok(Made::Done(text))
 }
 
-/// The command `plan FILE`: writes the best answer of the instance that the file's text spells.
+/// The command `plan FILE`: writes the best answer of the instance in the file.
 ///
 /// Each status has its cause, and each refusal writes its line to `err`, as `signal` says.
 ///
@@ -37,5 +37,5 @@ pub fn plan_job<S: Shelf, O: Sink, E: Sink>(
         (record { shelf = S.state shelf.old; out = O.state out.old; err = E.state err.old })
         (record { shelf = S.state shelf.new; out = O.state out.new; err = E.state err.new }) result }
 {
-    end(alloc, planned(alloc, shelf, file), out, err)
+    end(alloc, plan_of_file(alloc, shelf, file), out, err)
 }

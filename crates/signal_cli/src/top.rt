@@ -1,12 +1,11 @@
-//! The top call: the words of the command line, and what is done.
+//! The top call: the arguments of the command line, and what is done.
 ghost use Rattle.std.specs.Prelude.{◌≡◌, ◌≢◌, ◌↔◌};
 ghost use Rattle.commands.specs.Commands.{Call, IsCall, IsWithin, seen};
 ghost use Rattle.commands.specs.Outcome.{Outcome};
 ghost use Rattle.command_texts.specs.Refusals.{Says};
 ghost use Rattle.command_texts.specs.declared.refusals.Refusal.TheVariants as refusal;
 
-use super::certify::certify_job;
-use super::certify_bound::certify_bound_job;
+use super::certify::{Table, certify_job};
 use super::check::check_job;
 use super::plan::plan_job;
 use board_model::Gate;
@@ -20,9 +19,9 @@ use std::sync::Wait;
 use std::thread::Threads;
 use threaded_jobs::net_job;
 
-/// The program: does what its words say over the shelf and the sinks, and answers how it ended.
+/// The program: does what its arguments say over the shelf and the sinks, and answers how it ended.
 ///
-/// The words are those of a command; all others are `Usage`, which touches neither shelf nor `out`. Each status of a
+/// The arguments are those of a command; all others are `Usage`, which touches neither shelf nor `out`. Each status of a
 /// command comes with its cause, nothing is written to `out` before all work is done, and a refusal writes its line to
 /// `err`. `net` alone starts threads and waits, and calls the gate.
 ///
@@ -37,7 +36,8 @@ pub fn signal<R: Threads + Wait + Sync, S: Shelf, O: Sink, E: Sink, G: Gate + Sy
     gate: &G,
 ) -> Status
     ensures usage { (result ≡ Status.Usage) ↔ ((call : Call) → ¬ IsCall words.now call) }
-    ensures unused { result ≡ Status.Usage → (S.state shelf.new ≡ S.state shelf.old) × (O.state out.new ≡ O.state out.old)
+    ensures unused { result ≡ Status.Usage → (S.state shelf.new ≡ S.state shelf.old)
+        × (O.state out.new ≡ O.state out.old)
         × Says refusal.Usage (E.state err.old) (E.state err.new) }
     ensures called { result ≢ Status.Usage → (call : Call) × IsCall words.now call }
     ensures outcome { (call : Call) → IsCall words.now call → Outcome call
@@ -50,7 +50,7 @@ pub fn signal<R: Threads + Wait + Sync, S: Shelf, O: Sink, E: Sink, G: Gate + Sy
     }
 }
 
-// Does what a command says.
+/// Does what a command says.
 fn run<R: Threads + Wait + Sync, S: Shelf, O: Sink, E: Sink, G: Gate + Sync>(
     rt: &R,
     alloc: Global,
@@ -67,8 +67,10 @@ fn run<R: Threads + Wait + Sync, S: Shelf, O: Sink, E: Sink, G: Gate + Sync>(
 {
     match command {
         Command::Plan { file } => plan_job(alloc, file, shelf, out, err),
-        Command::Certify { file } => certify_job(alloc, file, shelf, out, err),
-        Command::CertifyBound { file } => certify_bound_job(alloc, file, shelf, out, err),
+        Command::Certify { file } => certify_job(alloc, Table::Whole, file, shelf, out, err),
+        Command::CertifyBound { file } => {
+            certify_job(alloc, Table::Bounded, file, shelf, out, err)
+        }
         Command::Check { file } => check_job(alloc, file, shelf, out, err),
         Command::Turns { net, arr } => turns_job(alloc, net, arr, shelf, out, err),
         Command::Replay { net, arr, hist } => replay_job(alloc, net, arr, hist, shelf, out, err),

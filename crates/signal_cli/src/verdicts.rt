@@ -8,7 +8,7 @@ use schedule_meaning::SeqFault;
 use std::alloc::{AllocError, Global};
 use switch_rules::Unfit;
 
-/// The line that `check` writes for a certificate that does not prove its answer. An `Err` comes where memory runs out.
+/// The line that `check` writes for a certificate that does not prove its answer. `Err`: out of memory.
 ///
 /// docs/FORMATS.md, "Verdict text".
 pub fn rejected_line(alloc: Global, why: Why) -> Result<Vec<u8>, AllocError>
@@ -20,7 +20,7 @@ pub fn rejected_line(alloc: Global, why: Why) -> Result<Vec<u8>, AllocError>
     Ok(line)
 }
 
-// Writes why a certificate does not prove its answer.
+/// Writes why a certificate does not prove its answer.
 fn push_why(text: &mut Vec<u8>, why: Why) -> Result<(), AllocError>
     ensures { OnOk result (text.new.items ≡ text.old.items ++ why_text why) }
 {
@@ -38,7 +38,7 @@ fn push_why(text: &mut Vec<u8>, why: Why) -> Result<(), AllocError>
     }
 }
 
-// Writes a fault of the claimed sequence.
+/// Writes a fault of the claimed sequence.
 fn push_sequence(text: &mut Vec<u8>, fault: SeqFault) -> Result<(), AllocError>
     ensures { OnOk result (text.new.items ≡ text.old.items ++ sequence_text fault) }
 {
@@ -52,7 +52,7 @@ fn push_sequence(text: &mut Vec<u8>, fault: SeqFault) -> Result<(), AllocError>
     }
 }
 
-// Why a serving is unfit, behind a space.
+/// Why a serving is unfit, after a space.
 fn unfit_name(why: Unfit) -> &'static [u8]
     ensures { result.now ≡ 32 ∷ unfit_name why }
 {

@@ -1,4 +1,4 @@
-//! The program in its process: its words, files and streams, handed to the top call.
+//! The program in its process: its arguments, files and streams, handed to the top call.
 #![tactic(auto)]
 
 use board_model::OpenGate;
@@ -14,10 +14,10 @@ use std::sync::Wait;
 use std::thread::Threads;
 use thiserror::Error;
 
-/// The status that says that the runtime refused the words themselves.
+/// The status that says that the runtime refused the arguments themselves.
 const REFUSED_WORDS: u8 = 7;
 
-/// Why there are no words.
+/// Why there are no arguments.
 #[derive(Debug, Drop, Error)]
 enum NoWords {
     #[error("the words of the command line cannot be had")]
@@ -26,8 +26,8 @@ enum NoWords {
     Memory,
 }
 
-/// Calls `signal` with the words of the command line, which `env` gives, the files and threads of `rt`, these streams for `out` and
-/// `err`, and the open gate. The answer is its status, or 7 where the words are refused.
+/// Calls `signal` with the arguments of the command line, which `env` gives, the files and threads of `rt`, these
+/// streams for `out` and `err`, and the open gate. The answer is its status, or 7 where the arguments are refused.
 ///
 /// docs/FORMATS.md, "Exit statuses and lines of refusal".
 pub fn run<
@@ -49,7 +49,7 @@ pub fn run<
     ExitCode::from(status.code())
 }
 
-// The words of the command line, without the program's name.
+// The arguments of the command line, without the program's name.
 fn words<W: Env + AllocGlobal>(env: &W, alloc: Global) -> Result<Vec<Text>, NoWords> {
     let args = match env::args(env) {
         Ok(args) => args,

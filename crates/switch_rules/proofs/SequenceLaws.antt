@@ -11,7 +11,7 @@ use Rattle.phase_plan.specs.declared.Phase.{Phase}
 use Rattle.phase_plan.proofs.RingLaws.{phase-bounds}
 use Rattle.switch_rules.specs.Orders.{one_less}
 use Rattle.switch_rules.specs.Sequences.{AreNextServings, IsNextServing, list_at, next_cluster, timed_from}
-use Rattle.switch_rules.specs.Serving.{IsCluster, IsHead, head_behind, serving}
+use Rattle.switch_rules.specs.Serving.{IsCluster, IsHead, head_after, serving}
 use Rattle.switch_rules.specs.declared.Head.{Head}
 use Rattle.switch_rules.specs.declared.Served.{Served}
 use Rattle.switch_rules.specs.declared.Cluster.{Cluster}
@@ -75,7 +75,7 @@ timed-next plan lists p each bounds (k ∷ ks) left head t h e = timed-begins pl
     let below : k < length plan = omega (arith, each, within.0) in
     let keeps = serving-keeps plan head k c s.0 s.1 below (phase-bounds plan k p below) h within.1 es in
     let one : IsNextServing plan lists left head k s.0 = record { cluster = c; next = ec; fit = es ∙ ap (λ (n : Head). Ok (s.0, n)) keeps.behind } in
-    let others = timed-next plan lists p each bounds ks (one_less left k) (head_behind k s.0) rest (subst (IsHead plan) keeps.behind keeps.bounds.head)
+    let others = timed-next plan lists p each bounds ks (one_less left k) (head_after k s.0) rest (subst (IsHead plan) keeps.behind keeps.bounds.head)
     (subst (λ (n : Head). timed_from plan lists (one_less left k) n ks ≡ Some rest) keeps.behind er) in
     let whole : List Served × Head = (s.0 ∷ rest.0, rest.1) in
     let both : Some t ≡ Some whole = sym e ∙ timed-fit plan lists left head k ks c s ec es ∙ ap (option_map (λ (r : List Served × Head). (s.0 ∷ r.0, r.1))) er in

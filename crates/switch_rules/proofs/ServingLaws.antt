@@ -4,17 +4,17 @@ use Rattle.std.proofs.lemmas.Bool.{cond_both, and_parts, eqb-true, leb-true, leb
 use Rattle.std.proofs.lemmas.Nat.{mul-le}
 use Rattle.phase_plan.specs.Phases.{IsPhase, phase_at}
 use Rattle.phase_plan.specs.declared.Phase.{Phase}
-use Rattle.switch_rules.specs.Serving.{IsHead, IsCluster, IsServing, IsTimed, start_in_green, goes_on, earliest_green, head_behind, served_from, serving}
+use Rattle.switch_rules.specs.Serving.{IsHead, IsCluster, IsServing, IsTimed, start_in_green, goes_on, earliest_green, head_after, served_from, serving}
 use Rattle.switch_rules.specs.declared.Head.{Head}
 use Rattle.switch_rules.specs.declared.Cluster.{Cluster}
 use Rattle.switch_rules.specs.declared.Served.{Served}
 
--- a fit serving of a cluster of phase k from a head, and the head behind it: its times and bounds, and how its green stands
+-- a fit serving of a cluster of phase k from a head, and the head after it: its times and bounds, and how its green stands
 -- to that of the head, which goes on, or ends before a new one begins
 pub record IsFitServing (plan : List Phase) (head : Head) (k : ℕ) (c : Cluster) (s : Served) (next : Head) : Type 0 where
   pub times : IsTimed plan head k c s
   pub bounds : IsServing plan (s, next)
-  pub behind : next ≡ head_behind k s
+  pub behind : next ≡ head_after k s
   pub stood : s.kept ≡ true → (k ≡ head.phase) × (s.green ≡ head.since)
   pub anew : s.kept ≡ false → earliest_green plan head k ≤ s.green
 

@@ -5,6 +5,14 @@ use Rattle.std.specs.Prelude.{ℕ}
 abbrev pub latest_time : ℕ
 latest_time = 104000
 
+-- clusters arrive, and the green of an instance's head begins, by this second
+abbrev pub latest_arrival : ℕ
+latest_arrival = 100000
+
+-- no cluster has more thousandths of a vehicle
+abbrev pub greatest_size : ℕ
+greatest_size = 20000000
+
 -- by this second every fit serving has ended
 abbrev pub latest_finish : ℕ
 latest_finish = 103840
@@ -20,6 +28,10 @@ most_clusters = 40
 -- nor do its servings cost more together
 abbrev pub greatest_delay : ℕ
 greatest_delay = 2880000000000
+
+-- a table has no more entries: one for each place of each order, and the first
+abbrev pub most_entries : ℕ
+most_entries = 2000001
 
 -- an instance can be served in no more orders
 abbrev pub most_orders : ℕ

@@ -6,7 +6,7 @@ use Rattle.std.specs.List.{flat_map, range_with_len}
 abbrev pub one_less : List ℕ → ℕ → List ℕ
 one_less counts p = slice_set counts p (slice_index counts p - 1)
 
--- the orders of so many clusters in all: for each phase with a cluster left, in rising order, that phase followed by
+-- the orders of this many clusters in all: for each phase with a cluster left, in rising order, that phase followed by
 -- each order of the others
 abbrev pub orders_of : ℕ → List ℕ → List (List ℕ)
 orders_of zero counts = [] ∷ []

@@ -2,7 +2,7 @@
 use Rattle.std.specs.Prelude.{◌≡◌, ℕ, ◌+◌, ◌-◌, ◌*◌, ◌<◌, ◌≤◌, Bool, true, false, ◌&&◌, ◌==◌, nat_lt, nat_le, max, if◌then◌else◌, List, length, Result, Ok, Err}
 use Rattle.phase_plan.specs.Phases.{phase_at, switch_time}
 use Rattle.phase_plan.specs.declared.Phase.{Phase}
-use Rattle.switch_rules.specs.Bounds.{latest_finish, greatest_cost}
+use Rattle.switch_rules.specs.Bounds.{greatest_cost, greatest_size, latest_arrival, latest_finish}
 use Rattle.switch_rules.specs.declared.Head.{Head}
 use Rattle.switch_rules.specs.declared.Cluster.{Cluster}
 use Rattle.switch_rules.specs.declared.Served.{Served}
@@ -17,11 +17,11 @@ pub record IsHead (plan : List Phase) (head : Head) : Type 0 where
 
 -- a cluster within its bounds
 pub record IsCluster (c : Cluster) : Type 0 where
-  pub size : (1 ≤ c.size) × (c.size ≤ 20000000)
-  pub arr : c.arr ≤ 100000
+  pub size : (1 ≤ c.size) × (c.size ≤ greatest_size)
+  pub arr : c.arr ≤ latest_arrival
   pub len : (1 ≤ c.len) × (c.len ≤ 240)
 
--- when the cluster starts if the green of the head goes on: as it arrives and the green is free, or behind the
+-- when the cluster starts if the green of the head goes on: as it arrives and the green is free, or after the
 -- start-up loss where that is not spent and the cluster waits already
 abbrev pub start_in_green : Phase → Head → Cluster → ℕ
 start_in_green p head c = if head.fresh && nat_le c.arr head.at then max head.at (head.since + p.loss) else max c.arr head.at
@@ -34,7 +34,7 @@ goes_on p head j c = (j == head.phase) && nat_le (start_in_green p head c + c.le
 abbrev pub earliest_end : List Phase → Head → ℕ
 earliest_end plan head = max head.at (head.since + (phase_at plan head.phase).least)
 
--- when a new green of phase j can begin: behind the green of the head, once the ring has turned
+-- when a new green of phase j can begin: after the green of the head, once the ring has turned
 abbrev pub earliest_green : List Phase → Head → ℕ → ℕ
 earliest_green plan head j = earliest_end plan head + switch_time plan head.phase j
 
@@ -45,7 +45,7 @@ served_from p j c green start kept =
     else (if nat_lt p.wait (start - c.arr) then Err TooLate
     else Ok (record { green = green; start = start; finish = start + c.len; cost = c.size * (start - c.arr); kept = kept }, record { phase = j; since = green; at = start + c.len; fresh = false }))
 
--- a cluster of phase j in a new green: behind the start-up loss where it waits already, and else as it arrives
+-- a cluster of phase j in a new green: after the start-up loss where it waits already, and else as it arrives
 abbrev pub served_anew : Phase → ℕ → Cluster → ℕ → Result (Served × Head) Unfit
 served_anew p j c earliest = if nat_le c.arr earliest then served_from p j c earliest (earliest + p.loss) false else served_from p j c c.arr c.arr false
 
@@ -56,9 +56,9 @@ serving plan head j c =
     if goes_on p head j c then served_from p j c head.since (start_in_green p head c) true
     else served_anew p j c (earliest_green plan head j)
 
--- the head behind a serving of phase k
-abbrev pub head_behind : ℕ → Served → Head
-head_behind k s = record { phase = k; since = s.green; at = s.finish; fresh = false }
+-- the head after a serving of phase k
+abbrev pub head_after : ℕ → Served → Head
+head_after k s = record { phase = k; since = s.green; at = s.finish; fresh = false }
 
 -- the times of a fit serving of a cluster of phase k from a head: it starts in its green, when the cluster has arrived and
 -- not before the head's time is spent; the cluster waits no longer than it may, and lasts as long as it is, within the

@@ -5,8 +5,13 @@ ghost use Rattle.std.specs.Prelude.{◌≡◌, ◌+◌, ◌^◌, ◌<◌, ◌≤
 ghost use Rattle.switch_rules.specs.Bounds.{latest_time, most_orders};
 ghost use Rattle.switch_rules.specs.Orders.{orders, choose, mixtures};
 ghost use Rattle.phase_plan.specs.Phases.{IsPhase};
-ghost use Rattle.switch_rules.specs.Serving.{IsHead, IsCluster, IsServing, IsTimed, earliest_end, head_behind, serving, served_from, start_in_green};
+ghost use Rattle.switch_rules.specs.Serving.{IsHead, IsCluster, IsServing, IsTimed, earliest_end, head_after, serving, served_from, start_in_green};
 
+mod bounds;
+
+pub use bounds::{
+    GREATEST_DELAY, GREATEST_SIZE, LATEST_ARRIVAL, LATEST_TIME, MOST_CLUSTERS, MOST_ORDERS,
+};
 use foundation::steps::Steps;
 use foundation::threads::CrossesThreads;
 use phase_plan::{Phase, PhasePlan};
@@ -77,11 +82,6 @@ impl CrossesThreads for Served {}
 
 impl CrossesThreads for Unfit {}
 
-/// The latest second by which the time of a head may be spent from which clusters are served.
-///
-/// docs/RULES.md, "Serving".
-pub const LATEST_TIME: u32 = 104_000;
-
 /// Serves a cluster of a phase from a head, in one step: the served cluster with the head after it,
 /// or why that cannot be. A cluster that is both too long and too late is too long.
 ///
@@ -103,7 +103,7 @@ pub fn serve<L: Ledger>(
     ensures value { result ≡ serving plan.now head.now phase cluster.now }
     ensures steps { steps.new ≡ steps.old + 1 }
     ensures times { IfOk result (λ s. IsTimed plan.now head.now phase cluster.now s.0) }
-    ensures behind { IfOk result (λ s. s.1 ≡ head_behind phase s.0) }
+    ensures behind { IfOk result (λ s. s.1 ≡ head_after phase s.0) }
     ensures bounds { IfOk result (λ s. IsServing plan.now s) }
 {
     steps.tick();
@@ -129,8 +129,8 @@ pub fn serve<L: Ledger>(
     }
 }
 
-/// When the green of a head can end, if nothing more is served in it: it lasts its least time and until its time is spent.
-/// The head is one of the plan with `at` up to 104,000.
+/// When the green of a head can end, if nothing more is served in it: it lasts its least time and until its time is
+/// spent. The head is one of the plan with `at` up to 104,000.
 ///
 /// docs/RULES.md, "Serving".
 pub fn earliest_end(plan: &PhasePlan, head: &Head) -> u32
@@ -149,7 +149,7 @@ fn start_in_green(times: &Phase, head: &Head, cluster: &Cluster) -> u32
     requires begun { head.now.since ≤ head.now.at }
     requires cluster { IsCluster cluster.now }
     ensures value { result ≡ start_in_green times.now head.now cluster.now }
-    ensures bounds { result ≤ 104010 }
+    ensures bounds { result ≤ latest_time + 10 }
 {
     if head.fresh && cluster.arr <= head.at {
         head.at.max(head.since + times.loss)
@@ -198,11 +198,6 @@ fn served_from(
     Ok((served, head))
 }
 
-/// The greatest number of orders that an instance may have.
-///
-/// docs/RULES.md, "Instance".
-pub const MOST_ORDERS: u32 = 50_000;
-
 /// In how many orders clusters can be served, given how many each of at most 4 phases has, at most
 /// 41 in all; where there are more than 50,000, the answer is 50,001.
 ///
@@ -216,7 +211,7 @@ pub fn ways(counts: &[u32]) -> u32
     ways as u32
 }
 
-/// The number of ways to mix groups of so many things, at most 50,001, and how many things there
+/// The number of ways to mix groups of these sizes, at most 50,001, and how many things there
 /// are in all.
 fn mixtures(counts: &[u32]) -> (u64, u32)
     requires { sum counts.now ≤ 41 }

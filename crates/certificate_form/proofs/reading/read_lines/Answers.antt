@@ -47,7 +47,7 @@ returns-in_err-form-clause-first c =
 problem_of : In_ok-form → Problem
 problem_of c = record { plan = c.in_ok-form.form.phases.items; head = c.in_ok-form.form.head; lists = c.in_ok-form.form.lists.items }
 
--- and what stands behind them
+-- and what stands after them
 spelled : (c : In_ok-form) → c.args.bytes.now ≡ front_text (problem_of c) ++ c.in_ok-form.rest.now
 unfolding problem_of
 spelled c = whole (problem_of c) c.args.bytes.now c.in_ok-rest.rest.now c.in_ok-form.rest.now (opened (goal.at.In_ok-form c).In_ok-rest) c.in_ok-form.ensures.ok.1

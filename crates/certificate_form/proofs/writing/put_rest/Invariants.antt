@@ -4,7 +4,7 @@ use Rattle.certificate_form.specs.CertificateText.{entry_line}
 use Rattle.certificate_form.proofs.PartLaws.{HasPut}
 use Rattle.certificate_form.proofs.writing.put_rest.Given as goal
 
--- the lines before those that are left are in the sink, but for what the buffer holds, and there is room for a part behind it
+-- the lines before those that are left are in the sink, but for what the buffer holds, and there is room for a part after it
 abbrev pub invariant-loop-left : goal.invariant-loop-left
 invariant-loop-left g l = record {
   put : HasPut (l.initial.text.items ++ (flat_map (entry_line l.phases) l.entries ++ codes "end\n")) l.text.items (flat_map (entry_line l.phases) l.left ++ codes "end\n") (g.O.Sink.state l.initial.out) (g.O.Sink.state l.out);

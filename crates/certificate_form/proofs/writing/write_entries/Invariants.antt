@@ -3,7 +3,7 @@ use Rattle.std.specs.List.{flat_map}
 use Rattle.certificate_form.specs.CertificateText.{entry_front, entry_line}
 use Rattle.certificate_form.proofs.writing.write_entries.Given as goal
 
--- the entries so far are written in so much room, and each has four counts; the front is that of the last entry that had another
+-- the entries so far are written in this much memory, and each has four counts; the front is that of the last entry that had another
 abbrev pub invariant-loop-entry : goal.invariant-loop-entry
 invariant-loop-entry l = record {
   text : l.text.items ≡ l.initial.text.items ++ flat_map (entry_line l.phases) (take l.entry-index l.entries);

@@ -5,29 +5,29 @@ use Rattle.forward_dp.proofs.Parting.{has-left, ready-few, ready-filled, ready-f
 use Rattle.forward_dp.proofs.table.fill_group.Goals as goal
 
 pub base-base-requires : goal.base-base-requires
-base-base-requires g c = omega (arith, ready-gone c.args.i.now c.args.limit c.args.counts.now c.args.phase c.args.from c.requires.group.0 c.args.rows.now c.requires.group.1)
+base-base-requires g c = omega (arith, ready-gone c.args.task.now.i.now c.args.task.now.limit c.args.group.now.counts c.args.group.now.phase c.args.group.now.from c.requires.group.0 c.args.rows.now c.requires.group.1)
 
 pub cell-start-requires : goal.cell-start-requires
-cell-start-requires g c = omega (arith, c.saturating_sub.ensures, ready-within c.args.i.now c.args.limit c.args.counts.now c.args.phase c.args.from c.base-base.result c.source-source.result.now c.requires.group.0 c.args.rows.now c.requires.group.1 c.base-base.ensures c.source-source.ensures)
+cell-start-requires g c = omega (arith, c.saturating_sub.ensures, ready-within c.args.task.now.i.now c.args.task.now.limit c.args.group.now.counts c.args.group.now.phase c.args.group.now.from c.base-base.result c.source-source.result.now c.requires.group.0 c.args.rows.now c.requires.group.1 c.base-base.ensures c.source-source.ensures)
 
 pub reach-requires-clause-source : goal.reach-requires-clause-source
 reach-requires-clause-source g c =
-    (ready-found c.args.i.now c.args.limit c.args.counts.now c.args.phase c.args.from c.base-base.result c.saturating_sub.result c.cell-start.result.0 c.cell-start.result.1 c.source-source.result.now c.requires.group.0 c.args.rows.now c.list.result.now _ c.requires.group.1 c.base-base.ensures c.source-source.ensures c.list.ensures.value c.saturating_sub.ensures c.cell-start.ensures.start c.cell-start.ensures.end).is
+    (ready-found c.args.task.now.i.now c.args.task.now.limit c.args.group.now.counts c.args.group.now.phase c.args.group.now.from c.base-base.result c.saturating_sub.result c.cell-start.result.0 c.cell-start.result.1 c.source-source.result.now c.requires.group.0 c.args.rows.now c.list.result.now _ c.requires.group.1 c.base-base.ensures c.source-source.ensures c.list.ensures.value c.saturating_sub.ensures c.cell-start.ensures.start c.cell-start.ensures.end).is
 
-pub put_behind-requires-clause-rising : goal.put_behind-requires-clause-rising
-put_behind-requires-clause-rising g c = reached-rising c.args.i.now c.args.limit c.args.phase _ _ _ c.reach.new.self c.in_ok-reach.ensures.reached
+pub append_to-requires-clause-rising : goal.append_to-requires-clause-rising
+append_to-requires-clause-rising g c = reached-rising c.args.task.now.i.now c.args.task.now.limit c.args.group.now.phase _ _ _ c.reach.new.self c.in_ok-reach.ensures.reached
 
 pub overflow_add-result : goal.overflow_add-result
 overflow_add-result g c =
-    omega (arith, c.cell-start.ensures.end.within, ready-long c.args.i.now c.args.limit c.args.counts.now c.args.phase c.args.from c.base-base.result c.source-source.result.now c.requires.group.0 c.args.rows.now c.requires.group.1 c.base-base.ensures c.source-source.ensures, ready-few c.args.i.now c.args.limit c.args.counts.now c.args.phase c.args.from c.requires.group.0 c.args.rows.now c.requires.group.1)
+    omega (arith, c.cell-start.ensures.end.within, ready-long c.args.task.now.i.now c.args.task.now.limit c.args.group.now.counts c.args.group.now.phase c.args.group.now.from c.base-base.result c.source-source.result.now c.requires.group.0 c.args.rows.now c.requires.group.1 c.base-base.ensures c.source-source.ensures, ready-few c.args.task.now.i.now c.args.task.now.limit c.args.group.now.counts c.args.group.now.phase c.args.group.now.from c.requires.group.0 c.args.rows.now c.requires.group.1)
 
 pub leave-requires : goal.leave-requires
-leave-requires g c = omega (arith, ready-gone c.args.i.now c.args.limit c.args.counts.now c.args.phase c.args.from c.requires.group.0 c.args.rows.now c.requires.group.1)
+leave-requires g c = omega (arith, ready-gone c.args.task.now.i.now c.args.task.now.limit c.args.group.now.counts c.args.group.now.phase c.args.group.now.from c.requires.group.0 c.args.rows.now c.requires.group.1)
 
 pub returns-clause-filled : goal.returns-clause-filled
 returns-clause-filled g c gone held ready =
-    ready-filled (HasEntries c.leave.new.past) c.args.i.now c.args.limit c.args.counts.now c.args.phase c.args.from (c.base-base.result + c.cell-start.result.0) (c.base-base.result + c.cell-start.result.1) gone _ c.args.rows.now c.leave.new.self _ _ c.reach.new.self ready
-    (ready-found c.args.i.now c.args.limit c.args.counts.now c.args.phase c.args.from c.base-base.result c.saturating_sub.result c.cell-start.result.0 c.cell-start.result.1 c.source-source.result.now gone c.args.rows.now c.list.result.now _ ready c.base-base.ensures c.source-source.ensures c.list.ensures.value c.saturating_sub.ensures c.cell-start.ensures.start c.cell-start.ensures.end)
+    ready-filled (HasEntries c.leave.new.past) c.args.task.now.i.now c.args.task.now.limit c.args.group.now.counts c.args.group.now.phase c.args.group.now.from (c.base-base.result + c.cell-start.result.0) (c.base-base.result + c.cell-start.result.1) gone _ c.args.rows.now c.leave.new.self _ _ c.reach.new.self ready
+    (ready-found c.args.task.now.i.now c.args.task.now.limit c.args.group.now.counts c.args.group.now.phase c.args.group.now.from c.base-base.result c.saturating_sub.result c.cell-start.result.0 c.cell-start.result.1 c.source-source.result.now gone c.args.rows.now c.list.result.now _ ready c.base-base.ensures c.source-source.ensures c.list.ensures.value c.saturating_sub.ensures c.cell-start.ensures.start c.cell-start.ensures.end)
     c.in_ok-reach.ensures.reached
-    (has-left (HasEntries c.leave.new.past) c.args.i.now c.args.limit c.args.counts.now c.args.phase c.args.from c.is_last.result gone c.args.rows.now c.leave.new.self ready (c.in_ok-leave.ensures.left gone held) c.is_last.ensures.0)
-    c.in_ok-put_behind.ensures.joined refl refl refl
+    (has-left (HasEntries c.leave.new.past) c.args.task.now.i.now c.args.task.now.limit c.args.group.now.counts c.args.group.now.phase c.args.group.now.from c.is_last.result gone c.args.rows.now c.leave.new.self ready (c.in_ok-leave.ensures.left gone held) c.is_last.ensures.0)
+    c.in_ok-append_to.ensures.joined refl refl refl

@@ -11,7 +11,7 @@ pub loop-next-init : goal.loop-next-init
 loop-next-init g c = record {
   gone = [];
   held = c.requires.past;
-  wanted = refl;
+  keeps_entries = refl;
   way = table-starts c.args.i.now c.args.limit c.first_row.ensures.instance c.requires.delay c.first_row.result _ c.first_row.ensures.row c.requires.none.gone c.requires.none.earlier (c.in_ok-push.ensures.items ∙ ap (λ xs. xs ++ c.first_row.result ∷ []) c.requires.none.latest) c.requires.none.apart;
   within = λ k. omega (arith, none-counted k);
   empty = c.requires.empty;
@@ -38,7 +38,7 @@ loop-next-preserved g c =
     record {
       gone = made.gone;
       held = made.held;
-      wanted = c.fill_cell.ensures.wanted ∙ c.enter.ensures.wanted ∙ c.loop-next.invariant.wanted;
+      keeps_entries = c.fill_cell.ensures.keeps_entries ∙ c.enter.ensures.keeps_entries ∙ c.loop-next.invariant.keeps_entries;
       way = way-made (HasEntries c.fill_cell.new.past) c.args.i.now c.args.limit c.in-Some.next c.fill_cell.new.rows c.fill_cell.new.ends made;
       within = c.in-Some.ensures.some.within;
       empty = c.in_ok-fill_cell.ensures.empty;

@@ -6,12 +6,12 @@ use Rattle.forward_dp.specs.Tables.{HasEntries}
 use Rattle.forward_dp.proofs.Parting.{IsUnderWay}
 use Rattle.forward_dp.proofs.table.table.Given as goal
 
--- the cells up to these counts are made, and some rows are let go
+-- the cells up to these counts are made, and some rows are dropped
 abbrev pub invariant-loop-next : goal.invariant-loop-next
 invariant-loop-next g l = record {
   gone : List Row;
   held : HasEntries l.past gone;
-  wanted : l.past.wanted ≡ l.initial.past.wanted;
+  keeps_entries : l.past.keeps_entries ≡ l.initial.past.keeps_entries;
   way : IsUnderWay l.i l.limit l.counts 4 gone l.rows l.ends;
   within : (k : ℕ) → get_or l.counts k 0 ≤ get_or l.last k 0;
   empty : IsEmpty l.reached;

@@ -1,6 +1,6 @@
 use Rattle.std.proofs.Common.{◌≡◌, length}
 use Rattle.pruned_dp.proofs.BoundPlanner.many.Given as goal
 
--- so many are made
+-- this many are made
 abbrev pub invariant-loop-planner : goal.invariant-loop-planner
 invariant-loop-planner l = length l.planners.items ≡ l._planner

@@ -4,7 +4,7 @@ use Rattle.switch_rules.specs.Serving.{serving, IsServing}
 use Rattle.switch_rules.specs.Orders.{one_less, orders}
 use Rattle.switch_rules.proofs.Counting.{sum-one_less}
 use Rattle.schedule_meaning.specs.Timing.{IsUnderWay, next_cluster}
-use Rattle.schedule_meaning.specs.Choice.{best_behind}
+use Rattle.schedule_meaning.specs.Choice.{best_after}
 use Rattle.schedule_meaning.proofs.Sequences.{under-way-fit, result-cases}
 use Rattle.schedule_meaning.proofs.Choosing.{beginning_with, Reaches, orders-begin, reaches-fit, reaches-unfit, step-none, step-unfit, step-fit, raised-again, popped}
 use Rattle.schedule_meaning.proofs.planners.+walk_on.Goals as goal
@@ -52,9 +52,9 @@ loop-phase-preserved g t c =
       | in-Ok+in_ok-push+in_ok-walk_on w ↦
           let lower : set c.loop-phase.left k (get_or c.loop-phase.left k 0 - 1) ≡ one_less left k = ap (λ l. one_less l k) same in
           let pushed : w.push.new.self.items ≡ prefix ++ k ∷ [] = w.in_ok-push.ensures.items ∙ ap (λ xs. xs ++ k ∷ []) c.loop-phase.invariant.sequence in
-          let behind : c.match-serve.best ≡ best_behind p (prefix ++ k ∷ []) c.loop-phase.best (orders (one_less left k)) =
-          w.best-is ∙ w.in_ok-walk_on.ensures.best ∙ ap (λ xs. best_behind p xs c.loop-phase.best (orders (set c.loop-phase.left k (get_or c.loop-phase.left k 0 - 1)))) pushed
-          ∙ ap (λ l. best_behind p (prefix ++ k ∷ []) c.loop-phase.best (orders l)) lower in
+          let behind : c.match-serve.best ≡ best_after p (prefix ++ k ∷ []) c.loop-phase.best (orders (one_less left k)) =
+          w.best-is ∙ w.in_ok-walk_on.ensures.best ∙ ap (λ xs. best_after p xs c.loop-phase.best (orders (set c.loop-phase.left k (get_or c.loop-phase.left k 0 - 1)))) pushed
+          ∙ ap (λ l. best_after p (prefix ++ k ∷ []) c.loop-phase.best (orders l)) lower in
           record {
             left = w.left-is ∙ ap (λ l. set l k (get_or l k 0 + 1)) w.in_ok-walk_on.ensures.left ∙ raised-again c.loop-phase.left k (omega arith) ∙ same;
             sequence = rw w.sequence-is (w.pop.ensures.rest ∙ popped prefix w.walk_on.new.sequence.items k (vec_len w.walk_on.new.sequence) (w.in_ok-walk_on.ensures.sequence ∙ pushed) (omega arith));
@@ -74,6 +74,6 @@ pub returns-clause-best : goal.returns-clause-best
 returns-clause-best g t c =
     let left = c.args.left.now in
     c.loop-phase.invariant.best
-    ∙ ap (λ n. best_behind c.args.i.now c.args.sequence.now.items c.args.best.now (flat_map (beginning_with left) (range_with_len 0 n)))
+    ∙ ap (λ n. best_after c.args.i.now c.args.sequence.now.items c.args.best.now (flat_map (beginning_with left) (range_with_len 0 n)))
     (let e : c.loop-phase.phase ≡ length left = omega (arith, c.requires.way.lists, c.count-phase-end.ensures.count, c.plan.ensures.instance.lists, ap length c.plan.ensures.value) in e)
-    ∙ ap (best_behind c.args.i.now c.args.sequence.now.items c.args.best.now) (sym (orders-begin left (omega arith)))
+    ∙ ap (best_after c.args.i.now c.args.sequence.now.items c.args.best.now) (sym (orders-begin left (omega arith)))

@@ -1,6 +1,6 @@
 use Rattle.std.proofs.Common.{◌≡◌, sum}
 use Rattle.std.specs.List.{flat_map, range_with_len}
-use Rattle.schedule_meaning.specs.Choice.{best_behind}
+use Rattle.schedule_meaning.specs.Choice.{best_after}
 use Rattle.schedule_meaning.proofs.Choosing.{beginning_with}
 use Rattle.schedule_meaning.proofs.planners.+walk_on.Given as goal
 
@@ -12,5 +12,5 @@ abbrev pub invariant-loop-phase : goal.invariant-loop-phase
 invariant-loop-phase g l = record {
   left : l.left ≡ l.fn.left;
   sequence : l.sequence.items ≡ l.fn.sequence.items;
-  best : l.best ≡ best_behind l.i l.fn.sequence.items l.fn.best (flat_map (beginning_with l.fn.left) (range_with_len 0 l.phase));
+  best : l.best ≡ best_after l.i l.fn.sequence.items l.fn.best (flat_map (beginning_with l.fn.left) (range_with_len 0 l.phase));
 }

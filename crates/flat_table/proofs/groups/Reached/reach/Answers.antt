@@ -6,7 +6,7 @@ use Rattle.flat_table.proofs.groups.Reached.reach.Goals as goal
 use Rattle.flat_table.proofs.groups.Reached.reach.Goals.{in-Some+in_ok-take_in, in_default}
 
 pub loop-row-init : goal.loop-row-init
-loop-row-init g c = record { reached = reached-start c.args.i.now c.args.limit c.args.phase c.args.cluster.now c.args.source.now c.args.self.now c.requires.empty; rests = c.new-rests.ensures c.args.i.now; cost = omega arith }
+loop-row-init g c = record { reached = reached-start c.args.i.now c.args.limit c.args.phase c.args.cluster.now c.args.source.now c.args.self.now c.requires.empty; remaining = c.new-remaining.ensures c.args.i.now; cost = omega arith }
 
 pub take_in-requires-clause-kept : goal.take_in-requires-clause-kept
 take_in-requires-clause-kept g c =
@@ -45,7 +45,7 @@ loop-row-preserved g c =
             subst (AreReachedBy p c.args.limit k cluster source (n + 1)) (sym w.self-is)
             (reached-none p c.args.limit k cluster source n c.loop-row.self _ (get_or_default source n no_row _ c.loop-row-test.true ∙ sym c.row-item.is) w.in_default.ensures.left c.loop-row.invariant.reached)
       ];
-      rests = c.serve_within.ensures.rests;
+      remaining = c.serve_within.ensures.remaining;
       cost = omega (arith, c.loop-row.invariant.cost, c.serve_within.ensures.steps);
     }
 

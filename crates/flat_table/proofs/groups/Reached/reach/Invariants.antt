@@ -1,5 +1,5 @@
 use Rattle.std.proofs.Common.{◌+◌, ◌≤◌}
-use Rattle.dp_certificate.specs.Lines.{AreRests}
+use Rattle.dp_certificate.specs.LowerBound.{IsRemainingCost}
 use Rattle.flat_table.specs.Groups.{AreReachedBy}
 use Rattle.flat_table.proofs.groups.Reached.reach.Given as goal
 
@@ -7,6 +7,6 @@ use Rattle.flat_table.proofs.groups.Reached.reach.Given as goal
 abbrev pub invariant-loop-row : goal.invariant-loop-row
 invariant-loop-row g l = record {
   reached : AreReachedBy l.i l.limit l.phase l.cluster l.source l.row-index l.self;
-  rests : AreRests l.i l.rests;
+  remaining : IsRemainingCost l.i l.remaining;
   cost : l.steps ≤ l.initial.steps + l.row-index;
 }

@@ -6,5 +6,5 @@ pub returns-then-is_named-clause-failed : goal.returns-then-is_named-clause-fail
 returns-then-is_named-clause-failed c =
     let named : Contains c.deref.result.now c.saturating_add-self-inside.result = c.is_named.ensures.0 c.if-is_named.true in
     let fails : c.deref.result.now ≡ c.args.self.now.fails = search rules in
-    let calls : c.failing.new.self.calls ≡ c.saturating_add-self-inside.result = search rules in
+    let calls : c.fail.new.self.calls ≡ c.saturating_add-self-inside.result = search rules in
     λ _. inl (rw (← fails, calls) named)

@@ -1,0 +1,237 @@
+//! The timeline of a plan of servings, and that of no plan.
+
+ghost use Rattle.std.specs.Prelude.{◌≡◌, ℕ, ◌+◌, ◌-◌, ◌<◌, ◌≤◌, ◌++◌, length, All, OnOk, IfOk};
+ghost use Rattle.std.specs.List.{range_with_len};
+ghost use Rattle.phase_plan.specs.Phases.{IsPlan, passed_numbers};
+ghost use Rattle.switch_rules.specs.Bounds.{latest_time};
+ghost use Rattle.switch_rules.specs.Serving.{IsHead, earliest_green};
+ghost use Rattle.control_flow.specs.Greens.{AreApart, BeginBy, GoesOn, IsLawful, end_of};
+ghost use Rattle.control_flow.specs.Timelines.{AreServings, HasGreens, line_of, rotation_of, turned, left_for, last_end, shortest_greens, begin_after, green_after};
+
+use super::greens::{Green, Timeline};
+use phase_plan::PhasePlan;
+use std::alloc::{AllocError, Global};
+use switch_rules::{Head, Served, earliest_end};
+
+/// The timeline of servings, one after another from a head: each serving has its green, the first row is the green of
+/// the head, and the last row ends after second `until`.
+///
+/// The head is one of the plan, and `at` and `until` are at most 104,000. `Err`: out of memory. The
+/// two lists are the phases and the servings of one feasible sequence from that head.
+///
+/// docs/RULES.md, "Timeline".
+pub fn timeline(
+    alloc: Global,
+    plan: &PhasePlan,
+    head: &Head,
+    phases: &[u8],
+    served: &[Served],
+    until: u32,
+) -> Result<Timeline, AllocError>
+    requires head { IsHead plan.now head.now }
+    requires reach { head.now.at ≤ latest_time }
+    requires until { until ≤ latest_time }
+    requires servings { AreServings plan.now head.now phases.now served.now }
+    ensures value { IfOk result (λ line. line ≡ line_of plan.now head.now phases.now served.now until) }
+    ensures greens { IfOk result (λ line. HasGreens line phases.now served.now) }
+    ensures lawful { IfOk result (λ line. IsLawful plan.now line) }
+    ensures apart { IfOk result (λ line. AreApart plan.now line) }
+    ensures begin { IfOk result (λ line. GoesOn head.now line) }
+    ensures end { IfOk result (λ line. until < end_of line) }
+    ensures begins_by { (n : ℕ) → head.now.since ≤ n → until + 20 ≤ n → All (λ s. s.green ≤ n) served.now
+        → IfOk result (BeginBy n) }
+{
+    law_of_plans(plan);
+    let mut rows = Vec::with_capacity(alloc, phases.len() + 2 * usize::from(plan.count()))?;
+    let mut current = *head;
+    for (index, phase) in phases.iter().enumerate() {
+        let next = &served[index];
+        if !next.kept {
+            leave(plan, &current, *phase, next.green, &mut rows)?;
+        }
+        current = Head {
+            phase: *phase,
+            since: next.green,
+            at: next.finish,
+            fresh: false,
+        };
+    }
+    let latest = current.since + plan.phase(current.phase).greatest;
+    turn(plan, &current, latest, until, &mut rows)?;
+    Ok(Timeline::from_rows(rows))
+}
+
+/// The timeline with no plan: the green of the head ends as soon as it may, and then the ring turns, each green of its
+/// least length, until one ends after second `until`.
+///
+/// The head is one of the plan, and `at` and `until` are at most 104,000. `Err`: out of memory.
+///
+/// docs/RULES.md, "Timeline".
+pub fn rotation(
+    alloc: Global,
+    plan: &PhasePlan,
+    head: &Head,
+    until: u32,
+) -> Result<Timeline, AllocError>
+    requires head { IsHead plan.now head.now }
+    requires reach { head.now.at ≤ latest_time }
+    requires until { until ≤ latest_time }
+    ensures value { IfOk result (λ line. line ≡ rotation_of plan.now head.now until) }
+    ensures lawful { IfOk result (λ line. IsLawful plan.now line) }
+    ensures apart { IfOk result (λ line. AreApart plan.now line) }
+    ensures begin { IfOk result (λ line. GoesOn head.now line) }
+    ensures end { IfOk result (λ line. until < end_of line) }
+    ensures begins_by { (n : ℕ) → head.now.since ≤ n → until + 20 ≤ n → IfOk result (BeginBy n) }
+{
+    law_of_plans(plan);
+    let mut rows = Vec::new(alloc);
+    let earliest = earliest_end(plan, head);
+    turn(plan, head, earliest, until, &mut rows)?;
+    Ok(Timeline::from_rows(rows))
+}
+
+/// That the phases are a plan.
+fn law_of_plans(plan: &PhasePlan)
+    ensures { IsPlan plan.now }
+{
+    let _ = plan.count();
+}
+
+/// Adds the green of a head that is left for a wanted green of a phase from `begin` on, and greens of the phases that
+/// the ring passes on the way.
+fn leave(
+    plan: &PhasePlan,
+    head: &Head,
+    phase: u8,
+    begin: u32,
+    rows: &mut Vec<Green>,
+) -> Result<(), AllocError>
+    requires plan { IsPlan plan.now }
+    requires head { IsHead plan.now head.now }
+    requires reach { head.now.at ≤ latest_time }
+    requires phase { phase < length plan.now }
+    requires begin { earliest_green plan.now head.now phase ≤ begin }
+    ensures { OnOk result (rows.new.items ≡ rows.old.items
+        ++ left_for plan.now head.now (last_end plan.now head.now phase begin) (passed_numbers plan.now head.now.phase phase)) }
+{
+    let times = plan.phase(head.phase);
+    let in_time = begin - plan.switch_time(head.phase, phase);
+    let latest = (head.since + times.greatest).min(in_time);
+    let end = earliest_end(plan, head).max(latest);
+    rows.push(Green {
+        phase: head.phase,
+        from: head.since,
+        to: end,
+    })?;
+    pass(
+        plan,
+        head.phase,
+        phase,
+        end + times.yellow + times.clear,
+        rows,
+    )
+}
+
+/// Adds greens of the phases that the ring passes between two phases, each of its least length, from `from` on.
+fn pass(
+    plan: &PhasePlan,
+    leaving: u8,
+    wanted: u8,
+    from: u32,
+    rows: &mut Vec<Green>,
+) -> Result<(), AllocError>
+    requires plan { IsPlan plan.now }
+    requires leaving { leaving < length plan.now }
+    requires wanted { wanted < length plan.now }
+    requires from { from ≤ 105000 }
+    ensures { OnOk result (rows.new.items
+        ≡ rows.old.items ++ shortest_greens plan.now from (passed_numbers plan.now leaving wanted)) }
+{
+    if leaving < wanted {
+        add_shortest(plan, leaving + 1, wanted, from, rows)?;
+    } else {
+        let from = add_shortest(plan, leaving + 1, plan.count(), from, rows)?;
+        add_shortest(plan, 0, wanted, from, rows)?;
+    }
+    Ok(())
+}
+
+/// Adds greens of the phases from `low` up to `high`, each of its least length, from `from` on; the second at which the
+/// next green can begin.
+fn add_shortest(
+    plan: &PhasePlan,
+    low: u8,
+    high: u8,
+    from: u32,
+    rows: &mut Vec<Green>,
+) -> Result<u32, AllocError>
+    requires plan { IsPlan plan.now }
+    requires low { low ≤ high }
+    requires high { high ≤ length plan.now }
+    requires from { from ≤ 106000 }
+    ensures rows { OnOk result (rows.new.items
+        ≡ rows.old.items ++ shortest_greens plan.now from (range_with_len low (high - low))) }
+    ensures behind { IfOk result (λ next. next ≡ begin_after plan.now from (range_with_len low (high - low))) }
+    ensures bounds { IfOk result (λ next. next ≤ from + 560) }
+{
+    let mut from = from;
+    for phase in low..high {
+        let times = plan.phase(phase);
+        let to = from + times.least;
+        rows.push(Green { phase, from, to })?;
+        from = to + times.yellow + times.clear;
+    }
+    Ok(from)
+}
+
+/// Adds the green of a head up to `to`, and then greens of the ring, each of its least length, until one ends after
+/// `until`.
+fn turn(
+    plan: &PhasePlan,
+    head: &Head,
+    to: u32,
+    until: u32,
+    rows: &mut Vec<Green>,
+) -> Result<(), AllocError>
+    requires plan { IsPlan plan.now }
+    requires phase { head.now.phase < length plan.now }
+    requires to { to ≤ 105000 }
+    requires until { until ≤ latest_time }
+    ensures { OnOk result (rows.new.items ≡ rows.old.items ++ turned plan.now head.now to until) }
+{
+    let mut last = Green {
+        phase: head.phase,
+        from: head.since,
+        to,
+    };
+    rows.push(last)?;
+    while last.to <= until {
+        last = green_after(plan, &last);
+        rows.push(last)?;
+    }
+    Ok(())
+}
+
+/// The green of the next phase of the ring after a row, as early as it may be, of its least length.
+fn green_after(plan: &PhasePlan, row: &Green) -> Green
+    requires plan { IsPlan plan.now }
+    requires phase { row.now.phase < length plan.now }
+    requires to { row.now.to ≤ latest_time }
+    ensures value { result ≡ green_after plan.now row.now.phase row.now.to }
+    ensures phase { result.phase < length plan.now }
+    ensures later { row.now.to < result.to }
+    ensures bounds { result.to ≤ 105000 }
+{
+    let times = plan.phase(row.phase);
+    let phase = if row.phase + 1 < plan.count() {
+        row.phase + 1
+    } else {
+        0
+    };
+    let from = row.to + times.yellow + times.clear;
+    Green {
+        phase,
+        from,
+        to: from + plan.phase(phase).least,
+    }
+}

@@ -1,0 +1,32 @@
+-- What is left at the least, as a line over the seconds between two arrivals.
+use Rattle.std.specs.Prelude.{◌≡◌, ℕ, ◌+◌, ◌*◌, ◌≤◌}
+use Rattle.schedule_meaning.specs.Instances.{Problem}
+use Rattle.dp_certificate.specs.Proves.{rest_of}
+use Rattle.dp_certificate.specs.declared.lower_bound.LinearCost.{LinearCost}
+use Rattle.dp_certificate.specs.declared.lower_bound.RemainingCost.{RemainingCost}
+
+-- what is left of one phase costs no more for each second: 40 clusters of the greatest size
+abbrev pub most_steepness : ℕ
+most_steepness = 800000000
+
+-- nor does it weigh more: such clusters, each by the latest arrival
+abbrev pub most_weight : ℕ
+most_weight = 80000000000000
+
+-- what is left of four phases costs no more by the latest time
+abbrev pub most_rest : ℕ
+most_rest = 332800000000000
+
+-- at each second of the line what it says is the cost
+abbrev pub IsLinear : (ℕ → ℕ) → LinearCost → Type 0
+IsLinear cost line = (t : ℕ) → line.from ≤ t → t ≤ line.to → cost t + line.weight ≡ line.steepness * t
+
+-- the line is no steeper than the clusters of this many phases make it
+pub record IsShallow (phases : ℕ) (line : LinearCost) : Type 0 where
+  pub steepness : line.steepness ≤ most_steepness * phases
+  pub weight : line.weight ≤ most_weight * phases
+
+-- what is left of some counts, at the seconds of a line
+pub record IsRemainingCost (p : Problem) (remaining : RemainingCost) : Type 0 where
+  pub line : IsLinear (λ t. rest_of p remaining.counts t) remaining.line
+  pub small : IsShallow 4 remaining.line

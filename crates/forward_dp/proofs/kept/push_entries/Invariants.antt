@@ -1,6 +1,0 @@
-use Rattle.std.proofs.Common.{◌≡◌, ◌++◌, map, take}
-use Rattle.forward_dp.proofs.kept.push_entries.Given as goal
-
--- the entries so far are behind those before
-abbrev pub invariant-loop-row : goal.invariant-loop-row
-invariant-loop-row l = l.entries.items ≡ l.initial.entries.items ++ map (λ r. r.entry) (take l.row-index l.rows)
