@@ -40,7 +40,7 @@ IsRowFault net rows (Bound n) = IsFirst Some net rows n (λ before r. IsAtBound 
 IsRowFault net rows (Sum n) = IsFirst Some net rows n (λ before r. IsAtSum net before r)
 IsRowFault net rows _ = ⊥
 
--- the fact holds, unless the fault is want of memory
+-- the fact holds, unless the fault is out of memory
 abbrev pub Refuses : RowFault → Type 0 → Type 0
 Refuses NoMemory fact = Unit {0}
 Refuses _ fact = fact

@@ -10,7 +10,7 @@ use Rattle.arrivals.specs.declared.rows.ArrivalRow.{ArrivalRow}
 abbrev pub header : List (List ℕ)
 header = codes "second" ∷ codes "link" ∷ codes "amount" ∷ []
 
--- the number that digits spell
+-- the value of decimal digits
 abbrev pub spelled : List ℕ → ℕ
 spelled digits = fold (λ n digit. n * 10 + (digit - 48)) 0 digits
 

@@ -23,7 +23,7 @@ pub record AreArrivalRecords (net : Net) (all : List (List (List ℕ))) (a : Amo
 abbrev pub IsSourceName : Net → List ℕ → Type 0
 IsSourceName net name = IsSomeAnd (number_of net.link_names name) (IsSource net)
 
--- why the records behind the header are no rows of arrivals
+-- why the records after the header are no rows of arrivals
 abbrev pub IsRecordFault : Net → List (List (List ℕ)) → RowFault → Type 0
 IsRecordFault net records (Row n) = IsFirst (row_of net) net records n (λ before fields. told_of fields ≡ None)
 IsRecordFault net records (Link n) = IsFirst (row_of net) net records n (λ before fields. IsSomeAnd (told_of fields) (λ t. ¬ IsSourceName net t.name))

@@ -66,7 +66,7 @@ fn three(row: &ByteRecord) -> Option<(&[u8], &[u8], &[u8])>
     Some((row.get(0)?, row.get(1)?, row.get(2)?))
 }
 
-/// The number that 1 to 10 digits spell. One past the greatest u32 stands as that one, which is out of every bound.
+/// The value of 1 to 10 decimal digits. One past the greatest u32 stands as that one, which is out of every bound.
 fn digits(field: &[u8]) -> Option<u32>
     ensures { result ≡ digits_of field.now }
 {
@@ -90,7 +90,7 @@ fn all_digits(field: &[u8]) -> bool
     field.iter().all(|byte| byte.is_ascii_digit())
 }
 
-/// The number that digits spell, or the greatest u32 where that is less.
+/// The value of decimal digits, or the greatest u32 where that is less.
 fn spelled(digits: &[u8]) -> u32
     requires { IsTrue (list_all is_ascii_digit digits.now) }
     ensures { result ≡ min (spelled digits.now) greatest }

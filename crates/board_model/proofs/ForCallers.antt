@@ -10,11 +10,11 @@ use Rattle.board_model.specs.Boards.{stamps, published, version_of, forecast_of,
 use Rattle.board_model.proofs.LastOf.{IsAboveLast-more}
 use Rattle.board_model.proofs.LogLaws.{published-read, published-publish, newest-same}
 
--- behind a row may follow what is above it
+-- after a row may follow what is above it
 pub above-row : (rows : List Row) (row : Row) (second : ℕ) → row.second < second → IsAboveLast (seconds (rows ++ row ∷ [])) second
 above-row rows row second below = rw map-append (IsAboveLast-more (seconds rows) row.second second below)
 
--- behind an event may follow what is above it
+-- after an event may follow what is above it
 pub above-event : (events : List BoardEvent) (event : BoardEvent) (stamp : ℕ) → event.stamp < stamp → IsAboveLast (stamps (events ++ event ∷ [])) stamp
 above-event events event stamp below = rw map-append (IsAboveLast-more (stamps events) event.stamp stamp below)
 

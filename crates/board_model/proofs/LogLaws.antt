@@ -50,23 +50,23 @@ IsLegal-more events event legal above read = record {
 pub published-read : (events : List BoardEvent) (stamp node version : ℕ) → published (events ++ record { stamp = stamp; node = node; kind = Read version } ∷ []) ≡ published events
 published-read events stamp node version = flat_map-append _ events _ ∙ append-nil (published events)
 
--- a Publish publishes its forecast, behind all others
+-- a Publish publishes its forecast, after all others
 pub published-publish : (events : List BoardEvent) (stamp node : ℕ) (forecast : List Row) → published (after_publish events stamp node forecast) ≡ published events ++ forecast ∷ []
 published-publish events stamp node forecast = flat_map-append _ events _
 
--- a Read behind the log leaves what is published at a place
+-- a Read after the log leaves what is published at a place
 published_at-read : (events : List BoardEvent) (stamp node version place : ℕ) → published_at (events ++ record { stamp = stamp; node = node; kind = Read version } ∷ []) place ≡ published_at events place
 published_at-read [] stamp node version zero = refl
 published_at-read [] stamp node version (suc place) = refl
 published_at-read (e ∷ es) stamp node version zero = refl
 published_at-read (e ∷ es) stamp node version (suc place) = published_at-read es stamp node version place
 
--- a Publish behind the log is found at its end
+-- a Publish after the log is found at its end
 published_at-publish : (events : List BoardEvent) (stamp node : ℕ) (forecast : List Row) → published_at (after_publish events stamp node forecast) (length events) ≡ forecast
 published_at-publish [] stamp node forecast = refl
 published_at-publish (e ∷ es) stamp node forecast = published_at-publish es stamp node forecast
 
--- behind all others stands the newest
+-- after all others stands the newest
 newest-more : (oldest : List Row) (all : List (List Row)) (forecast : List Row) → slice_index_or (oldest ∷ (all ++ forecast ∷ [])) (length (all ++ forecast ∷ [])) [] ≡ forecast
 newest-more oldest [] forecast = refl
 newest-more oldest (f ∷ fs) forecast = newest-more f fs forecast

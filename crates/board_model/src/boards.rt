@@ -141,7 +141,7 @@ impl BoardLog {
         self.events.as_slice()
     }
 
-    /// A copy of the newest version's forecast. An `Err` comes only where memory runs out.
+    /// A copy of the newest version's forecast. `Err`: out of memory.
     ///
     /// docs/RULES.md, "Board".
     pub fn newest(&self, alloc: Global) -> Result<Forecast, AllocError>
@@ -158,8 +158,8 @@ impl BoardLog {
         }
     }
 
-    /// Sets memory aside for at least one event, where none is yet. An `Err` comes only where memory runs out, and
-    /// leaves all as it was.
+    /// Sets memory aside for at least one event, where none is yet. `Err`: out of
+    /// memory; all stays as it was.
     ///
     /// docs/RULES.md, "Board".
     pub fn reserve(&mut self) -> Result<(), AllocError>
@@ -216,7 +216,7 @@ impl BoardLog {
     /// Reads the board: answers the newest version, with a copy of its forecast and the stamp, and adds the event. The
     /// stamp is above the last one.
     ///
-    /// An `Err` comes only where memory runs out, and leaves all as it was.
+    /// `Err`: out of memory; all stays as it was.
     ///
     /// docs/RULES.md, "Board".
     pub fn read(&mut self, stamp: u64, node: u32) -> Result<Seen, AllocError>
@@ -242,7 +242,7 @@ impl BoardLog {
     /// Publishes a forecast: adds the event, and answers the version that the forecast became. The stamp is above the
     /// last one, and fewer than 64,000,000 versions were published.
     ///
-    /// An `Err` comes only where memory runs out, gives the forecast back and leaves all as it was.
+    /// `Err`: out of memory, with the forecast; all stays as it was.
     ///
     /// docs/RULES.md, "Board".
     pub fn publish(

@@ -89,7 +89,7 @@ impl Forecast {
         }
     }
 
-    /// The forecast of no row, with room for so many. An `Err` comes only where memory runs out.
+    /// The forecast of no row, with capacity for `rows` rows. `Err`: out of memory.
     ///
     /// docs/RULES.md, "Forecast".
     pub fn with_room(alloc: Global, rows: usize) -> Result<Forecast, AllocError>
@@ -103,7 +103,7 @@ impl Forecast {
     /// Adds a row at the end. There are fewer than 180 rows, the row is within its bounds, and its second is above that
     /// of the last row.
     ///
-    /// An `Err` comes only where memory runs out, and leaves the forecast as it was.
+    /// `Err`: out of memory; the forecast stays as it was.
     ///
     /// docs/RULES.md, "Forecast".
     pub fn push(&mut self, r: Row) -> Result<(), AllocError>
@@ -141,7 +141,7 @@ impl Forecast {
         }
     }
 
-    /// An equal forecast. An `Err` comes only where memory runs out.
+    /// An equal forecast. `Err`: out of memory.
     ///
     /// docs/RULES.md, "Forecast".
     pub fn copy(&self, alloc: Global) -> Result<Forecast, AllocError>

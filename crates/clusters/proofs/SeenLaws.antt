@@ -33,7 +33,7 @@ get_or-zeros n k = elim (cases_lt k n) [
   | inr past ↦ get_or_past (zeros n) k 0 (omega (arith, length_zeros n))
 ]
 
--- a list with zeros behind it
+-- a list with zeros after it
 padded-front : (xs : List ℕ) (n k : ℕ) → k < length xs → get_or (xs ++ zeros n) k 0 ≡ get_or xs k 0
 padded-front xs n k lt = get_or_append_left xs (zeros n) 0 k lt
 
@@ -83,7 +83,7 @@ seen-made look travel queue coming xs seen some far_off e made =
       total = omega (arith, sum_by-set (λ x. x) xs 0 (get_or xs 0 0 + queue) 0 room, total);
     }
 
--- with the forecast behind the time of travel, it is the inflow
+-- with the forecast after the time of travel, it is the inflow
 pub inflow-made : (now look travel queue : ℕ) (coming : List ℕ) (rows : List Row) (seen amounts : List ℕ)
     → IsSeen look travel queue coming seen → length amounts ≡ length seen
     → ((k : ℕ) → k < length seen → get_or amounts k 0 ≡ cond (nat_lt (now + k) (now + travel)) (get_or seen k 0) (amount_at rows (now + k)))

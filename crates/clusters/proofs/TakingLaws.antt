@@ -37,7 +37,7 @@ first-skip lists counts i (Some first) h none = record {
   ];
 }
 
--- and else it is the first one or comes behind it
+-- and else it is the first one or comes after it
 pub first-take : (lists : List (List Platoon)) (counts : List ℕ) (i arr : ℕ) (o : Option (ℕ × ℕ)) (result : ℕ × ℕ) → IsFirstOf lists counts i o
     → get_or counts i 0 < length (platoons_at lists i) → arr ≡ arrival lists i (get_or counts i 0) → IsEarlier o arr i result → IsFirstOf lists counts (i + 1) (Some result)
 first-take lists counts i arr None result h waits e is =
@@ -81,7 +81,7 @@ first-take lists counts i arr (Some first) result h waits e is = elim (cases_lt 
       })
 ]
 
--- So many have been taken, each phase's in their order.
+-- These counts have been taken, each phase's in their order.
 pub record IsTaking (lists : List (List Platoon)) (counts : List ℕ) (i : ℕ) : Type 0 where
   pub front : IsFront lists counts
   pub orders : length (orders counts) ≤ 50000

@@ -15,7 +15,7 @@ use Rattle.clusters.specs.Inflow.{leaving}
 abbrev pub streams_of : Net → Sensed → List Heard → List ℕ → List Part
 streams_of net sensed heard links = map (λ l. record { link = l; amounts = leaving net sensed heard l }) links
 
--- what they bring together, in each of so many seconds
+-- what they bring together, in each of the first `look` seconds
 unfoldable pub together : List Part → ℕ → List ℕ
 together streams look = map (λ x. sum_by (λ s. slice_index s.amounts x) streams) (range_with_len 0 look)
 
@@ -48,7 +48,7 @@ pub record ArePlatoons (gap most now look : ℕ) (streams : List Part) (platoons
 abbrev pub platoons_at : List (List Platoon) → ℕ → List Platoon
 platoons_at lists k = slice_index_or lists k []
 
--- the longest span of a phase's platoons: what its greatest green leaves behind the start-up loss
+-- the longest span of a phase's platoons: what its greatest green leaves after the start-up loss
 abbrev pub most_of : Net → ℕ → ℕ → ℕ
 most_of net node k = (phase_at (plan_at net node) k).greatest - (phase_at (plan_at net node) k).loss
 

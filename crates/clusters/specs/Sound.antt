@@ -14,7 +14,7 @@ use Rattle.road_net.specs.declared.senses.Sensed.{Sensed}
 use Rattle.clusters.specs.Platoons.{ArePlatoons, most_of, platoons_at, streams_of, whole_of}
 use Rattle.clusters.specs.Windows.{IsRising}
 
--- a part of a platoon of so many seconds: an amount for each, at most what can leave its link in a second
+-- a part of a platoon of `len` seconds: an amount for each, at most what can leave its link in a second
 pub record IsPart (net : Net) (len : ℕ) (part : Part) : Type 0 where
   pub count : length part.amounts ≡ len
   pub amounts : All (λ amount. amount ≤ (link_at net part.link).sat) part.amounts

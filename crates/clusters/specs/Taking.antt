@@ -1,4 +1,4 @@
--- What the steps of taking platoons into a window find. Of each phase so many have been taken.
+-- What the steps of taking platoons into a window find: `counts` of each phase have been taken. No public clause names these words.
 use Rattle.std.specs.Prelude.{◌≡◌, ℕ, ◌<◌, ◌≤◌, List, Option, Some, None, length, slice_index, take}
 use Rattle.switch_rules.specs.Arriving.{ComesFirst}
 use Rattle.clusters.specs.declared.shapes.Platoon.{Platoon}

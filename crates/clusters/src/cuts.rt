@@ -8,7 +8,7 @@ use foundation::items::Items;
 use std::alloc::{AllocError, Global};
 use switch_rules::Cluster;
 
-/// What the streams bring together, in each of so many seconds.
+/// What the streams bring together, in each of the first `look` seconds.
 pub(crate) fn together(alloc: Global, streams: &[Part], look: u32) -> Result<Vec<u32>, AllocError>
     requires { AreStreams look streams.now }
     ensures value { IfOk result (λ series. series.items ≡ together streams.now look) }
@@ -45,7 +45,7 @@ fn next_filled(series: &[u32], from: usize) -> Option<usize>
     None
 }
 
-/// Where the run ends that begins with this second, which is not empty: behind its last second.
+/// Where the run ends that begins with this second, which is not empty: after its last second.
 fn run_end(series: &[u32], first: usize, gap: u32, most: u32) -> usize
     requires there { first < length series.now }
     requires filled { 1 ≤ slice_index series.now first }

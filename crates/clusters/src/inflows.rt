@@ -98,7 +98,7 @@ fn rows_of(heard: &[Heard], l: u32) -> &[Row]
     }
 }
 
-/// What reaches the end of a link in each of so many seconds from `now` on.
+/// What reaches the end of a link in each of `look` seconds from `now` on.
 fn inflow(
     alloc: Global,
     now: u32,
@@ -121,7 +121,7 @@ fn inflow(
     Ok(amounts)
 }
 
-/// What the node sees coming, in each of so many seconds: the queue in the first one, and what is on the link for as long
+/// What the node sees coming, in each of `look` seconds: the queue in the first one, and what is on the link for as long
 /// as it takes to travel it.
 fn seen_ahead(
     alloc: Global,
@@ -141,7 +141,7 @@ fn seen_ahead(
     Ok(amounts)
 }
 
-/// These amounts, at most `count`, and zeros behind them up to `count`.
+/// These amounts, at most `count`, and zeros after them up to `count`.
 fn padded(alloc: Global, front: &[u32], count: usize) -> Result<Vec<u32>, AllocError>
     requires { length front.now ≤ count }
     ensures { IfOk result (λ amounts. amounts.items ≡ front.now ++ replicate (count - length front.now) 0) }

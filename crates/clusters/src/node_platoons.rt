@@ -22,7 +22,7 @@ use std::alloc::{AllocError, Global};
 /// Each platoon arrives at `sensed.now` or later, has a part for each link of its phase, in their order, and is a
 /// cluster within the bounds of an instance; none arrives before the one before it has arrived whole.
 ///
-/// An `Err` comes only where memory runs out.
+/// `Err`: out of memory.
 ///
 /// docs/RULES.md, "Platoons".
 pub fn platoons(

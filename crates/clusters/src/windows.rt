@@ -22,7 +22,7 @@ const MOST_CLUSTERS: u32 = 40;
 /// Where the clusters of the lists are spaced and within their bounds, those of the window make an instance with any head;
 /// and where the lists are those of a node, so are the window's.
 ///
-/// An `Err` comes only where memory runs out.
+/// `Err`: out of memory.
 ///
 /// docs/RULES.md, "Window".
 pub fn window(alloc: Global, lists: Vec<Items<Platoon>>) -> Result<Window, AllocError>
@@ -62,7 +62,7 @@ fn taken(alloc: Global, lists: &[Items<Platoon>]) -> Result<Vec<u32>, AllocError
     Ok(counts)
 }
 
-/// When the platoon arrives that comes first, of those behind the ones taken, and its phase.
+/// When the platoon arrives that comes first, of those after the ones taken, and its phase.
 fn first_waiting(lists: &[Items<Platoon>], counts: &[u32]) -> Option<(u32, usize)>
     requires { length counts.now ≡ length lists.now }
     ensures { IsFirstOf lists.now counts.now (length lists.now) result }
@@ -76,7 +76,7 @@ fn first_waiting(lists: &[Items<Platoon>], counts: &[u32]) -> Option<(u32, usize
     first
 }
 
-/// When the platoon behind the first `count` arrives, if there is one.
+/// When the platoon after the first `count` arrives, if there is one.
 fn next_arrival(list: &[Platoon], count: u32) -> Option<u32>
     ensures { IsNextArrival list.now count result }
 {

@@ -72,7 +72,7 @@ impl Actor {
 
     /// The actor of a node before its first round: its signal's ring turns from second 0, and nothing is planned.
     ///
-    /// An `Err` comes only where memory runs out.
+    /// `Err`: out of memory.
     ///
     /// docs/RULES.md, "A node's round".
     pub fn new(alloc: Global, net: &Network, node: u32) -> Result<Actor, AllocError>
@@ -142,8 +142,8 @@ impl Actor {
     /// Begins a round, in whose first second the node senses this: it wants to read the first link on which it hears another
     /// node, or to plan where it hears none.
     ///
-    /// It has done the round before, the round is one of the network, and some row of its timeline ends behind the round's first
-    /// second. An `Err` comes only where memory runs out, and leaves all as it was.
+    /// It has done the round before, the round is one of the network, and some row of its timeline ends after the round's first
+    /// second. `Err`: out of memory; all stays as it was.
     ///
     /// docs/RULES.md, "A node's round".
     pub fn begin(
@@ -174,7 +174,7 @@ impl Actor {
 
     /// Takes what was read of the link that it wants to read: it wants the next one, or to plan once it has read all.
     ///
-    /// An `Err` comes only where memory runs out, and leaves all as it was.
+    /// `Err`: out of memory; all stays as it was.
     ///
     /// docs/RULES.md, "A node's round".
     pub fn take(&mut self, heard: Heard) -> Result<(), AllocError>
@@ -194,7 +194,7 @@ impl Actor {
     /// the first link on which it tells another node.
     ///
     /// The timeline stays lawful, what is green before the round stays, every row begins at or below 100,000, and some row ends
-    /// behind the begin of the next round. An `Err` comes only where memory runs out, and leaves all as it was.
+    /// after the begin of the next round. `Err`: out of memory; all stays as it was.
     ///
     /// docs/RULES.md, "A node's round".
     pub fn commit<P: Planner>(
@@ -268,7 +268,7 @@ impl Actor {
     /// What it tells on the link on which it wants to publish: when the vehicles that it has planned to serve will come to that
     /// link's end.
     ///
-    /// An `Err` comes only where memory runs out.
+    /// `Err`: out of memory.
     ///
     /// docs/RULES.md, "A node's round".
     pub fn outgoing(&self, alloc: Global, net: &Network) -> Result<Forecast, AllocError>

@@ -42,7 +42,7 @@ impl CrossesThreads for Place {}
 /// by their numbers in the order of the file.
 #[derive(Debug, Clone, Copy, PartialEq, Eq)]
 pub enum NetFault {
-    /// Memory ran out. It says nothing of the file or draft.
+    /// Out of memory. It says nothing of the file or draft.
     NoMemory,
     /// The text is no TOML.
     NotToml,

@@ -107,14 +107,14 @@ IsUnknownFault d Conflict item sub =
     × FromOne (IsFirstNot (IsKnownConflict (link_names d)) d.conflicts) item
 IsUnknownFault d _ item sub = ⊥
 
--- why a draft has no numbers for its names, unless it is want of memory
+-- why a draft has no numbers for its names, unless it is out of memory
 abbrev pub FailsNumbers : Draft → NetFault → Type 0
 FailsNumbers d NoMemory = Unit {0}
 FailsNumbers d (Twice place) = IsTwiceFault d place.part place.item place.sub
 FailsNumbers d (Unknown place) = AreDistinct (node_names d) × AreDistinct (link_names d) × IsUnknownFault d place.part place.item place.sub
 FailsNumbers d _ = ⊥
 
--- A draft can be refused with the fault. Unless it is want of memory, the fact holds.
+-- A draft can be refused with the fault. Unless it is out of memory, the fact holds.
 abbrev pub Refuses : NetFault → Type 0 → Type 0
 Refuses NoMemory fact = Unit {0}
 Refuses NotToml fact = ⊥

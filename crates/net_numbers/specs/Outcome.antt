@@ -13,13 +13,13 @@ abbrev pub IsBoundAt : (Place → Type 0) → NetFault → Type 0
 IsBoundAt why (Bound place) = why place
 IsBoundAt why _ = ⊥
 
--- the fault is `Twice`, at a place where `why` holds, or want of memory
+-- the fault is `Twice`, at a place where `why` holds, or out of memory
 abbrev pub IsTwiceAt : (Place → Type 0) → NetFault → Type 0
 IsTwiceAt why NoMemory = Unit {0}
 IsTwiceAt why (Twice place) = why place
 IsTwiceAt why _ = ⊥
 
--- the fault is `Unknown`, at a place where `why` holds, or want of memory
+-- the fault is `Unknown`, at a place where `why` holds, or out of memory
 abbrev pub IsUnknownAt : (Place → Type 0) → NetFault → Type 0
 IsUnknownAt why NoMemory = Unit {0}
 IsUnknownAt why (Unknown place) = why place

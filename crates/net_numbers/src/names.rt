@@ -60,7 +60,7 @@ impl Names {
         }
     }
 
-    /// Adds a name at the end; `false` where it is there already. An `Err` comes only where memory runs out, and leaves the
+    /// Adds a name at the end; `false` where it is there already. `Err`: out of memory; the
     /// names as they were.
     pub fn add(&mut self, alloc: Global, name: &str) -> Result<bool, AllocError>
         requires { length self.old + 1 < 2 ^ 32 }

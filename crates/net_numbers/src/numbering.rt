@@ -34,7 +34,7 @@ pub struct Parts {
     pub conflicts: Vec<(u32, u32)>,
 }
 
-/// The draft with numbers for names. The fault is want of memory, or `Twice` or `Unknown` at the first place
+/// The draft with numbers for names. The fault is out of memory, or `Twice` or `Unknown` at the first place
 /// that repeats a name, or else that uses one which stands for nothing.
 ///
 /// docs/RULES.md, "Road network"; docs/FORMATS.md, "Places and faults".

@@ -301,7 +301,7 @@ module _ (net : Net) (network : IsNetwork net) (arriving : ℕ → ℕ → ℕ) 
         totals = subst (λ n. v.totals ≡ totals net arriving (past_of net arriving S n) n) (sym second) (same-totals v.totals (totals net arriving Q (x + 1)) all-entered all-left all-on all-delay);
       }
 
-  -- what so many seconds can count
+  -- what the first n seconds can count
   pub counts-small : (l : ℕ) → l < length net.link_names → IsSmall w.second (counts_at w.counts l)
   counts-small l h =
       let n : ℕ = w.second in

@@ -24,7 +24,7 @@ passed_in history n l = slice_index_or (slice_index_or history n []) l nothing
 abbrev pub reached : Net → (ℕ → ℕ → Passed) → ℕ → ℕ → ℕ
 reached net past n l = (past (n - (link_at net l).travel) l).entered
 
--- the queue behind the first n seconds
+-- the queue after the first n seconds
 abbrev pub queue : Net → (ℕ → ℕ → Passed) → ℕ → ℕ → ℕ
 queue net past n l = reached net past n l - (past n l).left
 
@@ -58,7 +58,7 @@ entering net arriving shown past x l = arriving l + total (λ k. split_of (turns
 abbrev pub passing : Net → (ℕ → ℕ) → (ℕ → Option (ℕ × ℕ)) → (ℕ → ℕ → Passed) → ℕ → ℕ → Passed
 passing net arriving shown past x l = record { entered = (past x l).entered + entering net arriving shown past x l; left = (past x l).left + discharged net shown past x l }
 
--- a further row behind those of the first x seconds
+-- a further row after those of the first x seconds
 abbrev pub longer : Net → (ℕ → ℕ) → (ℕ → Option (ℕ × ℕ)) → ℕ → List (List Passed) → List (List Passed)
 longer net arriving shown x history = history ++ map (passing net arriving shown (passed_in history) x) (range_with_len 0 (length net.link_names)) ∷ []
 

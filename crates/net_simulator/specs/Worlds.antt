@@ -36,7 +36,7 @@ pub record HasShape (net : Net) (w : Kept) : Type 0 where
   pub counts : length w.counts ≡ length net.link_names
 
 -- What is kept of the links is what passed them in the first x seconds: the queues, what entered in each of the last 120
--- seconds, and the queues behind the last 120 seconds and now.
+-- seconds, and the queues after the last 120 seconds and now.
 pub record Keeps (net : Net) (past : ℕ → ℕ → Passed) (qs rs ws : List ℕ) (x : ℕ) : Type 0 where
   pub queues : (l : ℕ) → l < length net.link_names → slice_index qs l ≡ queue net past x l
   pub recent : (l d : ℕ) → l < length net.link_names → 1 ≤ d → d ≤ 120 → cell rs l (x + 128 - d) ≡ (past (x + 1 - d) l).entered - (past (x - d) l).entered

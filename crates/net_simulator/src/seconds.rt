@@ -185,7 +185,7 @@ pub(crate) fn enter(recent: &mut [u32], net: &Network, leaving: &[u32], second: 
     }
 }
 
-/// Keeps the queues behind this second.
+/// Keeps the queues after this second.
 pub(crate) fn remember(waits: &mut [u32], queues: &[u32], links: u32, behind: u32)
     requires waits { length waits.old ≡ links * 128 }
     requires queues { length queues.now ≡ links }
@@ -197,7 +197,7 @@ pub(crate) fn remember(waits: &mut [u32], queues: &[u32], links: u32, behind: u3
     }
 }
 
-/// Counts what passed each link in this second. Tells how much waits behind it.
+/// Counts what passed each link in this second. Tells how much waits after it.
 pub(crate) fn count(
     counts: &mut [LinkTotals],
     recent: &[u32],

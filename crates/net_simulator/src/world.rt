@@ -56,7 +56,7 @@ impl Model for World {
 impl CrossesThreads for World {}
 
 impl World {
-    /// The empty world of a network, at second 0, with all the room that it will need.
+    /// The empty world of a network, at second 0, with all the capacity that it will need.
     ///
     /// docs/RULES.md, "World".
     pub fn new(alloc: Global, net: &Network) -> Result<World, AllocError>
@@ -138,7 +138,7 @@ impl World {
         })
     }
 
-    /// Moves by so many seconds under these lights, up to second 18,000.
+    /// Moves by `seconds` seconds under these lights, up to second 18,000.
     ///
     /// docs/RULES.md, "World".
     pub fn advance<T: Lights>(
@@ -232,14 +232,14 @@ pub fn law_of_lights()
         → ((x node : ℕ) → x < w.second → standing (lines node) x ≡ standing (others node) x) → Stands net arriving (standing_by others) w }
 {}
 
-/// So many zeros.
+/// `count` zeros.
 fn zeros(alloc: Global, n: usize) -> Result<Vec<u32>, AllocError>
     ensures { IfOk result (λ v. v.items ≡ replicate n 0) }
 {
     vec![in alloc; 0; n]
 }
 
-/// What is counted at second 0 of so many links.
+/// What is counted at second 0 of `links` links.
 fn no_counts(alloc: Global, n: usize) -> Result<Vec<LinkTotals>, AllocError>
     ensures { IfOk result (λ v. v.items ≡ replicate n no_totals) }
 {
@@ -251,7 +251,7 @@ fn no_counts(alloc: Global, n: usize) -> Result<Vec<LinkTotals>, AllocError>
     vec![in alloc; nothing; n]
 }
 
-/// Room for what so many nodes show.
+/// Capacity for what `nodes` nodes show.
 fn no_greens(alloc: Global, n: usize) -> Result<Vec<Option<Green>>, AllocError>
     ensures { IfOk result (λ v. length v.items ≡ n) }
 {

@@ -138,7 +138,7 @@ coming-early net node exit now d plan lists left head (k ∷ ks) (s ∷ ss) of h
       coming-early net node exit now d plan lists (one_less left k) (head_behind k s) ks ss of h.1 lt,
     )
 
--- The first i servings have been added: so many platoons of each phase are taken, and the others are left; from the head on,
+-- The first i servings have been added: `taken` platoons of each phase are taken, and the others are left; from the head on,
 -- nothing has been added yet.
 pub record IsFilling (net : Net) (node exit now : ℕ) (lists : List (List Platoon)) (phases : List ℕ) (served : List Served) (taken amounts : List ℕ) (i : ℕ) : Type 0 where
   pub left : List ℕ
@@ -260,7 +260,7 @@ fit-platoon net node now k p h there below q =
           omega (arith, get_or-map (λ (part : Part). part.link) p.parts j d 0 lt, All-get_or (λ l. l < length net.link_names) (map (λ (part : Part). part.link) p.parts) j 0 (omega (arith, length-map p.parts (λ (part : Part). part.link))) numbers));
     }
 
--- nothing comes of a part behind its last second
+-- nothing comes of a part after its last second
 part-past : (net : Net) (exit k first len : ℕ) (part : Part) → ((l : ℕ) → sum_by share_of (turns_at net l) ≤ 1000) → first + len ≤ k → length part.amounts ≡ len → part_coming net exit 0 k first part ≡ 0
 part-past net exit k first len part shares le count =
     let none : get_or part.amounts (k - first) 0 ≡ 0 = get_or_past part.amounts (k - first) 0 (omega arith) in

@@ -26,7 +26,7 @@ pub record AreServed (plan : List Phase) (lists : List (List Platoon)) (phases :
 abbrev pub no_platoon : Platoon
 no_platoon = record { cluster = no_cluster; parts = [] }
 
--- the next platoon of phase k, where so many of each phase are left
+-- the next platoon of phase k, where `left` of each phase are left
 abbrev pub next_platoon : List (List Platoon) → List ℕ → ℕ → Platoon
 next_platoon lists left k = slice_index_or (platoons_at lists k) (length (platoons_at lists k) - slice_index left k) no_platoon
 
@@ -35,7 +35,7 @@ pub record Departure : Type 0 where
   pub platoon : Platoon
   pub start : ℕ
 
--- the departures of these servings: each is of the next platoon of its phase, where so many of each phase are left
+-- the departures of these servings: each is of the next platoon of its phase, where `left` of each phase are left
 abbrev pub departures : List (List Platoon) → List ℕ → List ℕ → List Served → List Departure
 departures lists left [] served = []
 departures lists left (k ∷ ks) [] = []

@@ -22,7 +22,7 @@ use switch_rules::Served;
 /// sequence of the window's clusters, or none at all.
 ///
 /// The rows are at most 180, each of 1 to 80,000 in a second before `now` + look, and none comes before `now` + travel of the
-/// exit. No servings make the empty forecast. An `Err` comes only where memory runs out.
+/// exit. No servings make the empty forecast. `Err`: out of memory.
 ///
 /// docs/RULES.md, "Predicted outflow".
 pub fn forecast(

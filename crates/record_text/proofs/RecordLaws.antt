@@ -100,7 +100,7 @@ enough (suc n) (suc m) s bytes between h g =
     let fewer = taken-some s [] [] bytes p between e in
     enough n m p.1 p.2 (taken s [] [] bytes p e).between (omega (arith, fewer)) (omega (arith, fewer)))
 
--- the first record, and those behind it
+-- the first record, and those after it
 first-of : (s : State) (bytes : List ℕ) (p : Read) → ends_at_end s ≡ false → next_record default_config s [] [] bytes ≡ Some p → records_in s (Some bytes) ≡ p.0 ∷ records_in p.1 (Some p.2)
 unfolding records_from
 first-of s bytes p between e =

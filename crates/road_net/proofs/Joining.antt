@@ -1,4 +1,4 @@
--- What testing the joins of a network stands on.
+-- What the tests of the joins of a network depend on.
 use Rattle.std.proofs.Common.{ℕ, ◌<◌, ◌^◌, List, length, sum_by, arith}
 use Rattle.std.proofs.Math.Nat.{mul-le-mul_right}
 use Rattle.std.proofs.lemmas.List.Sums.{sum_by-le}
@@ -18,7 +18,7 @@ shares-small links ts bounds = omega (arith, sum_by-le share_of 1000 ts bounds.s
 pub roomy : (links : List Link) (nodes : ℕ) (lists : List (List ℕ)) → AreByNode To links nodes lists → ((k : ℕ) → k < length lists → HasRoomAt lists k) → AreRoomy links nodes
 roomy links nodes lists by_node short n h = rw (← by_node.each n h) (short n (omega (arith, by_node.count)))
 
--- the first list that is too long is that of the first node with no room
+-- the first list that is too long is that of the first node with more links than it may have
 pub crowded : (links : List Link) (nodes n : ℕ) (lists : List (List ℕ)) → AreByNode To links nodes lists → IsFirstWithout (HasRoomAt lists) (length lists) n → IsFirstWithout (IsRoomy links) nodes n
 crowded links nodes n lists by_node long =
     let inside : n < nodes = omega (arith, by_node.count, long.below) in

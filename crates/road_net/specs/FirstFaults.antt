@@ -17,7 +17,7 @@ pub record IsFirstClash (net : Net) (pair : ℕ × ℕ) : Type 0 where
   pub first : IsFirstWithout (IsConflictAt net.links net.conflicts) (length net.conflicts) place
 
 -- Why the parts of a network are not joined as they have to be: the first link without its ends; where all have them, the
--- first node with no room; else the first link whose turns are not as they must; else the first that phases do not name as
+-- first node with more links than it may have; else the first link whose turns are not as they must; else the first that phases do not name as
 -- they must; else the first conflict that can be none.
 abbrev pub IsJoinFault : Net → NetFault → Type 0
 IsJoinFault net NoMemory = Unit {0}

@@ -145,7 +145,7 @@ impl Network {
     }
 
     /// The turns of a link, at most 16, in the order of the file; none where it ends at no node. What turns into the exit
-    /// of each is `part_of_turn` of its share, behind the shares of those before it.
+    /// of each is `part_of_turn` of its share, after the shares of those before it.
     ///
     /// docs/RULES.md, "Turning".
     pub fn turns(&self, l: u32) -> &[Turn]
@@ -226,7 +226,7 @@ impl Network {
 
 /// The network of a draft.
 ///
-/// The fault is want of memory, or the first that is found when the whole draft is tested for bounds, then for
+/// The fault is out of memory, or the first that is found when the whole draft is tested for bounds, then for
 /// names that come twice, for unknown names, for the ends of links, for crowded nodes, for shares, for phases
 /// and for conflicts. It is never `NotToml` or `Shape`.
 ///
@@ -243,7 +243,7 @@ pub fn build(alloc: Global, draft: Draft) -> Result<Network, NetFault>
 
 /// The network of these parts, where they are joined as they must be. The fault is that of `node_links`.
 ///
-/// The parts are tested by reference and become part of the network behind all tests, since the proof of a function that
+/// The parts are tested by reference and become part of the network after all tests, since the proof of a function that
 /// owns them goes over all that they hold at each way out of it.
 fn joined(alloc: Global, parts: Parts) -> Result<Network, NetFault>
     requires { IsOutline (net_of parts) }
@@ -274,7 +274,7 @@ struct NodeLinks {
     exit: Vec<Items<u32>>,
 }
 
-/// The links of each node of these parts, where the parts are joined as they must be. The fault is want of memory, or the
+/// The links of each node of these parts, where the parts are joined as they must be. The fault is out of memory, or the
 /// first that is found when all are tested for the ends of links, then for crowded nodes, for shares, for phases and for
 /// conflicts.
 fn node_links(alloc: Global, parts: &Parts) -> Result<NodeLinks, NetFault>
@@ -295,7 +295,7 @@ fn node_links(alloc: Global, parts: &Parts) -> Result<NodeLinks, NetFault>
 
 /// The network of a text, which is read as TOML. The text has fewer than 2^32 bytes.
 ///
-/// The fault is want of memory, `NotToml` where the text is no UTF-8 or no TOML, `Shape` of the first table that has
+/// The fault is out of memory, `NotToml` where the text is no UTF-8 or no TOML, `Shape` of the first table that has
 /// not the form of its place, and else that of `build`.
 ///
 /// docs/FORMATS.md, "Network file".

@@ -1,4 +1,4 @@
--- The rows of a grid are lawful, and no fault comes but want of memory.
+-- The rows of a grid are lawful, and no fault comes but out of memory.
 use Rattle.std.proofs.Common.{◌≡◌, ℕ, ◌+◌, ◌*◌, ◌<◌, ◌≤◌, Bool, true, List, [], ◌∷◌, ◌++◌, length, get_or, Option, Some, None, All, is_none, refl, sym, ap, ◌∙◌, subst, arith, filter, ◌%◌, ◌==◌, sum_by}
 use Rattle.std.specs.List.{flat_map, range_with_len}
 use Rattle.std.proofs.lemmas.Bool.{cond_both, false≢true}
@@ -99,7 +99,7 @@ are-rows net number rounds few are =
     let sources_few : length (sources net) ≤ 320 = omega (arith, few, few-sources net) in
     record { each = all-lawful net (sources net) (are-sources net) sources_few (generator number) (5 * rounds) short; few = all-few net (sources net) (are-sources net) sources_few (generator number) (5 * rounds) short }
 
--- a draft that stands for a network is refused for want of memory alone
+-- a draft that stands for a network is refused only when out of memory
 pub only-want : (d : Draft) (fault : NetFault) → HasNetwork d → Refuses fault ((net : Net) → IsNetworkOf d net → ⊥) → fault ≡ net_fault.NoMemory
 only-want d net_fault.NoMemory has why = refl
 only-want d net_fault.NotToml has why = absurd why
@@ -125,7 +125,7 @@ module _ (net : Net) (all : List ArrivalRow) (are : AreRows net all) where
       length-parts [] y ys = omega arith
       length-parts (x ∷ xs) y ys = let h = length-parts xs y ys in omega arith
 
-  -- rows that are lawful are refused for want of memory alone
+  -- rows that are lawful are refused only when out of memory
   pub only-want-of-rows : (fault : RowFault) → IsRowFault net all fault → fault ≡ row_fault.NoMemory
   only-want-of-rows row_fault.NoMemory why = refl
   only-want-of-rows row_fault.Header why = absurd why

@@ -28,7 +28,7 @@ after-add w m increment (suc a) b state =
     ap (λ n. state_after w m increment n state) (let e : suc a + b ≡ suc (a + b) = omega arith in e)
     ∙ after-add w m increment a b (next_state w m increment state)
 
--- a loop over numbers that puts a piece for each behind a list
+-- a loop over numbers that appends a piece for each
 pub flat-step : {X : Type 0} (f : ℕ → List X) (n : ℕ) (start now next piece : List X) → now ≡ start ++ flat_map f (range_with_len 0 n) → next ≡ now ++ piece → piece ≡ f n → next ≡ start ++ flat_map f (range_with_len 0 (n + 1))
 flat-step f n start now next piece was is same =
     is ∙ ap (λ l. l ++ piece) was ∙ append_assoc start (flat_map f (range_with_len 0 n)) piece
@@ -44,7 +44,7 @@ filter-step test n now next was is =
     is ∙ ap (λ l. l ++ (if test n then n ∷ [] else [])) (was ∙ ap (filter test) (sym (map-id (range_with_len 0 n))))
     ∙ sym (filter_of_map_range_with_len_more test (λ k. k) 0 n n (omega arith)) ∙ ap (filter test) (map-id (range_with_len 0 (n + 1)))
 
--- a generator behind some words, and some more
+-- a generator after some words, and some more
 pub behind-add : (g : Lcg) (a b : ℕ) → behind (behind g a) b ≡ behind g (a + b)
 behind-add g a b = ap (λ s. record g { state = s }) (sym (after-add 64 multiplier_64 g.increment a b g.state))
 

@@ -104,7 +104,7 @@ impl Road {
         }
     }
 
-    /// The node that it ends at, in a grid with so many nodes a side.
+    /// The node that it ends at, in a grid with `side` nodes a side.
     pub(crate) fn end(self, side: u32) -> Option<u32>
         requires side { IsSide side }
         requires node { self.node < side * side }
@@ -171,7 +171,7 @@ pub(crate) fn roads(alloc: Global, side: u32) -> Result<Vec<Road>, AllocError>
     Ok(roads)
 }
 
-/// Puts the roads that leave each node behind a list.
+/// Appends the roads that leave each node.
 fn push_leaving(side: u32, roads: &mut Vec<Road>) -> Result<(), AllocError>
     requires { IsSide side }
     ensures { OnOk result (roads.new.items ≡ roads.old.items ++ flat_map leaving (nodes side)) }
@@ -182,7 +182,7 @@ fn push_leaving(side: u32, roads: &mut Vec<Road>) -> Result<(), AllocError>
     Ok(())
 }
 
-/// Puts the roads that leave a node in these directions behind a list.
+/// Appends the roads that leave a node in these directions.
 fn push_leaving_node(
     towards: &[Direction],
     node: u32,
@@ -200,7 +200,7 @@ fn push_leaving_node(
     Ok(())
 }
 
-/// Puts the roads that come to each node from outside behind a list.
+/// Appends the roads that come to each node from outside.
 fn push_entering(side: u32, roads: &mut Vec<Road>) -> Result<(), AllocError>
     requires { IsSide side }
     ensures { OnOk result (roads.new.items ≡ roads.old.items ++ flat_map (entering side) (nodes side)) }
@@ -211,7 +211,7 @@ fn push_entering(side: u32, roads: &mut Vec<Road>) -> Result<(), AllocError>
     Ok(())
 }
 
-/// Puts the roads that come to a node from outside, from these sides of it, behind a list.
+/// Appends the roads that come to a node from outside, from these sides of it.
 fn push_entering_node(
     sides: &[Direction],
     side: u32,
