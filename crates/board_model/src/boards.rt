@@ -1,4 +1,4 @@
-// The board of one link, as one thread uses it: a log of events.
+//! The board of one link, as one thread uses it: a log of events.
 use crate::forecasts::Forecast;
 use foundation::threads::CrossesThreads;
 use std::alloc::{AllocError, Global};

@@ -1,7 +1,7 @@
-// Forecasts: rows of seconds with amounts.
+//! Forecasts: rows of seconds with amounts.
 ghost use Rattle.std.specs.Prelude.{◌≡◌, ◌<◌, ◌≤◌, [], IfOk, length};
 ghost use Rattle.std.specs.List.Sorted.{IsNonDecreasingBy, IsPartitionPoint};
-ghost use Rattle.board_model.specs.declared.forecasts.Row.{Row};
+ghost use Rattle.board_model.specs.declared.forecasts.ForecastRow.{ForecastRow};
 
 use foundation::threads::CrossesThreads;
 use std::alloc::{AllocError, Global};
@@ -11,20 +11,20 @@ use std::marker::Model;
 ///
 /// docs/RULES.md, "Forecast".
 #[derive(Debug, Clone, Copy, PartialEq, Eq)]
-pub struct Row {
+pub struct ForecastRow {
     /// The second, 0 to 100,000.
     pub second: u32,
     /// What comes in it, 1 to 80,000 thousandths of a vehicle.
     pub amount: u32,
 }
 
-impl CrossesThreads for Row {}
+impl CrossesThreads for ForecastRow {}
 
-// The place of the first row that is not before the second, found by halves.
-fn first_from(rows: &[Row], second: u32) -> usize
-    requires { IsNonDecreasingBy (λ (row : Row). row.second) rows.now }
+/// The place of the first row that is not before the second, found by halves.
+fn first_from(rows: &[ForecastRow], second: u32) -> usize
+    requires { IsNonDecreasingBy (λ (row : ForecastRow). row.second) rows.now }
     ensures bound { result ≤ length rows.now }
-    ensures split { IsPartitionPoint (λ (row : Row). row.second < second) (λ (row : Row). second ≤ row.second) rows.now result }
+    ensures split { IsPartitionPoint (λ (row : ForecastRow). row.second < second) (λ (row : ForecastRow). second ≤ row.second) rows.now result }
 {
     rows.partition_point(|row| row.second < second)
 }
@@ -35,14 +35,14 @@ fn first_from(rows: &[Row], second: u32) -> usize
 /// docs/RULES.md, "Forecast".
 #[derive(Debug, Drop)]
 pub struct Forecast {
-    rows: Vec<Row>,
+    rows: Vec<ForecastRow>,
 }
 
 impl Model for Forecast {
     ghost use Rattle.std.specs.Prelude.{List};
-    ghost use Rattle.board_model.specs.declared.forecasts.Row.{Row};
+    ghost use Rattle.board_model.specs.declared.forecasts.ForecastRow.{ForecastRow};
 
-    ghost Value = { List Row };
+    ghost Value = { List ForecastRow };
 
     ghost use Rattle.board_model.specs.Forecasts.{IsForecast};
 
@@ -92,7 +92,7 @@ impl Forecast {
     /// The forecast of no row, with capacity for `rows` rows. `Err`: out of memory.
     ///
     /// docs/RULES.md, "Forecast".
-    pub fn with_room(alloc: Global, rows: usize) -> Result<Forecast, AllocError>
+    pub fn with_capacity(alloc: Global, rows: usize) -> Result<Forecast, AllocError>
         ensures { IfOk result (λ forecast. forecast ≡ []) }
     {
         Ok(Forecast {
@@ -106,8 +106,8 @@ impl Forecast {
     /// `Err`: out of memory; the forecast stays as it was.
     ///
     /// docs/RULES.md, "Forecast".
-    pub fn push(&mut self, r: Row) -> Result<(), AllocError>
-        requires room { length self.old < 180 }
+    pub fn push(&mut self, r: ForecastRow) -> Result<(), AllocError>
+        requires few { length self.old < 180 }
         requires above { IsAboveLast (seconds self.old) r.second }
         requires row { IsRow r }
         ensures rows { self.new ≡ (if is_ok result then self.old ++ r ∷ [] else self.old) }
@@ -120,7 +120,7 @@ impl Forecast {
     /// The rows, in the order of their seconds.
     ///
     /// docs/RULES.md, "Forecast".
-    pub fn rows(&self) -> &[Row]
+    pub fn rows(&self) -> &[ForecastRow]
         ensures value { result.now ≡ self.now }
         ensures forecast { IsForecast self.now }
     {

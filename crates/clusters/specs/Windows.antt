@@ -4,8 +4,8 @@ use Rattle.std.specs.List.Sorted.{IsStrictlyIncreasing}
 use Rattle.switch_rules.specs.Arriving.{ComesFirst}
 use Rattle.switch_rules.specs.Bounds.{most_clusters, most_orders}
 use Rattle.switch_rules.specs.Orders.{orders}
-use Rattle.clusters.specs.declared.shapes.Platoon.{Platoon}
-use Rattle.clusters.specs.declared.shapes.Window.{Window}
+use Rattle.clusters.specs.declared.vehicle_groups.Platoon.{Platoon}
+use Rattle.clusters.specs.declared.vehicle_groups.Window.{Window}
 use Rattle.clusters.specs.Platoons.{platoons_at}
 
 -- when platoons arrive
@@ -24,7 +24,7 @@ pub record IsFront (lists : List (List Platoon)) (counts : List ℕ) : Type 0 wh
       → ComesFirst (arrival lists j taken) j (arrival lists k waiting) k
 
 -- these counts of clusters can be planned at once: at most 40 in all, and in at most 50,000 orders
-pub record IsSmall (counts : List ℕ) : Type 0 where
+pub record ArePlannableCounts (counts : List ℕ) : Type 0 where
   pub clusters : sum counts ≤ most_clusters
   pub orders : length (orders counts) ≤ most_orders
 
@@ -35,8 +35,8 @@ counts_of lists = map length lists
 -- these counts are the longest front that can be planned at once
 pub record IsLongest (lists : List (List Platoon)) (counts : List ℕ) : Type 0 where
   pub front : IsFront lists counts
-  pub small : IsSmall counts
-  pub longest : (more : List ℕ) → IsFront lists more → IsSmall more → sum more ≤ sum counts
+  pub small : ArePlannableCounts counts
+  pub longest : (more : List ℕ) → IsFront lists more → ArePlannableCounts more → sum more ≤ sum counts
 
 -- The window is the longest front that can be planned at once, phase by phase; the others wait.
 pub record IsWindow (lists : List (List Platoon)) (window : Window) : Type 0 where

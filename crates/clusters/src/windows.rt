@@ -6,7 +6,7 @@ ghost use Rattle.clusters.specs.Sound.{AreOfNode, ArePlannable, AreSpacedCluster
 ghost use Rattle.clusters.specs.Taking.{AreFronts, IsEarlier, IsFirstOf, IsNextArrival};
 ghost use Rattle.clusters.specs.Windows.{IsLongest, IsRising, IsWindow, counts_of};
 
-use crate::shapes::{Platoon, Window};
+use crate::vehicle_groups::{Platoon, Window};
 use foundation::items::Items;
 use std::alloc::{AllocError, Global};
 use std::mem;
@@ -29,10 +29,12 @@ pub fn window(alloc: Global, lists: Vec<Items<Platoon>>) -> Result<Window, Alloc
     requires phases { vec_len lists ≤ 4 }
     requires rising { All IsRising lists.items }
     ensures window { IfOk result (IsWindow lists.items) }
-    ensures clusters { All AreSpacedClusters (cluster_lists lists.items) → IfOk result (λ window. ArePlannable (cluster_lists window.lists)) }
-    ensures node { (net : Net) (node now : ℕ) → AreOfNode net node now lists.items → IfOk result (λ window. AreOfNode net node now window.lists) }
+    ensures clusters { All AreSpacedClusters (cluster_lists lists.items)
+        → IfOk result (λ window. ArePlannable (cluster_lists window.lists)) }
+    ensures node { (net : Net) (node now : ℕ) → AreOfNode net node now lists.items
+        → IfOk result (λ window. AreOfNode net node now window.lists) }
 {
-    let counts = taken(alloc, lists.as_slice())?;
+    let counts = longest_front(alloc, lists.as_slice())?;
     let waiting = count_waiting(lists.as_slice(), counts.as_slice());
     let lists = fronts(alloc, lists, counts.as_slice());
     Ok(Window {
@@ -42,7 +44,7 @@ pub fn window(alloc: Global, lists: Vec<Items<Platoon>>) -> Result<Window, Alloc
 }
 
 /// How many platoons of each phase are in the window.
-fn taken(alloc: Global, lists: &[Items<Platoon>]) -> Result<Vec<u32>, AllocError>
+fn longest_front(alloc: Global, lists: &[Items<Platoon>]) -> Result<Vec<u32>, AllocError>
     requires phases { length lists.now ≤ 4 }
     requires rising { All IsRising lists.now }
     ensures { IfOk result (λ counts. IsLongest lists.now counts.items) }

@@ -1,7 +1,7 @@
 //! The actor of a node.
 ghost use Rattle.std.specs.Prelude.{◌≡◌, []};
 
-use crate::planning::{RoundPlan, Schedule, planned};
+use crate::planning::{RoundPlan, Schedule, plan_round};
 use crate::reads::{heard_links, next_read, next_told};
 use crate::records::{PlanRecord, Want};
 use board_model::{Forecast, Heard};
@@ -10,7 +10,7 @@ use control_flow::greens::Timeline;
 use control_flow::rotation;
 use foundation::items::Items;
 use foundation::threads::CrossesThreads;
-use outflow::forecast;
+use outflow::{Servings, forecast};
 use road_net::{Network, Sensed};
 use schedule_meaning::Planner;
 use std::alloc::{AllocError, Global};
@@ -68,7 +68,7 @@ impl Actor {
     ghost use Rattle.intersection_actor.specs.Rounds.{IsCommitted, IsNew, IsOf, KeepsPast};
     ghost use Rattle.intersection_actor.specs.Steps.{IsPlanned};
     ghost use Rattle.clusters.specs.Windows.{counts_of};
-    ghost use Rattle.outflow.specs.Outflow.{departures, forecast_of};
+    ghost use Rattle.outflow.specs.Outflow.{departures, told_forecast};
 
     /// The actor of a node before its first round: its signal's ring turns from second 0, and nothing is planned.
     ///
@@ -211,7 +211,7 @@ impl Actor {
         ensures refused { OnErr result (self.new ≡ self.old) }
         ensures of { IsOf net.now self.new }
     {
-        let plan = planned(
+        let plan = plan_round(
             alloc,
             net,
             self.node,
@@ -234,7 +234,7 @@ impl Actor {
         ensures refused { OnErr result (self.new ≡ self.old) }
         ensures of { IsOf net.now self.new }
     {
-        // What it says of the plan is wanted here, and not the count.
+        // Called for its clause `plan`, and not for the count.
         let _ = net.plan(self.node).count();
         let want = next_told(net, self.node, 0);
         let RoundPlan {
@@ -275,18 +275,22 @@ impl Actor {
         requires of { IsOf net.now self.now }
         requires want { IsPublish self.now.want }
         ensures value { (link : ℕ) → self.now.want ≡ Want.Publish link
-            → IfOk result (λ rows. rows ≡ forecast_of net.now link self.now.sensed.now (departures self.now.window.lists (counts_of self.now.window.lists) self.now.phases self.now.served)) }
+            → IfOk result (λ rows. rows ≡ told_forecast net.now link self.now.sensed.now (departures self.now.window.lists
+                (counts_of self.now.window.lists) self.now.phases self.now.served)) }
     {
         let Want::Publish(link) = self.want else {
             unreachable!()
+        };
+        let servings = Servings {
+            phases: self.phases.as_slice(),
+            served: self.served.as_slice(),
         };
         forecast(
             alloc,
             net,
             self.node,
             &self.window,
-            self.phases.as_slice(),
-            self.served.as_slice(),
+            &servings,
             link,
             self.sensed.now,
         )
@@ -296,11 +300,13 @@ impl Actor {
     /// no memory.
     ///
     /// docs/RULES.md, "A node's round".
-    pub fn sent(&mut self, net: &Network)
+    pub fn note_sent(&mut self, net: &Network)
         requires of { IsOf net.now self.old }
         requires want { IsPublish self.old.want }
-        ensures tells { (place : ℕ) → self.old.want ≡ told_at net.now self.old.node place → self.new.want ≡ told_at net.now self.old.node (place + 1) }
-        ensures next { (link : ℕ) → self.old.want ≡ Want.Publish link → self.new ≡ wanting (tells_from net.now self.old.node (link + 1)) self.old }
+        ensures tells { (place : ℕ) → self.old.want ≡ told_at net.now self.old.node place
+            → self.new.want ≡ told_at net.now self.old.node (place + 1) }
+        ensures next { (link : ℕ) → self.old.want ≡ Want.Publish link
+            → self.new ≡ wanting (tells_from net.now self.old.node (link + 1)) self.old }
         ensures of { IsOf net.now self.new }
     {
         let Want::Publish(link) = self.want else {

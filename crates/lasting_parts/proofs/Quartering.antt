@@ -6,7 +6,7 @@ use Rattle.atomic_table.specs.Seated.{TableId}
 use Rattle.board_rule.specs.Passes.{BoardsView, PassView, highest}
 use Rattle.intersection_actor.specs.Acting.{Acting}
 use Rattle.net_numbers.specs.Numbers.{Net}
-use Rattle.net_simulator.specs.Worlds.{Kept}
+use Rattle.net_simulator.specs.Worlds.{WorldState}
 use Rattle.node_rounds.proofs.Joining.{played-two}
 use Rattle.plan_boards.proofs.Meetings.{highest-append}
 use Rattle.round_calls.specs.Nodes.{CanPlay}
@@ -46,7 +46,7 @@ module _ (a b c d : List PassView) where
           let f : PassView → TableId × ℕ = λ p. (p.boards, p.number) in
           ap (λ l. names w ++ (names x ++ l)) (sym (map-append f y z)) ∙ ap (λ l. names w ++ l) (sym (map-append f x (y ++ z))) ∙ sym (map-append f w (x ++ (y ++ z)))
 
-module _ (net : Net) (round : ℕ) (world : Kept) where
+module _ (net : Net) (round : ℕ) (world : WorldState) where
   module _ (boards : BoardsView) where
     -- where all may play, the front and the back may
     can-front : (count : ℕ) (xs ys : List Acting) (ps qs : List PassView) → length xs ≡ length ps → CanAllPlay net round world boards count (xs ++ ys) (ps ++ qs) → CanAllPlay net round world boards (length ps) xs ps

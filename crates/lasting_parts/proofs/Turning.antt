@@ -5,7 +5,7 @@ use Rattle.std.specs.Arc.{arc_value}
 use Rattle.std.specs.Prelude.{Option, Some, Result, Ok, Err, IsOk, OnOk, vec_len}
 use Rattle.board_rule.specs.Passes.{BoardsView}
 use Rattle.net_numbers.specs.Numbers.{Net}
-use Rattle.net_simulator.specs.Worlds.{Kept}
+use Rattle.net_simulator.specs.Worlds.{WorldState}
 use Rattle.lasting_parts.specs.Quartered.{AreQuartersOf, AreSameQuarters, IsPartOf, actors_in, passes_in}
 use Rattle.lasting_parts.specs.Turns.{CanPlayTurn, HasPlayedTurn, IsSamePart}
 use Rattle.lasting_parts.specs.declared.parts.Part.{Part}
@@ -22,54 +22,54 @@ on-ok (Err e) A a bad = absurd (false≢true bad)
 
 module _ {P G : Type 0} where
   -- what a part needs to play a round
-  pub part-can : (p : Part P G) (net : Net) (boards : BoardsView) (round : ℕ) (world seen : Kept) → seen ≡ world → IsPartOf net boards p → CanAllPlay net round world boards (length p.passes.items) p.actors.items p.passes.items
+  pub part-can : (p : Part P G) (net : Net) (boards : BoardsView) (round : ℕ) (world seen : WorldState) → seen ≡ world → IsPartOf net boards p → CanAllPlay net round world boards (length p.passes.items) p.actors.items p.passes.items
       → CanAllPlay p.net.now round seen p.boards.now (vec_len p.planners) p.actors.items p.passes.items
   part-can p net boards round world seen is of can =
-      subst (λ (z : Net × BoardsView × ℕ × Kept). CanAllPlay z.0 round z.3 z.1 z.2 p.actors.items p.passes.items) (λ i. (sym of.net_is i, sym of.boards_is i, sym of.planned i, sym is i)) can
+      subst (λ (z : Net × BoardsView × ℕ × WorldState). CanAllPlay z.0 round z.3 z.1 z.2 p.actors.items p.passes.items) (λ i. (sym of.net_is i, sym of.boards_is i, sym of.planned i, sym is i)) can
 
   part-links : (p : Part P G) (net : Net) (boards : BoardsView) → IsPartOf net boards p → boards.links ≡ length net.link_names → p.boards.now.links ≡ length p.net.now.link_names
   part-links p net boards of links = subst (λ (z : Net × BoardsView). z.1.links ≡ length z.0.link_names) (λ i. (sym of.net_is i, sym of.boards_is i)) links
 
-  pub quarters-can : (q : Quarters P G) (net : Net) (boards : BoardsView) (round count : ℕ) (world : Kept) → AreQuartersOf net boards q → CanAllPlay net round world boards count (actors_in q) (passes_in q)
+  pub quarters-can : (q : Quarters P G) (net : Net) (boards : BoardsView) (round count : ℕ) (world : WorldState) → AreQuartersOf net boards q → CanAllPlay net round world boards count (actors_in q) (passes_in q)
       → CanAllPlay net round world boards (length q.first.passes.items) q.first.actors.items q.first.passes.items × CanAllPlay net round world boards (length q.second.passes.items) q.second.actors.items q.second.passes.items
       × CanAllPlay net round world boards (length q.third.passes.items) q.third.actors.items q.third.passes.items × CanAllPlay net round world boards (length q.own.passes.items) q.own.actors.items q.own.passes.items
   quarters-can q net boards round count world of can =
       can-four net round world boards count q.first.actors.items q.second.actors.items q.third.actors.items q.own.actors.items q.first.passes.items q.second.passes.items q.third.passes.items q.own.passes.items of.first.acted of.second.acted of.third.acted can
 
   -- a turn that may be handed over
-  pub turn-ready : (t : Turn P G) (p : Part P G) (net : Net) (boards : BoardsView) (round : ℕ) (world : Kept) → t.part ≡ p → arc_value t.world ≡ world → t.round ≡ round → IsPartOf net boards p → boards.links ≡ length net.link_names
+  pub turn-ready : (t : Turn P G) (p : Part P G) (net : Net) (boards : BoardsView) (round : ℕ) (world : WorldState) → t.part ≡ p → arc_value t.world ≡ world → t.round ≡ round → IsPartOf net boards p → boards.links ≡ length net.link_names
       → CanAllPlay net round world boards (length p.passes.items) p.actors.items p.passes.items → CanPlayTurn t
   turn-ready t p net boards round world part_is world_is round_is of links can = record {
     links = subst (λ (z : Part P G). z.boards.now.links ≡ length z.net.now.link_names) (sym part_is) (part-links p net boards of links);
-    can = subst (λ (z : Part P G × Kept × ℕ). CanAllPlay z.0.net.now z.2 z.1 z.0.boards.now (vec_len z.0.planners) z.0.actors.items z.0.passes.items) (λ i. (sym part_is i, sym world_is i, sym round_is i))
+    can = subst (λ (z : Part P G × WorldState × ℕ). CanAllPlay z.0.net.now z.2 z.1 z.0.boards.now (vec_len z.0.planners) z.0.actors.items z.0.passes.items) (λ i. (sym part_is i, sym world_is i, sym round_is i))
         (part-can p net boards round world world refl of can);
   }
 
   -- a part that has played the round
-  pub record HasPlayedPart (net : Net) (round : ℕ) (world : Kept) (old new : Part P G) : Type 0 where
+  pub record HasPlayedPart (net : Net) (round : ℕ) (world : WorldState) (old new : Part P G) : Type 0 where
     pub same : IsSamePart old new
     pub played : HaveAllPlayed net round world old.actors.items new.actors.items old.passes.items new.passes.items
 
   -- one that came back over a desk, and ended well
-  pub has-come : (t u : Turn P G) (o : Option (Turn P G)) (old new : Part P G) (net : Net) (round : ℕ) (world : Kept) → o ≡ Some t → IsBack HasPlayedTurn o u → t.part ≡ old → arc_value t.world ≡ world → t.round ≡ round
+  pub has-come : (t u : Turn P G) (o : Option (Turn P G)) (old new : Part P G) (net : Net) (round : ℕ) (world : WorldState) → o ≡ Some t → IsBack HasPlayedTurn o u → t.part ≡ old → arc_value t.world ≡ world → t.round ≡ round
       → old.net.now ≡ net → new ≡ u.part → IsOk u.ended → HasPlayedPart net round world old new
   has-come t u o old new net round world sent back part_is world_is round_is net_is new_is well =
       let has : HasPlayedTurn t u = subst (λ (z : Option (Turn P G)). IsBack HasPlayedTurn z u) sent back in record {
         same = subst (λ (z : Part P G × Part P G). IsSamePart z.0 z.1) (λ i. (part_is i, sym new_is i)) has.same;
-        played = subst (λ (z : Part P G × Kept × ℕ × Part P G × Net). HaveAllPlayed z.4 z.2 z.1 z.0.actors.items z.3.actors.items z.0.passes.items z.3.passes.items) (λ i. (old, world, round, sym new_is i, net_is i))
-            (subst (λ (z : Part P G × Kept × ℕ). HaveAllPlayed z.0.net.now z.2 z.1 z.0.actors.items u.part.actors.items z.0.passes.items u.part.passes.items) (λ i. (part_is i, world_is i, round_is i)) (on-ok u.ended _ has.played well));
+        played = subst (λ (z : Part P G × WorldState × ℕ × Part P G × Net). HaveAllPlayed z.4 z.2 z.1 z.0.actors.items z.3.actors.items z.0.passes.items z.3.passes.items) (λ i. (old, world, round, sym new_is i, net_is i))
+            (subst (λ (z : Part P G × WorldState × ℕ). HaveAllPlayed z.0.net.now z.2 z.1 z.0.actors.items u.part.actors.items z.0.passes.items u.part.passes.items) (λ i. (part_is i, world_is i, round_is i)) (on-ok u.ended _ has.played well));
       }
 
   -- one that played here
-  pub has-played : (old new : Part P G) (net : Net) (round : ℕ) (world seen : Kept) → IsSamePart old new → old.net.now ≡ net → seen ≡ world → HaveAllPlayed old.net.now round seen old.actors.items new.actors.items old.passes.items new.passes.items
+  pub has-played : (old new : Part P G) (net : Net) (round : ℕ) (world seen : WorldState) → IsSamePart old new → old.net.now ≡ net → seen ≡ world → HaveAllPlayed old.net.now round seen old.actors.items new.actors.items old.passes.items new.passes.items
       → HasPlayedPart net round world old new
   has-played old new net round world seen same net_is seen_is played = record {
     same = same;
-    played = subst (λ (z : Net × Kept). HaveAllPlayed z.0 round z.1 old.actors.items new.actors.items old.passes.items new.passes.items) (λ i. (net_is i, seen_is i)) played;
+    played = subst (λ (z : Net × WorldState). HaveAllPlayed z.0 round z.1 old.actors.items new.actors.items old.passes.items new.passes.items) (λ i. (net_is i, seen_is i)) played;
   }
 
   -- a part that has played is still a part of the network
-  pub part-after : (net : Net) (boards : BoardsView) (round : ℕ) (world : Kept) (old new : Part P G) → IsPartOf net boards old → HasPlayedPart net round world old new → IsPartOf net boards new
+  pub part-after : (net : Net) (boards : BoardsView) (round : ℕ) (world : WorldState) (old new : Part P G) → IsPartOf net boards old → HasPlayedPart net round world old new → IsPartOf net boards new
   part-after net boards round world old new of has = record {
     net_is = ap (λ z. z.now) has.same.net ∙ of.net_is;
     boards_is = ap (λ z. z.now) has.same.boards ∙ of.boards_is;

@@ -1,7 +1,7 @@
 -- All rounds, with the threads beside.
 use Rattle.std.specs.Prelude.{◌≡◌, Result, IfOk, List, length}
 use Rattle.arrivals.specs.Amounts.{AreArrivals}
-use Rattle.net_simulator.specs.Worlds.{Kept}
+use Rattle.net_simulator.specs.Worlds.{WorldState}
 use Rattle.lasting_parts.specs.Quartered.{AreAtDesks, AreFree, AreQuartersOf, AreSameQuarters, actors_in, passes_in}
 use Rattle.lasting_parts.specs.declared.parts.Turn.{Turn}
 use Rattle.lasting_parts.specs.declared.quarters.Quarters.{Quarters}
@@ -20,6 +20,6 @@ module _ {P G : Type 0} where
     pub between : Between r.net.now r.arrivals.now r.boards.now 0 (passes_in r.quarters) (actors_in r.quarters) r.world
 
   -- all are played, unless memory ran out
-  pub record HavePlayedRounds {E : Type 0} (r : Rounds P G) (out : Quarters P G × Result Kept E) : Type 0 where
+  pub record HavePlayedRounds {E : Type 0} (r : Rounds P G) (out : Quarters P G × Result WorldState E) : Type 0 where
     pub same : AreSameQuarters r.quarters out.0
     pub between : IfOk out.1 (λ world. Between r.net.now r.arrivals.now r.boards.now r.net.now.run.rounds (passes_in out.0) (actors_in out.0) world)

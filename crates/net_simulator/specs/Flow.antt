@@ -51,12 +51,12 @@ abbrev pub discharged : Net → (ℕ → Option (ℕ × ℕ)) → (ℕ → ℕ �
 discharged net shown past x l = discharged_to net shown past x l (link_at net l).to
 
 -- what enters a link in second x: what arrives, and its part of what each link discharges
-abbrev pub entering : Net → (ℕ → ℕ) → (ℕ → Option (ℕ × ℕ)) → (ℕ → ℕ → Passed) → ℕ → ℕ → ℕ
-entering net arriving shown past x l = arriving l + total (λ k. split_of (turns_at net k) (discharged net shown past x k) l) (length net.link_names)
+abbrev pub entered_in : Net → (ℕ → ℕ) → (ℕ → Option (ℕ × ℕ)) → (ℕ → ℕ → Passed) → ℕ → ℕ → ℕ
+entered_in net arriving shown past x l = arriving l + total (λ k. split_of (turns_at net k) (discharged net shown past x k) l) (length net.link_names)
 
 -- what passed a link in the first x + 1 seconds
 abbrev pub passing : Net → (ℕ → ℕ) → (ℕ → Option (ℕ × ℕ)) → (ℕ → ℕ → Passed) → ℕ → ℕ → Passed
-passing net arriving shown past x l = record { entered = (past x l).entered + entering net arriving shown past x l; left = (past x l).left + discharged net shown past x l }
+passing net arriving shown past x l = record { entered = (past x l).entered + entered_in net arriving shown past x l; left = (past x l).left + discharged net shown past x l }
 
 -- a further row after those of the first x seconds
 abbrev pub longer : Net → (ℕ → ℕ) → (ℕ → Option (ℕ × ℕ)) → ℕ → List (List Passed) → List (List Passed)

@@ -37,7 +37,7 @@ abbrev pub counted : LinkTotals → ℕ → ℕ → ℕ → LinkTotals
 counted t entering leaving queue = record { entered = t.entered + entering; left = t.left + leaving; delay = t.delay + queue }
 
 -- what the first n seconds can count
-pub record IsSmall (n : ℕ) (t : LinkTotals) : Type 0 where
+pub record FitsSeconds (n : ℕ) (t : LinkTotals) : Type 0 where
   pub entered : t.entered ≤ n * 2000000000
   pub left : t.left ≤ n * 2000000000
   pub delay : t.delay ≤ n * 2000000000

@@ -9,7 +9,7 @@ ghost use Rattle.net_simulator.specs.Rows.{cell};
 ghost use Rattle.net_simulator.specs.Sums.{outward};
 ghost use Rattle.net_simulator.specs.Counts.{counts_at};
 ghost use Rattle.net_simulator.specs.Arriving.{arriving_of};
-ghost use Rattle.net_simulator.specs.Steps.{is_open, goes, waits_at, goes_out, all_of, counted, IsSmall};
+ghost use Rattle.net_simulator.specs.Steps.{is_open, goes, waits_at, goes_out, all_of, counted, FitsSeconds};
 
 use super::lights::Lights;
 use super::rows;
@@ -37,7 +37,7 @@ pub(crate) fn arrive(recent: &mut [u32], links: u32, arrivals: &Arrivals, second
 {
     let mut all = 0;
     for l in 0..links {
-        let amount = arrivals.entering(l, second);
+        let amount = arrivals.amount_entering(l, second);
         rows::put(recent, l, second, amount);
         all += u64::from(amount);
     }
@@ -137,8 +137,10 @@ pub(crate) fn leave(
     requires begun { (n : ℕ) → n < length net.now.node_names → IfSome (slice_index_or greens.now n None) (λ g. g.from ≤ second) }
     requires second { second < 18000 }
     requires room { (l : ℕ) → l < length net.now.link_names → waits_at net.now queues.old recent.now second l < 2 ^ 32 }
-    ensures leaving { (l : ℕ) → l < length net.now.link_names → slice_index leaving.new l ≡ goes net.now greens.now waits.now second l (waits_at net.now queues.old recent.now second l) (link_at net.now l).to }
-    ensures queues { (l : ℕ) → l < length net.now.link_names → slice_index queues.new l ≡ waits_at net.now queues.old recent.now second l - slice_index leaving.new l }
+    ensures leaving { (l : ℕ) → l < length net.now.link_names → slice_index leaving.new l ≡
+        goes net.now greens.now waits.now second l (waits_at net.now queues.old recent.now second l) (link_at net.now l).to }
+    ensures queues { (l : ℕ) → l < length net.now.link_names → slice_index queues.new l ≡
+        waits_at net.now queues.old recent.now second l - slice_index leaving.new l }
     ensures out { result ≡ goes_out net.now leaving.new }
 {
     let mut out = 0;
@@ -156,8 +158,10 @@ pub(crate) fn leave(
 fn turn(recent: &mut [u32], net: &Network, l: u32, amount: u32, second: u32)
     requires link { l < length net.now.link_names }
     requires recent { length recent.old ≡ length net.now.link_names * 128 }
-    requires room { (k : ℕ) → k < length net.now.link_names → cell recent.old k second + split_of (turns_at net.now l) amount k < 2 ^ 32 }
-    ensures here { (k : ℕ) → k < length net.now.link_names → cell recent.new k second ≡ cell recent.old k second + split_of (turns_at net.now l) amount k }
+    requires room { (k : ℕ) → k < length net.now.link_names
+        → cell recent.old k second + split_of (turns_at net.now l) amount k < 2 ^ 32 }
+    ensures here { (k : ℕ) → k < length net.now.link_names
+        → cell recent.new k second ≡ cell recent.old k second + split_of (turns_at net.now l) amount k }
     ensures others { (k y : ℕ) → y % 128 ≢ second % 128 → cell recent.new k y ≡ cell recent.old k y }
 {
     if amount == 0 {
@@ -176,8 +180,10 @@ fn turn(recent: &mut [u32], net: &Network, l: u32, amount: u32, second: u32)
 pub(crate) fn enter(recent: &mut [u32], net: &Network, leaving: &[u32], second: u32)
     requires recent { length recent.old ≡ length net.now.link_names * 128 }
     requires leaving { length leaving.now ≡ length net.now.link_names }
-    requires room { (k : ℕ) → k < length net.now.link_names → cell recent.old k second + total (λ l. split_of (turns_at net.now l) (slice_index leaving.now l) k) (length net.now.link_names) < 2 ^ 32 }
-    ensures here { (k : ℕ) → k < length net.now.link_names → cell recent.new k second ≡ cell recent.old k second + total (λ l. split_of (turns_at net.now l) (slice_index leaving.now l) k) (length net.now.link_names) }
+    requires room { (k : ℕ) → k < length net.now.link_names → cell recent.old k second
+        + total (λ l. split_of (turns_at net.now l) (slice_index leaving.now l) k) (length net.now.link_names) < 2 ^ 32 }
+    ensures here { (k : ℕ) → k < length net.now.link_names → cell recent.new k second ≡ cell recent.old k second
+        + total (λ l. split_of (turns_at net.now l) (slice_index leaving.now l) k) (length net.now.link_names) }
     ensures others { (k y : ℕ) → y % 128 ≢ second % 128 → cell recent.new k y ≡ cell recent.old k y }
 {
     for l in 0..net.links() {
@@ -210,9 +216,10 @@ pub(crate) fn count(
     requires recent { length recent.now ≡ links * 128 }
     requires leaving { length leaving.now ≡ links }
     requires queues { length queues.now ≡ links }
-    requires room { (l : ℕ) → l < links → IsSmall second (counts_at counts.old l) }
+    requires room { (l : ℕ) → l < links → FitsSeconds second (counts_at counts.old l) }
     requires second { second < 18000 }
-    ensures counts { (l : ℕ) → l < links → counts_at counts.new l ≡ counted (counts_at counts.old l) (cell recent.now l second) (slice_index leaving.now l) (slice_index queues.now l) }
+    ensures counts { (l : ℕ) → l < links → counts_at counts.new l ≡
+        counted (counts_at counts.old l) (cell recent.now l second) (slice_index leaving.now l) (slice_index queues.now l) }
     ensures waits { result ≡ all_of queues.now links }
     ensures most { result ≤ links * 4294967295 }
 {

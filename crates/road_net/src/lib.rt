@@ -19,13 +19,13 @@ use foundation::items::Items;
 use foundation::threads::CrossesThreads;
 use joins::Side;
 pub use net_draft::{
-    Draft, DraftConflict, DraftLink, DraftNode, DraftPhase, DraftTurn, NetFault, Part, Place, Run,
+    Draft, DraftConflict, DraftLink, DraftNode, DraftPhase, DraftTurn, NetFault, Section, Place, Run,
 };
-use net_numbers::{Parts, check_bounds, numbered};
+use net_numbers::{Parts, check_bounds, number_draft};
 pub use net_numbers::{Link, Turn};
 use phase_plan::PhasePlan;
 pub use senses::{LinkSense, Sensed};
-pub use splits::{part_of_turn, parts_are_the_whole};
+pub use splits::{part_of_turn, law_of_parts};
 use std::alloc::Global;
 use std::marker::Model;
 
@@ -166,8 +166,10 @@ impl Network {
         requires { l < length self.now.link_names }
         ensures value { result ≡ split_of (turns_at self.now l) amount exit }
         ensures bounds { result ≤ amount }
-        ensures whole { IsSome (link_at self.now l).to → sum_by (λ t. split_of (turns_at self.now l) amount t.exit) (turns_at self.now l) ≡ amount }
-        ensures everywhere { IsSome (link_at self.now l).to → total (split_of (turns_at self.now l) amount) (length self.now.link_names) ≡ amount }
+        ensures whole { IsSome (link_at self.now l).to
+            → sum_by (λ t. split_of (turns_at self.now l) amount t.exit) (turns_at self.now l) ≡ amount }
+        ensures everywhere { IsSome (link_at self.now l).to
+            → total (split_of (turns_at self.now l) amount) (length self.now.link_names) ≡ amount }
         ensures network { IsNetwork self.now }
     {
         splits::split(self.turns(l), amount, exit)
@@ -237,15 +239,15 @@ pub fn build(alloc: Global, draft: Draft) -> Result<Network, NetFault>
     ensures first { IfErr result (IsDraftFault draft) }
 {
     check_bounds(&draft)?;
-    let parts = numbered(alloc, &draft)?;
-    joined(alloc, parts)
+    let parts = number_draft(alloc, &draft)?;
+    join_parts(alloc, parts)
 }
 
 /// The network of these parts, where they are joined as they must be. The fault is that of `node_links`.
 ///
 /// The parts are tested by reference and become part of the network after all tests, since the proof of a function that
 /// owns them goes over all that they hold at each way out of it.
-fn joined(alloc: Global, parts: Parts) -> Result<Network, NetFault>
+fn join_parts(alloc: Global, parts: Parts) -> Result<Network, NetFault>
     requires { IsOutline (net_of parts) }
     ensures joins { Joins (net_of parts) result }
     ensures first { IfErr result (IsJoinFault (net_of parts)) }
@@ -305,12 +307,12 @@ pub fn read_network(alloc: Global, bytes: &[u8]) -> Result<Network, NetFault>
     ensures refused { IfErr result (λ fault. Unless fault ((net : Net) → ¬ IsNetworkText bytes.now net)) }
     ensures first { IfErr result (IsCause bytes.now) }
 {
-    let draft = drafted(alloc, bytes)?;
+    let draft = parse_draft(alloc, bytes)?;
     build(alloc, draft)
 }
 
 /// The draft of a text. The text's table is given back before the network is built.
-fn drafted(alloc: Global, bytes: &[u8]) -> Result<Draft, NetFault>
+fn parse_draft(alloc: Global, bytes: &[u8]) -> Result<Draft, NetFault>
     requires { length bytes.now < 2 ^ 32 }
     ensures { Drafts bytes.now result }
 {

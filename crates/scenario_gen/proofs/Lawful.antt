@@ -21,7 +21,7 @@ use Rattle.arrivals.specs.declared.rows.RowFault.TheVariants as row_fault
 use Rattle.arrivals.specs.Faults.{IsAtBound, IsAtLink, IsFirst, IsRowFault}
 use Rattle.arrivals.specs.Rows.{AreRows, IsRow, IsSource, amount_of, most_of_all}
 use Rattle.rand_pcg.specs.Lcg.{Lcg}
-use Rattle.scenario_gen.specs.Arrivals.{behind, generator, row_by, rows, rows_from, rows_of_second, sources, word}
+use Rattle.scenario_gen.specs.Arrivals.{after_words, generator, row_by, rows, rows_from, rows_of_second, sources, word}
 use Rattle.scenario_gen.specs.Grids.{AreRounds, HasGrid}
 use Rattle.scenario_gen.specs.Layout.{IsSide}
 use Rattle.scenario_gen.proofs.Legal.{HasNetwork}
@@ -81,14 +81,14 @@ module _ (net : Net) (entered : List ℕ) (sound : All (IsSource net) entered) w
   module _ (few : length entered ≤ 320) (g : Lcg) (seconds : ℕ) (short : seconds ≤ 3000) where
     all-lawful : All (IsRow net) (rows_from g entered seconds)
     all-lawful =
-        all-flat (IsRow net) (λ second. rows_of_second second entered (behind g (second * length entered))) (range_with_len 0 seconds)
-        (below seconds (λ second. All (IsRow net) (rows_of_second second entered (behind g (second * length entered)))) (λ second h. second-lawful second (behind g (second * length entered)) (omega (arith, h, short))))
+        all-flat (IsRow net) (λ second. rows_of_second second entered (after_words g (second * length entered))) (range_with_len 0 seconds)
+        (below seconds (λ second. All (IsRow net) (rows_of_second second entered (after_words g (second * length entered)))) (λ second h. second-lawful second (after_words g (second * length entered)) (omega (arith, h, short))))
 
     all-few : sum_by amount_of (rows_from g entered seconds) ≤ most_of_all
     all-few =
-        let pieces : ℕ → List ArrivalRow = λ second. rows_of_second second entered (behind g (second * length entered)) in
+        let pieces : ℕ → List ArrivalRow = λ second. rows_of_second second entered (after_words g (second * length entered)) in
         let a = sum-flat amount_of pieces (range_with_len 0 seconds) in
-        let b = sum_by-le (λ second. sum_by amount_of (pieces second)) 320000 (range_with_len 0 seconds) (below seconds (λ second. sum_by amount_of (pieces second) ≤ 320000) (λ second h. omega (arith, few, second-few second (behind g (second * length entered))))) in
+        let b = sum_by-le (λ second. sum_by amount_of (pieces second)) 320000 (range_with_len 0 seconds) (below seconds (λ second. sum_by amount_of (pieces second) ≤ 320000) (λ second h. omega (arith, few, second-few second (after_words g (second * length entered))))) in
         omega (arith, a, b, short, length-range_with_len 0 seconds)
 
 -- the rows of a grid are lawful in a network of few links

@@ -9,8 +9,8 @@ use Rattle.std.proofs.lemmas.List.FromFn.{get_or-range_with_len, length-range_wi
 use Rattle.rand_pcg.specs.Lcg.{Lcg, next_state, state_after}
 use Rattle.rand_pcg.specs.Pcg.{multiplier_64, pcg32}
 use Rattle.scenario_gen.specs.declared.layout.Road.{Road}
-use Rattle.scenario_gen.specs.Layout.{directions, entering, entering_by, leaving, leaving_by, neighbour, nodes, roads}
-use Rattle.scenario_gen.specs.Arrivals.{behind}
+use Rattle.scenario_gen.specs.Layout.{directions, entry_roads, entering_by, exit_roads, leaving_by, neighbour, nodes, roads}
+use Rattle.scenario_gen.specs.Arrivals.{after_words}
 
 -- the numbers below one more
 pub range-more : (n : ℕ) → range_with_len 0 (n + 1) ≡ range_with_len 0 n ++ n ∷ []
@@ -45,17 +45,17 @@ filter-step test n now next was is =
     ∙ sym (filter_of_map_range_with_len_more test (λ k. k) 0 n n (omega arith)) ∙ ap (filter test) (map-id (range_with_len 0 (n + 1)))
 
 -- a generator after some words, and some more
-pub behind-add : (g : Lcg) (a b : ℕ) → behind (behind g a) b ≡ behind g (a + b)
+pub behind-add : (g : Lcg) (a b : ℕ) → after_words (after_words g a) b ≡ after_words g (a + b)
 behind-add g a b = ap (λ s. record g { state = s }) (sym (after-add 64 multiplier_64 g.increment a b g.state))
 
-after-one : (g : Lcg) → (pcg32 g).1 ≡ behind g 1
+after-one : (g : Lcg) → (pcg32 g).1 ≡ after_words g 1
 unfolding state_after
 after-one g = refl
 
-pub behind-more : (g : Lcg) (n : ℕ) → (pcg32 (behind g n)).1 ≡ behind g (n + 1)
-behind-more g n = after-one (behind g n) ∙ behind-add g n 1
+pub behind-more : (g : Lcg) (n : ℕ) → (pcg32 (after_words g n)).1 ≡ after_words g (n + 1)
+behind-more g n = after-one (after_words g n) ∙ behind-add g n 1
 
-pub behind-none : (g : Lcg) → g ≡ behind g 0
+pub behind-none : (g : Lcg) → g ≡ after_words g 0
 unfolding state_after
 behind-none g = refl
 
@@ -74,9 +74,9 @@ IsInside side r = r.node < side * side
 
 roads-inside : (side : ℕ) → All (IsInside side) (roads side)
 roads-inside side =
-    All-append (IsInside side) (flat_map leaving (nodes side)) (flat_map (entering side) (nodes side))
-    (all-flat (IsInside side) leaving (nodes side) (below (side * side) (λ n. All (IsInside side) (leaving n)) (λ n h. All-map (IsInside side) (leaving_by n) directions (λ k d inside. h))))
-    (all-flat (IsInside side) (entering side) (nodes side) (below (side * side) (λ n. All (IsInside side) (entering side n)) (λ n h. All-map (IsInside side) (entering_by n) (filter (λ d. is_none (neighbour side n d)) directions) (λ k d inside. h))))
+    All-append (IsInside side) (flat_map exit_roads (nodes side)) (flat_map (entry_roads side) (nodes side))
+    (all-flat (IsInside side) exit_roads (nodes side) (below (side * side) (λ n. All (IsInside side) (exit_roads n)) (λ n h. All-map (IsInside side) (leaving_by n) directions (λ k d inside. h))))
+    (all-flat (IsInside side) (entry_roads side) (nodes side) (below (side * side) (λ n. All (IsInside side) (entry_roads side n)) (λ n h. All-map (IsInside side) (entering_by n) (filter (λ d. is_none (neighbour side n d)) directions) (λ k d inside. h))))
 
 pub node-inside : (side i : ℕ) (rs : List Road) (d : Road) → rs ≡ roads side → i < length rs → (get_or rs i d).node < side * side
 node-inside side i rs d are h = (rw (sym are) at (roads-inside side)) i d h

@@ -4,7 +4,7 @@ ghost use Rattle.net_numbers.specs.Outline.{link_at};
 ghost use Rattle.road_net.specs.Network.{IsNetwork};
 ghost use Rattle.arrivals.specs.Rows.{AreRows};
 ghost use Rattle.scenario_gen.specs.Arrivals as words;
-ghost use Rattle.scenario_gen.specs.Arrivals.{behind, row_by, rows_of_second};
+ghost use Rattle.scenario_gen.specs.Arrivals.{after_words, row_by, rows_of_second};
 ghost use Rattle.scenario_gen.specs.Grids.{AreRounds};
 
 use arrivals::ArrivalRow;
@@ -47,7 +47,7 @@ fn push_second(
     rows: &mut Vec<ArrivalRow>,
 ) -> Result<(), AllocError>
     ensures rows { OnOk result (rows.new.items ≡ rows.old.items ++ rows_of_second second entered.now generator.old) }
-    ensures drawn { OnOk result (generator.new ≡ behind generator.old (length entered.now)) }
+    ensures drawn { OnOk result (generator.new ≡ after_words generator.old (length entered.now)) }
 {
     for link in entered {
         push_drawn(second, *link, generator.next_word(), rows)?;

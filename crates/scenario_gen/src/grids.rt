@@ -43,12 +43,12 @@ fn network(alloc: Global, side: u32, rounds: u32) -> Result<Network, AllocError>
     let draft = draft(alloc, side, rounds)?;
     match build(alloc, draft) {
         Ok(network) => Ok(network),
-        Err(fault) => Err(only_want(fault)),
+        Err(fault) => Err(alloc_error(fault)),
     }
 }
 
-/// A grid is refused only when out of memory.
-fn only_want(fault: NetFault) -> AllocError
+/// The only fault of a grid: out of memory.
+fn alloc_error(fault: NetFault) -> AllocError
     requires { fault ≡ NetFault.NoMemory }
 {
     match fault {
@@ -66,12 +66,12 @@ fn arrivals(alloc: Global, number: u64, rounds: u32, net: &Network) -> Result<Ar
     let rows = rows(alloc, number, rounds, net)?;
     match Arrivals::new(alloc, net, rows) {
         Ok(arrivals) => Ok(arrivals),
-        Err(fault) => Err(only_want_of_rows(fault)),
+        Err(fault) => Err(alloc_error_of_rows(fault)),
     }
 }
 
-/// The rows of a grid are refused only when out of memory.
-fn only_want_of_rows(fault: RowFault) -> AllocError
+/// The only fault of the rows of a grid: out of memory.
+fn alloc_error_of_rows(fault: RowFault) -> AllocError
     requires { fault ≡ RowFault.NoMemory }
 {
     match fault {

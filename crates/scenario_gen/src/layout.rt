@@ -2,7 +2,7 @@
 ghost use Rattle.std.specs.Prelude.{◌≡◌, ◌*◌, ◌<◌, ◌++◌, IfOk, OnOk, filter, is_none, map};
 ghost use Rattle.std.specs.List.{flat_map};
 ghost use Rattle.scenario_gen.specs.Layout as layout;
-ghost use Rattle.scenario_gen.specs.Layout.{entering, leaving, node_if, nodes, IsSide};
+ghost use Rattle.scenario_gen.specs.Layout.{entry_roads, exit_roads, node_if, nodes, IsSide};
 
 use std::alloc::{AllocError, Global};
 
@@ -174,7 +174,7 @@ pub(crate) fn roads(alloc: Global, side: u32) -> Result<Vec<Road>, AllocError>
 /// Appends the roads that leave each node.
 fn push_leaving(side: u32, roads: &mut Vec<Road>) -> Result<(), AllocError>
     requires { IsSide side }
-    ensures { OnOk result (roads.new.items ≡ roads.old.items ++ flat_map leaving (nodes side)) }
+    ensures { OnOk result (roads.new.items ≡ roads.old.items ++ flat_map exit_roads (nodes side)) }
 {
     for node in 0..side * side {
         push_leaving_node(&DIRECTIONS, node, roads)?;
@@ -203,7 +203,7 @@ fn push_leaving_node(
 /// Appends the roads that come to each node from outside.
 fn push_entering(side: u32, roads: &mut Vec<Road>) -> Result<(), AllocError>
     requires { IsSide side }
-    ensures { OnOk result (roads.new.items ≡ roads.old.items ++ flat_map (entering side) (nodes side)) }
+    ensures { OnOk result (roads.new.items ≡ roads.old.items ++ flat_map (entry_roads side) (nodes side)) }
 {
     for node in 0..side * side {
         push_entering_node(&DIRECTIONS, side, node, roads)?;
@@ -220,7 +220,8 @@ fn push_entering_node(
 ) -> Result<(), AllocError>
     requires side { IsSide side }
     requires node { node < side * side }
-    ensures { OnOk result (roads.new.items ≡ roads.old.items ++ map (layout.entering_by node) (filter (λ d. is_none (layout.neighbour side node d)) sides.now)) }
+    ensures { OnOk result (roads.new.items ≡ roads.old.items
+        ++ map (layout.entering_by node) (filter (λ d. is_none (layout.neighbour side node d)) sides.now)) }
 {
     for direction in sides {
         if neighbour(side, node, *direction).is_none() {

@@ -2,7 +2,7 @@ use Rattle.std.proofs.Common.{◌≡◌, List, Result, Ok, sym, subst}
 use Rattle.std.specs.Prelude.{IfOk}
 use Rattle.board_rule.specs.Passes.{PassView}
 use Rattle.intersection_actor.specs.Acting.{Acting}
-use Rattle.net_simulator.specs.Worlds.{Kept}
+use Rattle.net_simulator.specs.Worlds.{WorldState}
 use Rattle.round_calls.specs.Rounds.{Between}
 use Rattle.round_calls.proofs.Starting.{at-first}
 use Rattle.net_threads.proofs.Beginning.{left-at}
@@ -20,7 +20,7 @@ play_lasting-first-requires-clause-between g c κs within =
     (left-at net c.args.passes.items c.requires.left c.requires.nodes))
 
 -- what is so of parts behind a call that went well, is so of the lists that they are put together to
-together : {E : Type 0} (Holds : List PassView → List Acting → Kept → Type 0) (result : Result Kept E) (world : Kept) (parts passes : List PassView) (acting actors : List Acting)
+together : {E : Type 0} (Holds : List PassView → List Acting → WorldState → Type 0) (result : Result WorldState E) (world : WorldState) (parts passes : List PassView) (acting actors : List Acting)
     → result ≡ Ok world → IfOk result (Holds parts acting) → passes ≡ parts → actors ≡ acting → Holds passes actors world
 together Holds result world parts passes acting actors is holds same acted =
     subst (λ (z : List PassView × List Acting). Holds z.0 z.1 world) (λ i. (sym same i, sym acted i)) (subst (λ r. IfOk r (Holds parts acting)) is holds)
