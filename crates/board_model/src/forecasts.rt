@@ -24,7 +24,8 @@ impl CrossesThreads for ForecastRow {}
 fn first_from(rows: &[ForecastRow], second: u32) -> usize
     requires { IsNonDecreasingBy (λ (row : ForecastRow). row.second) rows.now }
     ensures bound { result ≤ length rows.now }
-    ensures split { IsPartitionPoint (λ (row : ForecastRow). row.second < second) (λ (row : ForecastRow). second ≤ row.second) rows.now result }
+    ensures split { IsPartitionPoint (λ (row : ForecastRow). row.second < second)
+        (λ (row : ForecastRow). second ≤ row.second) rows.now result }
 {
     rows.partition_point(|row| row.second < second)
 }

@@ -3,13 +3,13 @@
 ghost use Rattle.std.specs.Prelude.{◌≡◌, ◌≢◌, ℕ, ◌+◌, ◌-◌, ◌*◌, ◌/◌, ◌%◌, ◌≤◌, ◌<◌, ◌^◌, None, Some, IfSome, length, slice_index, slice_index_or};
 ghost use Rattle.control_flow.specs.Greens.{green_at};
 ghost use Rattle.net_numbers.specs.Outline.{link_at, turns_at};
+ghost use Rattle.net_simulator.specs.Arriving.{arriving_of};
+ghost use Rattle.net_simulator.specs.Counts.{counts_at};
+ghost use Rattle.net_simulator.specs.Rows.{cell};
+ghost use Rattle.net_simulator.specs.Steps.{is_open, goes, waits_at, goes_out, all_of, counted, FitsSeconds};
+ghost use Rattle.net_simulator.specs.Sums.{outward};
 ghost use Rattle.road_net.specs.Joins.{split_of};
 ghost use Rattle.road_net.specs.Totals.{total};
-ghost use Rattle.net_simulator.specs.Rows.{cell};
-ghost use Rattle.net_simulator.specs.Sums.{outward};
-ghost use Rattle.net_simulator.specs.Counts.{counts_at};
-ghost use Rattle.net_simulator.specs.Arriving.{arriving_of};
-ghost use Rattle.net_simulator.specs.Steps.{is_open, goes, waits_at, goes_out, all_of, counted, FitsSeconds};
 
 use super::lights::Lights;
 use super::rows;
@@ -96,7 +96,7 @@ fn goes(
 }
 
 /// What waits at the end of link `l`: its queue, and what entered it one travel time ago.
-fn waiting(net: &Network, queues: &[u32], recent: &[u32], second: u32, l: u32) -> u32
+fn waiting_amount(net: &Network, queues: &[u32], recent: &[u32], second: u32, l: u32) -> u32
     requires link { l < length net.now.link_names }
     requires queues { length queues.now ≡ length net.now.link_names }
     requires recent { length recent.now ≡ length net.now.link_names * 128 }
@@ -145,7 +145,7 @@ pub(crate) fn leave(
 {
     let mut out = 0;
     for l in 0..net.links() {
-        let waiting = waiting(net, queues, recent, second, l);
+        let waiting = waiting_amount(net, queues, recent, second, l);
         let amount = goes(net, waits, second, l, waiting, greens);
         leaving[l as usize] = amount;
         queues[l as usize] = waiting - amount;

@@ -58,6 +58,8 @@ impl CrossesThreads for World {}
 impl World {
     /// The empty world of a network, at second 0, with all the capacity that it will need.
     ///
+    /// `Err`: out of memory.
+    ///
     /// docs/RULES.md, "World".
     pub fn new(alloc: Global, net: &Network) -> Result<World, AllocError>
         ensures second { IfOk result (λ w. w.second ≡ 0) }
@@ -88,14 +90,14 @@ impl World {
         })
     }
 
-    /// The second up to which the world has moved.
+    /// The second up to which the world has moved, at most 18,000.
     pub fn now(&self) -> u32
         ensures { result ≡ self.now.second }
     {
         self.second
     }
 
-    /// What is counted of a link.
+    /// What is counted of link `l`, from second 0 on.
     ///
     /// docs/RULES.md, "World".
     pub fn link_totals(&self, l: u32) -> LinkTotals
@@ -116,6 +118,8 @@ impl World {
     }
 
     /// What a node of the network sees of its entry links: their queues, and what is on its way to their ends.
+    ///
+    /// `Err`: out of memory.
     ///
     /// docs/RULES.md, "What a node sees".
     pub fn sense(&self, alloc: Global, net: &Network, node: u32) -> Result<Sensed, AllocError>

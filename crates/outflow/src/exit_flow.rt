@@ -26,7 +26,8 @@ pub(crate) fn exit_flow(
     requires now { now ≤ 18000 }
     requires exit { exit < length net.now.link_names }
     requires platoons { AreOfNode net.now node now window.now.lists }
-    requires served { AreServed (plan_at net.now node) window.now.lists servings.now.phases.now servings.now.served.now }
+    requires served { AreServed (plan_at net.now node) window.now.lists servings.now.phases.now
+        servings.now.served.now }
     ensures { IfOk result (λ amounts. AreArriving net.now exit now
         (departures window.now.lists (counts_of window.now.lists) servings.now.phases.now servings.now.served.now) amounts.items) }
 {

@@ -38,7 +38,8 @@ pub fn forecast(
     requires now { now ≤ 18000 }
     requires exit { Contains (exit_links net.now node) exit }
     requires platoons { AreOfNode net.now node now window.now.lists }
-    requires served { AreServed (plan_at net.now node) window.now.lists servings.now.phases.now servings.now.served.now }
+    requires served { AreServed (plan_at net.now node) window.now.lists servings.now.phases.now
+        servings.now.served.now }
     ensures value { IfOk result (λ forecast. forecast ≡ told_forecast net.now exit now
         (departures window.now.lists (counts_of window.now.lists) servings.now.phases.now servings.now.served.now)) }
     ensures later { IfOk result (λ forecast. All (λ row. now + (link_at net.now exit).travel ≤ row.second) forecast) }

@@ -65,11 +65,15 @@ module _ (side : Side) (node : ℕ) (links : List Link) where
       let more = upto-more (λ l. node_at side (link_at links l) ≡ Some node) k (links_from side node 0 (take k links)) (is_node node (node_at side (link_at links k))) (is_node-true node _) (is_node-from node _) (upto k (omega arith)) in
       subst (λ n. Upto (λ l. node_at side (link_at links l) ≡ Some node) n (links_from side node 0 (take n links))) (add-one k) (rw (links_from-more side node links k no_link h) more)
 
-  pub links_of_node-are : AreLinksAt side links node (links_of_node side links node)
+  links_of_node-are : AreLinksAt side links node (links_of_node side links node)
   links_of_node-are =
       let whole = rw (take_all (length links) links (omega arith)) at (upto (length links) (omega arith)) in
       record { have = whole.have; all = whole.all; rising = whole.rising }
 
 -- the list that stands for a node
-pub by_node-at : (side : Side) (links : List Link) (nodes node : ℕ) (lists : List (List ℕ)) (x : List ℕ) → AreByNode side links nodes lists → node < nodes → x ≡ get_or lists node x → x ≡ links_of_node side links node
+by_node-at : (side : Side) (links : List Link) (nodes node : ℕ) (lists : List (List ℕ)) (x : List ℕ) → AreByNode side links nodes lists → node < nodes → x ≡ get_or lists node x → x ≡ links_of_node side links node
 by_node-at side links nodes node lists x by_node h at = at ∙ get_or_default lists node x [] (omega (arith, by_node.count)) ∙ by_node.each node h
+
+-- and it has the links at the node's side
+pub links-at : (side : Side) (links given : List Link) (nodes node : ℕ) (lists : List (List ℕ)) (x out : List ℕ) → AreByNode side links nodes lists → links ≡ given → node < nodes → x ≡ get_or lists node x → out ≡ x → AreLinksAt side given node out
+links-at side links given nodes node lists x out by_node same h at is = rw (← same, is, by_node-at side links nodes node lists x by_node h at) (links_of_node-are side node links)

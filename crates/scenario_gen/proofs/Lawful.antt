@@ -100,18 +100,18 @@ are-rows net number rounds few are =
     record { each = all-lawful net (sources net) (are-sources net) sources_few (generator number) (5 * rounds) short; few = all-few net (sources net) (are-sources net) sources_few (generator number) (5 * rounds) short }
 
 -- a draft that stands for a network is refused only when out of memory
-pub only-want : (d : Draft) (fault : NetFault) → HasNetwork d → Refuses fault ((net : Net) → IsNetworkOf d net → ⊥) → fault ≡ net_fault.NoMemory
-only-want d net_fault.NoMemory has why = refl
-only-want d net_fault.NotToml has why = absurd why
-only-want d (net_fault.Shape place) has why = absurd why
-only-want d (net_fault.Bound place) has why = absurd (why has.net has.network)
-only-want d (net_fault.Twice place) has why = absurd (why has.net has.network)
-only-want d (net_fault.Unknown place) has why = absurd (why has.net has.network)
-only-want d (net_fault.Ends l) has why = absurd (why has.net has.network)
-only-want d (net_fault.Crowd n) has why = absurd (why has.net has.network)
-only-want d (net_fault.Shares l) has why = absurd (why has.net has.network)
-only-want d (net_fault.Phaseless l) has why = absurd (why has.net has.network)
-only-want d (net_fault.Clash a b) has why = absurd (why has.net has.network)
+pub memory-alone : (d : Draft) (fault : NetFault) → HasNetwork d → Refuses fault ((net : Net) → IsNetworkOf d net → ⊥) → fault ≡ net_fault.NoMemory
+memory-alone d net_fault.NoMemory has why = refl
+memory-alone d net_fault.NotToml has why = absurd why
+memory-alone d (net_fault.Shape place) has why = absurd why
+memory-alone d (net_fault.Bound place) has why = absurd (why has.net has.network)
+memory-alone d (net_fault.Twice place) has why = absurd (why has.net has.network)
+memory-alone d (net_fault.Unknown place) has why = absurd (why has.net has.network)
+memory-alone d (net_fault.Ends l) has why = absurd (why has.net has.network)
+memory-alone d (net_fault.Crowd n) has why = absurd (why has.net has.network)
+memory-alone d (net_fault.Shares l) has why = absurd (why has.net has.network)
+memory-alone d (net_fault.Phaseless l) has why = absurd (why has.net has.network)
+memory-alone d (net_fault.Clash a b) has why = absurd (why has.net has.network)
 
 -- a row at fault among lawful ones
 module _ (net : Net) (all : List ArrivalRow) (are : AreRows net all) where
@@ -126,14 +126,14 @@ module _ (net : Net) (all : List ArrivalRow) (are : AreRows net all) where
       length-parts (x ∷ xs) y ys = let h = length-parts xs y ys in omega arith
 
   -- rows that are lawful are refused only when out of memory
-  pub only-want-of-rows : (fault : RowFault) → IsRowFault net all fault → fault ≡ row_fault.NoMemory
-  only-want-of-rows row_fault.NoMemory why = refl
-  only-want-of-rows row_fault.Header why = absurd why
-  only-want-of-rows (row_fault.Row n) why = absurd why
-  only-want-of-rows (row_fault.Link n) why = absurd (why.faulty (here-lawful n (λ before r. IsAtLink net r) why).source)
-  only-want-of-rows (row_fault.Bound n) why = absurd (why.faulty.1 (here-lawful n (λ before r. IsAtBound net r) why).bounds)
-  only-want-of-rows (row_fault.Sum n) why = absurd (
-      let same : why.before ≡ why.rows = same_Some why.before why.rows (sym (each-self why.before) ∙ why.reads) in
+  pub memory-alone-of-rows : (fault : RowFault) → IsRowFault net all fault → fault ≡ row_fault.NoMemory
+  memory-alone-of-rows row_fault.NoMemory why = refl
+  memory-alone-of-rows row_fault.Header why = absurd why
+  memory-alone-of-rows (row_fault.Row n) why = absurd why
+  memory-alone-of-rows (row_fault.Link n) why = absurd (why.faulty (here-lawful n (λ before r. IsAtLink net r) why).source)
+  memory-alone-of-rows (row_fault.Bound n) why = absurd (why.faulty.1 (here-lawful n (λ before r. IsAtBound net r) why).bounds)
+  memory-alone-of-rows (row_fault.Sum n) why = absurd (
+      let same : why.before ≡ why.so_far = same_Some why.before why.so_far (sym (each-self why.before) ∙ why.reads.reads) in
       let whole = ap (sum_by amount_of) why.are ∙ sum_by-append amount_of why.before (why.here ∷ why.after) in
       let few = are.few in
       omega (arith, whole, sum_by-cons amount_of why.here why.after, ap (sum_by amount_of) same, why.faulty.1))

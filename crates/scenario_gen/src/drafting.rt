@@ -24,9 +24,10 @@ const USUAL: Phase = Phase {
     wait: 300,
 };
 
-/// The shares of those who go straight on, and of those who turn to each side, in thousandths.
+/// The share of those who go straight on, in thousandths.
 const STRAIGHT: u32 = 700;
 
+/// The share of those who turn to each side, in thousandths.
 const ASIDE: u32 = 150;
 
 /// The network of a grid with `side` nodes a side, for `rounds` rounds.
