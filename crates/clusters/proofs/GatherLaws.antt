@@ -22,7 +22,7 @@ pub record IsGathering (gap most now : ℕ) (series : List ℕ) (streams : List 
   pub apart : (k : ℕ) → k + 1 < length runs → CannotJoin gap most (run_at runs k) (first_of (run_at runs (k + 1)))
   pub order : (k : ℕ) → k + 1 < length runs → last_of (run_at runs k) < first_of (run_at runs (k + 1))
   pub closed : (k x : ℕ) → k + 1 ≡ length runs → from ≤ x → 1 ≤ get_or series x 0 → CannotJoin gap most (run_at runs k) x
-  pub behind : (k : ℕ) → k + 1 ≡ length runs → last_of (run_at runs k) < from
+  pub ends_before : (k : ℕ) → k + 1 ≡ length runs → last_of (run_at runs k) < from
   pub few : length runs ≤ from
   pub made : platoons ≡ map (platoon_of now streams) runs
 
@@ -36,7 +36,7 @@ gathering-none gap most now series streams = record {
   apart = λ k lt. absurd (omega arith);
   order = λ k lt. absurd (omega arith);
   closed = λ k x e le filled. absurd (omega arith);
-  behind = λ k e. absurd (omega arith);
+  ends_before = λ k e. absurd (omega arith);
   few = omega arith;
   made = refl;
 }
@@ -53,7 +53,7 @@ gathering-more gap most now series streams platoons more from first end platoon 
     let r : List ℕ = filled_from series first (end - first) in
     let runs : List (List ℕ) = h.runs in
     let some : first < end = run.some in
-    let after : from ≤ first = next.behind in
+    let after : from ≤ first = next.from in
     let empty : filled_from series from (first - from) ≡ [] = filled-none series from (first - from) (λ k lo hi. next.before k lo (omega arith)) in
     let cut : filled_from series 0 end ≡ filled_from series 0 from ++ r =
     let total : end ≡ from + ((first - from) + (end - first)) = omega arith in
@@ -87,7 +87,7 @@ gathering-more gap most now series streams platoons more from first end platoon 
         | inl below ↦ rw (get_or-push-other runs r [] k (omega arith), get_or-push-other runs r [] (k + 1) below) (h.order k below)
         | inr past ↦
             let at : k + 1 ≡ length runs = omega (arith, length-push runs r) in
-            rw (get_or-push-other runs r [] k (omega arith), get_or-push-at runs r [] (k + 1) at, run.begins) (omega (arith, h.behind k at))
+            rw (get_or-push-other runs r [] k (omega arith), get_or-push-at runs r [] (k + 1) at, run.begins) (omega (arith, h.ends_before k at))
       ];
       closed = λ k x e le filled.
           let at : k ≡ length runs = omega (arith, length-push runs r) in
@@ -95,7 +95,7 @@ gathering-more gap most now series streams platoons more from first end platoon 
             | inl far ↦ inl (omega (arith, run.ends))
             | inr long ↦ inr (omega (arith, run.begins))
           ]);
-      behind = λ k e.
+      ends_before = λ k e.
           let at : k ≡ length runs = omega (arith, length-push runs r) in
           rw (get_or-push-at runs r [] k at) (omega (arith, run.ends));
       few = omega (arith, length-push runs r, h.few);

@@ -37,8 +37,8 @@ get_or-zeros n k = elim (cases_lt k n) [
 padded-front : (xs : List ℕ) (n k : ℕ) → k < length xs → get_or (xs ++ zeros n) k 0 ≡ get_or xs k 0
 padded-front xs n k lt = get_or_append_left xs (zeros n) 0 k lt
 
-padded-behind : (xs : List ℕ) (n k : ℕ) → length xs ≤ k → get_or (xs ++ zeros n) k 0 ≡ 0
-padded-behind xs n k le =
+padded-after : (xs : List ℕ) (n k : ℕ) → length xs ≤ k → get_or (xs ++ zeros n) k 0 ≡ 0
+padded-after xs n k le =
     let e : length xs + (k - length xs) ≡ k = omega arith in
     let h : get_or (xs ++ zeros n) (length xs + (k - length xs)) 0 ≡ get_or (zeros n) (k - length xs) 0 = get_or-append-add xs (zeros n) (k - length xs) 0 in
     let P : ℕ → Type 0 = λ j. get_or (xs ++ zeros n) j 0 ≡ 0 in
@@ -47,8 +47,8 @@ padded-behind xs n k le =
 padded-front-of : (coming : List ℕ) (seen n k : ℕ) → seen ≤ length coming → k < seen → get_or (take seen coming ++ zeros n) k 0 ≡ get_or coming k 0
 padded-front-of coming seen n k le lt = padded-front (take seen coming) n k (omega (arith, length-take seen coming)) ∙ get_or-take seen coming k 0 lt
 
-padded-behind-of : (coming : List ℕ) (seen n k : ℕ) → seen ≤ length coming → seen ≤ k → get_or (take seen coming ++ zeros n) k 0 ≡ 0
-padded-behind-of coming seen n k le past = padded-behind (take seen coming) n k (omega (arith, length-take seen coming))
+padded-after-of : (coming : List ℕ) (seen n k : ℕ) → seen ≤ length coming → seen ≤ k → get_or (take seen coming ++ zeros n) k 0 ≡ 0
+padded-after-of coming seen n k le past = padded-after (take seen coming) n k (omega (arith, length-take seen coming))
 
 pub length-padded : (front xs : List ℕ) (count : ℕ) → length front ≤ count → xs ≡ front ++ zeros (count - length front) → length xs ≡ count
 length-padded front xs count le made = ap length made ∙ length-append front (zeros (count - length front)) ∙ omega (arith, length_zeros (count - length front))
@@ -62,9 +62,9 @@ seen-made look travel queue coming xs seen some far_off e made =
     let room : 0 < length xs = omega arith in
     let value : (k : ℕ) → k < look → k < travel → get_or xs k 0 ≡ get_or coming k 0 = λ k lt near. elim (cases_lt k seen) [
       | inl below ↦ ap (λ ys. get_or ys k 0) made ∙ padded-front-of coming seen (look - seen) k (omega arith) below
-      | inr past ↦ ap (λ ys. get_or ys k 0) made ∙ padded-behind-of coming seen (look - seen) k (omega arith) past ∙ sym (get_or_past coming k 0 (omega arith))
+      | inr past ↦ ap (λ ys. get_or ys k 0) made ∙ padded-after-of coming seen (look - seen) k (omega arith) past ∙ sym (get_or_past coming k 0 (omega arith))
     ] in
-    let nothing : (k : ℕ) → travel ≤ k → get_or xs k 0 ≡ 0 = λ k le. ap (λ ys. get_or ys k 0) made ∙ padded-behind-of coming seen (look - seen) k (omega arith) (omega arith) in
+    let nothing : (k : ℕ) → travel ≤ k → get_or xs k 0 ≡ 0 = λ k le. ap (λ ys. get_or ys k 0) made ∙ padded-after-of coming seen (look - seen) k (omega arith) (omega arith) in
     let total : sum xs ≤ sum coming =
     omega (arith, ap sum made, sum_by-append (λ x. x) (take seen coming) (zeros (look - seen)), sum_by-replicate (λ x. x) (look - seen) 0, sum_by-take-le (λ x. x) coming seen) in
     record {

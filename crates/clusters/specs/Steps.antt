@@ -11,7 +11,7 @@ IsEmpty series from end = (k : ℕ) → from ≤ k → k < end → slice_index s
 
 -- the first second that is not empty, from this one on
 pub record IsNext (series : List ℕ) (start x : ℕ) : Type 0 where
-  pub behind : start ≤ x
+  pub from : start ≤ x
   pub there : x < length series
   pub filled : 1 ≤ slice_index series x
   pub before : IsEmpty series start x

@@ -131,8 +131,8 @@ link-none d Turn sub h =
     rw (is, none-after turn_of (λ x. turn_of x ≡ None) link.turns sub (λ x no. no) first) refl
 link-none d _ sub h = absurd h
 
-abbrev behind : TopForm → Option Draft
-behind top = do
+abbrev within_top : TopForm → Option Draft
+within_top top = do
   run ← run_of top.run
   nodes ← each node_of top.nodes
   links ← each link_of top.links
@@ -140,22 +140,22 @@ behind top = do
   Some (record { run = run; nodes = nodes; links = links; conflicts = conflicts })
 
 -- a file with a fault in the tables within it has no draft
-behind-none : (top : TopForm) (part : Section) (item sub : ℕ) → IsFaultWithin top part item sub → behind top ≡ None
-behind-none top Top item sub h = absurd h
-behind-none top Run item sub h = rw h.2 refl
-behind-none top Node item sub h =
+within_top-none : (top : TopForm) (part : Section) (item sub : ℕ) → IsFaultWithin top part item sub → within_top top ≡ None
+within_top-none top Top item sub h = absurd h
+within_top-none top Run item sub h = rw h.2 refl
+within_top-none top Node item sub h =
     let nodes = none-after node_of (λ d. IsNodeFault d Node sub) top.nodes item (λ d k. node-none d Node sub k) h.1 in
     bind-none (run_of top.run) _ (λ run. rw nodes refl)
-behind-none top Phase item sub h =
+within_top-none top Phase item sub h =
     let nodes = none-after node_of (λ d. IsNodeFault d Phase sub) top.nodes item (λ d k. node-none d Phase sub k) h.1 in
     bind-none (run_of top.run) _ (λ run. rw nodes refl)
-behind-none top Link item sub h =
+within_top-none top Link item sub h =
     let links = none-after link_of (λ d. IsLinkFault d Link sub) top.links item (λ d k. link-none d Link sub k) h.2 in
     bind-none (run_of top.run) _ (λ run. bind-none (each node_of top.nodes) _ (λ nodes. rw links refl))
-behind-none top Turn item sub h =
+within_top-none top Turn item sub h =
     let links = none-after link_of (λ d. IsLinkFault d Turn sub) top.links item (λ d k. link-none d Turn sub k) h.2 in
     bind-none (run_of top.run) _ (λ run. bind-none (each node_of top.nodes) _ (λ nodes. rw links refl))
-behind-none top Conflict item sub h =
+within_top-none top Conflict item sub h =
     let conflicts = none-after conflict_of (λ d. conflict_of d ≡ None) top.conflicts item (λ d no. no) h.4 in
     bind-none (run_of top.run) _ (λ run. bind-none (each node_of top.nodes) _ (λ nodes. bind-none (each link_of top.links) _ (λ links. rw conflicts refl)))
 
@@ -163,12 +163,12 @@ behind-none top Conflict item sub h =
 draft-none : (ms : Members) (part : Section) (item sub : ℕ) → IsShapeFault ms part item sub → draft_of ms ≡ None
 unfolding draft_of
 draft-none ms Top item sub h = rw h.2 refl
-draft-none ms Run item sub h = let (top, is, at) = some-and (λ top. IsFaultWithin top Run item sub) (top_form ms) h in rw is (behind-none top Run item sub at)
-draft-none ms Node item sub h = let (top, is, at) = some-and (λ top. IsFaultWithin top Node item sub) (top_form ms) h in rw is (behind-none top Node item sub at)
-draft-none ms Phase item sub h = let (top, is, at) = some-and (λ top. IsFaultWithin top Phase item sub) (top_form ms) h in rw is (behind-none top Phase item sub at)
-draft-none ms Link item sub h = let (top, is, at) = some-and (λ top. IsFaultWithin top Link item sub) (top_form ms) h in rw is (behind-none top Link item sub at)
-draft-none ms Turn item sub h = let (top, is, at) = some-and (λ top. IsFaultWithin top Turn item sub) (top_form ms) h in rw is (behind-none top Turn item sub at)
-draft-none ms Conflict item sub h = let (top, is, at) = some-and (λ top. IsFaultWithin top Conflict item sub) (top_form ms) h in rw is (behind-none top Conflict item sub at)
+draft-none ms Run item sub h = let (top, is, at) = some-and (λ top. IsFaultWithin top Run item sub) (top_form ms) h in rw is (within_top-none top Run item sub at)
+draft-none ms Node item sub h = let (top, is, at) = some-and (λ top. IsFaultWithin top Node item sub) (top_form ms) h in rw is (within_top-none top Node item sub at)
+draft-none ms Phase item sub h = let (top, is, at) = some-and (λ top. IsFaultWithin top Phase item sub) (top_form ms) h in rw is (within_top-none top Phase item sub at)
+draft-none ms Link item sub h = let (top, is, at) = some-and (λ top. IsFaultWithin top Link item sub) (top_form ms) h in rw is (within_top-none top Link item sub at)
+draft-none ms Turn item sub h = let (top, is, at) = some-and (λ top. IsFaultWithin top Turn item sub) (top_form ms) h in rw is (within_top-none top Turn item sub at)
+draft-none ms Conflict item sub h = let (top, is, at) = some-and (λ top. IsFaultWithin top Conflict item sub) (top_form ms) h in rw is (within_top-none top Conflict item sub at)
 
 -- what is answered where there is no draft
 pub record IsRefused (ms : Members) (result : Result Draft NetFault) : Type 0 where

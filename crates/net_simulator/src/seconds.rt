@@ -101,7 +101,7 @@ fn waiting_amount(net: &Network, queues: &[u32], recent: &[u32], second: u32, l:
     requires queues { length queues.now ≡ length net.now.link_names }
     requires recent { length recent.now ≡ length net.now.link_names * 128 }
     requires second { second < 18000 }
-    requires room { slice_index queues.now l + cell recent.now l (second + 128 - (link_at net.now l).travel) < 2 ^ 32 }
+    requires fits { slice_index queues.now l + cell recent.now l (second + 128 - (link_at net.now l).travel) < 2 ^ 32 }
     ensures { result ≡ slice_index queues.now l + cell recent.now l (second + 128 - (link_at net.now l).travel) }
 {
     let travel = net.link(l).travel;
@@ -136,7 +136,7 @@ pub(crate) fn leave(
     requires greens { length greens.now ≡ length net.now.node_names }
     requires begun { (n : ℕ) → n < length net.now.node_names → IfSome (slice_index_or greens.now n None) (λ g. g.from ≤ second) }
     requires second { second < 18000 }
-    requires room { (l : ℕ) → l < length net.now.link_names → waits_at net.now queues.old recent.now second l < 2 ^ 32 }
+    requires fits { (l : ℕ) → l < length net.now.link_names → waits_at net.now queues.old recent.now second l < 2 ^ 32 }
     ensures leaving { (l : ℕ) → l < length net.now.link_names → slice_index leaving.new l ≡
         goes net.now greens.now waits.now second l (waits_at net.now queues.old recent.now second l) (link_at net.now l).to }
     ensures queues { (l : ℕ) → l < length net.now.link_names → slice_index queues.new l ≡
@@ -158,7 +158,7 @@ pub(crate) fn leave(
 fn turn(recent: &mut [u32], net: &Network, l: u32, amount: u32, second: u32)
     requires link { l < length net.now.link_names }
     requires recent { length recent.old ≡ length net.now.link_names * 128 }
-    requires room { (k : ℕ) → k < length net.now.link_names
+    requires fits { (k : ℕ) → k < length net.now.link_names
         → cell recent.old k second + split_of (turns_at net.now l) amount k < 2 ^ 32 }
     ensures here { (k : ℕ) → k < length net.now.link_names
         → cell recent.new k second ≡ cell recent.old k second + split_of (turns_at net.now l) amount k }
@@ -180,7 +180,7 @@ fn turn(recent: &mut [u32], net: &Network, l: u32, amount: u32, second: u32)
 pub(crate) fn enter(recent: &mut [u32], net: &Network, leaving: &[u32], second: u32)
     requires recent { length recent.old ≡ length net.now.link_names * 128 }
     requires leaving { length leaving.now ≡ length net.now.link_names }
-    requires room { (k : ℕ) → k < length net.now.link_names → cell recent.old k second
+    requires fits { (k : ℕ) → k < length net.now.link_names → cell recent.old k second
         + total (λ l. split_of (turns_at net.now l) (slice_index leaving.now l) k) (length net.now.link_names) < 2 ^ 32 }
     ensures here { (k : ℕ) → k < length net.now.link_names → cell recent.new k second ≡ cell recent.old k second
         + total (λ l. split_of (turns_at net.now l) (slice_index leaving.now l) k) (length net.now.link_names) }
@@ -192,14 +192,14 @@ pub(crate) fn enter(recent: &mut [u32], net: &Network, leaving: &[u32], second: 
 }
 
 /// Keeps the queues after this second.
-pub(crate) fn remember(waits: &mut [u32], queues: &[u32], links: u32, behind: u32)
+pub(crate) fn remember(waits: &mut [u32], queues: &[u32], links: u32, next: u32)
     requires waits { length waits.old ≡ links * 128 }
     requires queues { length queues.now ≡ links }
-    ensures here { (l : ℕ) → l < links → cell waits.new l behind ≡ slice_index queues.now l }
-    ensures others { (l y : ℕ) → y % 128 ≢ behind % 128 → cell waits.new l y ≡ cell waits.old l y }
+    ensures here { (l : ℕ) → l < links → cell waits.new l next ≡ slice_index queues.now l }
+    ensures others { (l y : ℕ) → y % 128 ≢ next % 128 → cell waits.new l y ≡ cell waits.old l y }
 {
     for l in 0..links {
-        rows::put(waits, l, behind, queues[l as usize]);
+        rows::put(waits, l, next, queues[l as usize]);
     }
 }
 
@@ -216,7 +216,7 @@ pub(crate) fn count(
     requires recent { length recent.now ≡ links * 128 }
     requires leaving { length leaving.now ≡ links }
     requires queues { length queues.now ≡ links }
-    requires room { (l : ℕ) → l < links → FitsSeconds second (counts_at counts.old l) }
+    requires fits { (l : ℕ) → l < links → FitsSeconds second (counts_at counts.old l) }
     requires second { second < 18000 }
     ensures counts { (l : ℕ) → l < links → counts_at counts.new l ≡
         counted (counts_at counts.old l) (cell recent.now l second) (slice_index leaving.now l) (slice_index queues.now l) }

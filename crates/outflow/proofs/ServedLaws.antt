@@ -427,9 +427,9 @@ found-fit net node exit now lists ks ss taken amounts i p of h lt net_is there e
     subst P (sym e) (fit-platoon net node now (get_or ks i 0) (next_platoon lists h.left (get_or ks i 0)) net_is there (omega (arith, of.count, at.next.phase)) at.next.platoon)
 
 -- where the next one begins, nothing has been added yet
-pub clear-behind : (net : Net) (node exit now : ℕ) (lists : List (List Platoon)) (ks : List ℕ) (ss : List Served) (taken amounts : List ℕ) (i k travel : ℕ)
+pub clear-after : (net : Net) (node exit now : ℕ) (lists : List (List Platoon)) (ks : List ℕ) (ss : List Served) (taken amounts : List ℕ) (i k travel : ℕ)
     → AreOfNode net node now lists → (h : IsFilling net node exit now lists ks ss taken amounts i) → i < length ks → travel ≡ (link_at net exit).travel
     → (get_or ss i no_served).start + travel - now ≤ k → get_or amounts k 0 ≡ 0
-clear-behind net node exit now lists ks ss taken amounts i k travel of h lt e le =
+clear-after net node exit now lists ks ss taken amounts i k travel of h lt e le =
     let at : IsAt net node now lists h.left h.head ks ss i no_served = serving-at net node now lists h.left h.head ks ss i no_served of h.servings lt in
     h.clear k (omega (arith, at.next.times.later))

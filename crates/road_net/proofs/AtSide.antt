@@ -65,7 +65,7 @@ module _ (side : Side) (node : ℕ) (links : List Link) where
       let more = upto-more (λ l. node_at side (link_at links l) ≡ Some node) k (links_from side node 0 (take k links)) (is_node node (node_at side (link_at links k))) (is_node-true node _) (is_node-from node _) (upto k (omega arith)) in
       subst (λ n. Upto (λ l. node_at side (link_at links l) ≡ Some node) n (links_from side node 0 (take n links))) (add-one k) (rw (links_from-more side node links k no_link h) more)
 
-  links_of_node-are : AreLinksAt side links node (links_of_node side links node)
+  pub links_of_node-are : AreLinksAt side links node (links_of_node side links node)
   links_of_node-are =
       let whole = rw (take_all (length links) links (omega arith)) at (upto (length links) (omega arith)) in
       record { have = whole.have; all = whole.all; rising = whole.rising }

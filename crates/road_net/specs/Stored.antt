@@ -51,5 +51,5 @@ abbrev pub clash_at : List (ℕ × ℕ) → ℕ → NetFault
 clash_at conflicts place = Clash (conflict_at conflicts place).0 (conflict_at conflicts place).1
 
 -- the list of links of this node is not too long
-abbrev pub HasRoomAt : List (List ℕ) → ℕ → Type 0
-HasRoomAt lists node = length (slice_index_or lists node []) ≤ 16
+abbrev pub HasFewAt : List (List ℕ) → ℕ → Type 0
+HasFewAt lists node = length (slice_index_or lists node []) ≤ 16

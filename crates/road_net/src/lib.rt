@@ -287,7 +287,7 @@ fn node_links(alloc: Global, parts: &Parts) -> Result<NodeLinks, NetFault>
     let nodes = parts.node_names.len();
     joins::check_ends(links)?;
     let entry = joins::links_by_node(alloc, links, nodes, Side::To)?;
-    joins::check_room(entry.as_slice())?;
+    joins::check_entries(entry.as_slice())?;
     joins::check_shares(links, parts.turns.as_slice())?;
     joins::check_phases(alloc, links, parts.phase_links.as_slice())?;
     joins::check_conflicts(links, parts.conflicts.as_slice())?;

@@ -45,19 +45,19 @@ filter-step test n now next was is =
     ∙ sym (filter_of_map_range_with_len_more test (λ k. k) 0 n n (omega arith)) ∙ ap (filter test) (map-id (range_with_len 0 (n + 1)))
 
 -- a generator after some words, and some more
-pub behind-add : (g : Lcg) (a b : ℕ) → after_words (after_words g a) b ≡ after_words g (a + b)
-behind-add g a b = ap (λ s. record g { state = s }) (sym (after-add 64 multiplier_64 g.increment a b g.state))
+pub words-add : (g : Lcg) (a b : ℕ) → after_words (after_words g a) b ≡ after_words g (a + b)
+words-add g a b = ap (λ s. record g { state = s }) (sym (after-add 64 multiplier_64 g.increment a b g.state))
 
 after-one : (g : Lcg) → (pcg32 g).1 ≡ after_words g 1
 unfolding state_after
 after-one g = refl
 
-pub behind-more : (g : Lcg) (n : ℕ) → (pcg32 (after_words g n)).1 ≡ after_words g (n + 1)
-behind-more g n = after-one (after_words g n) ∙ behind-add g n 1
+pub words-more : (g : Lcg) (n : ℕ) → (pcg32 (after_words g n)).1 ≡ after_words g (n + 1)
+words-more g n = after-one (after_words g n) ∙ words-add g n 1
 
-pub behind-none : (g : Lcg) → g ≡ after_words g 0
+pub words-none : (g : Lcg) → g ≡ after_words g 0
 unfolding state_after
-behind-none g = refl
+words-none g = refl
 
 -- the nodes of roads
 pub all-flat : {X Y : Type 0} (P : Y → Type 0) (f : X → List Y) (xs : List X) → All (λ x. All P (f x)) xs → All P (flat_map f xs)

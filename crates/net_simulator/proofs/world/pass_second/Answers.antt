@@ -6,18 +6,18 @@ use Rattle.net_simulator.proofs.world.pass_second.Goals as goal
 pub leave-out-requires-clause-begun : goal.leave-out-requires-clause-begun
 leave-out-requires-clause-begun g c = begun-by c.look.new.greens (length c.args.moment.now.net.now.node_names) (g.T.Lights.lines c.args.moment.now.lights.now) c.args.moment.now.second c.look.ensures
 
-pub leave-out-requires-clause-room : goal.leave-out-requires-clause-room
-leave-out-requires-clause-room g c =
+pub leave-out-requires-clause-fits : goal.leave-out-requires-clause-fits
+leave-out-requires-clause-fits g c =
     room-leave c.args.moment.now.net.now c.links-links.ensures.network (arriving_of c.args.moment.now.arrivals.now) (g.T.Lights.lines c.args.moment.now.lights.now) (few-of c.args.moment.now.net.now c.links-links.ensures.network c.args.moment.now.arrivals.now c.requires.arrivals) _ c.requires.stands c.arrive-arriving.new.recent c.arrive-arriving.ensures.others
 
-pub enter-requires-clause-room : goal.enter-requires-clause-room
-enter-requires-clause-room g c =
+pub enter-requires-clause-fits : goal.enter-requires-clause-fits
+enter-requires-clause-fits g c =
     let leaves = leaves-now c.args.moment.now.net.now c.links-links.ensures.network (arriving_of c.args.moment.now.arrivals.now) (g.T.Lights.lines c.args.moment.now.lights.now) (few-of c.args.moment.now.net.now c.links-links.ensures.network c.args.moment.now.arrivals.now c.requires.arrivals) _ c.requires.stands c.look.new.greens c.arrive-arriving.new.recent c.leave-out.new.leaving c.look.ensures c.arrive-arriving.ensures.others c.leave-out.ensures.leaving in
     room-enter c.args.moment.now.net.now c.links-links.ensures.network (arriving_of c.args.moment.now.arrivals.now) (g.T.Lights.lines c.args.moment.now.lights.now) (few-of c.args.moment.now.net.now c.links-links.ensures.network c.args.moment.now.arrivals.now c.requires.arrivals) _ c.requires.stands c.arrive-arriving.new.recent c.leave-out.new.leaving leaves
     (rw c.links-links.ensures.value at c.arrive-arriving.ensures.here)
 
-pub count-waiting-requires-clause-room : goal.count-waiting-requires-clause-room
-count-waiting-requires-clause-room g c = rw c.links-links.ensures.value (counts-small c.args.moment.now.net.now c.links-links.ensures.network (arriving_of c.args.moment.now.arrivals.now) (g.T.Lights.lines c.args.moment.now.lights.now) (few-of c.args.moment.now.net.now c.links-links.ensures.network c.args.moment.now.arrivals.now c.requires.arrivals) _ c.requires.stands)
+pub count-waiting-requires-clause-fits : goal.count-waiting-requires-clause-fits
+count-waiting-requires-clause-fits g c = rw c.links-links.ensures.value (counts-small c.args.moment.now.net.now c.links-links.ensures.network (arriving_of c.args.moment.now.arrivals.now) (g.T.Lights.lines c.args.moment.now.lights.now) (few-of c.args.moment.now.net.now c.links-links.ensures.network c.args.moment.now.arrivals.now c.requires.arrivals) _ c.requires.stands)
 
 pub overflow_add-entered : goal.overflow_add-entered
 overflow_add-entered g c =

@@ -3,7 +3,7 @@ use Rattle.net_numbers.specs.declared.roads.Link.{Link}
 use Rattle.clusters.specs.declared.vehicle_groups.LinkFlow.{LinkFlow}
 use Rattle.clusters.specs.declared.vehicle_groups.Platoon.{Platoon}
 use Rattle.clusters.proofs.SeenLaws.{written}
-use Rattle.outflow.proofs.ServedLaws.{clear-behind, filling-all, filling-more, found-fit, listed, no_served, phase-below, phases-few, platoon-found, platoon-there, serving-late}
+use Rattle.outflow.proofs.ServedLaws.{clear-after, filling-all, filling-more, found-fit, listed, no_served, phase-below, phases-few, platoon-found, platoon-there, serving-late}
 use Rattle.outflow.proofs.exit_flow.exit_flow.Goals as goal
 
 pub bounds-taken-k : goal.bounds-taken-k
@@ -47,7 +47,7 @@ add_platoon-requires-clause-small c =
 pub add_platoon-requires-clause-none : goal.add_platoon-requires-clause-none
 add_platoon-requires-clause-none c = λ k le.
     ap (λ xs. get_or xs k 0) c.as_mut_slice.ensures.value
-    ∙ clear-behind c.args.net.now c.args.node c.args.exit c.args.now c.args.window.now.lists c.args.servings.now.phases.now c.args.servings.now.served.now c.loop-i.taken c.loop-i.amounts.items c.loop-i.i k c.link-travel.result.travel c.requires.platoons c.loop-i.invariant (omega arith) (ap (λ (l : Link). l.travel) c.link-travel.ensures.value) le
+    ∙ clear-after c.args.net.now c.args.node c.args.exit c.args.now c.args.window.now.lists c.args.servings.now.phases.now c.args.servings.now.served.now c.loop-i.taken c.loop-i.amounts.items c.loop-i.i k c.link-travel.result.travel c.requires.platoons c.loop-i.invariant (omega arith) (ap (λ (l : Link). l.travel) c.link-travel.ensures.value) le
 
 pub loop-i-preserved : goal.loop-i-preserved
 loop-i-preserved c =
