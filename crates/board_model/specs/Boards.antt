@@ -7,6 +7,10 @@ use Rattle.board_model.specs.declared.boards.BoardEvent.{BoardEvent}
 use Rattle.board_model.specs.declared.boards.BoardKind.{BoardKind}
 use Rattle.board_model.specs.declared.boards.BoardKind.TheVariants.{Read, Publish}
 
+-- a log has no more versions published
+abbrev pub most_versions : ℕ
+most_versions = 64000000
+
 -- the events of a log, and for how many further ones memory is set aside
 pub record Log : Type 0 where
   pub events : List BoardEvent

@@ -3,7 +3,7 @@ use Rattle.std.specs.Prelude.{◌≡◌, ℕ, ◌≤◌, List, [], slice_get, sl
 use Rattle.std.specs.Option.{option_map_or}
 use Rattle.board_model.specs.declared.forecasts.ForecastRow.{ForecastRow}
 use Rattle.board_model.specs.declared.boards.BoardEvent.{BoardEvent}
-use Rattle.board_model.specs.Boards.{IsLegal, published_by, version_of, newest}
+use Rattle.board_model.specs.Boards.{IsLegal, most_versions, published_by, version_of, newest}
 
 -- the forecast that the event at this place publishes; the empty one where none does
 abbrev pub published_at : List BoardEvent → ℕ → List ForecastRow
@@ -13,5 +13,5 @@ published_at events place = option_map_or (λ event. slice_index_or (published_b
 pub record IsStored (events : List BoardEvent) (version place : ℕ) : Type 0 where
   pub legal : IsLegal events
   pub counted : version ≡ version_of events
-  pub few : version ≤ 64000000
+  pub few : version ≤ most_versions
   pub found : published_at events place ≡ newest events

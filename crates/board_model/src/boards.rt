@@ -105,7 +105,7 @@ impl CrossesThreads for BoardLog {}
 impl BoardLog {
     ghost use Rattle.std.specs.Prelude.{◌≡◌, ◌<◌, ◌≤◌, ◌+◌, [], IfOk, IfErr, IsOk, OnOk, OnErr};
     ghost use Rattle.board_model.specs.Forecasts.{IsAboveLast};
-    ghost use Rattle.board_model.specs.Boards.{IsLegal, stamps, version_of, newest, after_read, after_publish};
+    ghost use Rattle.board_model.specs.Boards.{IsLegal, most_versions, stamps, version_of, newest, after_read, after_publish};
 
     /// The log of no event. It keeps the allocator, of which its methods take their memory.
     ///
@@ -125,7 +125,7 @@ impl BoardLog {
     /// docs/RULES.md, "Board".
     pub fn version(&self) -> u32
         ensures value { result ≡ version_of self.now.events }
-        ensures bounds { result ≤ 64000000 }
+        ensures bounds { result ≤ most_versions }
         ensures legal { IsLegal self.now.events }
     {
         self.version
@@ -197,7 +197,7 @@ impl BoardLog {
     /// docs/RULES.md, "Board".
     pub fn note_publish(&mut self, stamp: u64, node: u32, f: Forecast) -> u32
         requires above { IsAboveLast (stamps self.old.events) stamp }
-        requires few { version_of self.old.events < 64000000 }
+        requires few { version_of self.old.events < most_versions }
         requires spare { 1 ≤ self.old.spare }
         ensures version { result ≡ version_of self.old.events + 1 }
         ensures events { self.new.events ≡ after_publish self.old.events stamp node f }
@@ -252,7 +252,7 @@ impl BoardLog {
         f: Forecast,
     ) -> Result<Sent, (Forecast, AllocError)>
         requires above { IsAboveLast (stamps self.old.events) stamp }
-        requires few { version_of self.old.events < 64000000 }
+        requires few { version_of self.old.events < most_versions }
         ensures ok { IfOk result (λ sent. sent ≡ record {
           version = version_of self.old.events + 1;
           stamp = stamp;

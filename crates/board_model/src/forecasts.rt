@@ -77,7 +77,7 @@ impl Eq for Forecast {
 
 impl Forecast {
     ghost use Rattle.std.specs.Prelude.{◌≡◌, ◌<◌, ◌≤◌, [], ◌∷◌, ◌++◌, IfOk, if◌then◌else◌, is_ok, length};
-    ghost use Rattle.board_model.specs.Forecasts.{IsForecast, IsRow, IsAboveLast, seconds, amount_at};
+    ghost use Rattle.board_model.specs.Forecasts.{IsForecast, IsRow, IsAboveLast, most_in_second, most_rows, seconds, amount_at};
 
     /// The forecast of no row. It keeps the allocator, of which `push` takes its memory.
     ///
@@ -108,7 +108,7 @@ impl Forecast {
     ///
     /// docs/RULES.md, "Forecast".
     pub fn push(&mut self, r: ForecastRow) -> Result<(), AllocError>
-        requires few { length self.old < 180 }
+        requires few { length self.old < most_rows }
         requires above { IsAboveLast (seconds self.old) r.second }
         requires row { IsRow r }
         ensures rows { self.new ≡ (if is_ok result then self.old ++ r ∷ [] else self.old) }
@@ -133,7 +133,7 @@ impl Forecast {
     /// docs/RULES.md, "Forecast".
     pub fn amount_at(&self, second: u32) -> u32
         ensures value { result ≡ amount_at self.now second }
-        ensures bounds { result ≤ 80000 }
+        ensures bounds { result ≤ most_in_second }
     {
         let rows = self.rows.as_slice();
         match rows.get(first_from(rows, second)) {

@@ -7,9 +7,9 @@ ghost use Rattle.clusters.specs.Steps.{IsSeen};
 ghost use Rattle.clusters.specs.Inflow.{inflow, leaving, sense_of, heard_forecast};
 ghost use Rattle.clusters.specs.Platoons.{streams_of};
 
-use crate::vehicle_groups::LinkFlow;
 use crate::smoothing::smooth_in_place;
-use board_model::{Heard, ForecastRow};
+use crate::vehicle_groups::LinkFlow;
+use board_model::{ForecastRow, Heard};
 use foundation::items::Items;
 use road_net::{LinkSense, Network, Sensed};
 use std::alloc::{AllocError, Global};

@@ -276,7 +276,7 @@ impl Actor {
         requires want { IsPublish self.now.want }
         ensures value { (link : ℕ) → self.now.want ≡ Want.Publish link
             → IfOk result (λ rows. rows ≡ told_forecast net.now link self.now.sensed.now (departures self.now.window.lists
-                (counts_of self.now.window.lists) self.now.phases self.now.served)) }
+            (counts_of self.now.window.lists) self.now.phases self.now.served)) }
     {
         let Want::Publish(link) = self.want else {
             unreachable!()

@@ -10,7 +10,7 @@ ghost use Rattle.net_draft.specs.Reading.{IsFaultAmong, IsNodeAtFault, IsPhaseAt
 ghost use Rattle.net_draft.specs.Table as spec;
 
 use crate::drafts::{Draft, DraftConflict, DraftLink, DraftNode, DraftPhase, DraftTurn};
-use crate::faults::{NetFault, Section, Place};
+use crate::faults::{NetFault, Place, Section};
 use crate::forms::{conflict_form, link_form, node_form, phase_form, run_of, top_form, turn_form};
 use foundation::items::Items;
 use foundation::text::Text;

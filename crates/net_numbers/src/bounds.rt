@@ -5,7 +5,9 @@ ghost use Rattle.net_numbers.specs.Outcome.{Checks};
 ghost use Rattle.net_numbers.specs.FirstFaults.{IsNodeFault, IsLinkFault, FailsBounds, Refuses};
 ghost use Rattle.net_numbers.specs.Bounds.{IsNameByte, IsName, IsRun, HasCounts, HasNodeBounds, HasLinkBounds, IsBoundedPhase, IsBoundedNode, IsBoundedTurn, IsBoundedLink, IsBounded};
 
-use net_draft::{Draft, DraftLink, DraftNode, DraftPhase, DraftTurn, NetFault, Section, Place, Run};
+use net_draft::{
+    Draft, DraftLink, DraftNode, DraftPhase, DraftTurn, NetFault, Place, Run, Section,
+};
 
 /// Tests the bounds of a draft. The fault is `Bound` at the first place where one does not hold.
 ///

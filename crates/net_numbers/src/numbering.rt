@@ -14,7 +14,8 @@ use crate::roads::{Link, Turn};
 use foundation::items::Items;
 use foundation::text::Text;
 use net_draft::{
-    Draft, DraftConflict, DraftLink, DraftNode, DraftPhase, DraftTurn, NetFault, Section, Place, Run,
+    Draft, DraftConflict, DraftLink, DraftNode, DraftPhase, DraftTurn, NetFault, Place, Run,
+    Section,
 };
 use phase_plan::{Phase, PhasePlan};
 use std::alloc::{AllocError, Global};

@@ -129,7 +129,7 @@ impl World {
         ensures value { (arriving : ℕ → ℕ → ℕ) (lines : ℕ → List Green)
             → Stands net.now arriving (standing_by lines) self.now
             → IfOk result (λ s. s ≡
-                sense net.now (past_of net.now arriving (standing_by lines) self.now.second) self.now.second node) }
+            sense net.now (past_of net.now arriving (standing_by lines) self.now.second) self.now.second node) }
     {
         let links = sensing::sense_links(
             alloc,

@@ -19,13 +19,14 @@ use foundation::items::Items;
 use foundation::threads::CrossesThreads;
 use joins::Side;
 pub use net_draft::{
-    Draft, DraftConflict, DraftLink, DraftNode, DraftPhase, DraftTurn, NetFault, Section, Place, Run,
+    Draft, DraftConflict, DraftLink, DraftNode, DraftPhase, DraftTurn, NetFault, Place, Run,
+    Section,
 };
 use net_numbers::{Parts, check_bounds, number_draft};
 pub use net_numbers::{Link, Turn};
 use phase_plan::PhasePlan;
 pub use senses::{LinkSense, Sensed};
-pub use splits::{part_of_turn, law_of_parts};
+pub use splits::{law_of_parts, part_of_turn};
 use std::alloc::Global;
 use std::marker::Model;
 
