@@ -7,7 +7,7 @@ use arrivals::RowFault;
 use certificate_form::CertText;
 use delay_report::HistoryFault;
 use dp_certificate::CertFault;
-use net_draft::{NetFault, Section, Place};
+use net_draft::{NetFault, Place, Section};
 use phase_plan::{Field, PlanFault};
 use schedule_meaning::{InstanceFault, TextFault};
 use std::alloc::AllocError;

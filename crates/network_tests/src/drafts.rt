@@ -3,8 +3,8 @@ use foundation::items::Items;
 use foundation::text::Text;
 use phase_plan::Phase;
 use road_net::{
-    Draft, DraftConflict, DraftLink, DraftNode, DraftPhase, DraftTurn, NetFault, Network, Section,
-    Place, Run, build,
+    Draft, DraftConflict, DraftLink, DraftNode, DraftPhase, DraftTurn, NetFault, Network, Place,
+    Run, Section, build,
 };
 use std::alloc::{AllocError, Global};
 use std::test::Fail;

@@ -2,7 +2,7 @@
 use crate::orders::{BOUNDS_IN_ORDER, JOINS_IN_ORDER, NAMES_IN_ORDER, SHAPES_IN_ORDER, STAGES};
 use crate::rows::{TOLD, WRONG, fault_of, misjudged};
 use crate::texts::BARE;
-use road_net::{NetFault, Section, Place};
+use road_net::{NetFault, Place, Section};
 use std::alloc::{AllocError, Global};
 use std::test::Fail;
 use worked_network::NETWORK;

@@ -1,5 +1,5 @@
 //! A text with nothing in its arrays, and the faults that words name.
-use road_net::{NetFault, Section, Place};
+use road_net::{NetFault, Place, Section};
 
 /// A text with all that the top needs, and nothing in its arrays.
 pub(crate) const BARE: &str = "node = []
