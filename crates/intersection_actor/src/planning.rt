@@ -110,6 +110,7 @@ fn problem(
     requires plannable { ArePlannable (cluster_lists window.now.lists) }
     ensures { IfOk result (λ i. i ≡ record { plan = plan.now; head = head.now; lists = cluster_lists window.now.lists }) }
 {
+    // Called for its clause `plan`, and not for the count.
     let _ = plan.count();
     let lists = cluster_lists(alloc, window.lists.as_slice())?;
     let copy = plan.copy(alloc)?;
@@ -145,6 +146,7 @@ fn best_schedule<P: Planner>(
 ) -> Result<Schedule, AllocError>
     ensures { IfOk result (IsScheduled i.now) }
 {
+    // Called for its clause `instance`, and not for the head.
     let _ = i.head();
     let answer = best_answer(alloc, planner, i)?;
     let served = servings_of(alloc, i, &answer)?;
@@ -161,6 +163,7 @@ fn servings_of(alloc: Global, i: &Instance, answer: &Answer) -> Result<Vec<Serve
     requires { IsBest i.now answer.now }
     ensures { IfOk result (λ served. AreServedBy i.now answer.now served.items) }
 {
+    // Called for its clause `instance`, and not for the head.
     let _ = i.head();
     let Answer::Plan { sequence, .. } = answer else {
         return Ok(Vec::new(alloc));
