@@ -21,10 +21,10 @@ pub refuses : {X : Type 0} (read : X → Option ArrivalRow) (net : Net) (all : L
 refuses read net all n at_fault first clash rows reads are =
     let (front, back, reads_front, reads_back, joined) = each-append read first.before (first.here ∷ first.after) rows (rw first.are at reads) in
     let (r, rest, is, others, tail) = each-cons read first.here first.after back reads_back in
-    let same : front ≡ first.rows = same_Some front first.rows (sym reads_front ∙ first.reads) in
-    let whole : rows ≡ first.rows ++ r ∷ rest = joined ∙ ap (λ l. l ++ back) same ∙ ap (λ l. first.rows ++ l) tail in
-    let sums = ap (sum_by amount_of) whole ∙ sum_by-append amount_of first.rows (r ∷ rest) in
-    clash first.rows r first.here first.faulty is (All-middle (IsRow net) first.rows rest r (rw whole at are.each)) (omega (arith, sums, sum_by-cons amount_of r rest, are.few))
+    let same : front ≡ first.so_far = same_Some front first.so_far (sym reads_front ∙ first.reads.reads) in
+    let whole : rows ≡ first.so_far ++ r ∷ rest = joined ∙ ap (λ l. l ++ back) same ∙ ap (λ l. first.so_far ++ l) tail in
+    let sums = ap (sum_by amount_of) whole ∙ sum_by-append amount_of first.so_far (r ∷ rest) in
+    clash first.so_far r first.here first.faulty is (All-middle (IsRow net) first.so_far rest r (rw whole at are.each)) (omega (arith, sums, sum_by-cons amount_of r rest, are.few))
 
 module _ (net : Net) (rows : List ArrivalRow) (i : ℕ) (r : ArrivalRow) (inside : i < length rows) (here : r ≡ get_or rows i r) (lawful : AreRows net (take i rows)) where
   row-first : (n : ℕ) (at_fault : List ArrivalRow → ArrivalRow → Type 0) → n ≡ i + 1 → at_fault (take i rows) r → IsFirst Some net rows n at_fault
@@ -34,9 +34,8 @@ module _ (net : Net) (rows : List ArrivalRow) (i : ℕ) (r : ArrivalRow) (inside
     after = drop (i + 1) rows;
     are = split-at rows i r inside ∙ ap (λ x. take i rows ++ x ∷ drop (i + 1) rows) (sym here);
     counted = omega (arith, length-take i rows);
-    rows = take i rows;
-    reads = each-self (take i rows);
-    lawful = lawful;
+    so_far = take i rows;
+    reads = record { reads = each-self (take i rows); lawful = lawful };
     faulty = fault;
   }
 

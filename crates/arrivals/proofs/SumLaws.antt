@@ -41,7 +41,7 @@ longer xs i (suc d) =
     omega (arith, longer xs i d, one_more xs (i + d), ap (λ k. sum (take k xs)) same)
 
 module _ (a : Amounts) where
-  -- the links of one second, behind all seconds before it
+  -- the links of one second, after all seconds before it
   links_of : (x m : ℕ) → total (λ l. entering a l x) m + sum (take (x * a.links) a.amounts) ≤ sum (take (x * a.links + min m a.links) a.amounts)
   links_of x zero = let same : x * a.links ≡ x * a.links + min 0 a.links = omega arith in omega (arith, ap (λ k. sum (take k a.amounts)) same)
   links_of x (suc m) = elim (cases_lt m a.links) [

@@ -58,7 +58,7 @@ brings-else r l x other =
 entering_by-more : (rows : List ArrivalRow) (r : ArrivalRow) (l x : ℕ) → entering_by (rows ++ r ∷ []) l x ≡ entering_by rows l x + brings r l x
 entering_by-more rows r l x = ap (sum_by amount_of) (filter-append (is_at l x) rows (r ∷ [])) ∙ sum_by-append amount_of (filter (is_at l x) rows) (filter (is_at l x) (r ∷ []))
 
--- zeros behind a list change neither what stands in a place nor the sum
+-- zeros after a list change neither what stands in a place nor the sum
 get_or-reaching : (xs : List ℕ) (count k : ℕ) → get_or (reaching xs count) k 0 ≡ get_or xs k 0
 get_or-reaching xs count k = elim (cases_lt k (length xs)) [
   | inl h ↦ get_or_append_left xs (replicate (count - length xs) 0) 0 k h

@@ -10,11 +10,13 @@ use Rattle.arrivals.specs.declared.rows.ArrivalRow.{ArrivalRow}
 use Rattle.arrivals.specs.declared.rows.RowFault.{RowFault}
 use Rattle.arrivals.specs.declared.rows.RowFault.TheVariants.{NoMemory, Header, Row, Link, Bound, Sum}
 use Rattle.arrivals.specs.Amounts.{Amounts, nothing}
-use Rattle.arrivals.specs.Faults.{IsFirst, IsAtLink, IsAtBound, IsAtSum, Refuses}
+use Rattle.arrivals.specs.Faults.{IsFirst, AreReadAs, IsAtLink, IsAtBound, IsAtSum, Refuses}
 use Rattle.arrivals.specs.Records.{Told, told_of, row_of, header}
 use Rattle.arrivals.specs.Rows.{most_of_all, IsSource, IsRow}
 use Rattle.arrivals.specs.Stored.{Adds, Reads, added}
-use Rattle.arrivals.specs.Texts.{AreArrivalRecords, IsSourceName, IsRecordFault, HasFaultBehind, AreFaulty}
+use Rattle.arrivals.specs.Texts.{AreArrivalRecords, IsSourceName, IsRecordFault, AreFaulty}
+use Rattle.record_text.specs.Faults.{HasAfterHeader}
+use Rattle.record_text.proofs.FaultLaws.{first-here, one-after}
 use Rattle.arrivals.proofs.FaultLaws.{refuses}
 use Rattle.arrivals.proofs.TallyLaws.{IsTally, tally-none, tally-more, tally-count}
 
@@ -52,35 +54,26 @@ pub record IsUnder (net : Net) (all : List (List (List ℕ))) (number : ℕ) (le
 
 module _ (net : Net) (all : List (List (List ℕ))) (number : ℕ) (fields : List (List ℕ)) (left : List (List (List ℕ))) (a : Amounts) (under : IsUnder net all number (fields ∷ left) a) where
   here-first : (n : ℕ) (at_fault : List ArrivalRow → List (List ℕ) → Type 0) → n ≡ number + 1 → at_fault under.rows fields → IsFirst (row_of net) net (under.records ++ fields ∷ left) n at_fault
-  here-first n at_fault at fault = record {
-    before = under.records;
-    here = fields;
-    after = left;
-    are = refl;
-    counted = omega (arith, at, under.counted);
-    rows = under.rows;
-    reads = under.reads;
-    lawful = under.tally.of_rows.lawful;
-    faulty = fault;
-  }
+  here-first n at_fault at fault =
+      first-here (AreReadAs (row_of net) net) under.records fields left number n under.rows at_fault under.counted at (record { reads = under.reads; lawful = under.tally.of_rows.lawful }) fault
 
-  behind : (fault : RowFault) → IsRecordFault net (under.records ++ fields ∷ left) fault → HasFaultBehind net all fault
-  behind fault first = record { records = under.records ++ fields ∷ left; are = under.are; first = first }
+  after-header : (fault : RowFault) → IsRecordFault net (under.records ++ fields ∷ left) fault → HasAfterHeader header all (λ records. IsRecordFault net records fault)
+  after-header fault first = record { records = under.records ++ fields ∷ left; are = under.are; after = first }
 
   -- the record is no row
   pub fault-read : (fault : RowFault) → Reads net fields (number + 1) (Err fault) → AreFaulty net all fault
-  fault-read (Row n) h = behind (Row n) (here-first n (λ before fields. told_of fields ≡ None) h.0 h.1)
+  fault-read (Row n) h = after-header (Row n) (here-first n (λ before fields. told_of fields ≡ None) h.0 h.1)
   fault-read (Link n) h =
-      behind (Link n) (here-first n (λ before fields. IsSomeAnd (told_of fields) (λ t. IsSourceName net t.name → ⊥)) h.0
+      after-header (Link n) (here-first n (λ before fields. IsSomeAnd (told_of fields) (λ t. IsSourceName net t.name → ⊥)) h.0
       (and-weaker (λ t. number_of net.link_names t.name ≡ None) (λ t. IsSourceName net t.name → ⊥) (told_of fields) (λ t none. none-and (IsSource net) (number_of net.link_names t.name) none) h.1))
   fault-read _ h = absurd h
 
   -- the row cannot be added
   pub fault-added : (r : ArrivalRow) (new : Amounts) (fault : RowFault) → row_of net fields ≡ Some r → Adds net r (number + 1) a new (Err fault) → AreFaulty net all fault
-  fault-added r new (Link n) is h = behind (Link n) (here-first n (λ before fields. IsSomeAnd (told_of fields) (λ t. IsSourceName net t.name → ⊥)) h.0 (no-source-name net fields r is h.1))
-  fault-added r new (Bound n) is h = behind (Bound n) (here-first n (λ before fields. IsSomeAnd (row_of net fields) (IsAtBound net)) h.0 (and-some (IsAtBound net) (row_of net fields) r is h.1))
+  fault-added r new (Link n) is h = after-header (Link n) (here-first n (λ before fields. IsSomeAnd (told_of fields) (λ t. IsSourceName net t.name → ⊥)) h.0 (no-source-name net fields r is h.1))
+  fault-added r new (Bound n) is h = after-header (Bound n) (here-first n (λ before fields. IsSomeAnd (row_of net fields) (IsAtBound net)) h.0 (and-some (IsAtBound net) (row_of net fields) r is h.1))
   fault-added r new (Sum n) is h =
-      behind (Sum n) (here-first n (λ before fields. IsSomeAnd (row_of net fields) (IsAtSum net before)) h.0
+      after-header (Sum n) (here-first n (λ before fields. IsSomeAnd (row_of net fields) (IsAtSum net before)) h.0
       (and-some (IsAtSum net under.rows) (row_of net fields) r is (h.1, omega (arith, h.2, under.tally.whole))))
   fault-added r new NoMemory is h = tt
   fault-added r new _ is h = absurd h
@@ -125,25 +118,22 @@ under-all net all number left a under none = record {
   arrivals = under.tally.of_rows;
 }
 
-behind-header : (xs ys : List (List (List ℕ))) → ◌≡◌ {A = List (List (List ℕ))} (header ∷ xs) (header ∷ ys) → xs ≡ ys
-behind-header xs ys same = cc
-
 -- records with a fault bring no arrivals
 pub records-refuse : (net : Net) (all : List (List (List ℕ))) (fault : RowFault) → AreFaulty net all fault → Refuses fault ((a : Amounts) → AreArrivalRecords net all a → ⊥)
 records-refuse net all NoMemory h = tt
 records-refuse net all Header h = λ a is. h is.records is.are
 records-refuse net all (Row n) h =
-    λ a is. refuses (row_of net) net h.records n (λ before fields. told_of fields ≡ None) h.first
-    (λ before r x none reads row few. let by = told-by net x r reads in none-some by.told (sym none ∙ by.is)) is.rows (rw (behind-header is.records h.records (sym is.are ∙ h.are)) at is.reads) is.arrivals.lawful
+    λ a is. refuses (row_of net) net h.records n (λ before fields. told_of fields ≡ None) h.after
+    (λ before r x none reads row few. let by = told-by net x r reads in none-some by.told (sym none ∙ by.is)) is.rows (rw (one-after header is.records h.records (sym is.are ∙ h.are)) at is.reads) is.arrivals.lawful
 records-refuse net all (Link n) h =
-    λ a is. refuses (row_of net) net h.records n (λ before fields. IsSomeAnd (told_of fields) (λ t. IsSourceName net t.name → ⊥)) h.first
+    λ a is. refuses (row_of net) net h.records n (λ before fields. IsSomeAnd (told_of fields) (λ t. IsSourceName net t.name → ⊥)) h.after
     (λ before r x none reads row few.
     let by = told-by net x r reads in
     and-at (λ t. IsSourceName net t.name → ⊥) (told_of x) by.told by.is none (and-at (λ t. IsSourceName net t.name) (told_of x) by.told by.is (source-name net x r reads row.source)))
-    is.rows (rw (behind-header is.records h.records (sym is.are ∙ h.are)) at is.reads) is.arrivals.lawful
+    is.rows (rw (one-after header is.records h.records (sym is.are ∙ h.are)) at is.reads) is.arrivals.lawful
 records-refuse net all (Bound n) h =
-    λ a is. refuses (row_of net) net h.records n (λ before fields. IsSomeAnd (row_of net fields) (IsAtBound net)) h.first
-    (λ before r x out reads row few. (and-at (IsAtBound net) (row_of net x) r reads out).1 row.bounds) is.rows (rw (behind-header is.records h.records (sym is.are ∙ h.are)) at is.reads) is.arrivals.lawful
+    λ a is. refuses (row_of net) net h.records n (λ before fields. IsSomeAnd (row_of net fields) (IsAtBound net)) h.after
+    (λ before r x out reads row few. (and-at (IsAtBound net) (row_of net x) r reads out).1 row.bounds) is.rows (rw (one-after header is.records h.records (sym is.are ∙ h.are)) at is.reads) is.arrivals.lawful
 records-refuse net all (Sum n) h =
-    λ a is. refuses (row_of net) net h.records n (λ before fields. IsSomeAnd (row_of net fields) (IsAtSum net before)) h.first
-    (λ before r x over reads row few. absurd (omega (arith, (and-at (IsAtSum net before) (row_of net x) r reads over).1, few))) is.rows (rw (behind-header is.records h.records (sym is.are ∙ h.are)) at is.reads) is.arrivals.lawful
+    λ a is. refuses (row_of net) net h.records n (λ before fields. IsSomeAnd (row_of net fields) (IsAtSum net before)) h.after
+    (λ before r x over reads row few. absurd (omega (arith, (and-at (IsAtSum net before) (row_of net x) r reads over).1, few))) is.rows (rw (one-after header is.records h.records (sym is.are ∙ h.are)) at is.reads) is.arrivals.lawful

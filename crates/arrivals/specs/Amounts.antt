@@ -5,20 +5,20 @@ use Rattle.road_net.specs.Totals.{total}
 use Rattle.arrivals.specs.declared.rows.ArrivalRow.{ArrivalRow}
 use Rattle.arrivals.specs.Rows.{seconds, most_of_all, IsSource, AreRows, entering_by}
 
--- for so many links the amounts of the first seconds, second by second; nothing enters behind them
+-- for a number of links the amounts of the first seconds, second by second; nothing enters after them
 pub record Amounts : Type 0 where
   pub links : ℕ
   pub amounts : List ℕ
 
--- among so many links, the place of a link and a second
+-- among this number of links, the place of a link and a second
 abbrev pub place : ℕ → ℕ → ℕ → ℕ
 place links link second = second * links + link
 
--- what enters a link in a second; nothing where there is no such link, and nothing behind the amounts or the last second
+-- what enters a link in a second; nothing where there is no such link, and nothing after the amounts or the last second
 abbrev pub entering : Amounts → ℕ → ℕ → ℕ
 entering a link second = if nat_lt link a.links && nat_lt second seconds then slice_index_or a.amounts (place a.links link second) 0 else 0
 
--- so many links that nothing enters
+-- this number of links, which nothing enters
 abbrev pub nothing : ℕ → Amounts
 nothing links = record { links = links; amounts = [] }
 

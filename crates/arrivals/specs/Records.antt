@@ -10,9 +10,9 @@ use Rattle.arrivals.specs.declared.rows.ArrivalRow.{ArrivalRow}
 abbrev pub header : List (List ℕ)
 header = codes "second" ∷ codes "link" ∷ codes "amount" ∷ []
 
--- the number that digits spell
-abbrev pub spelled : List ℕ → ℕ
-spelled digits = fold (λ n digit. n * 10 + (digit - 48)) 0 digits
+-- the value of decimal digits
+abbrev pub decimal_value : List ℕ → ℕ
+decimal_value digits = fold (λ n digit. n * 10 + (digit - 48)) 0 digits
 
 -- the greatest u32
 abbrev pub greatest : ℕ
@@ -24,7 +24,7 @@ are_digits field = nat_le 1 (length field) && nat_le (length field) 10 && list_a
 
 -- the number of a field of digits; one past the greatest u32 stands as that one, which is out of every bound
 abbrev pub digits_of : List ℕ → Option ℕ
-digits_of field = if are_digits field then Some (min (spelled field) greatest) else None
+digits_of field = if are_digits field then Some (min (decimal_value field) greatest) else None
 
 -- what a record tells: a second, the name of a link, and an amount
 pub record Told : Type 0 where

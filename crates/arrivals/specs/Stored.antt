@@ -14,7 +14,7 @@ pub record IsStored (amounts : List ℕ) (whole : ℕ) : Type 0 where
   pub adds : whole ≡ sum amounts
   pub few : whole ≤ most_of_all
 
--- these amounts with zeros behind them, so many at the least
+-- these amounts, filled up with zeros to this count
 abbrev pub reaching : List ℕ → ℕ → List ℕ
 reaching amounts count = amounts ++ replicate (count - length amounts) 0
 
@@ -26,7 +26,7 @@ amounts_to a second = reaching a.amounts ((second + 1) * a.links)
 abbrev pub added : Amounts → ArrivalRow → Amounts
 added a r = record { links = a.links; amounts = slice_set (amounts_to a r.second) (place a.links r.link r.second) (slice_index_or a.amounts (place a.links r.link r.second) 0 + r.amount) }
 
--- the row was added, where it is lawful and all bring no more than they may; else its first fault, or want of memory
+-- the row was added, where it is lawful and all bring no more than they may; else its first fault, or out of memory
 abbrev pub Adds : Net → ArrivalRow → ℕ → Amounts → Amounts → Result (Unit {0}) RowFault → Type 0
 Adds net r number old new (Ok _) = IsRow net r × (new ≡ added old r) × (sum old.amounts + r.amount ≤ most_of_all)
 Adds net r number old new (Err (Link n)) = (n ≡ number) × IsAtLink net r

@@ -9,6 +9,7 @@ use Rattle.arrivals.specs.Amounts.{Amounts, AreArrivalsOf}
 use Rattle.arrivals.specs.Faults.{IsFirst, IsAtBound, IsAtSum}
 use Rattle.arrivals.specs.Records.{header, told_of, row_of}
 use Rattle.arrivals.specs.Rows.{IsSource}
+use Rattle.record_text.specs.Faults.{HasAfterHeader}
 use Rattle.record_text.specs.Records.{records_of}
 
 -- The first of all records is the header, and the rows that the others tell bring these arrivals.
@@ -23,7 +24,7 @@ pub record AreArrivalRecords (net : Net) (all : List (List (List ℕ))) (a : Amo
 abbrev pub IsSourceName : Net → List ℕ → Type 0
 IsSourceName net name = IsSomeAnd (number_of net.link_names name) (IsSource net)
 
--- why the records behind the header are no rows of arrivals
+-- why the records after the header are no rows of arrivals
 abbrev pub IsRecordFault : Net → List (List (List ℕ)) → RowFault → Type 0
 IsRecordFault net records (Row n) = IsFirst (row_of net) net records n (λ before fields. told_of fields ≡ None)
 IsRecordFault net records (Link n) = IsFirst (row_of net) net records n (λ before fields. IsSomeAnd (told_of fields) (λ t. ¬ IsSourceName net t.name))
@@ -31,17 +32,11 @@ IsRecordFault net records (Bound n) = IsFirst (row_of net) net records n (λ bef
 IsRecordFault net records (Sum n) = IsFirst (row_of net) net records n (λ before fields. IsSomeAnd (row_of net fields) (IsAtSum net before))
 IsRecordFault net records _ = ⊥
 
--- the first record is the header, and the others have this fault
-pub record HasFaultBehind (net : Net) (all : List (List (List ℕ))) (fault : RowFault) : Type 0 where
-  pub records : List (List (List ℕ))
-  pub are : all ≡ header ∷ records
-  pub first : IsRecordFault net records fault
-
 -- Why records are refused: they do not begin with the header, or else the first of the others at fault.
 abbrev pub AreFaulty : Net → List (List (List ℕ)) → RowFault → Type 0
 AreFaulty net all NoMemory = Unit {0}
 AreFaulty net all Header = (records : List (List (List ℕ))) → all ≢ header ∷ records
-AreFaulty net all fault = HasFaultBehind net all fault
+AreFaulty net all fault = HasAfterHeader header all (λ records. IsRecordFault net records fault)
 
 -- the arrivals of a text are those of its records
 abbrev pub IsArrivalText : Net → List ℕ → Amounts → Type 0

@@ -57,7 +57,7 @@ impl Arrivals {
 
     /// The arrivals of these rows, which may stand in any order; rows of one link and second are added.
     ///
-    /// The fault is want of memory, or `Link`, `Bound` or `Sum` of the first row at fault, in this order within a row.
+    /// The fault is out of memory, or `Link`, `Bound` or `Sum` of the first row at fault, in this order within a row.
     ///
     /// docs/RULES.md, "Arrivals".
     pub fn new(alloc: Global, net: &Network, rows: Vec<ArrivalRow>) -> Result<Arrivals, RowFault>
@@ -86,7 +86,7 @@ impl Arrivals {
     /// What enters a link in a second, in thousandths of a vehicle: the sum of the rows with both.
     ///
     /// docs/RULES.md, "Arrivals".
-    pub fn entering(&self, link: u32, second: u32) -> u32
+    pub fn amount_entering(&self, link: u32, second: u32) -> u32
         ensures value { result ≡ entering self.now link second }
         ensures few { (n m : ℕ) → total (λ x. total (λ l. entering self.now l x) m) n ≤ most_of_all }
     {
@@ -136,7 +136,7 @@ impl Arrivals {
     }
 }
 
-/// Has so many amounts, at the least: zeros behind those that stand there.
+/// Fills the amounts up with zeros to `count`; more amounts than that stay as they are.
 fn reach(amounts: &mut Vec<u32>, count: usize) -> Result<(), AllocError>
     ensures ok { OnOk result (amounts.new.items ≡ reaching amounts.old.items count) }
     ensures err { OnErr result (amounts.new.items ≡ amounts.old.items) }

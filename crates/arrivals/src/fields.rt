@@ -4,7 +4,7 @@ ghost use Rattle.csv.specs.Records.{fields_of};
 ghost use Rattle.std.specs.List.{list_all};
 ghost use Rattle.std.specs.Char.{is_ascii_digit};
 ghost use Rattle.road_net.specs.Network.{IsNetwork};
-ghost use Rattle.arrivals.specs.Records.{header, are_digits, digits_of, greatest, spelled, told_of};
+ghost use Rattle.arrivals.specs.Records.{header, are_digits, digits_of, greatest, decimal_value, told_of};
 ghost use Rattle.arrivals.specs.Stored.{Reads};
 
 use crate::rows::{ArrivalRow, RowFault};
@@ -16,7 +16,7 @@ use road_net::Network;
 pub(crate) fn is_header(row: &ByteRecord) -> bool
     ensures { IsTrue result ↔ (fields_of row.now ≡ header) }
 {
-    match three(row) {
+    match three_fields(row) {
         Some((second, link, amount)) => second == b"second".as_slice()
             && link == b"link".as_slice()
             && amount == b"amount".as_slice(),
@@ -30,7 +30,7 @@ pub(crate) fn read_row(net: &Network, row: &ByteRecord, number: u32) -> Result<A
     requires { IsNetwork net.now }
     ensures { Reads net.now (fields_of row.now) number result }
 {
-    let Some((second, name, amount)) = told(row) else {
+    let Some((second, name, amount)) = record_fields(row) else {
         return Err(RowFault::Row(number));
     };
     match link_named(net, name) {
@@ -45,18 +45,18 @@ pub(crate) fn read_row(net: &Network, row: &ByteRecord, number: u32) -> Result<A
 
 /// The second, the name of the link, and the amount of a record.
 #[tactic(auto, unfolding(crate::specs::Records::told))]
-fn told(row: &ByteRecord) -> Option<(u32, &[u8], u32)>
+fn record_fields(row: &ByteRecord) -> Option<(u32, &[u8], u32)>
     ensures { MatchOption result (told_of (fields_of row.now) ≡ None)
         (λ t. told_of (fields_of row.now) ≡ Some (record { second = t.0; name = t.1.now; amount = t.2 })) }
 {
-    let (second, name, amount) = three(row)?;
+    let (second, name, amount) = three_fields(row)?;
     let second = digits(second)?;
     let amount = digits(amount)?;
     Some((second, name, amount))
 }
 
 /// The fields of a record that has three.
-fn three(row: &ByteRecord) -> Option<(&[u8], &[u8], &[u8])>
+fn three_fields(row: &ByteRecord) -> Option<(&[u8], &[u8], &[u8])>
     ensures { MatchOption result (length (fields_of row.now) ≢ 3)
         (λ f. fields_of row.now ≡ f.0.now ∷ f.1.now ∷ f.2.now ∷ []) }
 {
@@ -66,14 +66,14 @@ fn three(row: &ByteRecord) -> Option<(&[u8], &[u8], &[u8])>
     Some((row.get(0)?, row.get(1)?, row.get(2)?))
 }
 
-/// The number that 1 to 10 digits spell. One past the greatest u32 stands as that one, which is out of every bound.
+/// The value of 1 to 10 decimal digits. One past the greatest u32 stands as that one, which is out of every bound.
 fn digits(field: &[u8]) -> Option<u32>
     ensures { result ≡ digits_of field.now }
 {
     if !are_digits(field) {
         return None;
     }
-    Some(spelled(field))
+    Some(decimal_value(field))
 }
 
 /// Whether the field is 1 to 10 digits.
@@ -90,10 +90,10 @@ fn all_digits(field: &[u8]) -> bool
     field.iter().all(|byte| byte.is_ascii_digit())
 }
 
-/// The number that digits spell, or the greatest u32 where that is less.
-fn spelled(digits: &[u8]) -> u32
+/// The value of decimal digits, or the greatest u32 where that is less.
+fn decimal_value(digits: &[u8]) -> u32
     requires { IsTrue (list_all is_ascii_digit digits.now) }
-    ensures { result ≡ min (spelled digits.now) greatest }
+    ensures { result ≡ min (decimal_value digits.now) greatest }
 {
     let mut number = 0u64;
     for digit in digits {

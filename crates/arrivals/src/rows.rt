@@ -22,7 +22,7 @@ impl CrossesThreads for ArrivalRow {}
 /// docs/FORMATS.md, "Arrivals file".
 #[derive(Debug, Clone, Copy, PartialEq, Eq)]
 pub enum RowFault {
-    /// Memory ran out. It says nothing of the rows or the file.
+    /// Out of memory. It says nothing of the rows or the file.
     NoMemory,
     /// The file does not begin with the record `second,link,amount`.
     Header,

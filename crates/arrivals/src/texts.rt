@@ -15,7 +15,7 @@ use std::alloc::Global;
 
 /// The arrivals of a file, whose links stand by their names in the network.
 ///
-/// The fault is want of memory; or `Header`, where the file does not begin with the header; or that of the first row at
+/// The fault is out of memory; or `Header`, where the file does not begin with the header; or that of the first row at
 /// fault, within a row in the order `Row`, `Link`, `Bound`, `Sum`.
 ///
 /// docs/FORMATS.md, "Arrivals file".

@@ -1,4 +1,4 @@
--- Rising numbers: each pair of them, and one more behind the last.
+-- Rising numbers: each pair of them, and one more after the last.
 use Rattle.std.proofs.Common.{◌≡◌, ℕ, ◌+◌, ◌-◌, ◌<◌, List, [], ◌∷◌, ◌++◌, length, map, get_or, refl, sym, inl, inr, arith}
 use Rattle.std.specs.Prelude.{Some, slice_get}
 use Rattle.std.specs.List.{AllPairs}

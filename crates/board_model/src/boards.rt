@@ -1,4 +1,4 @@
-// The board of one link, as one thread uses it: a log of events.
+//! The board of one link, as one thread uses it: a log of events.
 use crate::forecasts::Forecast;
 use foundation::threads::CrossesThreads;
 use std::alloc::{AllocError, Global};
@@ -105,7 +105,7 @@ impl CrossesThreads for BoardLog {}
 impl BoardLog {
     ghost use Rattle.std.specs.Prelude.{◌≡◌, ◌<◌, ◌≤◌, ◌+◌, [], IfOk, IfErr, IsOk, OnOk, OnErr};
     ghost use Rattle.board_model.specs.Forecasts.{IsAboveLast};
-    ghost use Rattle.board_model.specs.Boards.{IsLegal, stamps, version_of, newest, after_read, after_publish};
+    ghost use Rattle.board_model.specs.Boards.{IsLegal, most_versions, stamps, version_of, newest, after_read, after_publish};
 
     /// The log of no event. It keeps the allocator, of which its methods take their memory.
     ///
@@ -125,7 +125,7 @@ impl BoardLog {
     /// docs/RULES.md, "Board".
     pub fn version(&self) -> u32
         ensures value { result ≡ version_of self.now.events }
-        ensures bounds { result ≤ 64000000 }
+        ensures bounds { result ≤ most_versions }
         ensures legal { IsLegal self.now.events }
     {
         self.version
@@ -141,7 +141,7 @@ impl BoardLog {
         self.events.as_slice()
     }
 
-    /// A copy of the newest version's forecast. An `Err` comes only where memory runs out.
+    /// A copy of the newest version's forecast. `Err`: out of memory.
     ///
     /// docs/RULES.md, "Board".
     pub fn newest(&self, alloc: Global) -> Result<Forecast, AllocError>
@@ -158,8 +158,8 @@ impl BoardLog {
         }
     }
 
-    /// Sets memory aside for at least one event, where none is yet. An `Err` comes only where memory runs out, and
-    /// leaves all as it was.
+    /// Sets memory aside for at least one event, where none is yet. `Err`: out of
+    /// memory; all stays as it was.
     ///
     /// docs/RULES.md, "Board".
     pub fn reserve(&mut self) -> Result<(), AllocError>
@@ -197,7 +197,7 @@ impl BoardLog {
     /// docs/RULES.md, "Board".
     pub fn note_publish(&mut self, stamp: u64, node: u32, f: Forecast) -> u32
         requires above { IsAboveLast (stamps self.old.events) stamp }
-        requires few { version_of self.old.events < 64000000 }
+        requires few { version_of self.old.events < most_versions }
         requires spare { 1 ≤ self.old.spare }
         ensures version { result ≡ version_of self.old.events + 1 }
         ensures events { self.new.events ≡ after_publish self.old.events stamp node f }
@@ -216,7 +216,7 @@ impl BoardLog {
     /// Reads the board: answers the newest version, with a copy of its forecast and the stamp, and adds the event. The
     /// stamp is above the last one.
     ///
-    /// An `Err` comes only where memory runs out, and leaves all as it was.
+    /// `Err`: out of memory; all stays as it was.
     ///
     /// docs/RULES.md, "Board".
     pub fn read(&mut self, stamp: u64, node: u32) -> Result<Seen, AllocError>
@@ -242,7 +242,7 @@ impl BoardLog {
     /// Publishes a forecast: adds the event, and answers the version that the forecast became. The stamp is above the
     /// last one, and fewer than 64,000,000 versions were published.
     ///
-    /// An `Err` comes only where memory runs out, gives the forecast back and leaves all as it was.
+    /// `Err`: out of memory, with the forecast; all stays as it was.
     ///
     /// docs/RULES.md, "Board".
     pub fn publish(
@@ -252,7 +252,7 @@ impl BoardLog {
         f: Forecast,
     ) -> Result<Sent, (Forecast, AllocError)>
         requires above { IsAboveLast (stamps self.old.events) stamp }
-        requires few { version_of self.old.events < 64000000 }
+        requires few { version_of self.old.events < most_versions }
         ensures ok { IfOk result (λ sent. sent ≡ record {
           version = version_of self.old.events + 1;
           stamp = stamp;

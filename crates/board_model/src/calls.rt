@@ -1,4 +1,4 @@
-// Calls on boards, for contracts and proofs alone.
+//! Calls on boards, for contracts and proofs alone.
 use crate::forecasts::Forecast;
 
 /// What a node did at a link, as contracts of the boards see it: of a reading and of a publishing. No value of it is made.

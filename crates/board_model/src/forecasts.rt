@@ -1,7 +1,7 @@
-// Forecasts: rows of seconds with amounts.
+//! Forecasts: rows of seconds with amounts.
 ghost use Rattle.std.specs.Prelude.{◌≡◌, ◌<◌, ◌≤◌, [], IfOk, length};
 ghost use Rattle.std.specs.List.Sorted.{IsNonDecreasingBy, IsPartitionPoint};
-ghost use Rattle.board_model.specs.declared.forecasts.Row.{Row};
+ghost use Rattle.board_model.specs.declared.forecasts.ForecastRow.{ForecastRow};
 
 use foundation::threads::CrossesThreads;
 use std::alloc::{AllocError, Global};
@@ -11,20 +11,21 @@ use std::marker::Model;
 ///
 /// docs/RULES.md, "Forecast".
 #[derive(Debug, Clone, Copy, PartialEq, Eq)]
-pub struct Row {
+pub struct ForecastRow {
     /// The second, 0 to 100,000.
     pub second: u32,
     /// What comes in it, 1 to 80,000 thousandths of a vehicle.
     pub amount: u32,
 }
 
-impl CrossesThreads for Row {}
+impl CrossesThreads for ForecastRow {}
 
-// The place of the first row that is not before the second, found by halves.
-fn first_from(rows: &[Row], second: u32) -> usize
-    requires { IsNonDecreasingBy (λ (row : Row). row.second) rows.now }
+/// The place of the first row that is not before the second, found by halves.
+fn first_from(rows: &[ForecastRow], second: u32) -> usize
+    requires { IsNonDecreasingBy (λ (row : ForecastRow). row.second) rows.now }
     ensures bound { result ≤ length rows.now }
-    ensures split { IsPartitionPoint (λ (row : Row). row.second < second) (λ (row : Row). second ≤ row.second) rows.now result }
+    ensures split { IsPartitionPoint (λ (row : ForecastRow). row.second < second)
+        (λ (row : ForecastRow). second ≤ row.second) rows.now result }
 {
     rows.partition_point(|row| row.second < second)
 }
@@ -35,14 +36,14 @@ fn first_from(rows: &[Row], second: u32) -> usize
 /// docs/RULES.md, "Forecast".
 #[derive(Debug, Drop)]
 pub struct Forecast {
-    rows: Vec<Row>,
+    rows: Vec<ForecastRow>,
 }
 
 impl Model for Forecast {
     ghost use Rattle.std.specs.Prelude.{List};
-    ghost use Rattle.board_model.specs.declared.forecasts.Row.{Row};
+    ghost use Rattle.board_model.specs.declared.forecasts.ForecastRow.{ForecastRow};
 
-    ghost Value = { List Row };
+    ghost Value = { List ForecastRow };
 
     ghost use Rattle.board_model.specs.Forecasts.{IsForecast};
 
@@ -76,7 +77,7 @@ impl Eq for Forecast {
 
 impl Forecast {
     ghost use Rattle.std.specs.Prelude.{◌≡◌, ◌<◌, ◌≤◌, [], ◌∷◌, ◌++◌, IfOk, if◌then◌else◌, is_ok, length};
-    ghost use Rattle.board_model.specs.Forecasts.{IsForecast, IsRow, IsAboveLast, seconds, amount_at};
+    ghost use Rattle.board_model.specs.Forecasts.{IsForecast, IsRow, IsAboveLast, most_in_second, most_rows, seconds, amount_at};
 
     /// The forecast of no row. It keeps the allocator, of which `push` takes its memory.
     ///
@@ -89,10 +90,10 @@ impl Forecast {
         }
     }
 
-    /// The forecast of no row, with room for so many. An `Err` comes only where memory runs out.
+    /// The forecast of no row, with capacity for `rows` rows. `Err`: out of memory.
     ///
     /// docs/RULES.md, "Forecast".
-    pub fn with_room(alloc: Global, rows: usize) -> Result<Forecast, AllocError>
+    pub fn with_capacity(alloc: Global, rows: usize) -> Result<Forecast, AllocError>
         ensures { IfOk result (λ forecast. forecast ≡ []) }
     {
         Ok(Forecast {
@@ -103,11 +104,11 @@ impl Forecast {
     /// Adds a row at the end. There are fewer than 180 rows, the row is within its bounds, and its second is above that
     /// of the last row.
     ///
-    /// An `Err` comes only where memory runs out, and leaves the forecast as it was.
+    /// `Err`: out of memory; the forecast stays as it was.
     ///
     /// docs/RULES.md, "Forecast".
-    pub fn push(&mut self, r: Row) -> Result<(), AllocError>
-        requires room { length self.old < 180 }
+    pub fn push(&mut self, r: ForecastRow) -> Result<(), AllocError>
+        requires few { length self.old < most_rows }
         requires above { IsAboveLast (seconds self.old) r.second }
         requires row { IsRow r }
         ensures rows { self.new ≡ (if is_ok result then self.old ++ r ∷ [] else self.old) }
@@ -120,7 +121,7 @@ impl Forecast {
     /// The rows, in the order of their seconds.
     ///
     /// docs/RULES.md, "Forecast".
-    pub fn rows(&self) -> &[Row]
+    pub fn rows(&self) -> &[ForecastRow]
         ensures value { result.now ≡ self.now }
         ensures forecast { IsForecast self.now }
     {
@@ -132,7 +133,7 @@ impl Forecast {
     /// docs/RULES.md, "Forecast".
     pub fn amount_at(&self, second: u32) -> u32
         ensures value { result ≡ amount_at self.now second }
-        ensures bounds { result ≤ 80000 }
+        ensures bounds { result ≤ most_in_second }
     {
         let rows = self.rows.as_slice();
         match rows.get(first_from(rows, second)) {
@@ -141,7 +142,7 @@ impl Forecast {
         }
     }
 
-    /// An equal forecast. An `Err` comes only where memory runs out.
+    /// An equal forecast. `Err`: out of memory.
     ///
     /// docs/RULES.md, "Forecast".
     pub fn copy(&self, alloc: Global) -> Result<Forecast, AllocError>

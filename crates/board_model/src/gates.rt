@@ -1,4 +1,4 @@
-// Gates: what a caller of the boards runs before a call and inside it.
+//! Gates: what a caller of the boards runs before a call and inside it.
 use foundation::threads::CrossesThreads;
 use std::sync::Wait;
 use std::thread::Threads;

@@ -3,7 +3,7 @@ ghost use Rattle.std.specs.Prelude.{◌≡◌, ◌+◌, ◌*◌, ◌<◌, ◌≤
 ghost use Rattle.road_net.specs.Senses.{IsSensedOf};
 ghost use Rattle.clusters.specs.Inflow.{IsHeardOf};
 
-use board_model::{Forecast, Heard, Row};
+use board_model::{Forecast, ForecastRow, Heard};
 use foundation::items::Items;
 use road_net::{LinkSense, Network, Sensed};
 use std::alloc::{AllocError, Global};
@@ -141,11 +141,11 @@ fn forecast(alloc: Global, rows: [u32; 4]) -> Result<Forecast, AllocError> {
         && (1..=80_000).contains(&amount)
         && (1..=80_000).contains(&other)
     {
-        forecast.push(Row {
+        forecast.push(ForecastRow {
             second: first,
             amount,
         })?;
-        forecast.push(Row {
+        forecast.push(ForecastRow {
             second,
             amount: other,
         })?;

@@ -71,7 +71,7 @@ first-grows run x h = get_or-push-other run x 0 0 (omega arith)
 pub last-grows : (run : List ℕ) (x : ℕ) → last_of (run ++ x ∷ []) ≡ x
 last-grows run x = get_or-push-at run x 0 (length (run ++ x ∷ []) - 1) (omega (arith, length-push run x))
 
--- A run that goes up to `end`, behind which all is empty so far.
+-- A run that goes up to `end`, after which all is empty so far.
 pub record IsGrowing (gap most : ℕ) (series : List ℕ) (first end x : ℕ) : Type 0 where
   pub run : IsRunUpTo gap most series first end
   pub passed : end ≤ x
@@ -124,7 +124,7 @@ growing-take gap most series first end x h lt filled near within =
       empty = λ k lo hi. absurd (omega arith);
     }
 
--- the run is closed where the next second lies too far behind, or behind the last second that could belong to it
+-- the run is closed where the next second lies too far after, or after the last second that could belong to it
 pub growing-far : (gap most : ℕ) (series : List ℕ) (first end x : ℕ) → IsGrowing gap most series first end x → end + gap < x
     → IsClosed gap most series first end
 growing-far gap most series first end x h far = λ y lo filled. elim (cases_lt y x) [

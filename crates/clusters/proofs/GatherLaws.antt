@@ -5,8 +5,8 @@ use Rattle.std.proofs.lemmas.List.{map-append, append-nil}
 use Rattle.std.proofs.lemmas.List.Elements.{All-push, All-weaker}
 use Rattle.std.proofs.lemmas.Bool.{cases_lt}
 use Rattle.road_net.proofs.Ends.{concat-push}
-use Rattle.clusters.specs.declared.shapes.Part.{Part}
-use Rattle.clusters.specs.declared.shapes.Platoon.{Platoon}
+use Rattle.clusters.specs.declared.vehicle_groups.LinkFlow.{LinkFlow}
+use Rattle.clusters.specs.declared.vehicle_groups.Platoon.{Platoon}
 use Rattle.clusters.specs.Cuts.{filled_from, filled, first_of, last_of, IsRun, CannotJoin, run_at}
 use Rattle.clusters.specs.Platoons.{platoon_of, platoon_within}
 use Rattle.clusters.specs.Steps.{IsEmpty, IsNext, IsRunUpTo, IsClosed, IsRunBefore, AreGathered}
@@ -14,7 +14,7 @@ use Rattle.clusters.proofs.ListLaws.{get_or-push-at, get_or-push-other, length-p
 use Rattle.clusters.proofs.CutLaws.{filled-append, filled-none}
 
 -- The runs of the seconds before `from`, and their platoons.
-pub record IsGathering (gap most now : ℕ) (series : List ℕ) (streams : List Part) (platoons : List Platoon) (from : ℕ) : Type 0 where
+pub record IsGathering (gap most now : ℕ) (series : List ℕ) (streams : List LinkFlow) (platoons : List Platoon) (from : ℕ) : Type 0 where
   pub runs : List (List ℕ)
   pub within : from ≤ length series
   pub all : concat runs ≡ filled_from series 0 from
@@ -22,11 +22,11 @@ pub record IsGathering (gap most now : ℕ) (series : List ℕ) (streams : List 
   pub apart : (k : ℕ) → k + 1 < length runs → CannotJoin gap most (run_at runs k) (first_of (run_at runs (k + 1)))
   pub order : (k : ℕ) → k + 1 < length runs → last_of (run_at runs k) < first_of (run_at runs (k + 1))
   pub closed : (k x : ℕ) → k + 1 ≡ length runs → from ≤ x → 1 ≤ get_or series x 0 → CannotJoin gap most (run_at runs k) x
-  pub behind : (k : ℕ) → k + 1 ≡ length runs → last_of (run_at runs k) < from
+  pub ends_before : (k : ℕ) → k + 1 ≡ length runs → last_of (run_at runs k) < from
   pub few : length runs ≤ from
   pub made : platoons ≡ map (platoon_of now streams) runs
 
-pub gathering-none : (gap most now : ℕ) (series : List ℕ) (streams : List Part) → IsGathering gap most now series streams [] 0
+pub gathering-none : (gap most now : ℕ) (series : List ℕ) (streams : List LinkFlow) → IsGathering gap most now series streams [] 0
 unfolding filled_from
 gathering-none gap most now series streams = record {
   runs = [];
@@ -36,7 +36,7 @@ gathering-none gap most now series streams = record {
   apart = λ k lt. absurd (omega arith);
   order = λ k lt. absurd (omega arith);
   closed = λ k x e le filled. absurd (omega arith);
-  behind = λ k e. absurd (omega arith);
+  ends_before = λ k e. absurd (omega arith);
   few = omega arith;
   made = refl;
 }
@@ -46,14 +46,14 @@ before-later gap most series from end runs le h =
     All-weaker (IsRunBefore gap most series from) (IsRunBefore gap most series end)
     (λ run r. record { shape = r.shape; filled = r.filled; order = r.order; before = omega (arith, r.before) }) runs h
 
-pub gathering-more : (gap most now : ℕ) (series : List ℕ) (streams : List Part) (platoons more : List Platoon) (from first end : ℕ) (platoon : Platoon)
+pub gathering-more : (gap most now : ℕ) (series : List ℕ) (streams : List LinkFlow) (platoons more : List Platoon) (from first end : ℕ) (platoon : Platoon)
     → IsGathering gap most now series streams platoons from → IsNext series from first → IsRunUpTo gap most series first end → IsClosed gap most series first end
     → platoon ≡ platoon_within now streams first end → more ≡ platoons ++ platoon ∷ [] → IsGathering gap most now series streams more end
 gathering-more gap most now series streams platoons more from first end platoon h next run closed is pushed =
     let r : List ℕ = filled_from series first (end - first) in
     let runs : List (List ℕ) = h.runs in
     let some : first < end = run.some in
-    let after : from ≤ first = next.behind in
+    let after : from ≤ first = next.from in
     let empty : filled_from series from (first - from) ≡ [] = filled-none series from (first - from) (λ k lo hi. next.before k lo (omega arith)) in
     let cut : filled_from series 0 end ≡ filled_from series 0 from ++ r =
     let total : end ≡ from + ((first - from) + (end - first)) = omega arith in
@@ -87,7 +87,7 @@ gathering-more gap most now series streams platoons more from first end platoon 
         | inl below ↦ rw (get_or-push-other runs r [] k (omega arith), get_or-push-other runs r [] (k + 1) below) (h.order k below)
         | inr past ↦
             let at : k + 1 ≡ length runs = omega (arith, length-push runs r) in
-            rw (get_or-push-other runs r [] k (omega arith), get_or-push-at runs r [] (k + 1) at, run.begins) (omega (arith, h.behind k at))
+            rw (get_or-push-other runs r [] k (omega arith), get_or-push-at runs r [] (k + 1) at, run.begins) (omega (arith, h.ends_before k at))
       ];
       closed = λ k x e le filled.
           let at : k ≡ length runs = omega (arith, length-push runs r) in
@@ -95,7 +95,7 @@ gathering-more gap most now series streams platoons more from first end platoon 
             | inl far ↦ inl (omega (arith, run.ends))
             | inr long ↦ inr (omega (arith, run.begins))
           ]);
-      behind = λ k e.
+      ends_before = λ k e.
           let at : k ≡ length runs = omega (arith, length-push runs r) in
           rw (get_or-push-at runs r [] k at) (omega (arith, run.ends));
       few = omega (arith, length-push runs r, h.few);
@@ -105,7 +105,7 @@ gathering-more gap most now series streams platoons more from first end platoon 
           ∙ sym (map-append (platoon_of now streams) runs (r ∷ []));
     }
 
-pub gathering-all : (gap most now : ℕ) (series : List ℕ) (streams : List Part) (platoons : List Platoon) (from : ℕ)
+pub gathering-all : (gap most now : ℕ) (series : List ℕ) (streams : List LinkFlow) (platoons : List Platoon) (from : ℕ)
     → IsGathering gap most now series streams platoons from → IsEmpty series from (length series) → AreGathered gap most now series streams platoons
 gathering-all gap most now series streams platoons from h empty =
     let le : from ≤ length series = h.within in

@@ -16,7 +16,7 @@ range-append a (suc n) m =
     let f : a + suc n ≡ a + 1 + n = omega arith in
     rw (e, f) (ap (λ xs. a ∷ xs) (range-append (a + 1) n m))
 
--- the element behind a list, and those in it
+-- the element after a list, and those in it
 pub get_or-push-last : {X : Type 0} (xs : List X) (x d : X) → get_or (xs ++ x ∷ []) (length xs) d ≡ x
 get_or-push-last xs x d =
     let e : length xs + 0 ≡ length xs = omega arith in
@@ -45,7 +45,7 @@ rising-apart xs h i j lt below =
     let P : ℕ → Type 0 = λ k. get_or xs i 0 < get_or xs k 0 in
     subst P e (rising-by xs h i (j - i - 1) (omega arith))
 
--- a bound of all elements is one of what stands at any place, 0 behind the last
+-- a bound of all elements is one of what stands at any place, 0 after the last
 pub get_or-le : (m : ℕ) (xs : List ℕ) → All (λ x. x ≤ m) xs → (k : ℕ) → get_or xs k 0 ≤ m
 get_or-le m xs h k = elim (cases_lt k (length xs)) [
   | inl below ↦ All-get_or (λ x. x ≤ m) xs k 0 below h

@@ -8,7 +8,7 @@ use Rattle.std.proofs.lemmas.List.Folds.{sum_by-replicate}
 use Rattle.std.proofs.lemmas.List.Sums.{sum_by-append, sum_by-cons, sum_by-take-le, sum_by-set}
 use Rattle.std.proofs.lemmas.Bool.{cases_lt, cond_below, cond_above, eq-eqb, cond-true, cond-false}
 use Rattle.std.proofs.lemmas.Bool.Decides.{eqb_tells}
-use Rattle.board_model.specs.declared.forecasts.Row.{Row}
+use Rattle.board_model.specs.declared.forecasts.ForecastRow.{ForecastRow}
 use Rattle.board_model.specs.Forecasts.{amount_at}
 use Rattle.board_model.specs.declared.boards.Heard.{Heard}
 use Rattle.net_numbers.specs.Numbers.{Net}
@@ -18,7 +18,7 @@ use Rattle.road_net.specs.Senses.{amount}
 use Rattle.road_net.specs.declared.senses.LinkSense.{LinkSense}
 use Rattle.road_net.specs.declared.senses.Sensed.{Sensed}
 use Rattle.clusters.specs.Smoothing.{smoothed}
-use Rattle.clusters.specs.Inflow.{inflow, inflow_at, leaving, sense_of, forecast_of, no_sense}
+use Rattle.clusters.specs.Inflow.{inflow, inflow_at, leaving, sense_of, heard_forecast, no_sense}
 use Rattle.clusters.specs.Steps.{IsSeen}
 
 abbrev pub zeros : ℕ → List ℕ
@@ -33,12 +33,12 @@ get_or-zeros n k = elim (cases_lt k n) [
   | inr past ↦ get_or_past (zeros n) k 0 (omega (arith, length_zeros n))
 ]
 
--- a list with zeros behind it
+-- a list with zeros after it
 padded-front : (xs : List ℕ) (n k : ℕ) → k < length xs → get_or (xs ++ zeros n) k 0 ≡ get_or xs k 0
 padded-front xs n k lt = get_or_append_left xs (zeros n) 0 k lt
 
-padded-behind : (xs : List ℕ) (n k : ℕ) → length xs ≤ k → get_or (xs ++ zeros n) k 0 ≡ 0
-padded-behind xs n k le =
+padded-after : (xs : List ℕ) (n k : ℕ) → length xs ≤ k → get_or (xs ++ zeros n) k 0 ≡ 0
+padded-after xs n k le =
     let e : length xs + (k - length xs) ≡ k = omega arith in
     let h : get_or (xs ++ zeros n) (length xs + (k - length xs)) 0 ≡ get_or (zeros n) (k - length xs) 0 = get_or-append-add xs (zeros n) (k - length xs) 0 in
     let P : ℕ → Type 0 = λ j. get_or (xs ++ zeros n) j 0 ≡ 0 in
@@ -47,8 +47,8 @@ padded-behind xs n k le =
 padded-front-of : (coming : List ℕ) (seen n k : ℕ) → seen ≤ length coming → k < seen → get_or (take seen coming ++ zeros n) k 0 ≡ get_or coming k 0
 padded-front-of coming seen n k le lt = padded-front (take seen coming) n k (omega (arith, length-take seen coming)) ∙ get_or-take seen coming k 0 lt
 
-padded-behind-of : (coming : List ℕ) (seen n k : ℕ) → seen ≤ length coming → seen ≤ k → get_or (take seen coming ++ zeros n) k 0 ≡ 0
-padded-behind-of coming seen n k le past = padded-behind (take seen coming) n k (omega (arith, length-take seen coming))
+padded-after-of : (coming : List ℕ) (seen n k : ℕ) → seen ≤ length coming → seen ≤ k → get_or (take seen coming ++ zeros n) k 0 ≡ 0
+padded-after-of coming seen n k le past = padded-after (take seen coming) n k (omega (arith, length-take seen coming))
 
 pub length-padded : (front xs : List ℕ) (count : ℕ) → length front ≤ count → xs ≡ front ++ zeros (count - length front) → length xs ≡ count
 length-padded front xs count le made = ap length made ∙ length-append front (zeros (count - length front)) ∙ omega (arith, length_zeros (count - length front))
@@ -62,9 +62,9 @@ seen-made look travel queue coming xs seen some far_off e made =
     let room : 0 < length xs = omega arith in
     let value : (k : ℕ) → k < look → k < travel → get_or xs k 0 ≡ get_or coming k 0 = λ k lt near. elim (cases_lt k seen) [
       | inl below ↦ ap (λ ys. get_or ys k 0) made ∙ padded-front-of coming seen (look - seen) k (omega arith) below
-      | inr past ↦ ap (λ ys. get_or ys k 0) made ∙ padded-behind-of coming seen (look - seen) k (omega arith) past ∙ sym (get_or_past coming k 0 (omega arith))
+      | inr past ↦ ap (λ ys. get_or ys k 0) made ∙ padded-after-of coming seen (look - seen) k (omega arith) past ∙ sym (get_or_past coming k 0 (omega arith))
     ] in
-    let nothing : (k : ℕ) → travel ≤ k → get_or xs k 0 ≡ 0 = λ k le. ap (λ ys. get_or ys k 0) made ∙ padded-behind-of coming seen (look - seen) k (omega arith) (omega arith) in
+    let nothing : (k : ℕ) → travel ≤ k → get_or xs k 0 ≡ 0 = λ k le. ap (λ ys. get_or ys k 0) made ∙ padded-after-of coming seen (look - seen) k (omega arith) (omega arith) in
     let total : sum xs ≤ sum coming =
     omega (arith, ap sum made, sum_by-append (λ x. x) (take seen coming) (zeros (look - seen)), sum_by-replicate (λ x. x) (look - seen) 0, sum_by-take-le (λ x. x) coming seen) in
     record {
@@ -83,8 +83,8 @@ seen-made look travel queue coming xs seen some far_off e made =
       total = omega (arith, sum_by-set (λ x. x) xs 0 (get_or xs 0 0 + queue) 0 room, total);
     }
 
--- with the forecast behind the time of travel, it is the inflow
-pub inflow-made : (now look travel queue : ℕ) (coming : List ℕ) (rows : List Row) (seen amounts : List ℕ)
+-- with the forecast after the time of travel, it is the inflow
+pub inflow-made : (now look travel queue : ℕ) (coming : List ℕ) (rows : List ForecastRow) (seen amounts : List ℕ)
     → IsSeen look travel queue coming seen → length amounts ≡ length seen
     → ((k : ℕ) → k < length seen → get_or amounts k 0 ≡ cond (nat_lt (now + k) (now + travel)) (get_or seen k 0) (amount_at rows (now + k)))
     → 1 ≤ travel → amounts ≡ inflow now look travel queue coming rows
@@ -144,8 +144,8 @@ sense-within sensed l queue coming q e =
     omega (arith, q, ap sum e, h)
 
 -- what leaves a link, of the parts as they were found
-pub leaving-made : (net : Net) (sensed : Sensed) (heard : List Heard) (l : ℕ) (link : Link) (look queue : ℕ) (coming : List ℕ) (rows : List Row) (inflows amounts : List ℕ)
-    → link ≡ link_at net l → look ≡ net.run.look → queue ≡ (sense_of sensed l).queue → coming ≡ (sense_of sensed l).coming → rows ≡ forecast_of heard l
+pub leaving-made : (net : Net) (sensed : Sensed) (heard : List Heard) (l : ℕ) (link : Link) (look queue : ℕ) (coming : List ℕ) (rows : List ForecastRow) (inflows amounts : List ℕ)
+    → link ≡ link_at net l → look ≡ net.run.look → queue ≡ (sense_of sensed l).queue → coming ≡ (sense_of sensed l).coming → rows ≡ heard_forecast heard l
     → inflows ≡ inflow sensed.now look link.travel queue coming rows → amounts ≡ smoothed link.sat inflows → amounts ≡ leaving net sensed heard l
 unfolding leaving
 leaving-made net sensed heard l link look queue coming rows inflows amounts a r q c f i h = h ∙ ap (smoothed link.sat) i ∙ rw (a, r, q, c, f) refl

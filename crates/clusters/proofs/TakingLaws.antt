@@ -13,10 +13,10 @@ use Rattle.switch_rules.specs.Serving.{IsCluster}
 use Rattle.switch_rules.specs.declared.Cluster.{Cluster}
 use Rattle.net_numbers.specs.Numbers.{Net}
 use Rattle.net_numbers.specs.Outline.{phase_links_at}
-use Rattle.clusters.specs.declared.shapes.Platoon.{Platoon}
+use Rattle.clusters.specs.declared.vehicle_groups.Platoon.{Platoon}
 use Rattle.clusters.specs.Platoons.{platoons_at}
 use Rattle.clusters.specs.Sound.{AreOfNode, ArePlannable, AreSpacedClusters, IsPlatoon, cluster_lists, clusters_of}
-use Rattle.clusters.specs.Windows.{IsFront, IsLongest, IsRising, IsSmall, IsWindow, arrival, counts_of}
+use Rattle.clusters.specs.Windows.{IsFront, IsLongest, IsRising, ArePlannableCounts, IsWindow, arrival, counts_of}
 use Rattle.clusters.specs.Taking.{AreFronts, IsEarlier, IsFirstAmong, IsFirstOf}
 use Rattle.clusters.proofs.WindowLaws.{front-grows, full-longest, more_of, stuck-longest, whole-longest}
 
@@ -37,7 +37,7 @@ first-skip lists counts i (Some first) h none = record {
   ];
 }
 
--- and else it is the first one or comes behind it
+-- and else it is the first one or comes after it
 pub first-take : (lists : List (List Platoon)) (counts : List ℕ) (i arr : ℕ) (o : Option (ℕ × ℕ)) (result : ℕ × ℕ) → IsFirstOf lists counts i o
     → get_or counts i 0 < length (platoons_at lists i) → arr ≡ arrival lists i (get_or counts i 0) → IsEarlier o arr i result → IsFirstOf lists counts (i + 1) (Some result)
 first-take lists counts i arr None result h waits e is =
@@ -81,7 +81,7 @@ first-take lists counts i arr (Some first) result h waits e is = elim (cases_lt 
       })
 ]
 
--- So many have been taken, each phase's in their order.
+-- These counts have been taken, each phase's in their order.
 pub record IsTaking (lists : List (List Platoon)) (counts : List ℕ) (i : ℕ) : Type 0 where
   pub front : IsFront lists counts
   pub orders : length (orders counts) ≤ 50000
@@ -122,7 +122,7 @@ taking-more lists counts i first rising h next few = record {
   total = omega (arith, sum-more_of counts first.1 (omega (arith, next.phase, h.front.phases)), h.total);
 }
 
-small-of : (lists : List (List Platoon)) (counts : List ℕ) (i : ℕ) → IsTaking lists counts i → i ≤ 40 → IsSmall counts
+small-of : (lists : List (List Platoon)) (counts : List ℕ) (i : ℕ) → IsTaking lists counts i → i ≤ 40 → ArePlannableCounts counts
 small-of lists counts i h le = record { clusters = omega (arith, h.total); orders = h.orders }
 
 pub taking-whole : (lists : List (List Platoon)) (counts : List ℕ) (i : ℕ) → IsTaking lists counts i → i ≤ 40

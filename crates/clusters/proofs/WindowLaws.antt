@@ -10,9 +10,9 @@ use Rattle.switch_rules.specs.Arriving.{ComesFirst}
 use Rattle.switch_rules.specs.Orders.{orders, mixtures, choose}
 use Rattle.switch_rules.proofs.Arriving.{one-first}
 use Rattle.switch_rules.proofs.Counting.{length-orders_of}
-use Rattle.clusters.specs.declared.shapes.Platoon.{Platoon}
+use Rattle.clusters.specs.declared.vehicle_groups.Platoon.{Platoon}
 use Rattle.clusters.specs.Platoons.{platoons_at}
-use Rattle.clusters.specs.Windows.{IsFront, IsLongest, IsRising, IsSmall, arrival, arrivals}
+use Rattle.clusters.specs.Windows.{IsFront, IsLongest, IsRising, ArePlannableCounts, arrival, arrivals}
 use Rattle.clusters.specs.Taking.{IsFirstAmong}
 use Rattle.clusters.proofs.ListLaws.{rising-apart}
 
@@ -197,7 +197,7 @@ front-has lists counts more first q g next lt = elim (cases_lt (get_or counts fi
 ]
 
 -- where the next one makes too many orders, no longer front can be planned
-pub stuck-longest : (lists : List (List Platoon)) (counts : List ℕ) (first : ℕ × ℕ) → IsFront lists counts → IsSmall counts
+pub stuck-longest : (lists : List (List Platoon)) (counts : List ℕ) (first : ℕ × ℕ) → IsFront lists counts → ArePlannableCounts counts
     → IsFirstAmong lists counts (length lists) first → 50000 < length (orders (more_of counts first.1)) → IsLongest lists counts
 stuck-longest lists counts first h small next many = record {
   front = h;
@@ -219,7 +219,7 @@ stuck-longest lists counts first h small next many = record {
   ];
 }
 
-pub whole-longest : (lists : List (List Platoon)) (counts : List ℕ) → IsFront lists counts → IsSmall counts
+pub whole-longest : (lists : List (List Platoon)) (counts : List ℕ) → IsFront lists counts → ArePlannableCounts counts
     → ((k : ℕ) → k < length lists → length (platoons_at lists k) ≤ get_or counts k 0) → IsLongest lists counts
 whole-longest lists counts h small none = record {
   front = h;
@@ -230,5 +230,5 @@ whole-longest lists counts h small none = record {
   ]);
 }
 
-pub full-longest : (lists : List (List Platoon)) (counts : List ℕ) → IsFront lists counts → IsSmall counts → sum counts ≡ 40 → IsLongest lists counts
+pub full-longest : (lists : List (List Platoon)) (counts : List ℕ) → IsFront lists counts → ArePlannableCounts counts → sum counts ≡ 40 → IsLongest lists counts
 full-longest lists counts h small e = record { front = h; small = small; longest = λ more g fits. omega (arith, fits.clusters, e) }

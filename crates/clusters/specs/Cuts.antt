@@ -24,7 +24,7 @@ pub record IsRun (gap most : ℕ) (run : List ℕ) : Type 0 where
   pub near : (k : ℕ) → k + 1 < length run → slice_index run (k + 1) ≤ slice_index run k + gap + 1
   pub span : last_of run + 1 ≤ first_of run + most
 
--- a second behind a run could not have joined it: more than `gap` empty seconds lie before it, or the span would pass `most`
+-- a second after a run could not have joined it: more than `gap` empty seconds lie before it, or the span would pass `most`
 abbrev pub CannotJoin : ℕ → ℕ → List ℕ → ℕ → Type 0
 CannotJoin gap most run x = (last_of run + gap + 1 < x) ⊎ (first_of run + most < x + 1)
 

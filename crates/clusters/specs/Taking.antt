@@ -1,7 +1,7 @@
--- What the steps of taking platoons into a window find. Of each phase so many have been taken.
+-- What the steps of taking platoons into a window find: `counts` of each phase have been taken. No public clause names these words.
 use Rattle.std.specs.Prelude.{◌≡◌, ℕ, ◌<◌, ◌≤◌, List, Option, Some, None, length, slice_index, take}
 use Rattle.switch_rules.specs.Arriving.{ComesFirst}
-use Rattle.clusters.specs.declared.shapes.Platoon.{Platoon}
+use Rattle.clusters.specs.declared.vehicle_groups.Platoon.{Platoon}
 use Rattle.clusters.specs.Platoons.{platoons_at}
 use Rattle.clusters.specs.Windows.{arrival, arrivals}
 

@@ -4,8 +4,8 @@ use Rattle.std.specs.List.Sorted.{IsStrictlyIncreasing}
 use Rattle.switch_rules.specs.Arriving.{ComesFirst}
 use Rattle.switch_rules.specs.Bounds.{most_clusters, most_orders}
 use Rattle.switch_rules.specs.Orders.{orders}
-use Rattle.clusters.specs.declared.shapes.Platoon.{Platoon}
-use Rattle.clusters.specs.declared.shapes.Window.{Window}
+use Rattle.clusters.specs.declared.vehicle_groups.Platoon.{Platoon}
+use Rattle.clusters.specs.declared.vehicle_groups.Window.{Window}
 use Rattle.clusters.specs.Platoons.{platoons_at}
 
 -- when platoons arrive
@@ -16,15 +16,15 @@ arrivals list = map (λ p. p.cluster.arr) list
 abbrev pub arrival : List (List Platoon) → ℕ → ℕ → ℕ
 arrival lists k place = slice_index (arrivals (platoons_at lists k)) place
 
--- So many of each phase are a front of all platoons: each of them comes before each of the others.
+-- The first `counts` of each phase are a front of all platoons: each of them comes before each of the others.
 pub record IsFront (lists : List (List Platoon)) (counts : List ℕ) : Type 0 where
   pub phases : length counts ≡ length lists
   pub there : (k : ℕ) → slice_index counts k ≤ length (platoons_at lists k)
   pub before : (j k taken waiting : ℕ) → taken < slice_index counts j → slice_index counts k ≤ waiting → waiting < length (platoons_at lists k)
       → ComesFirst (arrival lists j taken) j (arrival lists k waiting) k
 
--- so many clusters can be planned at once: at most 40 in all, and in at most 50,000 orders
-pub record IsSmall (counts : List ℕ) : Type 0 where
+-- these counts of clusters can be planned at once: at most 40 in all, and in at most 50,000 orders
+pub record ArePlannableCounts (counts : List ℕ) : Type 0 where
   pub clusters : sum counts ≤ most_clusters
   pub orders : length (orders counts) ≤ most_orders
 
@@ -32,11 +32,11 @@ pub record IsSmall (counts : List ℕ) : Type 0 where
 abbrev pub counts_of : List (List Platoon) → List ℕ
 counts_of lists = map length lists
 
--- so many of each phase are the longest front that can be planned at once
+-- these counts are the longest front that can be planned at once
 pub record IsLongest (lists : List (List Platoon)) (counts : List ℕ) : Type 0 where
   pub front : IsFront lists counts
-  pub small : IsSmall counts
-  pub longest : (more : List ℕ) → IsFront lists more → IsSmall more → sum more ≤ sum counts
+  pub small : ArePlannableCounts counts
+  pub longest : (more : List ℕ) → IsFront lists more → ArePlannableCounts more → sum more ≤ sum counts
 
 -- The window is the longest front that can be planned at once, phase by phase; the others wait.
 pub record IsWindow (lists : List (List Platoon)) (window : Window) : Type 0 where

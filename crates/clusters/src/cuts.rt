@@ -3,13 +3,17 @@ ghost use Rattle.std.specs.Prelude.{◌≡◌, ◌+◌, ◌*◌, ◌<◌, ◌≤
 ghost use Rattle.clusters.specs.Platoons.{part_of, platoon_within, together};
 ghost use Rattle.clusters.specs.Steps.{AreGathered, AreStreams, IsEmpty, IsNext, IsRunUpTo, IsClosed};
 
-use crate::shapes::{Part, Platoon};
+use crate::vehicle_groups::{LinkFlow, Platoon};
 use foundation::items::Items;
 use std::alloc::{AllocError, Global};
 use switch_rules::Cluster;
 
-/// What the streams bring together, in each of so many seconds.
-pub(crate) fn together(alloc: Global, streams: &[Part], look: u32) -> Result<Vec<u32>, AllocError>
+/// What the streams bring together, in each of the first `look` seconds.
+pub(crate) fn together(
+    alloc: Global,
+    streams: &[LinkFlow],
+    look: u32,
+) -> Result<Vec<u32>, AllocError>
     requires { AreStreams look streams.now }
     ensures value { IfOk result (λ series. series.items ≡ together streams.now look) }
     ensures count { IfOk result (λ series. vec_len series ≡ look) }
@@ -45,7 +49,7 @@ fn next_filled(series: &[u32], from: usize) -> Option<usize>
     None
 }
 
-/// Where the run ends that begins with this second, which is not empty: behind its last second.
+/// Where the run ends that begins with this second, which is not empty: after its last second.
 fn run_end(series: &[u32], first: usize, gap: u32, most: u32) -> usize
     requires there { first < length series.now }
     requires filled { 1 ≤ slice_index series.now first }
@@ -76,11 +80,11 @@ pub(crate) struct Cutting {
 }
 
 /// The platoons of the streams, whose series is what they bring together.
-pub(crate) fn gathered(
+pub(crate) fn gather_platoons(
     alloc: Global,
     cutting: Cutting,
     series: &[u32],
-    streams: &[Part],
+    streams: &[LinkFlow],
 ) -> Result<Vec<Platoon>, AllocError>
     requires now { cutting.now ≤ 18000 }
     requires gap { cutting.gap ≤ 10 }
@@ -103,7 +107,7 @@ pub(crate) fn gathered(
 fn platoon(
     alloc: Global,
     now: u32,
-    streams: &[Part],
+    streams: &[LinkFlow],
     first: usize,
     end: usize,
 ) -> Result<Platoon, AllocError>
@@ -120,7 +124,7 @@ fn platoon(
     for stream in streams {
         let amounts = &stream.amounts.as_slice()[first..end];
         size += total(amounts);
-        parts.push(Part {
+        parts.push(LinkFlow {
             link: stream.link,
             amounts: Items::from_vec(Vec::from_slice(alloc, amounts)?),
         })?;

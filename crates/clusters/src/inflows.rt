@@ -4,12 +4,12 @@ ghost use Rattle.board_model.specs.Forecasts.{IsForecast, amount_at};
 ghost use Rattle.net_numbers.specs.Outline.{link_at};
 ghost use Rattle.road_net.specs.Senses.{amount};
 ghost use Rattle.clusters.specs.Steps.{IsSeen};
-ghost use Rattle.clusters.specs.Inflow.{inflow, leaving, sense_of, forecast_of};
+ghost use Rattle.clusters.specs.Inflow.{inflow, leaving, sense_of, heard_forecast};
 ghost use Rattle.clusters.specs.Platoons.{streams_of};
 
-use crate::shapes::Part;
 use crate::smoothing::smooth_in_place;
-use board_model::{Heard, Row};
+use crate::vehicle_groups::LinkFlow;
+use board_model::{ForecastRow, Heard};
 use foundation::items::Items;
 use road_net::{LinkSense, Network, Sensed};
 use std::alloc::{AllocError, Global};
@@ -21,7 +21,7 @@ pub(crate) fn streams(
     links: &[u32],
     sensed: &Sensed,
     heard: &[Heard],
-) -> Result<Vec<Part>, AllocError>
+) -> Result<Vec<LinkFlow>, AllocError>
     requires links { All (λ l. l < length net.now.link_names) links.now }
     requires now { sensed.now.now ≤ 18000 }
     requires amounts { sum_by amount sensed.now.links ≤ 2000000000 }
@@ -29,8 +29,8 @@ pub(crate) fn streams(
 {
     let mut streams = Vec::with_capacity(alloc, links.len())?;
     for l in links {
-        let amounts = leaving(alloc, net, *l, sensed, heard)?;
-        streams.push(Part {
+        let amounts = link_outflow(alloc, net, *l, sensed, heard)?;
+        streams.push(LinkFlow {
             link: *l,
             amounts: Items::from_vec(amounts),
         })?;
@@ -39,7 +39,7 @@ pub(crate) fn streams(
 }
 
 /// What leaves the end of a link, in each second that the network looks ahead.
-fn leaving(
+fn link_outflow(
     alloc: Global,
     net: &Network,
     l: u32,
@@ -87,9 +87,9 @@ fn find_sense(sensed: &Sensed, l: u32) -> Option<&LinkSense>
 }
 
 /// The rows of the forecast that was heard of a link; none where none was.
-#[tactic(auto, unfolding(crate::specs::Inflow::forecast_of))]
-fn rows_of(heard: &[Heard], l: u32) -> &[Row]
-    ensures value { result.now ≡ forecast_of heard.now l }
+#[tactic(auto, unfolding(crate::specs::Inflow::heard_forecast))]
+fn rows_of(heard: &[Heard], l: u32) -> &[ForecastRow]
+    ensures value { result.now ≡ heard_forecast heard.now l }
     ensures forecast { IsForecast result.now }
 {
     match heard.iter().find(|h| h.link == l) {
@@ -98,7 +98,7 @@ fn rows_of(heard: &[Heard], l: u32) -> &[Row]
     }
 }
 
-/// What reaches the end of a link in each of so many seconds from `now` on.
+/// What reaches the end of a link in each of `look` seconds from `now` on.
 fn inflow(
     alloc: Global,
     now: u32,
@@ -106,7 +106,7 @@ fn inflow(
     travel: u32,
     queue: u32,
     coming: &[u32],
-    rows: &[Row],
+    rows: &[ForecastRow],
 ) -> Result<Vec<u32>, AllocError>
     requires now { now ≤ 18000 }
     requires look { (1 ≤ look) × (look ≤ 180) }
@@ -121,7 +121,7 @@ fn inflow(
     Ok(amounts)
 }
 
-/// What the node sees coming, in each of so many seconds: the queue in the first one, and what is on the link for as long
+/// What the node sees coming, in each of `look` seconds: the queue in the first one, and what is on the link for as long
 /// as it takes to travel it.
 fn seen_ahead(
     alloc: Global,
@@ -136,13 +136,13 @@ fn seen_ahead(
     ensures { IfOk result (λ amounts. IsSeen look travel queue coming.now amounts.items) }
 {
     let seen = coming.len().min(travel.min(look) as usize);
-    let mut amounts = padded(alloc, &coming[..seen], look as usize)?;
+    let mut amounts = pad_with_zeros(alloc, &coming[..seen], look as usize)?;
     amounts[0] += queue;
     Ok(amounts)
 }
 
-/// These amounts, at most `count`, and zeros behind them up to `count`.
-fn padded(alloc: Global, front: &[u32], count: usize) -> Result<Vec<u32>, AllocError>
+/// These amounts, at most `count`, and zeros after them up to `count`.
+fn pad_with_zeros(alloc: Global, front: &[u32], count: usize) -> Result<Vec<u32>, AllocError>
     requires { length front.now ≤ count }
     ensures { IfOk result (λ amounts. amounts.items ≡ front.now ++ replicate (count - length front.now) 0) }
 {
@@ -154,13 +154,14 @@ fn padded(alloc: Global, front: &[u32], count: usize) -> Result<Vec<u32>, AllocE
 
 /// Puts the amounts of the forecast in their seconds, those from the second `from` on; nothing stands there yet. The
 /// first amount is that of the second `now`.
-fn add_forecast(amounts: &mut [u32], now: u32, from: u32, rows: &[Row])
+fn add_forecast(amounts: &mut [u32], now: u32, from: u32, rows: &[ForecastRow])
     requires now { now ≤ 18000 }
     requires from { now ≤ from }
     requires few { length amounts.old ≤ 180 }
     requires none { (k : ℕ) → from ≤ now + k → slice_index amounts.old k ≡ 0 }
     requires rows { IsForecast rows.now }
-    ensures value { (k : ℕ) → k < length amounts.old → slice_index amounts.new k ≡ (if nat_lt (now + k) from then slice_index amounts.old k else amount_at rows.now (now + k)) }
+    ensures value { (k : ℕ) → k < length amounts.old → slice_index amounts.new k ≡
+        (if nat_lt (now + k) from then slice_index amounts.old k else amount_at rows.now (now + k)) }
     ensures sum { sum amounts.new ≤ sum amounts.old + 80000 * length rows.now }
 {
     for row in rows {

@@ -4,11 +4,11 @@
 mod cuts;
 mod inflows;
 mod node_platoons;
-mod shapes;
 mod smoothing;
+mod vehicle_groups;
 mod windows;
 
 pub use node_platoons::platoons;
-pub use shapes::{Part, Platoon, Window};
 pub use smoothing::smooth;
+pub use vehicle_groups::{LinkFlow, Platoon, Window};
 pub use windows::window;

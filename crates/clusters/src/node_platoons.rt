@@ -7,9 +7,9 @@ ghost use Rattle.clusters.specs.Platoons.{ArePlatoons, ArePlatoonsOf, most_of, s
 ghost use Rattle.clusters.specs.Sound.{AreOfNode, AreOfPhase, AreSpacedClusters, cluster_lists};
 ghost use Rattle.clusters.specs.Windows.{IsRising};
 
-use crate::cuts::{Cutting, gathered, together};
+use crate::cuts::{Cutting, gather_platoons, together};
 use crate::inflows::streams;
-use crate::shapes::Platoon;
+use crate::vehicle_groups::Platoon;
 use board_model::Heard;
 use foundation::items::Items;
 use road_net::{Network, Sensed};
@@ -22,7 +22,7 @@ use std::alloc::{AllocError, Global};
 /// Each platoon arrives at `sensed.now` or later, has a part for each link of its phase, in their order, and is a
 /// cluster within the bounds of an instance; none arrives before the one before it has arrived whole.
 ///
-/// An `Err` comes only where memory runs out.
+/// `Err`: out of memory.
 ///
 /// docs/RULES.md, "Platoons".
 pub fn platoons(
@@ -71,5 +71,5 @@ fn platoons_of(
         gap: run.gap,
         most: times.greatest - times.loss,
     };
-    gathered(alloc, cutting, series.as_slice(), streams.as_slice())
+    gather_platoons(alloc, cutting, series.as_slice(), streams.as_slice())
 }

@@ -5,10 +5,10 @@ ghost use Rattle.clusters.specs.Smoothing.{smoothed};
 use std::alloc::{AllocError, Global};
 
 /// What leaves in each second where at most `sat` can leave in a second, which is at least 1, and these amounts come.
-/// What cannot leave in one second is carried to the next; what is left behind the last one is dropped. The amounts
+/// What cannot leave in one second is carried to the next; what is left after the last one is dropped. The amounts
 /// together are below 2^32.
 ///
-/// An `Err` comes only where memory runs out.
+/// `Err`: out of memory.
 ///
 /// docs/RULES.md, "Smoothing".
 pub fn smooth(alloc: Global, sat: u32, amounts: &[u32]) -> Result<Vec<u32>, AllocError>

@@ -6,7 +6,7 @@ ghost use Rattle.clusters.specs.Sound.{AreOfNode, ArePlannable, AreSpacedCluster
 ghost use Rattle.clusters.specs.Taking.{AreFronts, IsEarlier, IsFirstOf, IsNextArrival};
 ghost use Rattle.clusters.specs.Windows.{IsLongest, IsRising, IsWindow, counts_of};
 
-use crate::shapes::{Platoon, Window};
+use crate::vehicle_groups::{Platoon, Window};
 use foundation::items::Items;
 use std::alloc::{AllocError, Global};
 use std::mem;
@@ -19,17 +19,19 @@ use switch_rules::{MOST_CLUSTERS, MOST_ORDERS, ways};
 /// Where the clusters of the lists are spaced and within their bounds, those of the window make an instance with any head;
 /// and where the lists are those of a node, so are the window's.
 ///
-/// An `Err` comes only where memory runs out.
+/// `Err`: out of memory.
 ///
 /// docs/RULES.md, "Window".
 pub fn window(alloc: Global, lists: Vec<Items<Platoon>>) -> Result<Window, AllocError>
     requires phases { vec_len lists ≤ 4 }
     requires rising { All IsRising lists.items }
     ensures window { IfOk result (IsWindow lists.items) }
-    ensures clusters { All AreSpacedClusters (cluster_lists lists.items) → IfOk result (λ window. ArePlannable (cluster_lists window.lists)) }
-    ensures node { (net : Net) (node now : ℕ) → AreOfNode net node now lists.items → IfOk result (λ window. AreOfNode net node now window.lists) }
+    ensures clusters { All AreSpacedClusters (cluster_lists lists.items)
+        → IfOk result (λ window. ArePlannable (cluster_lists window.lists)) }
+    ensures node { (net : Net) (node now : ℕ) → AreOfNode net node now lists.items
+        → IfOk result (λ window. AreOfNode net node now window.lists) }
 {
-    let counts = taken(alloc, lists.as_slice())?;
+    let counts = longest_front(alloc, lists.as_slice())?;
     let waiting = count_waiting(lists.as_slice(), counts.as_slice());
     let lists = fronts(alloc, lists, counts.as_slice());
     Ok(Window {
@@ -39,7 +41,7 @@ pub fn window(alloc: Global, lists: Vec<Items<Platoon>>) -> Result<Window, Alloc
 }
 
 /// How many platoons of each phase are in the window.
-fn taken(alloc: Global, lists: &[Items<Platoon>]) -> Result<Vec<u32>, AllocError>
+fn longest_front(alloc: Global, lists: &[Items<Platoon>]) -> Result<Vec<u32>, AllocError>
     requires phases { length lists.now ≤ 4 }
     requires rising { All IsRising lists.now }
     ensures { IfOk result (λ counts. IsLongest lists.now counts.items) }
@@ -59,7 +61,7 @@ fn taken(alloc: Global, lists: &[Items<Platoon>]) -> Result<Vec<u32>, AllocError
     Ok(counts)
 }
 
-/// When the platoon arrives that comes first, of those behind the ones taken, and its phase.
+/// When the platoon arrives that comes first, of those after the ones taken, and its phase.
 fn first_waiting(lists: &[Items<Platoon>], counts: &[u32]) -> Option<(u32, usize)>
     requires { length counts.now ≡ length lists.now }
     ensures { IsFirstOf lists.now counts.now (length lists.now) result }
@@ -73,7 +75,7 @@ fn first_waiting(lists: &[Items<Platoon>], counts: &[u32]) -> Option<(u32, usize
     first
 }
 
-/// When the platoon behind the first `count` arrives, if there is one.
+/// When the platoon after the first `count` arrives, if there is one.
 fn next_arrival(list: &[Platoon], count: u32) -> Option<u32>
     ensures { IsNextArrival list.now count result }
 {

@@ -13,8 +13,8 @@ use Rattle.certificate_form.specs.declared.reading.CertText.{CertText}
 use Rattle.certificate_form.specs.declared.reading.CertText.TheVariants as text
 use Rattle.net_draft.specs.declared.faults.NetFault.{NetFault}
 use Rattle.net_draft.specs.declared.faults.NetFault.TheVariants as net
-use Rattle.net_draft.specs.declared.faults.Part.{Part}
-use Rattle.net_draft.specs.declared.faults.Part.TheVariants as part
+use Rattle.net_draft.specs.declared.faults.Section.{Section}
+use Rattle.net_draft.specs.declared.faults.Section.TheVariants as part
 use Rattle.net_draft.specs.declared.faults.Place.{Place}
 use Rattle.arrivals.specs.declared.rows.RowFault.{RowFault}
 use Rattle.arrivals.specs.declared.rows.RowFault.TheVariants as row
@@ -57,7 +57,7 @@ cert_code (text.Cert (cert.Order n)) = codes "entry order " ++ decimal n
 cert_code text.NoMemory = []
 
 -- the name of a part of a network's file
-abbrev pub part_name : Part → List ℕ
+abbrev pub part_name : Section → List ℕ
 part_name part.Top = codes "top"
 part_name part.Run = codes "run"
 part_name part.Node = codes "node"

@@ -7,7 +7,7 @@ use arrivals::RowFault;
 use certificate_form::CertText;
 use delay_report::HistoryFault;
 use dp_certificate::CertFault;
-use net_draft::{NetFault, Part, Place};
+use net_draft::{NetFault, Place, Section};
 use phase_plan::{Field, PlanFault};
 use schedule_meaning::{InstanceFault, TextFault};
 use std::alloc::AllocError;
@@ -138,17 +138,17 @@ fn push_place(line: &mut Vec<u8>, word: &[u8], place: Place) -> Result<(), Alloc
 }
 
 // The name of a part of a network's file.
-fn part_name(part: Part) -> &'static [u8]
+fn part_name(part: Section) -> &'static [u8]
     ensures { result.now ≡ part_name part }
 {
     match part {
-        Part::Top => b"top",
-        Part::Run => b"run",
-        Part::Node => b"node",
-        Part::Phase => b"phase",
-        Part::Link => b"link",
-        Part::Turn => b"turn",
-        Part::Conflict => b"conflict",
+        Section::Top => b"top",
+        Section::Run => b"run",
+        Section::Node => b"node",
+        Section::Phase => b"phase",
+        Section::Link => b"link",
+        Section::Turn => b"turn",
+        Section::Conflict => b"conflict",
     }
 }
 

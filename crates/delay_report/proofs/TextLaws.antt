@@ -16,7 +16,9 @@ use Rattle.histories.proofs.Rounds.{all-done, next}
 use Rattle.delay_report.specs.declared.faults.HistoryFault.{HistoryFault}
 use Rattle.delay_report.specs.declared.faults.HistoryFault.TheVariants.{NoMemory, Header, Row, Node, Extra, Turn, Short}
 use Rattle.delay_report.specs.Entries.{header, steps_by, steps_of, told_of}
-use Rattle.delay_report.specs.Faults.{AreFaulty, HasFaultBehind, IsAtExtra, IsAtNode, IsAtRow, IsAtTurn, IsFirst, IsRecordFault, Refuses}
+use Rattle.delay_report.specs.Faults.{AreFaulty, IsAtExtra, IsAtNode, IsAtRow, IsAtTurn, IsFirst, IsRecordFault, Refuses, TellUnderWay}
+use Rattle.record_text.specs.Faults.{HasAfterHeader}
+use Rattle.record_text.proofs.FaultLaws.{first-here, one-after}
 use Rattle.delay_report.specs.Taken.{AreAllTaken, AreTaken, IsEntryFault}
 use Rattle.delay_report.specs.Texts.{AreHistoryRecords}
 
@@ -29,9 +31,6 @@ pub record IsUnder (net : Net) (all : List (List (List ℕ))) (number : ℕ) (le
   pub counted : number ≡ length records
   pub history_is : history ≡ concat steps
   pub come : HasCome net history p
-
-behind-header : (xs ys : List (List (List ℕ))) → ◌≡◌ {A = List (List (List ℕ))} (header ∷ xs) (header ∷ ys) → xs ≡ ys
-behind-header xs ys same = cc
 
 -- the header alone was read
 pub under-none : (net : Net) (left : List (List (List ℕ))) (history : List ℕ) (p : Course) → history ≡ [] → HasCome net [] p → IsUnder net (header ∷ left) 0 left history p
@@ -52,29 +51,21 @@ way-of net history p come = subst (λ r. IsUnderWay (board_steps net) r p.done h
 
 module _ (net : Net) (all : List (List (List ℕ))) (number : ℕ) (fields : List (List ℕ)) (left : List (List (List ℕ))) (history : List ℕ) (p : Course) (under : IsUnder net all number (fields ∷ left) history p) where
   here-first : (n : ℕ) (at_fault : List ℕ → List (List ℕ) → Type 0) → n ≡ number + 1 → at_fault history fields → IsFirst net (under.records ++ fields ∷ left) n at_fault
-  here-first n at_fault at fault = record {
-    before = under.records;
-    here = fields;
-    after = left;
-    are = refl;
-    counted = omega (arith, at, under.counted);
-    history = history;
-    done = p.done;
-    under_way = record { steps = under.steps; reads = under.reads; history_is = under.history_is; way = way-of net history p under.come };
-    faulty = fault;
-  }
+  here-first n at_fault at fault =
+      first-here (TellUnderWay net) under.records fields left number n history at_fault under.counted at
+      (record { done = p.done; under_way = record { steps = under.steps; reads = under.reads; history_is = under.history_is; way = way-of net history p under.come } }) fault
 
-  behind : (fault : HistoryFault) → IsRecordFault net (under.records ++ fields ∷ left) fault → HasFaultBehind net all fault
-  behind fault first = record { records = under.records ++ fields ∷ left; are = under.are; first = first }
+  after-header : (fault : HistoryFault) → IsRecordFault net (under.records ++ fields ∷ left) fault → HasAfterHeader header all (λ records. IsRecordFault net records fault)
+  after-header fault first = record { records = under.records ++ fields ∷ left; are = under.are; after = first }
 
   -- the record is at fault
   pub fault-here : (fault : HistoryFault) → IsEntryFault net history fields (number + 1) fault → AreFaulty net all fault
   fault-here NoMemory h = tt
   fault-here Header h = absurd h
-  fault-here (Row n) h = behind (Row n) (here-first n (λ history fields. IsAtRow fields) h.0 h.1)
-  fault-here (Node n) h = behind (Node n) (here-first n (λ history fields. IsAtNode net fields) h.0 h.1)
-  fault-here (Extra n) h = behind (Extra n) (here-first n (IsAtExtra net) h.0 h.1)
-  fault-here (Turn n) h = behind (Turn n) (here-first n (IsAtTurn net) h.0 h.1)
+  fault-here (Row n) h = after-header (Row n) (here-first n (λ history fields. IsAtRow fields) h.0 h.1)
+  fault-here (Node n) h = after-header (Node n) (here-first n (λ history fields. IsAtNode net fields) h.0 h.1)
+  fault-here (Extra n) h = after-header (Extra n) (here-first n (IsAtExtra net) h.0 h.1)
+  fault-here (Turn n) h = after-header (Turn n) (here-first n (IsAtTurn net) h.0 h.1)
   fault-here Short h = absurd h
 
   -- one record more
@@ -92,7 +83,7 @@ module _ (net : Net) (all : List (List (List ℕ))) (number : ℕ) (fields : Lis
 -- nothing is left
 pub under-all : (net : Net) (behind : List (List (List ℕ))) (number : ℕ) (left : List (List (List ℕ))) (history : List ℕ) (p : Course) → IsUnder net (header ∷ behind) number left history p → left ≡ [] → AreAllTaken net behind history p
 under-all net behind number left history p under none =
-    let same : behind ≡ under.records = behind-header behind under.records (under.are ∙ ap (λ l. header ∷ (under.records ++ l)) none ∙ ap (λ l. header ∷ l) (append-nil under.records)) in
+    let same : behind ≡ under.records = one-after header behind under.records (under.are ∙ ap (λ l. header ∷ (under.records ++ l)) none ∙ ap (λ l. header ∷ l) (append-nil under.records)) in
     record { steps = under.steps; reads = rw same under.reads; history_is = under.history_is; come = under.come }
 
 module _ (net : Net) (all behind : List (List (List ℕ))) (history : List ℕ) (p : Course) (are : all ≡ header ∷ behind) (taken : AreAllTaken net behind history p) where
@@ -105,7 +96,7 @@ module _ (net : Net) (all behind : List (List (List ℕ))) (history : List ℕ) 
   taken-short other = record {
     records = behind;
     are = are;
-    first = record {
+    after = record {
       history = history;
       done = p.done;
       under_way = record { steps = taken.steps; reads = taken.reads; history_is = taken.history_is; way = way-of net history p taken.come };
@@ -131,28 +122,28 @@ none-named net fields more at some = let (name, is, rest) = bind-some (told_of f
 
 module _ (net : Net) (records : List (List (List ℕ))) (h : List ℕ) (is : AreHistoryRecords net (header ∷ records) h) where
   reads-all : each (steps_of net) records ≡ Some is.steps
-  reads-all = rw (behind-header is.records records (sym is.are)) at is.reads
+  reads-all = rw (one-after header is.records records (sym is.are)) at is.reads
 
   module _ (n : ℕ) (at_fault : List ℕ → List (List ℕ) → Type 0) (first : IsFirst net records n at_fault) where
     -- the steps of the record at fault, and the whole history, cut there
-    cut : (more rest : List ℕ) × (steps_of net first.here ≡ Some more) × (h ≡ first.history ++ (more ++ rest))
+    cut : (more rest : List ℕ) × (steps_of net first.here ≡ Some more) × (h ≡ first.so_far ++ (more ++ rest))
     cut =
         let (front, back, reads_front, reads_back, whole) = each-append (steps_of net) first.before (first.here ∷ first.after) is.steps (rw first.are at reads-all) in
         let (more, others, told, behind, tail) = each-cons (steps_of net) first.here first.after back reads_back in
-        let same : front ≡ first.under_way.steps = same_Some front first.under_way.steps (sym reads_front ∙ first.under_way.reads) in (
+        let same : front ≡ first.reads.under_way.steps = same_Some front first.reads.under_way.steps (sym reads_front ∙ first.reads.under_way.reads) in (
           more,
           concat others,
           told,
-          is.history_is ∙ ap concat whole ∙ concat-append front back ∙ ap (λ l. concat l ++ concat back) same ∙ ap (λ l. concat first.under_way.steps ++ concat l) tail
-              ∙ ap (λ l. l ++ (more ++ concat others)) (sym first.under_way.history_is),
+          is.history_is ∙ ap concat whole ∙ concat-append front back ∙ ap (λ l. concat l ++ concat back) same ∙ ap (λ l. concat first.reads.under_way.steps ++ concat l) tail
+              ∙ ap (λ l. l ++ (more ++ concat others)) (sym first.reads.under_way.history_is),
         )
 
     -- a node that comes next in a lawful history
-    goes-on : (node : ℕ) → steps_of net first.here ≡ Some (node ∷ []) → (rest : List ℕ) × IsLawful net (first.history ++ node ∷ rest)
+    goes-on : (node : ℕ) → steps_of net first.here ≡ Some (node ∷ []) → (rest : List ℕ) × IsLawful net (first.so_far ++ node ∷ rest)
     goes-on node one =
         let (more, rest, told, whole) = cut in
         let same : more ≡ node ∷ [] = same_Some more (node ∷ []) (sym told ∙ one) in
-        (rest, subst (IsLawful net) (whole ∙ ap (λ l. first.history ++ (l ++ rest)) same) is.lawful)
+        (rest, subst (IsLawful net) (whole ∙ ap (λ l. first.so_far ++ (l ++ rest)) same) is.lawful)
 
   -- records with a fault are no history
   clash : (fault : HistoryFault) → IsRecordFault net records fault → ⊥
@@ -163,13 +154,13 @@ module _ (net : Net) (records : List (List (List ℕ))) (h : List ℕ) (is : Are
   clash (Extra n) f =
       let (node, one, over) = f.faulty in
       let (rest, all) = goes-on n (IsAtExtra net) f node one in
-      let less = (next (board_steps net) net.run.rounds f.done f.history f.under_way.way node rest all).0 in
-      let done = all-done (board_steps net) net.run.rounds f.done f.history f.under_way.way over in
+      let less = (next (board_steps net) net.run.rounds f.reads.done f.so_far f.reads.under_way.way node rest all).0 in
+      let done = all-done (board_steps net) net.run.rounds f.reads.done f.so_far f.reads.under_way.way over in
       omega arith
   clash (Turn n) f =
       let (node, one, own) = f.faulty in
       let (rest, all) = goes-on n (IsAtTurn net) f node one in
-      let less = (next (board_steps net) net.run.rounds own.done f.history own.way node rest all).1 in
+      let less = (next (board_steps net) net.run.rounds own.done f.so_far own.way node rest all).1 in
       omega (arith, own.all)
   clash Short f =
       let same : is.steps ≡ f.under_way.steps = same_Some is.steps f.under_way.steps (sym reads-all ∙ f.under_way.reads) in
@@ -177,21 +168,21 @@ module _ (net : Net) (records : List (List (List ℕ))) (h : List ℕ) (is : Are
       let done = all-done (board_steps net) net.run.rounds f.done f.history f.under_way.way (subst (IsLawful net) whole is.lawful) in
       omega (arith, f.early)
 
-behind-refuses : (net : Net) (all : List (List (List ℕ))) (fault : HistoryFault) → HasFaultBehind net all fault → (h : List ℕ) → AreHistoryRecords net all h → ⊥
-behind-refuses net all fault f h is = clash net f.records h (subst (λ (l : List (List (List ℕ))). AreHistoryRecords net l h) f.are is) fault f.first
+fault-refuses : (net : Net) (all : List (List (List ℕ))) (fault : HistoryFault) → HasAfterHeader header all (λ records. IsRecordFault net records fault) → (h : List ℕ) → AreHistoryRecords net all h → ⊥
+fault-refuses net all fault f h is = clash net f.records h (subst (λ (l : List (List (List ℕ))). AreHistoryRecords net l h) f.are is) fault f.after
 
 pub records-refuse : (net : Net) (all : List (List (List ℕ))) (fault : HistoryFault) → AreFaulty net all fault → Refuses fault ((h : List ℕ) → AreHistoryRecords net all h → ⊥)
 records-refuse net all NoMemory f = tt
 records-refuse net all Header f = λ h is. f is.records is.are
-records-refuse net all (Row n) f = behind-refuses net all (Row n) f
-records-refuse net all (Node n) f = behind-refuses net all (Node n) f
-records-refuse net all (Extra n) f = behind-refuses net all (Extra n) f
-records-refuse net all (Turn n) f = behind-refuses net all (Turn n) f
-records-refuse net all Short f = behind-refuses net all Short f
+records-refuse net all (Row n) f = fault-refuses net all (Row n) f
+records-refuse net all (Node n) f = fault-refuses net all (Node n) f
+records-refuse net all (Extra n) f = fault-refuses net all (Extra n) f
+records-refuse net all (Turn n) f = fault-refuses net all (Turn n) f
+records-refuse net all Short f = fault-refuses net all Short f
 
 -- records are those of one history at most
 pub one-history : (net : Net) (all : List (List (List ℕ))) (one other : List ℕ) → AreHistoryRecords net all one → AreHistoryRecords net all other → one ≡ other
 one-history net all one other a b =
-    let records : a.records ≡ b.records = behind-header a.records b.records (sym a.are ∙ b.are) in
+    let records : a.records ≡ b.records = one-after header a.records b.records (sym a.are ∙ b.are) in
     let steps : a.steps ≡ b.steps = same_Some a.steps b.steps (sym a.reads ∙ ap (each (steps_of net)) records ∙ b.reads) in
     a.history_is ∙ ap concat steps ∙ sym b.history_is

@@ -1,11 +1,12 @@
 -- The first fault of the text of a history.
-use Rattle.std.specs.Prelude.{◌≡◌, ◌≢◌, ℕ, ◌+◌, ◌<◌, List, [], ◌∷◌, ◌++◌, Some, None, IsSomeAnd, length}
+use Rattle.std.specs.Prelude.{◌≡◌, ◌≢◌, ℕ, ◌<◌, List, [], ◌∷◌, Some, None, IsSomeAnd}
 use Rattle.std.specs.List.{concat}
 use Rattle.foundation.specs.Options.{each}
 use Rattle.net_numbers.specs.Numbers.{Net, number_of}
 use Rattle.histories.specs.Histories.{IsLawful, IsUnderWay}
 use Rattle.histories.specs.Progress.{IsDoneInRound}
 use Rattle.histories.specs.Steps.{board_steps}
+use Rattle.record_text.specs.Faults.{HasAfterHeader, IsFirstFault}
 use Rattle.record_text.specs.Records.{records_of}
 use Rattle.delay_report.specs.declared.faults.HistoryFault.{HistoryFault}
 use Rattle.delay_report.specs.declared.faults.HistoryFault.TheVariants.{NoMemory, Header, Row, Node, Extra, Turn, Short}
@@ -18,18 +19,15 @@ pub record AreUnderWay (net : Net) (records : List (List (List ℕ))) (history :
   pub history_is : history ≡ concat steps
   pub way : IsUnderWay (board_steps net) net.run.rounds done history
 
+-- these records tell this history, which is under way
+pub record TellUnderWay (net : Net) (records : List (List (List ℕ))) (history : List ℕ) : Type 0 where
+  pub done : ℕ
+  pub under_way : AreUnderWay net records history done
+
 -- The record with this number, counted from 1, is the first at fault: those before it tell a history under way, and
 -- `at_fault` holds of that history and of the record.
-pub record IsFirst (net : Net) (all : List (List (List ℕ))) (number : ℕ) (at_fault : List ℕ → List (List ℕ) → Type 0) : Type 0 where
-  pub before : List (List (List ℕ))
-  pub here : List (List ℕ)
-  pub after : List (List (List ℕ))
-  pub are : all ≡ before ++ here ∷ after
-  pub counted : number ≡ length before + 1
-  pub history : List ℕ
-  pub done : ℕ
-  pub under_way : AreUnderWay net before history done
-  pub faulty : at_fault history here
+abbrev pub IsFirst : Net → List (List (List ℕ)) → ℕ → (List ℕ → List (List ℕ) → Type 0) → Type 0
+IsFirst net all number at_fault = IsFirstFault (TellUnderWay net) all number at_fault
 
 -- the records end before all rounds are done
 pub record EndEarly (net : Net) (all : List (List (List ℕ))) : Type 0 where
@@ -61,18 +59,12 @@ IsRecordFault net records (Turn n) = IsFirst net records n (IsAtTurn net)
 IsRecordFault net records Short = EndEarly net records
 IsRecordFault net records _ = ⊥
 
--- the first record is the header, and the others have this fault
-pub record HasFaultBehind (net : Net) (all : List (List (List ℕ))) (fault : HistoryFault) : Type 0 where
-  pub records : List (List (List ℕ))
-  pub are : all ≡ header ∷ records
-  pub first : IsRecordFault net records fault
-
 -- Why records are refused: they do not begin with the header, or else the first of the others at fault, or else they end
 -- before all rounds are done.
 abbrev pub AreFaulty : Net → List (List (List ℕ)) → HistoryFault → Type 0
 AreFaulty net all NoMemory = Unit {0}
 AreFaulty net all Header = (records : List (List (List ℕ))) → all ≢ header ∷ records
-AreFaulty net all fault = HasFaultBehind net all fault
+AreFaulty net all fault = HasAfterHeader header all (λ records. IsRecordFault net records fault)
 
 -- the fault of a text is that of its records
 abbrev pub IsTextFault : Net → List ℕ → HistoryFault → Type 0

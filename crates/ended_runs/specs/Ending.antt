@@ -6,7 +6,7 @@ use Rattle.intersection_actor.specs.Acting.{Acting}
 use Rattle.intersection_actor.specs.declared.records.PlanRecord.{PlanRecord}
 use Rattle.net_numbers.specs.Numbers.{Net}
 use Rattle.net_simulator.specs.Counts.{counts_at}
-use Rattle.net_simulator.specs.Worlds.{Kept}
+use Rattle.net_simulator.specs.Worlds.{WorldState}
 use Rattle.runs.specs.declared.records.RunRecord.{RunRecord}
 use Rattle.ended_runs.specs.declared.Room.{Room}
 
@@ -41,7 +41,7 @@ module _ {A : Type 0} where
   round_by_round rounds lists = flat_map (λ round. first_of_each (map (drop round) lists)) (range_with_len 0 rounds)
 
 -- The record of actors and a world: the actors' plans, round by round, and their lines, and what the world has counted.
-pub record IsRecordOf (net : Net) (actors : List Acting) (world : Kept) (run : RunRecord) : Type 0 where
+pub record IsRecordOf (net : Net) (actors : List Acting) (world : WorldState) (run : RunRecord) : Type 0 where
   pub plans : run.plans ≡ round_by_round net.run.rounds (records_in actors)
   pub timelines : run.timelines ≡ lines_in actors
   pub links : run.links ≡ map (counts_at world.counts) (range_with_len 0 (length net.link_names))

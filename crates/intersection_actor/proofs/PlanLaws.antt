@@ -20,7 +20,7 @@ use Rattle.net_numbers.specs.Numbers.{Net}
 use Rattle.net_numbers.specs.Outline.{plan_at}
 use Rattle.road_net.specs.declared.senses.Sensed.{Sensed}
 use Rattle.clusters.specs.Sound.{cluster_lists, clusters_of}
-use Rattle.clusters.specs.declared.shapes.Window.{Window}
+use Rattle.clusters.specs.declared.vehicle_groups.Window.{Window}
 use Rattle.intersection_actor.specs.Commits.{line_for, used_of}
 use Rattle.intersection_actor.specs.Steps.{IsExpected, IsNextLine, IsPlanned, IsScheduled}
 use Rattle.intersection_actor.specs.declared.planning.Schedule.{Schedule}

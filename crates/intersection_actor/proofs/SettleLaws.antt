@@ -13,7 +13,7 @@ use Rattle.net_numbers.specs.Outline.{link_at, plan_at}
 use Rattle.road_net.specs.Network.{IsNetwork, exit_links, heard_links, told_links}
 use Rattle.clusters.specs.Sound.{cluster_lists}
 use Rattle.clusters.specs.Windows as windows
-use Rattle.clusters.specs.declared.shapes.Platoon.{Platoon}
+use Rattle.clusters.specs.declared.vehicle_groups.Platoon.{Platoon}
 use Rattle.intersection_actor.specs.Acting.{Acting, reading, telling, tells_from, wanting}
 use Rattle.intersection_actor.specs.Commits.{used_of}
 use Rattle.intersection_actor.specs.Rounds.{IsHearing, IsInRound, IsOf, IsTelling, KeepsPast}

@@ -19,7 +19,7 @@ from-low n (y ∷ ys) h =
     let here : n ≤ y = h 0 0 (omega arith) in
     cond_both (nat_le n y) (Some y) (find (λ l. nat_le n l) ys) (λ r. r ≡ Some y) (λ yes. refl) (λ no. let gone : ⊥ = grind (arith, nat_tests) in absurd gone)
 
--- in rising numbers, the first behind the one at a place is at the next place
+-- in rising numbers, the first after the one at a place is at the next place
 behind : (xs : List ℕ) (k link : ℕ) → AllPairs (λ x y. x < y) xs → slice_get xs k ≡ Some link → find (λ l. nat_le (link + 1) l) xs ≡ slice_get xs (suc k)
 behind [] k link h e = let impossible : find (λ l. nat_le (link + 1) l) [] ≡ slice_get [] (suc k) = refl in impossible
 behind (x ∷ xs) zero link h e =
@@ -41,7 +41,7 @@ told-some (Some l) link e = let same : l ≡ link = cc in ap Some same
 pub told-first : (net : Net) (node : ℕ) → tells_from net node 0 ≡ told_at net node 0
 told-first net node = ap telling (from-low 0 (told_links net node) (λ k d lt. omega arith))
 
--- and behind each the next one
+-- and after each the next one
 pub told-next : (net : Net) (node k link : ℕ) → IsStrictlyIncreasing (exit_links net node) → Publish link ≡ told_at net node k → tells_from net node (link + 1) ≡ told_at net node (k + 1)
 told-next net node k link rising e =
     let told : AllPairs (λ x y. x < y) (told_links net node) =

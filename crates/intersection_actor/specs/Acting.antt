@@ -6,7 +6,7 @@ use Rattle.switch_rules.specs.declared.Served.{Served}
 use Rattle.net_numbers.specs.Numbers.{Net}
 use Rattle.road_net.specs.Network.{heard_links, told_links}
 use Rattle.road_net.specs.declared.senses.Sensed.{Sensed}
-use Rattle.clusters.specs.declared.shapes.Window.{Window}
+use Rattle.clusters.specs.declared.vehicle_groups.Window.{Window}
 use Rattle.intersection_actor.specs.declared.records.PlanRecord.{PlanRecord}
 use Rattle.intersection_actor.specs.declared.records.Want.{Want}
 use Rattle.intersection_actor.specs.declared.records.Want.TheVariants.{Read, Commit, Publish, Done}
@@ -47,7 +47,7 @@ telling (Some link) = Publish link
 abbrev pub tells_from : Net → ℕ → ℕ → Want
 tells_from net node first = telling (find (λ l. nat_le first l) (told_links net node))
 
--- it tells the link at this place, from 0, among those on which it tells a node; behind the last it is done
+-- it tells the link at this place, from 0, among those on which it tells a node; after the last it is done
 abbrev pub told_at : Net → ℕ → ℕ → Want
 told_at net node place = telling (slice_get (told_links net node) place)
 
@@ -69,7 +69,7 @@ with_heard h a = record a { want = reading (drop 1 a.left); left = drop 1 a.left
 abbrev pub wanting : Want → Acting → Acting
 wanting want a = record a { want = want }
 
--- the actor behind its round: it keeps nothing more of what it sensed, heard and planned in it
+-- the actor after its round: it has dropped what it sensed, heard and planned in it
 abbrev pub resting : Acting → Acting
 resting a = record a {
   left = [];

@@ -19,8 +19,8 @@ use Rattle.road_net.specs.declared.senses.Sensed.{Sensed}
 use Rattle.clusters.specs.Platoons.{ArePlatoonsOf}
 use Rattle.clusters.specs.Sound.{cluster_lists}
 use Rattle.clusters.specs.Windows.{IsWindow}
-use Rattle.clusters.specs.declared.shapes.Platoon.{Platoon}
-use Rattle.clusters.specs.declared.shapes.Window.{Window}
+use Rattle.clusters.specs.declared.vehicle_groups.Platoon.{Platoon}
+use Rattle.clusters.specs.declared.vehicle_groups.Window.{Window}
 use Rattle.intersection_actor.specs.declared.records.PlanRecord.{PlanRecord}
 use Rattle.intersection_actor.specs.declared.records.Used.{Used}
 

@@ -78,7 +78,7 @@ pub record IsCommitted (net : Net) (old new : Acting) : Type 0 where
   }
 
 -- What a commit keeps: in every second before the round, the same phase is green in the new line as in the old one, since the
--- same second, and every phase shows the same colour. The new line ends behind the begin of the next round; and the versions
+-- same second, and every phase shows the same colour. The new line ends after the begin of the next round; and the versions
 -- that were used are those of the links on which the node hears, in their order.
 pub record KeepsPast (net : Net) (old new : Acting) : Type 0 where
   pub past : (second : ℕ) → second < old.sensed.now → standing new.line second ≡ standing old.line second

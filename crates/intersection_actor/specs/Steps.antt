@@ -1,4 +1,4 @@
--- What the steps of a commit make.
+-- What the steps of a commit make. No public clause names these words.
 use Rattle.std.specs.Prelude.{◌≡◌, ℕ, ◌+◌, ◌*◌, ◌<◌, ◌≤◌, List, All, Some}
 use Rattle.board_model.specs.declared.boards.Heard.{Heard}
 use Rattle.phase_plan.specs.declared.Phase.{Phase}
@@ -15,8 +15,8 @@ use Rattle.road_net.specs.declared.senses.Sensed.{Sensed}
 use Rattle.clusters.specs.Platoons.{ArePlatoonsOf}
 use Rattle.clusters.specs.Sound.{AreOfNode, ArePlannable, cluster_lists}
 use Rattle.clusters.specs.Windows.{IsWindow}
-use Rattle.clusters.specs.declared.shapes.Platoon.{Platoon}
-use Rattle.clusters.specs.declared.shapes.Window.{Window}
+use Rattle.clusters.specs.declared.vehicle_groups.Platoon.{Platoon}
+use Rattle.clusters.specs.declared.vehicle_groups.Window.{Window}
 use Rattle.intersection_actor.specs.Commits.{AreServedBy, Commitment, IsCommit, phases_of, used_of}
 use Rattle.intersection_actor.specs.declared.planning.Schedule.{Schedule}
 use Rattle.intersection_actor.specs.declared.planning.RoundPlan.{RoundPlan}
@@ -43,7 +43,7 @@ pub record IsScheduled (p : Problem) (s : Schedule) : Type 0 where
   pub next : AreNextServings p.plan p.lists (counts_of p.lists) p.head s.phases s.served
 
 -- the timeline of a schedule can be spliced into one that has this head: it is lawful and goes on in the head, its rows begin
--- by 100,000, and it ends behind `until`
+-- by 100,000, and it ends after `until`
 pub record IsNextLine (plan : List Phase) (head : Head) (until : ℕ) (line : List Green) : Type 0 where
   pub lawful : IsLawful plan line
   pub goes_on : GoesOn head line

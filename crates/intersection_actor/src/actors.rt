@@ -1,7 +1,7 @@
 //! The actor of a node.
 ghost use Rattle.std.specs.Prelude.{◌≡◌, []};
 
-use crate::planning::{RoundPlan, Schedule, planned};
+use crate::planning::{RoundPlan, Schedule, plan_round};
 use crate::reads::{heard_links, next_read, next_told};
 use crate::records::{PlanRecord, Want};
 use board_model::{Forecast, Heard};
@@ -10,7 +10,7 @@ use control_flow::greens::Timeline;
 use control_flow::rotation;
 use foundation::items::Items;
 use foundation::threads::CrossesThreads;
-use outflow::forecast;
+use outflow::{Servings, forecast};
 use road_net::{Network, Sensed};
 use schedule_meaning::Planner;
 use std::alloc::{AllocError, Global};
@@ -68,11 +68,11 @@ impl Actor {
     ghost use Rattle.intersection_actor.specs.Rounds.{IsCommitted, IsNew, IsOf, KeepsPast};
     ghost use Rattle.intersection_actor.specs.Steps.{IsPlanned};
     ghost use Rattle.clusters.specs.Windows.{counts_of};
-    ghost use Rattle.outflow.specs.Outflow.{departures, forecast_of};
+    ghost use Rattle.outflow.specs.Outflow.{departures, told_forecast};
 
     /// The actor of a node before its first round: its signal's ring turns from second 0, and nothing is planned.
     ///
-    /// An `Err` comes only where memory runs out.
+    /// `Err`: out of memory.
     ///
     /// docs/RULES.md, "A node's round".
     pub fn new(alloc: Global, net: &Network, node: u32) -> Result<Actor, AllocError>
@@ -142,8 +142,8 @@ impl Actor {
     /// Begins a round, in whose first second the node senses this: it wants to read the first link on which it hears another
     /// node, or to plan where it hears none.
     ///
-    /// It has done the round before, the round is one of the network, and some row of its timeline ends behind the round's first
-    /// second. An `Err` comes only where memory runs out, and leaves all as it was.
+    /// It has done the round before, the round is one of the network, and some row of its timeline ends after the round's first
+    /// second. `Err`: out of memory; all stays as it was.
     ///
     /// docs/RULES.md, "A node's round".
     pub fn begin(
@@ -174,7 +174,7 @@ impl Actor {
 
     /// Takes what was read of the link that it wants to read: it wants the next one, or to plan once it has read all.
     ///
-    /// An `Err` comes only where memory runs out, and leaves all as it was.
+    /// `Err`: out of memory; all stays as it was.
     ///
     /// docs/RULES.md, "A node's round".
     pub fn take(&mut self, heard: Heard) -> Result<(), AllocError>
@@ -194,7 +194,7 @@ impl Actor {
     /// the first link on which it tells another node.
     ///
     /// The timeline stays lawful, what is green before the round stays, every row begins at or below 100,000, and some row ends
-    /// behind the begin of the next round. An `Err` comes only where memory runs out, and leaves all as it was.
+    /// after the begin of the next round. `Err`: out of memory; all stays as it was.
     ///
     /// docs/RULES.md, "A node's round".
     pub fn commit<P: Planner>(
@@ -211,7 +211,7 @@ impl Actor {
         ensures refused { OnErr result (self.new ≡ self.old) }
         ensures of { IsOf net.now self.new }
     {
-        let plan = planned(
+        let plan = plan_round(
             alloc,
             net,
             self.node,
@@ -234,7 +234,7 @@ impl Actor {
         ensures refused { OnErr result (self.new ≡ self.old) }
         ensures of { IsOf net.now self.new }
     {
-        // What it says of the plan is wanted here, and not the count.
+        // Called for its clause `plan`, and not for the count.
         let _ = net.plan(self.node).count();
         let want = next_told(net, self.node, 0);
         let RoundPlan {
@@ -268,25 +268,29 @@ impl Actor {
     /// What it tells on the link on which it wants to publish: when the vehicles that it has planned to serve will come to that
     /// link's end.
     ///
-    /// An `Err` comes only where memory runs out.
+    /// `Err`: out of memory.
     ///
     /// docs/RULES.md, "A node's round".
     pub fn outgoing(&self, alloc: Global, net: &Network) -> Result<Forecast, AllocError>
         requires of { IsOf net.now self.now }
         requires want { IsPublish self.now.want }
         ensures value { (link : ℕ) → self.now.want ≡ Want.Publish link
-            → IfOk result (λ rows. rows ≡ forecast_of net.now link self.now.sensed.now (departures self.now.window.lists (counts_of self.now.window.lists) self.now.phases self.now.served)) }
+            → IfOk result (λ rows. rows ≡ told_forecast net.now link self.now.sensed.now (departures self.now.window.lists
+            (counts_of self.now.window.lists) self.now.phases self.now.served)) }
     {
         let Want::Publish(link) = self.want else {
             unreachable!()
+        };
+        let servings = Servings {
+            phases: self.phases.as_slice(),
+            served: self.served.as_slice(),
         };
         forecast(
             alloc,
             net,
             self.node,
             &self.window,
-            self.phases.as_slice(),
-            self.served.as_slice(),
+            &servings,
             link,
             self.sensed.now,
         )
@@ -296,11 +300,13 @@ impl Actor {
     /// no memory.
     ///
     /// docs/RULES.md, "A node's round".
-    pub fn sent(&mut self, net: &Network)
+    pub fn note_sent(&mut self, net: &Network)
         requires of { IsOf net.now self.old }
         requires want { IsPublish self.old.want }
-        ensures tells { (place : ℕ) → self.old.want ≡ told_at net.now self.old.node place → self.new.want ≡ told_at net.now self.old.node (place + 1) }
-        ensures next { (link : ℕ) → self.old.want ≡ Want.Publish link → self.new ≡ wanting (tells_from net.now self.old.node (link + 1)) self.old }
+        ensures tells { (place : ℕ) → self.old.want ≡ told_at net.now self.old.node place
+            → self.new.want ≡ told_at net.now self.old.node (place + 1) }
+        ensures next { (link : ℕ) → self.old.want ≡ Want.Publish link
+            → self.new ≡ wanting (tells_from net.now self.old.node (link + 1)) self.old }
         ensures of { IsOf net.now self.new }
     {
         let Want::Publish(link) = self.want else {

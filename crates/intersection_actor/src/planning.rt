@@ -43,7 +43,7 @@ pub(crate) struct RoundPlan {
 }
 
 /// What a node plans from its line, what it senses and what it has heard.
-pub(crate) fn planned<P: Planner>(
+pub(crate) fn plan_round<P: Planner>(
     alloc: Global,
     net: &Network,
     node: u32,
@@ -61,13 +61,13 @@ pub(crate) fn planned<P: Planner>(
     ensures { IfOk result (IsPlanned net.now node line.now sensed.entry.now heard.now) }
 {
     let plan = net.plan(node);
-    // What it says of the plan is wanted here, and not the count.
+    // Called for its clause `plan`, and not for the count.
     let _ = plan.count();
     let until = sensed.now + net.run().look;
     let head = head_at(plan, line, sensed.now);
-    let window = expected(alloc, net, node, sensed, heard)?;
+    let window = expected_window(alloc, net, node, sensed, heard)?;
     let instance = problem(alloc, plan, &head, &window)?;
-    let schedule = scheduled(alloc, planner, &instance)?;
+    let schedule = best_schedule(alloc, planner, &instance)?;
     let next = next_line(alloc, plan, &head, &schedule, until)?;
     Ok(RoundPlan {
         window,
@@ -79,7 +79,7 @@ pub(crate) fn planned<P: Planner>(
 }
 
 /// The window of the platoons that a node expects.
-fn expected(
+fn expected_window(
     alloc: Global,
     net: &Network,
     node: u32,
@@ -91,7 +91,7 @@ fn expected(
     requires heard { IsHeardOf net.now node heard.now }
     ensures { IfOk result (IsExpected net.now node sensed.entry.now heard.now) }
 {
-    // What it says of the plan is wanted here, and not the count.
+    // Called for its clause `plan`, and not for the count.
     let _ = net.plan(node).count();
     let lists = platoons(alloc, net, node, sensed, heard)?;
     window(alloc, lists)
@@ -110,6 +110,7 @@ fn problem(
     requires plannable { ArePlannable (cluster_lists window.now.lists) }
     ensures { IfOk result (λ i. i ≡ record { plan = plan.now; head = head.now; lists = cluster_lists window.now.lists }) }
 {
+    // Called for its clause `plan`, and not for the count.
     let _ = plan.count();
     let lists = cluster_lists(alloc, window.lists.as_slice())?;
     let copy = plan.copy(alloc)?;
@@ -138,16 +139,17 @@ fn clusters_of(alloc: Global, list: &[Platoon]) -> Result<Vec<Cluster>, AllocErr
 }
 
 /// The best answer of an instance, and what it serves.
-fn scheduled<P: Planner>(
+fn best_schedule<P: Planner>(
     alloc: Global,
     planner: &mut P,
     i: &Instance,
 ) -> Result<Schedule, AllocError>
     ensures { IfOk result (IsScheduled i.now) }
 {
+    // Called for its clause `instance`, and not for the head.
     let _ = i.head();
     let answer = best_answer(alloc, planner, i)?;
-    let served = served_by(alloc, i, &answer)?;
+    let served = servings_of(alloc, i, &answer)?;
     let phases = phases_of(alloc, &answer)?;
     Ok(Schedule {
         answer,
@@ -157,10 +159,11 @@ fn scheduled<P: Planner>(
 }
 
 /// What the best answer of an instance serves.
-fn served_by(alloc: Global, i: &Instance, answer: &Answer) -> Result<Vec<Served>, AllocError>
+fn servings_of(alloc: Global, i: &Instance, answer: &Answer) -> Result<Vec<Served>, AllocError>
     requires { IsBest i.now answer.now }
     ensures { IfOk result (λ served. AreServedBy i.now answer.now served.items) }
 {
+    // Called for its clause `instance`, and not for the head.
     let _ = i.head();
     let Answer::Plan { sequence, .. } = answer else {
         return Ok(Vec::new(alloc));

@@ -23,7 +23,7 @@ pub(crate) fn heard_links(alloc: Global, net: &Network, node: u32) -> Result<Vec
     Ok(heard)
 }
 
-/// What a node wants that has read so many of these links.
+/// What a node wants that has read the first `count` of these links.
 pub(crate) fn next_read(links: &[u32], count: usize) -> Want
     ensures { result ≡ reading (drop count links.now) }
 {

@@ -11,7 +11,7 @@ use Rattle.net_numbers.specs.Numbers.{Net}
 use Rattle.net_simulator.specs.Arriving.{arriving_of}
 use Rattle.net_simulator.specs.Flow.{past_of}
 use Rattle.net_simulator.specs.Senses.{sense}
-use Rattle.net_simulator.specs.Worlds.{IsWorldOf, Kept, Stands, standing_by}
+use Rattle.net_simulator.specs.Worlds.{IsWorldOf, WorldState, Stands, standing_by}
 use Rattle.road_net.specs.Network.{IsNetwork, heard_links}
 use Rattle.runs.specs.Runs.{line_before}
 use Rattle.runs.proofs.Agree.{SameBefore}
@@ -25,7 +25,7 @@ use Rattle.net_core.proofs.Prefixes.{Begun}
 use Rattle.net_core.proofs.Put.{put, put-node, put-round}
 use Rattle.net_core.proofs.Running.{commit-on}
 
-module _ (net : Net) (network : IsNetwork net) (arrivals : Amounts) (history : List ℕ) (round : ℕ) (boards : List Board) (world : Kept) where
+module _ (net : Net) (network : IsNetwork net) (arrivals : Amounts) (history : List ℕ) (round : ℕ) (boards : List Board) (world : WorldState) where
   -- a node begins the round
   module _ (actors : List Acting) (i : ℕ) (inside : i < length net.node_names) (b : Begins net arrivals history round actors boards world i) where
     pub begin-world : AreArrivals net arrivals → IsWorldOf net world

@@ -8,7 +8,7 @@ use Rattle.std.proofs.lemmas.List.{get_or_append_left, length_push}
 use Rattle.std.proofs.lemmas.List.Elements.{Contains-append_left, Contains-push}
 use Rattle.arrivals.specs.Amounts.{Amounts}
 use Rattle.board_model.specs.declared.boards.Heard.{Heard}
-use Rattle.board_model.specs.declared.forecasts.Row.{Row}
+use Rattle.board_model.specs.declared.forecasts.ForecastRow.{ForecastRow}
 use Rattle.histories.specs.Histories.{count, round_at, step_at, version_at}
 use Rattle.histories.specs.Steps.{board_steps, is_publish_of, publisher}
 use Rattle.histories.specs.declared.steps.BoardStep.{BoardStep}
@@ -18,7 +18,7 @@ use Rattle.intersection_actor.specs.Commits.{Commitment}
 use Rattle.net_numbers.specs.Numbers.{Net}
 use Rattle.net_numbers.specs.Outline.{link_at}
 use Rattle.net_simulator.specs.Arriving.{arriving_of}
-use Rattle.net_simulator.specs.Worlds.{Kept}
+use Rattle.net_simulator.specs.Worlds.{WorldState}
 use Rattle.road_net.specs.Network.{IsNetwork, heard_links}
 use Rattle.runs.specs.Runs.{HearAlong, forecast_at, hearing, shown_by, told_in}
 use Rattle.runs.proofs.Agree.{SameBefore, commits-moved}
@@ -32,7 +32,7 @@ use Rattle.net_core.proofs.Put.{put, put-here, put-node, put-round}
 contains-moved : (heard : ℕ → ℕ → List Heard) (r s m n : ℕ) (x y : Heard) → r ≡ s → m ≡ n → x ≡ y → Contains (heard r m) x → Contains (heard s n) y
 contains-moved heard r s m n x y e f g c = subst (Contains (heard s n)) g (subst (λ k. Contains (heard s k) x) f (subst (λ k. Contains (heard k m) x) e c))
 
-module _ (net : Net) (network : IsNetwork net) (arrivals : Amounts) (heard : ℕ → ℕ → List Heard) (made : ℕ → ℕ → Commitment) (p : List ℕ) (round : ℕ) (boards : List Board) (world : Kept)
+module _ (net : Net) (network : IsNetwork net) (arrivals : Amounts) (heard : ℕ → ℕ → List Heard) (made : ℕ → ℕ → Commitment) (p : List ℕ) (round : ℕ) (boards : List Board) (world : WorldState)
     (way : Begun net network round p) (is : IsRunning net arrivals heard made p round boards world) (n : ℕ) where
   -- what was heard at the places before stays, where each node has heard at least as much
   along-before : (seen : ℕ → ℕ → List Heard) → ((r m : ℕ) (x : Heard) → Contains (heard r m) x → Contains (seen r m) x) → (place link : ℕ) → place < length p
@@ -198,7 +198,7 @@ module _ (net : Net) (network : IsNetwork net) (arrivals : Amounts) (heard : ℕ
       along = λ place link inside step.
           let ends = ends-at net network p round way place link inside step in
           let v : ℕ = version_at (board_steps net) p link place in
-          subst (Contains (heard (round_at (board_steps net) p place) (get_or p place 0))) (ap (λ (f : List Row). record { link = link; version = v; forecast = f }) (forecast-same link ends.teller (get_or p place 0) ends.from ends.to v (version-rises (board_steps net) p link place (length p) (omega arith))))
+          subst (Contains (heard (round_at (board_steps net) p place) (get_or p place 0))) (ap (λ (f : List ForecastRow). record { link = link; version = v; forecast = f }) (forecast-same link ends.teller (get_or p place 0) ends.from ends.to v (version-rises (board_steps net) p link place (length p) (omega arith))))
           (is.along place link inside step);
       boards_are = record {
         all = is.boards_are.all;

@@ -18,8 +18,8 @@ use Rattle.net_numbers.specs.Numbers.{Net}
 use Rattle.net_simulator.specs.Arriving.{arriving_of}
 use Rattle.net_simulator.specs.Flow.{past_of}
 use Rattle.net_simulator.specs.Senses.{sense}
-use Rattle.net_simulator.specs.Worlds.{IsWorldOf, Kept, Stands, standing_by}
-use Rattle.outflow.specs.Outflow.{departures, forecast_of}
+use Rattle.net_simulator.specs.Worlds.{IsWorldOf, WorldState, Stands, standing_by}
+use Rattle.outflow.specs.Outflow.{departures, told_forecast}
 use Rattle.road_net.specs.Network.{IsNetwork, heard_links, told_links}
 use Rattle.runs.specs.Runs.{line_before}
 use Rattle.runs.proofs.Heard.{heard-ends}
@@ -77,7 +77,7 @@ module _ (net : Net) (network : IsNetwork net) (arrivals : Amounts) (p : Parts) 
       pub end-stands : Stands net (arriving_of arrivals) (standing_by (lines_of p.actors.all.items)) p.world
       end-stands = over-before net network arrivals p.history.items p.round p.actors.all.items p.boards.items p.world i done no_acting
 
-      pub end-between : (moved : Kept) → moved.second ≡ p.world.second + net.run.step → Stands net (arriving_of arrivals) (standing_by (lines_of p.actors.all.items)) moved
+      pub end-between : (moved : WorldState) → moved.second ≡ p.world.second + net.run.step → Stands net (arriving_of arrivals) (standing_by (lines_of p.actors.all.items)) moved
           → Between net arrivals p.history.items (p.round + 1) p.actors.all.items p.boards.items moved
       end-between moved second stands = round-over net network arrivals p.history.items p.round p.actors.all.items p.boards.items p.world i done moved no_acting second stands
 
@@ -160,7 +160,7 @@ module _ (net : Net) (network : IsNetwork net) (arrivals : Amounts) (p : Parts) 
 
       pub on-told : {E : Type 0} (r : Result (Unit {0}) E) (link : ℕ) (b nb : Board) (old new : Acting) → Wants p n (Publish link) → b ≡ get_or p.boards.items link b → old ≡ get_or p.actors.all.items n old → IsOf net new
           → OnOk r (new ≡ wanting (tells_from net old.node (link + 1)) old) → OnOk r (nb.version ≡ b.version + 1)
-          → OnOk r (nb.forecast ≡ forecast_of net link old.sensed.now (departures old.window.lists (counts_of old.window.lists) old.phases old.served))
+          → OnOk r (nb.forecast ≡ told_forecast net link old.sensed.now (departures old.window.lists (counts_of old.window.lists) old.phases old.served))
           → OnOk r (InRound net arrivals (p.history.items ++ n ∷ []) p.round (set p.actors.all.items n new) (set p.boards.items link nb) p.world)
       on-told r link b nb old new wants board is of_new told version forecast =
           on-three r (tell-next net network arrivals p.history.items p.round p.actors.all.items p.boards.items p.world i n below old (at-any p.actors.all.items n old actor-there is) link b nb new (want-at (Publish link) wants old is)

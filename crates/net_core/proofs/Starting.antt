@@ -10,7 +10,7 @@ use Rattle.net_numbers.specs.Numbers.{Net, no_link}
 use Rattle.net_numbers.specs.Outline.{link_at}
 use Rattle.net_numbers.specs.declared.roads.Link.{Link}
 use Rattle.net_simulator.specs.Arriving.{arriving_of}
-use Rattle.net_simulator.specs.Worlds.{Kept, Stands}
+use Rattle.net_simulator.specs.Worlds.{WorldState, Stands}
 use Rattle.road_net.specs.Network.{IsNetwork}
 use Rattle.runs.specs.Runs.{forecast_at, shown_by}
 use Rattle.round_calls.specs.Resting.{AreNew}
@@ -25,7 +25,7 @@ link-there net l t to = elim (cases_lt l (length net.links)) [
   | inr past ↦ absurd (let e : None ≡ Some t = sym (ap (λ (k : Link). k.to) (get_or_past net.links l no_link past)) ∙ to in cc)
 ]
 
-pub at-first : (net : Net) → IsNetwork net → (arrivals : Amounts) (history : List ℕ) (actors : List Acting) (boards : List Board) (world : Kept) → history ≡ [] → AreNew net (length net.node_names) actors → AreBlank (length net.link_names) boards
+pub at-first : (net : Net) → IsNetwork net → (arrivals : Amounts) (history : List ℕ) (actors : List Acting) (boards : List Board) (world : WorldState) → history ≡ [] → AreNew net (length net.node_names) actors → AreBlank (length net.link_names) boards
     → world.second ≡ 0 → ((arriving : ℕ → ℕ → ℕ) (shown : ℕ → ℕ → Option (ℕ × ℕ)) → Stands net arriving shown world) → Between net arrivals history 0 actors boards world
 at-first net network arrivals history actors boards world none new blank second stands = record {
   heard = λ r n. [];

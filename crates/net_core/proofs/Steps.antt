@@ -4,9 +4,9 @@ use Rattle.std.proofs.lemmas.Bool.{cases_eq, cases_lt}
 use Rattle.std.proofs.lemmas.List.{drop_all, drop_more, get_or-append_right, get_or-map, length-map, length-drop}
 use Rattle.arrivals.specs.Amounts.{Amounts}
 use Rattle.board_model.specs.declared.boards.Heard.{Heard}
-use Rattle.board_model.specs.declared.forecasts.Row.{Row}
+use Rattle.board_model.specs.declared.forecasts.ForecastRow.{ForecastRow}
 use Rattle.clusters.specs.Windows.{counts_of}
-use Rattle.clusters.specs.declared.shapes.Window.{Window}
+use Rattle.clusters.specs.declared.vehicle_groups.Window.{Window}
 use Rattle.control_flow.specs.Greens.{standing}
 use Rattle.control_flow.specs.declared.greens.Green.{Green}
 use Rattle.histories.specs.Histories.{count, HasRounds, IsRound, version_at}
@@ -21,8 +21,8 @@ use Rattle.intersection_actor.specs.declared.records.Want.{Want}
 use Rattle.intersection_actor.specs.declared.records.Want.TheVariants.{Read, Commit, Publish, Done}
 use Rattle.net_numbers.specs.Numbers.{Net}
 use Rattle.net_simulator.specs.Arriving.{arriving_of}
-use Rattle.net_simulator.specs.Worlds.{Kept, Stands, standing_by}
-use Rattle.outflow.specs.Outflow.{departures, forecast_of}
+use Rattle.net_simulator.specs.Worlds.{WorldState, Stands, standing_by}
+use Rattle.outflow.specs.Outflow.{departures, told_forecast}
 use Rattle.road_net.specs.Network.{IsNetwork, heard_links, told_links}
 use Rattle.switch_rules.specs.declared.Served.{Served}
 use Rattle.runs.specs.Runs.{AllCommit, Commits, forecast_at, hearing, line_before, shown_by, told_in}
@@ -59,7 +59,7 @@ link_in (Publish l) = l
 link_in Done = 0
 
 -- what is heard of a link
-abbrev heard_of : ℕ → ℕ → List Row → Heard
+abbrev heard_of : ℕ → ℕ → List ForecastRow → Heard
 heard_of k v f = record { link = k; version = v; forecast = f }
 
 apart : true ≡ false → ⊥
@@ -82,7 +82,7 @@ told-step net n c past inside =
     get_or-append_right (map steps.Read (heard_links net n)) (map steps.Publish (told_links net n)) (length (heard_links net n)) c (steps.Read 0) reads past
     ∙ get_or-map steps.Publish (told_links net n) (c - length (heard_links net n)) 0 (steps.Read 0) inside
 
-module _ (net : Net) (network : IsNetwork net) (arrivals : Amounts) (history : List ℕ) (round : ℕ) (actors : List Acting) (boards : List Board) (world : Kept) (i : InRound net arrivals history round actors boards world) where
+module _ (net : Net) (network : IsNetwork net) (arrivals : Amounts) (history : List ℕ) (round : ℕ) (actors : List Acting) (boards : List Board) (world : WorldState) (i : InRound net arrivals history round actors boards world) where
   abbrev pub way : Begun net network round history
   way = record { early = i.early; part = i.part; whole = i.whole; rounds_done = i.rounds_done; within = i.within; most = (let less = i.below in omega arith); over = λ e. absurd (let less = i.below in omega arith) }
 
@@ -220,7 +220,7 @@ module _ (net : Net) (network : IsNetwork net) (arrivals : Amounts) (history : L
     -- it publishes
     pub tell-next : (l : ℕ) (b nb : Board) (new : Acting) → old.want ≡ Publish l → ((d : Board) → get_or boards l d ≡ b) → IsOf net new
         → new ≡ wanting (tells_from net old.node (l + 1)) old → nb.version ≡ b.version + 1
-        → nb.forecast ≡ forecast_of net l old.sensed.now (departures old.window.lists (counts_of old.window.lists) old.phases old.served)
+        → nb.forecast ≡ told_forecast net l old.sensed.now (departures old.window.lists (counts_of old.window.lists) old.phases old.served)
         → InRound net arrivals (history ++ n ∷ []) round (set actors n new) (set boards l nb) world
     unfolding is_publish link_in
     tell-next l b nb new want board of_new new_is version forecast = elim plays.stage [
@@ -238,11 +238,11 @@ module _ (net : Net) (network : IsNetwork net) (arrivals : Amounts) (history : L
             let old_version : b.version ≡ version_at (board_steps net) history L (length history) = ap (λ (y : Board). y.version) (sym there) ∙ i.running.boards_are.versions L n ends.hearer b ends.from ends.to in
             let told : nb.forecast ≡ told_in net round L (i.made round n) =
             forecast
-            ∙ ap (λ z. forecast_of net z old.sensed.now (departures old.window.lists (counts_of old.window.lists) old.phases old.served)) (sym same)
-            ∙ ap (λ z. forecast_of net L z (departures old.window.lists (counts_of old.window.lists) old.phases old.served)) x.now
-            ∙ ap (λ (w : Window). forecast_of net L (round * net.run.step) (departures w.lists (counts_of w.lists) old.phases old.served)) x.window
-            ∙ ap (λ (z : List ℕ). forecast_of net L (round * net.run.step) (departures (i.made round n).window.lists (counts_of (i.made round n).window.lists) z old.served)) x.phases
-            ∙ ap (λ (z : List Served). forecast_of net L (round * net.run.step) (departures (i.made round n).window.lists (counts_of (i.made round n).window.lists) (phases_of (i.made round n).answer) z)) x.served in
+            ∙ ap (λ z. told_forecast net z old.sensed.now (departures old.window.lists (counts_of old.window.lists) old.phases old.served)) (sym same)
+            ∙ ap (λ z. told_forecast net L z (departures old.window.lists (counts_of old.window.lists) old.phases old.served)) x.now
+            ∙ ap (λ (w : Window). told_forecast net L (round * net.run.step) (departures w.lists (counts_of w.lists) old.phases old.served)) x.window
+            ∙ ap (λ (z : List ℕ). told_forecast net L (round * net.run.step) (departures (i.made round n).window.lists (counts_of (i.made round n).window.lists) z old.served)) x.phases
+            ∙ ap (λ (z : List Served). told_forecast net L (round * net.run.step) (departures (i.made round n).window.lists (counts_of (i.made round n).window.lists) (phases_of (i.made round n).answer) z)) x.served in
             let runs : IsRunning net arrivals i.heard i.made (history ++ n ∷ []) round (set boards L nb) world =
             tell-on net network arrivals i.heard i.made history round boards world way i.running n c L ends.hearer refl small ends.from ends.to (let e = network.outline.road_count in let z = ends.exists in omega arith) (told-step net n c enough inside) nb (version ∙ ap (λ z. z + 1) old_version) told in
             let next : Plays net arrivals i.heard i.made round (c + 1) n new =
@@ -321,7 +321,7 @@ module _ (net : Net) (network : IsNetwork net) (arrivals : Amounts) (history : L
         earlier x less = (let e : (round + 1) * net.run.step ≡ round * net.run.step + net.run.step = omega arith in omega (arith, e, i.running.second))
 
     -- so the next round can begin
-    pub round-over : (moved : Kept) (d : Acting) → moved.second ≡ world.second + net.run.step → Stands net (arriving_of arrivals) (standing_by (lines_of actors)) moved → Between net arrivals history (round + 1) actors boards moved
+    pub round-over : (moved : WorldState) (d : Acting) → moved.second ≡ world.second + net.run.step → Stands net (arriving_of arrivals) (standing_by (lines_of actors)) moved → Between net arrivals history (round + 1) actors boards moved
     round-over moved d second stands =
         let now : moved.second ≡ (round + 1) * net.run.step = (let e : (round + 1) * net.run.step ≡ round * net.run.step + net.run.step = omega arith in omega (arith, e, second, i.running.second)) in
         let one : suc round ≡ round + 1 = omega arith in

@@ -13,7 +13,7 @@ use Rattle.intersection_actor.specs.declared.records.Want.TheVariants.{Publish, 
 use Rattle.net_numbers.specs.Numbers.{Net}
 use Rattle.net_numbers.specs.Outline.{link_at}
 use Rattle.net_simulator.specs.Arriving.{arriving_of}
-use Rattle.net_simulator.specs.Worlds.{Kept, Stands}
+use Rattle.net_simulator.specs.Worlds.{WorldState, Stands}
 use Rattle.road_net.specs.Network.{heard_links, told_links}
 use Rattle.runs.specs.Runs.{AllCommit, Commits, HearAlong, forecast_at, line_before, sensed_in, shown_by}
 use Rattle.ended_runs.specs.Ending.{HasRoom}
@@ -71,7 +71,7 @@ pub record HasBoards (net : Net) (made : ℕ → ℕ → Commitment) (history : 
 
 -- What holds of a run whose first rounds are done, whatever its nodes do in the next: their commits, what was heard along the
 -- history, the boards, and the world at the begin of the next round.
-pub record IsRunning (net : Net) (arrivals : Amounts) (heard : ℕ → ℕ → List Heard) (made : ℕ → ℕ → Commitment) (history : List ℕ) (done : ℕ) (boards : List Board) (world : Kept) : Type 0 where
+pub record IsRunning (net : Net) (arrivals : Amounts) (heard : ℕ → ℕ → List Heard) (made : ℕ → ℕ → Commitment) (history : List ℕ) (done : ℕ) (boards : List Board) (world : WorldState) : Type 0 where
   pub commits : AllCommit net arrivals heard made done
   pub along : HearAlong net history heard made
   pub boards_are : HasBoards net made history boards
@@ -79,7 +79,7 @@ pub record IsRunning (net : Net) (arrivals : Amounts) (heard : ℕ → ℕ → L
   pub stands : Stands net (arriving_of arrivals) (shown_by net made) world
 
 -- Within a round: so many rounds are done, and of the next one a part; each node has played as much of it as it stands in it.
-pub record InRound (net : Net) (arrivals : Amounts) (history : List ℕ) (round : ℕ) (actors : List Acting) (boards : List Board) (world : Kept) : Type 0 where
+pub record InRound (net : Net) (arrivals : Amounts) (history : List ℕ) (round : ℕ) (actors : List Acting) (boards : List Board) (world : WorldState) : Type 0 where
   pub heard : ℕ → ℕ → List Heard
   pub made : ℕ → ℕ → Commitment
   pub early : List ℕ
@@ -94,7 +94,7 @@ pub record InRound (net : Net) (arrivals : Amounts) (history : List ℕ) (round 
   pub plays : (node : ℕ) (d : Acting) → node < length net.node_names → Plays net arrivals heard made round (count node part) node (slice_index_or actors node d)
 
 -- Between two rounds: so many are done, and each node rests.
-pub record Between (net : Net) (arrivals : Amounts) (history : List ℕ) (round : ℕ) (actors : List Acting) (boards : List Board) (world : Kept) : Type 0 where
+pub record Between (net : Net) (arrivals : Amounts) (history : List ℕ) (round : ℕ) (actors : List Acting) (boards : List Board) (world : WorldState) : Type 0 where
   pub heard : ℕ → ℕ → List Heard
   pub made : ℕ → ℕ → Commitment
   pub rounds_done : HasRounds (board_steps net) round history
@@ -105,7 +105,7 @@ pub record Between (net : Net) (arrivals : Amounts) (history : List ℕ) (round 
   pub rests : (node : ℕ) (d : Acting) → node < length net.node_names → Rests net heard made round node (slice_index_or actors node d)
 
 -- A round begins: the nodes before this one have begun it, and the others rest.
-pub record Begins (net : Net) (arrivals : Amounts) (history : List ℕ) (round : ℕ) (actors : List Acting) (boards : List Board) (world : Kept) (first : ℕ) : Type 0 where
+pub record Begins (net : Net) (arrivals : Amounts) (history : List ℕ) (round : ℕ) (actors : List Acting) (boards : List Board) (world : WorldState) (first : ℕ) : Type 0 where
   pub heard : ℕ → ℕ → List Heard
   pub made : ℕ → ℕ → Commitment
   pub rounds_done : HasRounds (board_steps net) round history
@@ -123,7 +123,7 @@ pub record IsOpen (actors : List Acting) : Type 0 where
   pub wants : (d : Acting) → (slice_index_or actors node d).want ≢ Done
 
 -- A core that is not spent is in a round in which some node wants something, or behind the last round.
-abbrev pub Goes : Net → Amounts → List ℕ → ℕ → List Acting → List Board → Kept → Type 0
+abbrev pub Goes : Net → Amounts → List ℕ → ℕ → List Acting → List Board → WorldState → Type 0
 Goes net arrivals history round actors boards world =
     (InRound net arrivals history round actors boards world × IsOpen actors) ⊎ (Between net arrivals history round actors boards world × (round ≡ net.run.rounds))
 

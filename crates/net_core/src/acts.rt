@@ -9,7 +9,7 @@ ghost use Rattle.net_core.specs.Acts.{Settles};
 ghost use Rattle.net_simulator.specs.Flow.{past_of};
 ghost use Rattle.net_simulator.specs.Senses.{sense};
 ghost use Rattle.net_simulator.specs.Worlds.{IsWorldOf, Stands, standing_by};
-ghost use Rattle.outflow.specs.Outflow.{departures, forecast_of};
+ghost use Rattle.outflow.specs.Outflow.{departures, told_forecast};
 ghost use Rattle.road_net.specs.Network.{heard_links};
 
 use crate::parts::Board;
@@ -99,11 +99,11 @@ pub(crate) fn tell(
     requires room { board.old.version < 1000 }
     ensures told { OnOk result (actor.new ≡ wanting (tells_from net.now actor.old.node (link + 1)) actor.old) }
     ensures version { OnOk result (board.new.version ≡ board.old.version + 1) }
-    ensures forecast { OnOk result (board.new.forecast ≡ forecast_of net.now link actor.old.sensed.now (departures actor.old.window.lists (counts_of actor.old.window.lists) actor.old.phases actor.old.served)) }
+    ensures forecast { OnOk result (board.new.forecast ≡ told_forecast net.now link actor.old.sensed.now (departures actor.old.window.lists (counts_of actor.old.window.lists) actor.old.phases actor.old.served)) }
     ensures of { IsOf net.now actor.new }
 {
     let forecast = actor.outgoing(alloc, net)?;
-    actor.sent(net);
+    actor.note_sent(net);
     board.version += 1;
     board.forecast = forecast;
     Ok(())

@@ -15,8 +15,8 @@ use Rattle.net_draft.specs.Table.{NodeForm, LinkForm, TopForm, top_form, run_of,
 use Rattle.net_draft.specs.declared.drafts.Draft.{Draft}
 use Rattle.net_draft.specs.declared.faults.NetFault.{NetFault}
 use Rattle.net_draft.specs.declared.faults.NetFault.TheVariants.{NoMemory, Shape}
-use Rattle.net_draft.specs.declared.faults.Part.{Part}
-use Rattle.net_draft.specs.declared.faults.Part.TheVariants.{Top, Run, Node, Phase, Link, Turn, Conflict}
+use Rattle.net_draft.specs.declared.faults.Section.{Section}
+use Rattle.net_draft.specs.declared.faults.Section.TheVariants.{Top, Run, Node, Phase, Link, Turn, Conflict}
 use Rattle.net_draft.specs.declared.faults.Place.{Place}
 
 -- what a fault says of its place
@@ -74,7 +74,7 @@ turns-fault d link item number named is among =
 
 module _ (ms : Members) (top : TopForm) (form : top_form ms ≡ Some top) where
   -- a fault of the tables within the file is its fault
-  within : (part : Part) (item sub : ℕ) → IsFaultWithin top part item sub → IsShapeFault ms part item sub
+  within : (part : Section) (item sub : ℕ) → IsFaultWithin top part item sub → IsShapeFault ms part item sub
   within Top item sub h = absurd h
   within Run item sub h = and-some (λ top. IsFaultWithin top Run item sub) (top_form ms) top form h
   within Node item sub h = and-some (λ top. IsFaultWithin top Node item sub) (top_form ms) top form h
@@ -87,7 +87,7 @@ module _ (ms : Members) (top : TopForm) (form : top_form ms ≡ Some top) where
   run-fault none = within Run 0 0 (refl, refl, none)
 
   module _ (run : IsSome (run_of top.run)) where
-    node-within : (part : Part) (item sub : ℕ) → IsAfterRead node_of (λ d. IsNodeFault d part sub) top.nodes item → IsFaultWithin top part item sub
+    node-within : (part : Section) (item sub : ℕ) → IsAfterRead node_of (λ d. IsNodeFault d part sub) top.nodes item → IsFaultWithin top part item sub
     node-within Node item sub h = (run, h)
     node-within Phase item sub h = (run, h)
     node-within _ item sub h = absurd h.at.here
@@ -98,7 +98,7 @@ module _ (ms : Members) (top : TopForm) (form : top_form ms ≡ Some top) where
         within named.part named.item named.sub (node-within named.part named.item named.sub (after node_of IsNodeAtFault 0 named top.nodes named.item (λ d. IsNodeFault d named.part named.sub) among among.first.here.0 (λ d h. h.1)))
 
     module _ (nodes : IsSome (each node_of top.nodes)) where
-      link-within : (part : Part) (item sub : ℕ) → IsAfterRead link_of (λ d. IsLinkFault d part sub) top.links item → IsFaultWithin top part item sub
+      link-within : (part : Section) (item sub : ℕ) → IsAfterRead link_of (λ d. IsLinkFault d part sub) top.links item → IsFaultWithin top part item sub
       link-within Link item sub h = (run, nodes, h)
       link-within Turn item sub h = (run, nodes, h)
       link-within _ item sub h = absurd h.at.here
@@ -115,7 +115,7 @@ module _ (ms : Members) (top : TopForm) (form : top_form ms ≡ Some top) where
           subst (λ (n : Place). IsShapeFault ms n.part n.item n.sub) (sym among.first.here.0) (within Conflict (ordinal among.index) 0 (run, nodes, links, refl, first))
 
 -- a node with a fault is not read, nor is a link
-node-none : (d : Data) (part : Part) (sub : ℕ) → IsNodeFault d part sub → node_of d ≡ None
+node-none : (d : Data) (part : Section) (sub : ℕ) → IsNodeFault d part sub → node_of d ≡ None
 unfolding node_of
 node-none d Node sub h = rw h.1 refl
 node-none d Phase sub h =
@@ -123,7 +123,7 @@ node-none d Phase sub h =
     rw (is, none-after phase_of (λ x. phase_of x ≡ None) node.phases sub (λ x no. no) first) refl
 node-none d _ sub h = absurd h
 
-link-none : (d : Data) (part : Part) (sub : ℕ) → IsLinkFault d part sub → link_of d ≡ None
+link-none : (d : Data) (part : Section) (sub : ℕ) → IsLinkFault d part sub → link_of d ≡ None
 unfolding link_of
 link-none d Link sub h = rw h.1 refl
 link-none d Turn sub h =
@@ -131,8 +131,8 @@ link-none d Turn sub h =
     rw (is, none-after turn_of (λ x. turn_of x ≡ None) link.turns sub (λ x no. no) first) refl
 link-none d _ sub h = absurd h
 
-abbrev behind : TopForm → Option Draft
-behind top = do
+abbrev within_top : TopForm → Option Draft
+within_top top = do
   run ← run_of top.run
   nodes ← each node_of top.nodes
   links ← each link_of top.links
@@ -140,35 +140,35 @@ behind top = do
   Some (record { run = run; nodes = nodes; links = links; conflicts = conflicts })
 
 -- a file with a fault in the tables within it has no draft
-behind-none : (top : TopForm) (part : Part) (item sub : ℕ) → IsFaultWithin top part item sub → behind top ≡ None
-behind-none top Top item sub h = absurd h
-behind-none top Run item sub h = rw h.2 refl
-behind-none top Node item sub h =
+within_top-none : (top : TopForm) (part : Section) (item sub : ℕ) → IsFaultWithin top part item sub → within_top top ≡ None
+within_top-none top Top item sub h = absurd h
+within_top-none top Run item sub h = rw h.2 refl
+within_top-none top Node item sub h =
     let nodes = none-after node_of (λ d. IsNodeFault d Node sub) top.nodes item (λ d k. node-none d Node sub k) h.1 in
     bind-none (run_of top.run) _ (λ run. rw nodes refl)
-behind-none top Phase item sub h =
+within_top-none top Phase item sub h =
     let nodes = none-after node_of (λ d. IsNodeFault d Phase sub) top.nodes item (λ d k. node-none d Phase sub k) h.1 in
     bind-none (run_of top.run) _ (λ run. rw nodes refl)
-behind-none top Link item sub h =
+within_top-none top Link item sub h =
     let links = none-after link_of (λ d. IsLinkFault d Link sub) top.links item (λ d k. link-none d Link sub k) h.2 in
     bind-none (run_of top.run) _ (λ run. bind-none (each node_of top.nodes) _ (λ nodes. rw links refl))
-behind-none top Turn item sub h =
+within_top-none top Turn item sub h =
     let links = none-after link_of (λ d. IsLinkFault d Turn sub) top.links item (λ d k. link-none d Turn sub k) h.2 in
     bind-none (run_of top.run) _ (λ run. bind-none (each node_of top.nodes) _ (λ nodes. rw links refl))
-behind-none top Conflict item sub h =
+within_top-none top Conflict item sub h =
     let conflicts = none-after conflict_of (λ d. conflict_of d ≡ None) top.conflicts item (λ d no. no) h.4 in
     bind-none (run_of top.run) _ (λ run. bind-none (each node_of top.nodes) _ (λ nodes. bind-none (each link_of top.links) _ (λ links. rw conflicts refl)))
 
 -- and so has one with any fault
-draft-none : (ms : Members) (part : Part) (item sub : ℕ) → IsShapeFault ms part item sub → draft_of ms ≡ None
+draft-none : (ms : Members) (part : Section) (item sub : ℕ) → IsShapeFault ms part item sub → draft_of ms ≡ None
 unfolding draft_of
 draft-none ms Top item sub h = rw h.2 refl
-draft-none ms Run item sub h = let (top, is, at) = some-and (λ top. IsFaultWithin top Run item sub) (top_form ms) h in rw is (behind-none top Run item sub at)
-draft-none ms Node item sub h = let (top, is, at) = some-and (λ top. IsFaultWithin top Node item sub) (top_form ms) h in rw is (behind-none top Node item sub at)
-draft-none ms Phase item sub h = let (top, is, at) = some-and (λ top. IsFaultWithin top Phase item sub) (top_form ms) h in rw is (behind-none top Phase item sub at)
-draft-none ms Link item sub h = let (top, is, at) = some-and (λ top. IsFaultWithin top Link item sub) (top_form ms) h in rw is (behind-none top Link item sub at)
-draft-none ms Turn item sub h = let (top, is, at) = some-and (λ top. IsFaultWithin top Turn item sub) (top_form ms) h in rw is (behind-none top Turn item sub at)
-draft-none ms Conflict item sub h = let (top, is, at) = some-and (λ top. IsFaultWithin top Conflict item sub) (top_form ms) h in rw is (behind-none top Conflict item sub at)
+draft-none ms Run item sub h = let (top, is, at) = some-and (λ top. IsFaultWithin top Run item sub) (top_form ms) h in rw is (within_top-none top Run item sub at)
+draft-none ms Node item sub h = let (top, is, at) = some-and (λ top. IsFaultWithin top Node item sub) (top_form ms) h in rw is (within_top-none top Node item sub at)
+draft-none ms Phase item sub h = let (top, is, at) = some-and (λ top. IsFaultWithin top Phase item sub) (top_form ms) h in rw is (within_top-none top Phase item sub at)
+draft-none ms Link item sub h = let (top, is, at) = some-and (λ top. IsFaultWithin top Link item sub) (top_form ms) h in rw is (within_top-none top Link item sub at)
+draft-none ms Turn item sub h = let (top, is, at) = some-and (λ top. IsFaultWithin top Turn item sub) (top_form ms) h in rw is (within_top-none top Turn item sub at)
+draft-none ms Conflict item sub h = let (top, is, at) = some-and (λ top. IsFaultWithin top Conflict item sub) (top_form ms) h in rw is (within_top-none top Conflict item sub at)
 
 -- what is answered where there is no draft
 pub record IsRefused (ms : Members) (result : Result Draft NetFault) : Type 0 where

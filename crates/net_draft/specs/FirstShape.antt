@@ -5,8 +5,8 @@ use Rattle.toml.specs.Data.{Data, Members}
 use Rattle.foundation.specs.Firsts.{IsFirstAt}
 use Rattle.foundation.specs.Options.{each}
 use Rattle.net_draft.specs.Table.{TopForm, top_form, run_of, node_form, node_of, phase_of, link_form, link_of, turn_of, conflict_of}
-use Rattle.net_draft.specs.declared.faults.Part.{Part}
-use Rattle.net_draft.specs.declared.faults.Part.TheVariants.{Top, Run, Node, Phase, Link, Turn, Conflict}
+use Rattle.net_draft.specs.declared.faults.Section.{Section}
+use Rattle.net_draft.specs.declared.faults.Section.TheVariants.{Top, Run, Node, Phase, Link, Turn, Conflict}
 
 -- the number of the element at an index, counted from 1; a number past the greatest u32 stands as that one
 abbrev pub ordinal : ℕ → ℕ
@@ -28,19 +28,19 @@ abbrev pub IsFirstUnread : {X Y : Type 0} → (X → Option Y) → List X → �
 IsFirstUnread f = IsAfterRead f (λ x. f x ≡ None)
 
 -- the first fault within a node: of its own form, or else of its first phase that is not read
-abbrev pub IsNodeFault : Data → Part → ℕ → Type 0
+abbrev pub IsNodeFault : Data → Section → ℕ → Type 0
 IsNodeFault d Node sub = (sub ≡ 0) × (node_form d ≡ None)
 IsNodeFault d Phase sub = IsSomeAnd (node_form d) (λ node. IsFirstUnread phase_of node.phases sub)
 IsNodeFault d _ sub = ⊥
 
 -- the first fault within a link: of its own form, or else of its first turn that is not read
-abbrev pub IsLinkFault : Data → Part → ℕ → Type 0
+abbrev pub IsLinkFault : Data → Section → ℕ → Type 0
 IsLinkFault d Link sub = (sub ≡ 0) × (link_form d ≡ None)
 IsLinkFault d Turn sub = IsSomeAnd (link_form d) (λ link. IsFirstUnread turn_of link.turns sub)
 IsLinkFault d _ sub = ⊥
 
 -- the first fault of the tables within that of the whole file: the run, then the nodes, the links and the conflicts
-abbrev pub IsFaultWithin : TopForm → Part → ℕ → ℕ → Type 0
+abbrev pub IsFaultWithin : TopForm → Section → ℕ → ℕ → Type 0
 IsFaultWithin top Top item sub = ⊥
 IsFaultWithin top Run item sub = (item ≡ 0) × (sub ≡ 0) × (run_of top.run ≡ None)
 IsFaultWithin top Node item sub = IsSome (run_of top.run) × IsAfterRead node_of (λ d. IsNodeFault d Node sub) top.nodes item
@@ -57,6 +57,6 @@ IsFaultWithin top Conflict item sub =
 
 -- The first fault of the table of the whole file, at the place with this part, item and sub: of its own form, or else of
 -- the tables within it.
-abbrev pub IsShapeFault : Members → Part → ℕ → ℕ → Type 0
+abbrev pub IsShapeFault : Members → Section → ℕ → ℕ → Type 0
 IsShapeFault ms Top item sub = (item ≡ 0) × (sub ≡ 0) × (top_form ms ≡ None)
 IsShapeFault ms part item sub = IsSomeAnd (top_form ms) (λ top. IsFaultWithin top part item sub)

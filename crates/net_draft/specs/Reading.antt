@@ -4,7 +4,7 @@ use Rattle.toml.specs.Data.{Data}
 use Rattle.foundation.specs.Firsts.{IsFirstAt}
 use Rattle.net_draft.specs.FirstShape.{ordinal, IsNodeFault, IsLinkFault}
 use Rattle.net_draft.specs.Table.{phase_of, turn_of, conflict_of}
-use Rattle.net_draft.specs.declared.faults.Part.TheVariants.{Phase, Turn, Conflict}
+use Rattle.net_draft.specs.declared.faults.Section.TheVariants.{Phase, Turn, Conflict}
 use Rattle.net_draft.specs.declared.faults.Place.{Place}
 
 -- The elements of an array in the table of this item: the first that f does not read is at fault, by its number, at the named

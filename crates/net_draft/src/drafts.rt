@@ -23,7 +23,7 @@ impl CrossesThreads for Run {}
 
 /// A road network by names, in the order of its file (docs/FORMATS.md, "Network file").
 ///
-/// It is what stands in the file, so a number, a count or a name may be out of the bounds that are said
+/// It is what stands in the file, so a number, a count or a name may be out of the bounds that are given
 /// here, and a name may stand for nothing. All this is tested when the network is made.
 ///
 /// The name of a node or link has 1 to 16 characters out of a to z, 0 to 9 and `_`.

@@ -4,7 +4,7 @@ use std::alloc::{AllocError, AllocFailed};
 
 /// The parts of a network file: each is a kind of table (docs/FORMATS.md, "Places and faults").
 #[derive(Debug, Clone, Copy, PartialEq, Eq)]
-pub enum Part {
+pub enum Section {
     /// The table of the whole file.
     Top,
     /// The table `run`.
@@ -21,13 +21,13 @@ pub enum Part {
     Conflict,
 }
 
-impl CrossesThreads for Part {}
+impl CrossesThreads for Section {}
 
 /// A table of a network file. A number past the greatest u32 stands as that one.
 #[derive(Debug, Clone, Copy, PartialEq, Eq)]
 pub struct Place {
     /// The kind of table.
-    pub part: Part,
+    pub part: Section,
     /// The number of the node, link or conflict, from 1, and 0 at `Top` and `Run`.
     pub item: u32,
     /// The number of the phase or turn within it, from 1, and 0 elsewhere.
@@ -42,7 +42,7 @@ impl CrossesThreads for Place {}
 /// by their numbers in the order of the file.
 #[derive(Debug, Clone, Copy, PartialEq, Eq)]
 pub enum NetFault {
-    /// Memory ran out. It says nothing of the file or draft.
+    /// Out of memory. It says nothing of the file or draft.
     NoMemory,
     /// The text is no TOML.
     NotToml,

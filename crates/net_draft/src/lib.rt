@@ -8,5 +8,5 @@ mod tables;
 mod values;
 
 pub use drafts::{Draft, DraftConflict, DraftLink, DraftNode, DraftPhase, DraftTurn, Run};
-pub use faults::{NetFault, Part, Place};
+pub use faults::{NetFault, Place, Section};
 pub use tables::read_draft;

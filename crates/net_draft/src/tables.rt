@@ -10,7 +10,7 @@ ghost use Rattle.net_draft.specs.Reading.{IsFaultAmong, IsNodeAtFault, IsPhaseAt
 ghost use Rattle.net_draft.specs.Table as spec;
 
 use crate::drafts::{Draft, DraftConflict, DraftLink, DraftNode, DraftPhase, DraftTurn};
-use crate::faults::{NetFault, Part, Place};
+use crate::faults::{NetFault, Place, Section};
 use crate::forms::{conflict_form, link_form, node_form, phase_form, run_of, top_form, turn_form};
 use foundation::items::Items;
 use foundation::text::Text;
@@ -30,10 +30,10 @@ pub fn read_draft(alloc: Global, table: &Table) -> Result<Draft, NetFault>
         IsShapeFault (table_view table.now) place.part place.item place.sub)) }
 {
     let Some(top) = top_form(table) else {
-        return Err(shape(Part::Top, 0, 0));
+        return Err(shape(Section::Top, 0, 0));
     };
     let Some(run) = run_of(top.run) else {
-        return Err(shape(Part::Run, 0, 0));
+        return Err(shape(Section::Run, 0, 0));
     };
     let nodes = read_all(alloc, top.nodes, 0)?;
     let links = read_all(alloc, top.links, 0)?;
@@ -47,7 +47,7 @@ pub fn read_draft(alloc: Global, table: &Table) -> Result<Draft, NetFault>
 }
 
 /// The fault `Shape` at this place.
-fn shape(part: Part, item: u32, sub: u32) -> NetFault
+fn shape(part: Section, item: u32, sub: u32) -> NetFault
     ensures { result ≡ NetFault.Shape (record { part = part; item = item; sub = sub }) }
 {
     NetFault::Shape(Place { part, item, sub })
@@ -96,10 +96,10 @@ impl Element for DraftNode {
     #[tactic(auto, unfolding(crate::specs::Table::node_of))]
     fn read(alloc: Global, value: &Value, item: u32, number: u32) -> Result<DraftNode, NetFault> {
         let Some((name, phases)) = node_form(value) else {
-            return Err(shape(Part::Node, number, 0));
+            return Err(shape(Section::Node, number, 0));
         };
         let phases = read_all(alloc, phases, number)?;
-        let name = copied(alloc, name)?;
+        let name = copy_text(alloc, name)?;
         Ok(DraftNode {
             name,
             phases: Items::from_vec(phases),
@@ -115,10 +115,10 @@ impl Element for DraftPhase {
     #[tactic(auto, unfolding(crate::specs::Table::phase_of))]
     fn read(alloc: Global, value: &Value, item: u32, number: u32) -> Result<DraftPhase, NetFault> {
         let Some((phase, links)) = phase_form(value) else {
-            return Err(shape(Part::Phase, item, number));
+            return Err(shape(Section::Phase, item, number));
         };
         let Some(links) = texts_of(alloc, links)? else {
-            return Err(shape(Part::Phase, item, number));
+            return Err(shape(Section::Phase, item, number));
         };
         Ok(DraftPhase {
             phase,
@@ -135,13 +135,13 @@ impl Element for DraftLink {
     #[tactic(auto, unfolding(crate::specs::Table::link_of))]
     fn read(alloc: Global, value: &Value, item: u32, number: u32) -> Result<DraftLink, NetFault> {
         let Some(link) = link_form(value) else {
-            return Err(shape(Part::Link, number, 0));
+            return Err(shape(Section::Link, number, 0));
         };
         let turns = read_all(alloc, link.turns, number)?;
         Ok(DraftLink {
-            name: copied(alloc, link.name)?,
-            from: copied_if(alloc, link.from)?,
-            to: copied_if(alloc, link.to)?,
+            name: copy_text(alloc, link.name)?,
+            from: copy_optional_text(alloc, link.from)?,
+            to: copy_optional_text(alloc, link.to)?,
             travel: link.travel,
             sat: link.sat,
             turns: Items::from_vec(turns),
@@ -156,9 +156,9 @@ impl Element for DraftTurn {
 
     fn read(alloc: Global, value: &Value, item: u32, number: u32) -> Result<DraftTurn, NetFault> {
         let Some((exit, share)) = turn_form(value) else {
-            return Err(shape(Part::Turn, item, number));
+            return Err(shape(Section::Turn, item, number));
         };
-        let exit = copied(alloc, exit)?;
+        let exit = copy_text(alloc, exit)?;
         Ok(DraftTurn { exit, share })
     }
 }
@@ -175,10 +175,10 @@ impl Element for DraftConflict {
         number: u32,
     ) -> Result<DraftConflict, NetFault> {
         let Some((a, b)) = conflict_form(value) else {
-            return Err(shape(Part::Conflict, number, 0));
+            return Err(shape(Section::Conflict, number, 0));
         };
-        let a = copied(alloc, a)?;
-        let b = copied(alloc, b)?;
+        let a = copy_text(alloc, a)?;
+        let b = copy_text(alloc, b)?;
         Ok(DraftConflict { a, b })
     }
 }
@@ -192,24 +192,24 @@ fn texts_of(alloc: Global, values: &[Value]) -> Result<Option<Vec<Text>>, AllocE
         let Some(text) = value.as_str() else {
             return Ok(None);
         };
-        texts.push(copied(alloc, text)?)?;
+        texts.push(copy_text(alloc, text)?)?;
     }
     Ok(Some(texts))
 }
 
 /// A copy of the text.
-fn copied(alloc: Global, text: &str) -> Result<Text, AllocError>
+fn copy_text(alloc: Global, text: &str) -> Result<Text, AllocError>
     ensures { IfOk result (λ copy. copy ≡ text.now) }
 {
     Ok(Text::from_string(String::from_str(alloc, text)?))
 }
 
 /// A copy of the text, where there is one.
-fn copied_if(alloc: Global, text: Option<&str>) -> Result<Option<Text>, AllocError>
+fn copy_optional_text(alloc: Global, text: Option<&str>) -> Result<Option<Text>, AllocError>
     ensures { IfOk result (λ copy. copy ≡ option_copied text.entry) }
 {
     match text {
-        Some(text) => Ok(Some(copied(alloc, text)?)),
+        Some(text) => Ok(Some(copy_text(alloc, text)?)),
         None => Ok(None),
     }
 }

@@ -3,8 +3,8 @@ use Rattle.std.proofs.Common.{◌≡◌, ℕ, ◌-◌, All, Result, Err, IfErr}
 use Rattle.foundation.specs.Firsts.{IsFirstAt, FromOne}
 use Rattle.foundation.proofs.FirstLaws.{FromOne-not}
 use Rattle.net_draft.specs.declared.drafts.Draft.{Draft}
-use Rattle.net_draft.specs.declared.faults.Part.{Part}
-use Rattle.net_draft.specs.declared.faults.Part.TheVariants.{Top, Run, Node, Phase, Link, Turn, Conflict}
+use Rattle.net_draft.specs.declared.faults.Section.{Section}
+use Rattle.net_draft.specs.declared.faults.Section.TheVariants.{Top, Run, Node, Phase, Link, Turn, Conflict}
 use Rattle.net_draft.specs.declared.faults.Place.{Place}
 use Rattle.net_draft.specs.declared.faults.NetFault.{NetFault}
 use Rattle.net_draft.specs.declared.faults.NetFault.TheVariants.{NoMemory, NotToml, Shape, Bound, Twice, Unknown, Ends, Crowd, Shares, Phaseless, Clash}
@@ -74,7 +74,7 @@ module _ (d : Draft) where
   FailsNumbers-unknown nodes links why (Clash a b) f h = h
 
   -- the first fault of a link is the first of the draft, where all phases name links
-  pub IsUnknownFault-link : All (IsKnownNode (link_names d)) d.nodes → (part : Part) (item sub : ℕ) → FromOne (IsFirstAt (IsKnownLink (node_names d) (link_names d)) (λ l. IsUnknownInLink (node_names d) (link_names d) l part sub) d.links) item → IsUnknownFault d part item sub
+  pub IsUnknownFault-link : All (IsKnownNode (link_names d)) d.nodes → (part : Section) (item sub : ℕ) → FromOne (IsFirstAt (IsKnownLink (node_names d) (link_names d)) (λ l. IsUnknownInLink (node_names d) (link_names d) l part sub) d.links) item → IsUnknownFault d part item sub
   IsUnknownFault-link nodes Top item sub first = first.at.here
   IsUnknownFault-link nodes Run item sub first = first.at.here
   IsUnknownFault-link nodes Node item sub first = first.at.here
@@ -83,7 +83,7 @@ module _ (d : Draft) where
   IsUnknownFault-link nodes Turn item sub first = (nodes, first)
   IsUnknownFault-link nodes Conflict item sub first = absurd first.at.here
 
-  IsTwiceFault-not : (part : Part) (item sub : ℕ) → IsTwiceFault d part item sub → AreDistinct (node_names d) → AreDistinct (link_names d) → ⊥
+  IsTwiceFault-not : (part : Section) (item sub : ℕ) → IsTwiceFault d part item sub → AreDistinct (node_names d) → AreDistinct (link_names d) → ⊥
   IsTwiceFault-not Top item sub h nodes links = h
   IsTwiceFault-not Run item sub h nodes links = h
   IsTwiceFault-not Node item sub h nodes links = IsFirstTwice-not (node_names d) (item - 1) h.1.at nodes
@@ -99,7 +99,7 @@ module _ (d : Draft) where
     known_links : All (IsKnownLink (node_names d) (link_names d)) d.links
     known_links = links-known (link_names d) (node_names d) net.phase_links d.links net.links net.turns is.links is.turns
 
-    IsUnknownFault-not : (part : Part) (item sub : ℕ) → IsUnknownFault d part item sub → ⊥
+    IsUnknownFault-not : (part : Section) (item sub : ℕ) → IsUnknownFault d part item sub → ⊥
     IsUnknownFault-not Top item sub h = h
     IsUnknownFault-not Run item sub h = h
     IsUnknownFault-not Node item sub h = h

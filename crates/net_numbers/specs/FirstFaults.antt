@@ -8,27 +8,27 @@ use Rattle.net_draft.specs.declared.drafts.DraftPhase.{DraftPhase}
 use Rattle.net_draft.specs.declared.drafts.DraftLink.{DraftLink}
 use Rattle.net_draft.specs.declared.drafts.DraftTurn.{DraftTurn}
 use Rattle.net_draft.specs.declared.drafts.DraftConflict.{DraftConflict}
-use Rattle.net_draft.specs.declared.faults.Part.{Part}
-use Rattle.net_draft.specs.declared.faults.Part.TheVariants.{Top, Run, Node, Phase, Link, Turn, Conflict}
+use Rattle.net_draft.specs.declared.faults.Section.{Section}
+use Rattle.net_draft.specs.declared.faults.Section.TheVariants.{Top, Run, Node, Phase, Link, Turn, Conflict}
 use Rattle.net_draft.specs.declared.faults.NetFault.{NetFault}
 use Rattle.net_draft.specs.declared.faults.NetFault.TheVariants.{NoMemory, NotToml, Shape, Bound, Twice, Unknown}
 use Rattle.net_numbers.specs.Bounds.{HasCounts, HasNodeBounds, HasLinkBounds, IsRun, IsBoundedPhase, IsBoundedNode, IsBoundedTurn, IsBoundedLink}
 use Rattle.net_numbers.specs.Numbers.{AreDistinct, node_names, link_names}
 
 -- the first fault within a node: of its own bounds, or else of its first phase out of bounds
-abbrev pub IsNodeFault : DraftNode → Part → ℕ → Type 0
+abbrev pub IsNodeFault : DraftNode → Section → ℕ → Type 0
 IsNodeFault n Node sub = (sub ≡ 0) × ¬ HasNodeBounds n
 IsNodeFault n Phase sub = HasNodeBounds n × FromOne (IsFirstNot IsBoundedPhase n.phases) sub
 IsNodeFault n _ sub = ⊥
 
 -- the first fault within a link: of its own bounds, or else of its first turn out of bounds
-abbrev pub IsLinkFault : DraftLink → Part → ℕ → Type 0
+abbrev pub IsLinkFault : DraftLink → Section → ℕ → Type 0
 IsLinkFault l Link sub = (sub ≡ 0) × ¬ HasLinkBounds l
 IsLinkFault l Turn sub = HasLinkBounds l × FromOne (IsFirstNot IsBoundedTurn l.turns) sub
 IsLinkFault l _ sub = ⊥
 
 -- the first place of a draft that is out of its bounds
-abbrev pub IsBoundFault : Draft → Part → ℕ → ℕ → Type 0
+abbrev pub IsBoundFault : Draft → Section → ℕ → ℕ → Type 0
 IsBoundFault d Top item sub = (item ≡ 0) × (sub ≡ 0) × ¬ HasCounts d
 IsBoundFault d Run item sub = (item ≡ 0) × (sub ≡ 0) × HasCounts d × ¬ IsRun d.run
 IsBoundFault d Node item sub = HasCounts d × IsRun d.run × FromOne (IsFirstAt IsBoundedNode (λ n. IsNodeFault n Node sub) d.nodes) item
@@ -50,7 +50,7 @@ pub record IsFirstTwice (names : List (List ℕ)) (index : ℕ) : Type 0 where
   pub again : Contains (take index names) name
 
 -- the first node with the name of an earlier node, or else the first link with the name of an earlier link
-abbrev pub IsTwiceFault : Draft → Part → ℕ → ℕ → Type 0
+abbrev pub IsTwiceFault : Draft → Section → ℕ → ℕ → Type 0
 IsTwiceFault d Node item sub = (sub ≡ 0) × FromOne (IsFirstTwice (node_names d)) item
 IsTwiceFault d Link item sub = (sub ≡ 0) × AreDistinct (node_names d) × FromOne (IsFirstTwice (link_names d)) item
 IsTwiceFault d _ item sub = ⊥
@@ -87,14 +87,14 @@ abbrev pub IsUnknownInNode : List (List ℕ) → DraftNode → ℕ → Type 0
 IsUnknownInNode links n sub = FromOne (IsFirstNot (IsKnownPhase links) n.phases) sub
 
 -- the first fault of a link: one of its ends is no node, or else its first turn into no link
-abbrev pub IsUnknownInLink : List (List ℕ) → List (List ℕ) → DraftLink → Part → ℕ → Type 0
+abbrev pub IsUnknownInLink : List (List ℕ) → List (List ℕ) → DraftLink → Section → ℕ → Type 0
 IsUnknownInLink nodes links l Link sub = (sub ≡ 0) × ¬ HasKnownEnds nodes l
 IsUnknownInLink nodes links l Turn sub = HasKnownEnds nodes l × FromOne (IsFirstNot (IsKnownTurn links) l.turns) sub
 IsUnknownInLink nodes links l _ sub = ⊥
 
 -- the first place of a draft that uses a name which stands for nothing: all phases come first, then each link with its
 -- turns, then conflicts
-abbrev pub IsUnknownFault : Draft → Part → ℕ → ℕ → Type 0
+abbrev pub IsUnknownFault : Draft → Section → ℕ → ℕ → Type 0
 IsUnknownFault d Phase item sub = FromOne (IsFirstAt (IsKnownNode (link_names d)) (λ n. IsUnknownInNode (link_names d) n sub) d.nodes) item
 IsUnknownFault d Link item sub =
     All (IsKnownNode (link_names d)) d.nodes
@@ -107,14 +107,14 @@ IsUnknownFault d Conflict item sub =
     × FromOne (IsFirstNot (IsKnownConflict (link_names d)) d.conflicts) item
 IsUnknownFault d _ item sub = ⊥
 
--- why a draft has no numbers for its names, unless it is want of memory
+-- why a draft has no numbers for its names, unless it is out of memory
 abbrev pub FailsNumbers : Draft → NetFault → Type 0
 FailsNumbers d NoMemory = Unit {0}
 FailsNumbers d (Twice place) = IsTwiceFault d place.part place.item place.sub
 FailsNumbers d (Unknown place) = AreDistinct (node_names d) × AreDistinct (link_names d) × IsUnknownFault d place.part place.item place.sub
 FailsNumbers d _ = ⊥
 
--- A draft can be refused with the fault. Unless it is want of memory, the fact holds.
+-- A draft can be refused with the fault. Unless it is out of memory, the fact holds.
 abbrev pub Refuses : NetFault → Type 0 → Type 0
 Refuses NoMemory fact = Unit {0}
 Refuses NotToml fact = ⊥

@@ -1,7 +1,7 @@
 -- What the steps from a draft to a network answer. No public clause names these words.
 use Rattle.std.specs.Prelude.{◌≡◌, ℕ, List, Option, Some, Result, Ok, Err}
 use Rattle.foundation.specs.Firsts.{FromOne}
-use Rattle.net_draft.specs.declared.faults.Part.{Part}
+use Rattle.net_draft.specs.declared.faults.Section.{Section}
 use Rattle.net_draft.specs.declared.faults.Place.{Place}
 use Rattle.net_draft.specs.declared.faults.NetFault.{NetFault}
 use Rattle.net_draft.specs.declared.faults.NetFault.TheVariants.{NoMemory, Bound, Twice, Unknown}
@@ -13,13 +13,13 @@ abbrev pub IsBoundAt : (Place → Type 0) → NetFault → Type 0
 IsBoundAt why (Bound place) = why place
 IsBoundAt why _ = ⊥
 
--- the fault is `Twice`, at a place where `why` holds, or want of memory
+-- the fault is `Twice`, at a place where `why` holds, or out of memory
 abbrev pub IsTwiceAt : (Place → Type 0) → NetFault → Type 0
 IsTwiceAt why NoMemory = Unit {0}
 IsTwiceAt why (Twice place) = why place
 IsTwiceAt why _ = ⊥
 
--- the fault is `Unknown`, at a place where `why` holds, or want of memory
+-- the fault is `Unknown`, at a place where `why` holds, or out of memory
 abbrev pub IsUnknownAt : (Place → Type 0) → NetFault → Type 0
 IsUnknownAt why NoMemory = Unit {0}
 IsUnknownAt why (Unknown place) = why place
@@ -31,7 +31,7 @@ Checks fact why (Ok _) = fact
 Checks fact why (Err fault) = IsBoundAt why fault
 
 -- names were numbered in order, where no two are the same; otherwise the first that comes again is named, at its place
-abbrev pub Lists : Part → List (List ℕ) → Result (List (List ℕ)) NetFault → Type 0
+abbrev pub Lists : Section → List (List ℕ) → Result (List (List ℕ)) NetFault → Type 0
 Lists part names (Ok made) = (made ≡ names) × AreDistinct names
 Lists part names (Err fault) = IsTwiceAt (λ place. (place.part ≡ part) × (place.sub ≡ 0) × FromOne (IsFirstTwice names) place.item) fault
 

@@ -35,20 +35,20 @@ node_name_at net n = slice_index_or net.node_names n []
 abbrev pub link_name_at : Net → ℕ → List ℕ
 link_name_at net l = slice_index_or net.link_names l []
 
--- a link of a network with so many nodes
+-- a link of a network with this number of nodes
 pub record IsLink (nodes : ℕ) (l : Link) : Type 0 where
   pub from : IfSome l.from (λ n. n < nodes)
   pub to : IfSome l.to (λ n. n < nodes)
   pub travel : (1 ≤ l.travel) × (l.travel ≤ 120)
   pub sat : (1 ≤ l.sat) × (l.sat ≤ 5000)
 
--- turns into a network of so many links
+-- turns into a network of this number of links
 pub record AreTurns (links : ℕ) (turns : List Turn) : Type 0 where
   pub count : length turns ≤ 16
   pub exits : All (λ t. t.exit < links) turns
   pub shares : All (λ t. t.share ≤ 1000) turns
 
--- the links that a phase serves, in a network of so many links
+-- the links that a phase serves, in a network of this number of links
 pub record ArePhaseLinks (links : ℕ) (numbers : List ℕ) : Type 0 where
   pub count : length numbers ≤ 16
   pub exist : All (λ l. l < links) numbers

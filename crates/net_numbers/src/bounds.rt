@@ -5,7 +5,9 @@ ghost use Rattle.net_numbers.specs.Outcome.{Checks};
 ghost use Rattle.net_numbers.specs.FirstFaults.{IsNodeFault, IsLinkFault, FailsBounds, Refuses};
 ghost use Rattle.net_numbers.specs.Bounds.{IsNameByte, IsName, IsRun, HasCounts, HasNodeBounds, HasLinkBounds, IsBoundedPhase, IsBoundedNode, IsBoundedTurn, IsBoundedLink, IsBounded};
 
-use net_draft::{Draft, DraftLink, DraftNode, DraftPhase, DraftTurn, NetFault, Part, Place, Run};
+use net_draft::{
+    Draft, DraftLink, DraftNode, DraftPhase, DraftTurn, NetFault, Place, Run, Section,
+};
 
 /// Tests the bounds of a draft. The fault is `Bound` at the first place where one does not hold.
 ///
@@ -16,17 +18,17 @@ pub fn check_bounds(draft: &Draft) -> Result<(), NetFault>
     ensures first { IfErr result (FailsBounds draft.now) }
 {
     if !has_counts(draft) {
-        return Err(bound(Part::Top, 0, 0));
+        return Err(bound(Section::Top, 0, 0));
     }
     if !is_run(&draft.run) {
-        return Err(bound(Part::Run, 0, 0));
+        return Err(bound(Section::Run, 0, 0));
     }
     check_nodes(draft.nodes.as_slice())?;
     check_links(draft.links.as_slice())
 }
 
 /// The fault `Bound` at this place.
-fn bound(part: Part, item: u32, sub: u32) -> NetFault
+fn bound(part: Section, item: u32, sub: u32) -> NetFault
     ensures { result ≡ NetFault.Bound (record { part = part; item = item; sub = sub }) }
 {
     NetFault::Bound(Place { part, item, sub })
@@ -70,7 +72,7 @@ fn check_node(node: &DraftNode, item: u32) -> Result<(), NetFault>
         (λ place. (place.item ≡ item) × IsNodeFault node.now place.part place.sub) result }
 {
     if !has_node_bounds(node) {
-        return Err(bound(Part::Node, item, 0));
+        return Err(bound(Section::Node, item, 0));
     }
     check_phases(node.phases.as_slice(), item)
 }
@@ -86,12 +88,12 @@ fn has_node_bounds(node: &DraftNode) -> bool
 fn check_phases(phases: &[DraftPhase], item: u32) -> Result<(), NetFault>
     requires { length phases.now ≤ 4 }
     ensures { Checks (All IsBoundedPhase phases.now)
-        (λ place. (place.part ≡ Part.Phase) × (place.item ≡ item)
+        (λ place. (place.part ≡ Section.Phase) × (place.item ≡ item)
         × FromOne (IsFirstNot IsBoundedPhase phases.now) place.sub) result }
 {
     for (index, phase) in phases.iter().enumerate() {
         if !is_bounded_phase(phase) {
-            return Err(bound(Part::Phase, item, index as u32 + 1));
+            return Err(bound(Section::Phase, item, index as u32 + 1));
         }
     }
     Ok(())
@@ -122,7 +124,7 @@ fn check_link(link: &DraftLink, item: u32) -> Result<(), NetFault>
         (λ place. (place.item ≡ item) × IsLinkFault link.now place.part place.sub) result }
 {
     if !has_link_bounds(link) {
-        return Err(bound(Part::Link, item, 0));
+        return Err(bound(Section::Link, item, 0));
     }
     check_turns(link.turns.as_slice(), item)
 }
@@ -141,12 +143,12 @@ fn has_link_bounds(link: &DraftLink) -> bool
 fn check_turns(turns: &[DraftTurn], item: u32) -> Result<(), NetFault>
     requires { length turns.now ≤ 16 }
     ensures { Checks (All IsBoundedTurn turns.now)
-        (λ place. (place.part ≡ Part.Turn) × (place.item ≡ item)
+        (λ place. (place.part ≡ Section.Turn) × (place.item ≡ item)
         × FromOne (IsFirstNot IsBoundedTurn turns.now) place.sub) result }
 {
     for (index, turn) in turns.iter().enumerate() {
         if turn.share > 1000 {
-            return Err(bound(Part::Turn, item, index as u32 + 1));
+            return Err(bound(Section::Turn, item, index as u32 + 1));
         }
     }
     Ok(())

@@ -9,5 +9,5 @@ mod roads;
 
 pub use bounds::check_bounds;
 pub use names::Names;
-pub use numbering::{Parts, numbered, phase_with};
+pub use numbering::{Parts, number_draft, phase_with};
 pub use roads::{Link, Turn};

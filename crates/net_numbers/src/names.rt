@@ -60,8 +60,8 @@ impl Names {
         }
     }
 
-    /// Adds a name at the end; `false` where it is there already. An `Err` comes only where memory runs out, and leaves the
-    /// names as they were.
+    /// Adds a name at the end; `false` where it is there already. `Err`: out of
+    /// memory; the names stay as they were.
     pub fn add(&mut self, alloc: Global, name: &str) -> Result<bool, AllocError>
         requires { length self.old + 1 < 2 ^ 32 }
         ensures names { IfOk result (λ added. self.new ≡ (if added then self.old ++ name.now ∷ [] else self.old)) }

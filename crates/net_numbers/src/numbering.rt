@@ -14,7 +14,8 @@ use crate::roads::{Link, Turn};
 use foundation::items::Items;
 use foundation::text::Text;
 use net_draft::{
-    Draft, DraftConflict, DraftLink, DraftNode, DraftPhase, DraftTurn, NetFault, Part, Place, Run,
+    Draft, DraftConflict, DraftLink, DraftNode, DraftPhase, DraftTurn, NetFault, Place, Run,
+    Section,
 };
 use phase_plan::{Phase, PhasePlan};
 use std::alloc::{AllocError, Global};
@@ -34,12 +35,12 @@ pub struct Parts {
     pub conflicts: Vec<(u32, u32)>,
 }
 
-/// The draft with numbers for names. The fault is want of memory, or `Twice` or `Unknown` at the first place
+/// The draft with numbers for names. The fault is out of memory, or `Twice` or `Unknown` at the first place
 /// that repeats a name, or else that uses one which stands for nothing.
 ///
 /// docs/RULES.md, "Road network"; docs/FORMATS.md, "Places and faults".
 #[tactic(auto, unfolding(crate::specs::Numbers::numbered))]
-pub fn numbered(alloc: Global, draft: &Draft) -> Result<Parts, NetFault>
+pub fn number_draft(alloc: Global, draft: &Draft) -> Result<Parts, NetFault>
     requires { IsBounded draft.now }
     ensures ok { IfOk result (λ parts. IsNetOf draft.now (net_of parts)) }
     ensures refused { IfErr result (λ fault. Refuses fault ((net : Net) → ¬ IsNetOf draft.now net)) }
@@ -71,12 +72,12 @@ pub fn numbered(alloc: Global, draft: &Draft) -> Result<Parts, NetFault>
 /// The names of the nodes, no two the same.
 fn node_names(alloc: Global, nodes: &[DraftNode]) -> Result<Names, NetFault>
     requires { length nodes.now ≤ 64 }
-    ensures { Lists Part.Node (map (λ n. n.name) nodes.now) result }
+    ensures { Lists Section.Node (map (λ n. n.name) nodes.now) result }
 {
     let mut names = Names::new(alloc);
     for (index, node) in nodes.iter().enumerate() {
         if !names.add(alloc, node.name.as_str())? {
-            return Err(NetFault::Twice(place(Part::Node, index as u32 + 1, 0)));
+            return Err(NetFault::Twice(place(Section::Node, index as u32 + 1, 0)));
         }
     }
     Ok(names)
@@ -85,19 +86,19 @@ fn node_names(alloc: Global, nodes: &[DraftNode]) -> Result<Names, NetFault>
 /// The names of the links, no two the same.
 fn link_names(alloc: Global, links: &[DraftLink]) -> Result<Names, NetFault>
     requires { length links.now ≤ 320 }
-    ensures { Lists Part.Link (map (λ l. l.name) links.now) result }
+    ensures { Lists Section.Link (map (λ l. l.name) links.now) result }
 {
     let mut names = Names::new(alloc);
     for (index, link) in links.iter().enumerate() {
         if !names.add(alloc, link.name.as_str())? {
-            return Err(NetFault::Twice(place(Part::Link, index as u32 + 1, 0)));
+            return Err(NetFault::Twice(place(Section::Link, index as u32 + 1, 0)));
         }
     }
     Ok(names)
 }
 
 /// A place.
-fn place(part: Part, item: u32, sub: u32) -> Place
+fn place(part: Section, item: u32, sub: u32) -> Place
     ensures { result ≡ record { part = part; item = item; sub = sub } }
 {
     Place { part, item, sub }
@@ -147,7 +148,7 @@ fn phase_links(
     requires few { length nodes.now ≤ 64 }
     requires bounds { All IsBoundedNode nodes.now }
     ensures { Makes (λ lists. lists.items) result (each (spec.phases_of names.now) nodes.now)
-        (λ place. (place.part ≡ Part.Phase)
+        (λ place. (place.part ≡ Section.Phase)
         × FromOne (IsFirstAt (IsKnownNode names.now) (λ n. IsUnknownInNode names.now n place.sub) nodes.now) place.item) }
 {
     let mut lists = Vec::new(alloc);
@@ -167,12 +168,12 @@ fn links_of_phases(
 ) -> Result<Vec<Items<u32>>, NetFault>
     requires { length phases.now ≤ 4 }
     ensures { Makes (λ lists. lists.items) result (each (λ p. each (number_of names.now) p.links) phases.now)
-        (λ place. (place.part ≡ Part.Phase) × (place.item ≡ item)
+        (λ place. (place.part ≡ Section.Phase) × (place.item ≡ item)
         × FromOne (IsFirstNot (IsKnownPhase names.now) phases.now) place.sub) }
 {
     let mut lists = Vec::new(alloc);
     for (index, phase) in phases.iter().enumerate() {
-        let place = place(Part::Phase, item, index as u32 + 1);
+        let place = place(Section::Phase, item, index as u32 + 1);
         let links = numbers(alloc, names, phase.links.as_slice(), place)?;
         lists.push(Items::from_vec(links))?;
     }
@@ -208,7 +209,7 @@ fn roads(
     let mut lists = Vec::new(alloc);
     for (index, link) in links.iter().enumerate() {
         let item = index as u32 + 1;
-        let road = road(names, link, place(Part::Link, item, 0))?;
+        let road = road(names, link, place(Section::Link, item, 0))?;
         let turns = turns(alloc, names.links, link.turns.as_slice(), item)?;
         roads.push(road)?;
         lists.push(Items::from_vec(turns))?;
@@ -277,12 +278,12 @@ fn turns(
 ) -> Result<Vec<Turn>, NetFault>
     requires { length turns.now ≤ 16 }
     ensures { Makes (λ turns. turns.items) result (each (spec.turn_of names.now) turns.now)
-        (λ place. (place.part ≡ Part.Turn) × (place.item ≡ item)
+        (λ place. (place.part ≡ Section.Turn) × (place.item ≡ item)
         × FromOne (IsFirstNot (IsKnownTurn names.now) turns.now) place.sub) }
 {
     let mut numbered = Vec::new(alloc);
     for (index, turn) in turns.iter().enumerate() {
-        let turn = turn_of(names, turn, place(Part::Turn, item, index as u32 + 1))?;
+        let turn = turn_of(names, turn, place(Section::Turn, item, index as u32 + 1))?;
         numbered.push(turn)?;
     }
     Ok(numbered)
@@ -309,12 +310,12 @@ fn conflicts(
 ) -> Result<Vec<(u32, u32)>, NetFault>
     requires { length conflicts.now ≤ 1024 }
     ensures { Makes (λ pairs. pairs.items) result (each (spec.conflict_of names.now) conflicts.now)
-        (λ place. (place.part ≡ Part.Conflict) × (place.sub ≡ 0)
+        (λ place. (place.part ≡ Section.Conflict) × (place.sub ≡ 0)
         × FromOne (IsFirstNot (IsKnownConflict names.now) conflicts.now) place.item) }
 {
     let mut pairs = Vec::new(alloc);
     for (index, conflict) in conflicts.iter().enumerate() {
-        let place = place(Part::Conflict, index as u32 + 1, 0);
+        let place = place(Section::Conflict, index as u32 + 1, 0);
         let pair = conflict_of(names, conflict, place)?;
         pairs.push(pair)?;
     }

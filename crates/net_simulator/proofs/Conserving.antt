@@ -8,7 +8,7 @@ use Rattle.net_numbers.specs.Outline.{link_at, turns_at, AreTurns}
 use Rattle.road_net.specs.Joins.{split_of, HasShares}
 use Rattle.road_net.proofs.Everywhere.{everywhere}
 use Rattle.road_net.specs.Totals.{total}
-use Rattle.net_simulator.specs.Flow.{Passed, reached, waiting, discharged, entering, past_of}
+use Rattle.net_simulator.specs.Flow.{Passed, reached, waiting, discharged, entered_in, past_of}
 use Rattle.net_simulator.specs.Sums.{outward, arrived, gone, on_road}
 use Rattle.road_net.proofs.TotalLaws.{total-same, total-add, total-swap, total-zero}
 use Rattle.net_simulator.proofs.Sums.{total-part}
@@ -42,8 +42,8 @@ module _ (net : Net) (arriving : ℕ → ℕ → ℕ) (shown : ℕ → ℕ → O
       → all (λ l. (after (x + 1) l).entered) ≡ arrived net arriving (suc x) + all (λ l. onward (link_at net l).to (after (x + 1) l).left)
   conserved-next x before after on was =
       let d : ℕ → ℕ = discharged net (shown x) before x in
-      let one = total-same (λ l. (after (x + 1) l).entered) (λ l. (before x l).entered + entering net (arriving x) (shown x) before x l) (length net.link_names) (λ l h. ap (λ (q : Passed). q.entered) (on.next l h)) in
-      let two = total-add (λ l. (before x l).entered) (λ l. entering net (arriving x) (shown x) before x l) (length net.link_names) in
+      let one = total-same (λ l. (after (x + 1) l).entered) (λ l. (before x l).entered + entered_in net (arriving x) (shown x) before x l) (length net.link_names) (λ l h. ap (λ (q : Passed). q.entered) (on.next l h)) in
+      let two = total-add (λ l. (before x l).entered) (λ l. entered_in net (arriving x) (shown x) before x l) (length net.link_names) in
       let three = total-add (arriving x) (λ l. total (λ k. split_of (turns_at net k) (d k) l) (length net.link_names)) (length net.link_names) in
       let four = total-swap (λ l k. split_of (turns_at net k) (d k) l) (length net.link_names) (length net.link_names) in
       let five = total-same (λ k. total (λ l. split_of (turns_at net k) (d k) l) (length net.link_names)) (λ k. onward (link_at net k).to (d k)) (length net.link_names) (λ k h. total-parts net.links (turns_at net k) (d k) (length net.link_names) (link_at net k).to (parts k h).0 (parts k h).1) in

@@ -94,7 +94,7 @@ module _ (net : Net) (arriving : ℕ → ℕ) (shown : ℕ → Option (ℕ × �
       → goes net greens ws x l w (link_at net l).to ≡ discharged net shown before x l
   goes-same greens l w h begun seen same = goes-to greens l w (link_at net l).to h refl begun seen same
 
-  -- the queues behind the second
+  -- the queues after the second
   pub queue-next : (l : ℕ) → l < length net.link_names → queue net after (x + 1) l ≡ waiting net before x l - discharged net shown before x l
   queue-next l h =
       let t = (link_at net l).travel in

@@ -17,14 +17,14 @@ use Rattle.control_flow.specs.Greens.{green_at, covers}
 use Rattle.net_simulator.specs.declared.totals.LinkTotals.{LinkTotals}
 use Rattle.net_simulator.specs.declared.totals.Totals.{Totals}
 use Rattle.road_net.specs.Totals.{total}
-use Rattle.net_simulator.specs.Flow.{Passed, passed_in, nothing, history, queue, waiting, discharged, entering, past_of}
-use Rattle.arrivals.specs.Amounts.{Amounts, AreArrivals, entering as entering_at}
+use Rattle.net_simulator.specs.Flow.{Passed, passed_in, nothing, history, queue, waiting, discharged, entered_in, past_of}
+use Rattle.arrivals.specs.Amounts.{Amounts, AreArrivals, entered_in as entering_at}
 use Rattle.net_simulator.specs.Arriving.{arriving_of}
 use Rattle.net_simulator.specs.Sums.{outward, arrived, gone, on_road, delay, link_totals, totals, AreFew}
 use Rattle.net_simulator.specs.Rows.{cell}
 use Rattle.net_simulator.specs.Counts.{counts_at, no_totals}
-use Rattle.net_simulator.specs.Steps.{goes, waits_at, goes_out, all_of, counted, IsSmall}
-use Rattle.net_simulator.specs.Worlds.{Kept, HasShape, Keeps, Stands, standing_by}
+use Rattle.net_simulator.specs.Steps.{goes, waits_at, goes_out, all_of, counted, FitsSeconds}
+use Rattle.net_simulator.specs.Worlds.{WorldState, HasShape, Keeps, Stands, standing_by}
 use Rattle.road_net.proofs.TotalLaws.{total-same, total-add, total-le, total-zero}
 use Rattle.net_simulator.proofs.Sums.{total-most, total-of}
 use Rattle.net_simulator.proofs.FlowLaws.{past-none, past-kept, history-same}
@@ -131,7 +131,7 @@ module _ (net : Net) (network : IsNetwork net) (arriving : ℕ → ℕ → ℕ) 
   waiting-most n l h = omega (arith, on-road-most n, waiting-on net (past_of net arriving shown n) n (sound-at net network arriving shown n) l h (travels net network arriving shown l h))
 
   -- what enters a link in a second
-  pub entering-most : (x l : ℕ) → l < length net.link_names → entering net (arriving x) (shown x) (past_of net arriving shown x) x l ≤ 2000000000
+  pub entering-most : (x l : ℕ) → l < length net.link_names → entered_in net (arriving x) (shown x) (past_of net arriving shown x) x l ≤ 2000000000
   entering-most x l h =
       let P = past_of net arriving shown x in
       let Q = past_of net arriving shown (suc x) in
@@ -200,7 +200,7 @@ module _ (net : Net) (arriving : ℕ → ℕ → ℕ) (shown : ℕ → ℕ → O
       ∙ total-add (delay net P x) (λ l. slice_index qs l) (length net.link_names)
 
 -- what the code does in second x
-pub record IsStep (net : Net) (arriving : ℕ → ℕ) (x : ℕ) (greens : List (Option Green)) (rs1 lv : List ℕ) (w v : Kept) : Type 0 where
+pub record IsStep (net : Net) (arriving : ℕ → ℕ) (x : ℕ) (greens : List (Option Green)) (rs1 lv : List ℕ) (w v : WorldState) : Type 0 where
   pub arrives : (l : ℕ) → l < length net.link_names → cell rs1 l x ≡ arriving l
   pub arrives-others : (l y : ℕ) → y % 128 ≢ x % 128 → cell rs1 l y ≡ cell w.recent l y
   pub leaves : (l : ℕ) → l < length net.link_names → slice_index lv l ≡ goes net greens w.waits x l (waits_at net w.queues rs1 x l) (link_at net l).to
@@ -215,7 +215,7 @@ pub record IsStep (net : Net) (arriving : ℕ → ℕ) (x : ℕ) (greens : List 
   pub delay : v.totals.delay ≡ w.totals.delay + all_of v.queues (length net.link_names)
   pub on : v.totals.on ≡ v.totals.entered - v.totals.left
 
-module _ (net : Net) (network : IsNetwork net) (arriving : ℕ → ℕ → ℕ) (lines : ℕ → List Green) (arrivals : AreFew net arriving) (w : Kept) (stands : Stands net arriving (standing_by lines) w) where
+module _ (net : Net) (network : IsNetwork net) (arriving : ℕ → ℕ → ℕ) (lines : ℕ → List Green) (arrivals : AreFew net arriving) (w : WorldState) (stands : Stands net arriving (standing_by lines) w) where
   abbrev before : ℕ → ℕ → Passed
   before = past_of net arriving (standing_by lines) w.second
 
@@ -240,7 +240,7 @@ module _ (net : Net) (network : IsNetwork net) (arriving : ℕ → ℕ → ℕ) 
 
   -- what enters in this second, by what the code keeps
   pub enters-now : (lv : List ℕ) → ((l : ℕ) → l < length net.link_names → slice_index lv l ≡ discharged net (standing_by lines w.second) before w.second l)
-      → (l : ℕ) → arriving w.second l + total (λ k. split_of (turns_at net k) (slice_index lv k) l) (length net.link_names) ≡ entering net (arriving w.second) (standing_by lines w.second) before w.second l
+      → (l : ℕ) → arriving w.second l + total (λ k. split_of (turns_at net k) (slice_index lv k) l) (length net.link_names) ≡ entered_in net (arriving w.second) (standing_by lines w.second) before w.second l
   enters-now lv leaves l =
       let same = total-same (λ k. split_of (turns_at net k) (slice_index lv k) l) (λ k. split_of (turns_at net k) (discharged net (standing_by lines w.second) before w.second k) l) (length net.link_names) (λ k b. ap (λ a. split_of (turns_at net k) a l) (leaves k b)) in
       omega (arith, same)
@@ -268,7 +268,7 @@ module _ (net : Net) (network : IsNetwork net) (arriving : ℕ → ℕ → ℕ) 
       let few = network.outline.link_count.1 in
       omega (arith, ap (λ (t : Totals). t.delay) stands.totals, each, all, few)
 
-  pub stands-next : (greens : List (Option Green)) (rs1 lv : List ℕ) (v : Kept) → w.second < 18000 → v.second ≡ w.second + 1 → HasShape net v
+  pub stands-next : (greens : List (Option Green)) (rs1 lv : List ℕ) (v : WorldState) → w.second < 18000 → v.second ≡ w.second + 1 → HasShape net v
       → ((n : ℕ) → n < length net.node_names → slice_index_or greens n None ≡ green_at (lines n) w.second)
       → IsStep net (arriving w.second) w.second greens rs1 lv w v → Stands net arriving (standing_by lines) v
   stands-next greens rs1 lv v below second shape seen step =
@@ -301,8 +301,8 @@ module _ (net : Net) (network : IsNetwork net) (arriving : ℕ → ℕ → ℕ) 
         totals = subst (λ n. v.totals ≡ totals net arriving (past_of net arriving S n) n) (sym second) (same-totals v.totals (totals net arriving Q (x + 1)) all-entered all-left all-on all-delay);
       }
 
-  -- what so many seconds can count
-  pub counts-small : (l : ℕ) → l < length net.link_names → IsSmall w.second (counts_at w.counts l)
+  -- what the first n seconds can count
+  pub counts-small : (l : ℕ) → l < length net.link_names → FitsSeconds w.second (counts_at w.counts l)
   counts-small l h =
       let n : ℕ = w.second in
       let S : ℕ → ℕ → Option (ℕ × ℕ) = standing_by lines in
@@ -320,7 +320,7 @@ unfolding history
 past-zero net arriving shown zero l = refl
 past-zero net arriving shown (suc n) l = refl
 
-pub stands-new : (net : Net) (arriving : ℕ → ℕ → ℕ) (shown : ℕ → ℕ → Option (ℕ × ℕ)) (w : Kept) → w.second ≡ 0 → HasShape net w → ((k : ℕ) → get_or w.queues k 0 ≡ 0) → ((k : ℕ) → get_or w.recent k 0 ≡ 0) → ((k : ℕ) → get_or w.waits k 0 ≡ 0)
+pub stands-new : (net : Net) (arriving : ℕ → ℕ → ℕ) (shown : ℕ → ℕ → Option (ℕ × ℕ)) (w : WorldState) → w.second ≡ 0 → HasShape net w → ((k : ℕ) → get_or w.queues k 0 ≡ 0) → ((k : ℕ) → get_or w.recent k 0 ≡ 0) → ((k : ℕ) → get_or w.waits k 0 ≡ 0)
     → ((k : ℕ) → counts_at w.counts k ≡ no_totals) → w.totals ≡ record { entered = 0; left = 0; on = 0; delay = 0 } → Stands net arriving shown w
 stands-new net arriving shown w at shape qs rs ws cs ts =
     let P : ℕ → ℕ → Passed = past_of net arriving shown w.second in
@@ -344,7 +344,7 @@ stands-new net arriving shown w at shape qs rs ws cs ts =
     }
 
 -- a timeline counts only by what it shows in the seconds below now
-pub stands-under : (net : Net) (arriving : ℕ → ℕ → ℕ) (shown seen : ℕ → ℕ → Option (ℕ × ℕ)) (w : Kept) → ((x node : ℕ) → x < w.second → shown x node ≡ seen x node) → Stands net arriving shown w → Stands net arriving seen w
+pub stands-under : (net : Net) (arriving : ℕ → ℕ → ℕ) (shown seen : ℕ → ℕ → Option (ℕ × ℕ)) (w : WorldState) → ((x node : ℕ) → x < w.second → shown x node ≡ seen x node) → Stands net arriving shown w → Stands net arriving seen w
 stands-under net arriving shown seen w same stands =
     let e = history-same net arriving arriving shown seen w.second (λ x l h. refl) same in
     record {

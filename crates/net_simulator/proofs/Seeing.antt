@@ -19,7 +19,7 @@ use Rattle.net_simulator.specs.Rows.{cell}
 use Rattle.net_simulator.specs.Arriving.{arriving_of}
 use Rattle.net_simulator.specs.Senses.{coming, link_sense, sense, seen_by}
 use Rattle.net_simulator.specs.Sums.{on_road}
-use Rattle.net_simulator.specs.Worlds.{Keeps, Stands, Kept, IsWorldOf, standing_by}
+use Rattle.net_simulator.specs.Worlds.{Keeps, Stands, WorldState, IsWorldOf, standing_by}
 use Rattle.net_simulator.proofs.Sums.{total-without, without, without-other}
 use Rattle.net_simulator.proofs.Sound.{IsSound}
 use Rattle.net_simulator.proofs.Conserving.{grown, reached-entered}
@@ -113,7 +113,7 @@ map-link net past n [] = refl
 map-link net past n (l ∷ ls) = ap (λ ks. l ∷ ks) (map-link net past n ls)
 
 -- what the definition gives is within the bounds of what a node sees
-pub is-sensed : (net : Net) (node : ℕ) (w : Kept) → IsNetwork net → All (λ l. l < length net.link_names) (entry_links net node) → IsStrictlyIncreasing (entry_links net node) → (world : IsWorldOf net w) → IsSensedOf net node (sense net (past_of net (arriving_of world.arrivals) (standing_by world.lines) w.second) w.second node)
+pub is-sensed : (net : Net) (node : ℕ) (w : WorldState) → IsNetwork net → All (λ l. l < length net.link_names) (entry_links net node) → IsStrictlyIncreasing (entry_links net node) → (world : IsWorldOf net w) → IsSensedOf net node (sense net (past_of net (arriving_of world.arrivals) (standing_by world.lines) w.second) w.second node)
 is-sensed net node w network below rising world =
     let past : ℕ → ℕ → Passed = past_of net (arriving_of world.arrivals) (standing_by world.lines) w.second in
     record {
@@ -127,14 +127,14 @@ pub below-names : (net : Net) (links names : List ℕ) → IsNetwork net → lin
 below-names net links names network is have = subst (All (λ l. l < length net.link_names)) is (λ k d h. let b = have k d h in let count = network.outline.road_count in omega arith)
 
 -- what the code gathers is what the definition gives
-pub gathered : (net : Net) (node : ℕ) (w v : Kept) (qs rs links : List ℕ) (out : List LinkSense) → IsNetwork net → v ≡ w → qs ≡ v.queues → rs ≡ v.recent → links ≡ entry_links net node → out ≡ map (seen_by net qs rs v.second) links
+pub gathered : (net : Net) (node : ℕ) (w v : WorldState) (qs rs links : List ℕ) (out : List LinkSense) → IsNetwork net → v ≡ w → qs ≡ v.queues → rs ≡ v.recent → links ≡ entry_links net node → out ≡ map (seen_by net qs rs v.second) links
     → All (λ l. l < length net.link_names) (entry_links net node) → (arriving : ℕ → ℕ → ℕ) (lines : ℕ → List Green) → Stands net arriving (standing_by lines) w
     → (let s : Sensed = record { now = v.second; links = out } in s) ≡ sense net (past_of net arriving (standing_by lines) w.second) w.second node
 gathered net node w v qs rs links out network view queues recent entries all below arriving lines stands =
     let past : ℕ → ℕ → Passed = past_of net arriving (standing_by lines) w.second in
-    let one = queues ∙ ap (λ (k : Kept). k.queues) view in
-    let two = recent ∙ ap (λ (k : Kept). k.recent) view in
-    let now = ap (λ (k : Kept). k.second) view in
+    let one = queues ∙ ap (λ (k : WorldState). k.queues) view in
+    let two = recent ∙ ap (λ (k : WorldState). k.recent) view in
+    let now = ap (λ (k : WorldState). k.second) view in
     let senses : out ≡ map (link_sense net past w.second) (entry_links net node) =
     all ∙ (λ i. map (seen_by net (one i) (two i) (now i)) (entries i)) ∙ senses-same net past w.queues w.recent w.waits w.second (entry_links net node) network stands.keeps below in
     λ i. record { now = now i; links = senses i }

@@ -12,5 +12,5 @@ abbrev pub counts_at : List LinkTotals → ℕ → LinkTotals
 counts_at counts l = slice_index_or counts l no_totals
 
 -- what entered the network has left it or is in it
-abbrev pub IsWhole : Totals → Type 0
-IsWhole t = t.entered ≡ t.left + t.on
+abbrev pub IsBalanced : Totals → Type 0
+IsBalanced t = t.entered ≡ t.left + t.on

@@ -24,7 +24,7 @@ passed_in history n l = slice_index_or (slice_index_or history n []) l nothing
 abbrev pub reached : Net → (ℕ → ℕ → Passed) → ℕ → ℕ → ℕ
 reached net past n l = (past (n - (link_at net l).travel) l).entered
 
--- the queue behind the first n seconds
+-- the queue after the first n seconds
 abbrev pub queue : Net → (ℕ → ℕ → Passed) → ℕ → ℕ → ℕ
 queue net past n l = reached net past n l - (past n l).left
 
@@ -51,14 +51,14 @@ abbrev pub discharged : Net → (ℕ → Option (ℕ × ℕ)) → (ℕ → ℕ �
 discharged net shown past x l = discharged_to net shown past x l (link_at net l).to
 
 -- what enters a link in second x: what arrives, and its part of what each link discharges
-abbrev pub entering : Net → (ℕ → ℕ) → (ℕ → Option (ℕ × ℕ)) → (ℕ → ℕ → Passed) → ℕ → ℕ → ℕ
-entering net arriving shown past x l = arriving l + total (λ k. split_of (turns_at net k) (discharged net shown past x k) l) (length net.link_names)
+abbrev pub entered_in : Net → (ℕ → ℕ) → (ℕ → Option (ℕ × ℕ)) → (ℕ → ℕ → Passed) → ℕ → ℕ → ℕ
+entered_in net arriving shown past x l = arriving l + total (λ k. split_of (turns_at net k) (discharged net shown past x k) l) (length net.link_names)
 
 -- what passed a link in the first x + 1 seconds
 abbrev pub passing : Net → (ℕ → ℕ) → (ℕ → Option (ℕ × ℕ)) → (ℕ → ℕ → Passed) → ℕ → ℕ → Passed
-passing net arriving shown past x l = record { entered = (past x l).entered + entering net arriving shown past x l; left = (past x l).left + discharged net shown past x l }
+passing net arriving shown past x l = record { entered = (past x l).entered + entered_in net arriving shown past x l; left = (past x l).left + discharged net shown past x l }
 
--- a further row behind those of the first x seconds
+-- a further row after those of the first x seconds
 abbrev pub longer : Net → (ℕ → ℕ) → (ℕ → Option (ℕ × ℕ)) → ℕ → List (List Passed) → List (List Passed)
 longer net arriving shown x history = history ++ map (passing net arriving shown (passed_in history) x) (range_with_len 0 (length net.link_names)) ∷ []
 

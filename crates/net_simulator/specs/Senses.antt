@@ -13,7 +13,7 @@ use Rattle.net_simulator.specs.Rows.{cell}
 abbrev pub coming : Net → (ℕ → ℕ → Passed) → ℕ → ℕ → ℕ → ℕ
 coming net past n l i = (past (n + i + 1 - (link_at net l).travel) l).entered - (past (n + i - (link_at net l).travel) l).entered
 
--- what is seen of a link in second n: the queue behind the second before, and what is on its way
+-- what is seen of a link in second n: the queue after the second before, and what is on its way
 abbrev pub link_sense : Net → (ℕ → ℕ → Passed) → ℕ → ℕ → LinkSense
 link_sense net past n l = record { link = l; queue = queue net past n l; coming = map (coming net past n l) (range_with_len 0 (link_at net l).travel) }
 

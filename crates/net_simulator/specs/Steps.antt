@@ -10,7 +10,7 @@ use Rattle.net_simulator.specs.Sums.{outward}
 use Rattle.net_simulator.specs.Rows.{cell}
 use Rattle.net_simulator.specs.declared.totals.LinkTotals.{LinkTotals}
 
--- whether link l of a node may discharge in second x in this green, where `waits` tells the queues behind so many seconds
+-- whether link l of a node may discharge in second x in this green, where `waits` has the queues after each second
 abbrev pub is_open : Net → List ℕ → ℕ → ℕ → ℕ → Option Green → Bool
 is_open net waits x l node None = false
 is_open net waits x l node (Some green) = (green.phase == (link_at net l).phase) && not (is_lost (phase_at (plan_at net node) green.phase).loss green.from x (cell waits l green.from))
@@ -36,8 +36,8 @@ all_of amounts links = total (λ l. slice_index amounts l) links
 abbrev pub counted : LinkTotals → ℕ → ℕ → ℕ → LinkTotals
 counted t entering leaving queue = record { entered = t.entered + entering; left = t.left + leaving; delay = t.delay + queue }
 
--- what so many seconds can count
-pub record IsSmall (n : ℕ) (t : LinkTotals) : Type 0 where
+-- what the first n seconds can count
+pub record FitsSeconds (n : ℕ) (t : LinkTotals) : Type 0 where
   pub entered : t.entered ≤ n * 2000000000
   pub left : t.left ≤ n * 2000000000
   pub delay : t.delay ≤ n * 2000000000

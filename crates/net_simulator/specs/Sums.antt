@@ -28,7 +28,7 @@ gone net past n = total (λ l. outward (link_at net l).to (past n l).left) (leng
 abbrev pub on_road : Net → (ℕ → ℕ → Passed) → ℕ → ℕ
 on_road net past n = total (λ l. (past n l).entered - (past n l).left) (length net.link_names)
 
--- the delay of a link in the first n seconds: the sum of its queues behind each of them
+-- the delay of a link in the first n seconds: the sum of its queues after each of them
 abbrev pub delay : Net → (ℕ → ℕ → Passed) → ℕ → ℕ → ℕ
 delay net past n l = total (λ x. queue net past (x + 1) l) n
 

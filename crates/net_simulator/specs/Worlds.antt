@@ -18,7 +18,7 @@ standing_by lines x node = standing (lines node) x
 
 -- what a world keeps: its second, how many nodes its network has, and for each link its queue, rows of what entered it and of
 -- its queues, and what is counted
-pub record Kept : Type 0 where
+pub record WorldState : Type 0 where
   pub second : ℕ
   pub nodes : ℕ
   pub queues : List ℕ
@@ -28,7 +28,7 @@ pub record Kept : Type 0 where
   pub totals : Totals
 
 -- it has a place for each node and link
-pub record HasShape (net : Net) (w : Kept) : Type 0 where
+pub record HasShape (net : Net) (w : WorldState) : Type 0 where
   pub nodes : w.nodes ≡ length net.node_names
   pub queues : length w.queues ≡ length net.link_names
   pub recent : length w.recent ≡ length net.link_names * 128
@@ -36,14 +36,14 @@ pub record HasShape (net : Net) (w : Kept) : Type 0 where
   pub counts : length w.counts ≡ length net.link_names
 
 -- What is kept of the links is what passed them in the first x seconds: the queues, what entered in each of the last 120
--- seconds, and the queues behind the last 120 seconds and now.
+-- seconds, and the queues after the last 120 seconds and now.
 pub record Keeps (net : Net) (past : ℕ → ℕ → Passed) (qs rs ws : List ℕ) (x : ℕ) : Type 0 where
   pub queues : (l : ℕ) → l < length net.link_names → slice_index qs l ≡ queue net past x l
   pub recent : (l d : ℕ) → l < length net.link_names → 1 ≤ d → d ≤ 120 → cell rs l (x + 128 - d) ≡ (past (x + 1 - d) l).entered - (past (x - d) l).entered
   pub waits : (l d : ℕ) → l < length net.link_names → d ≤ 120 → cell ws l (x + 128 - d) ≡ queue net past (x - d) l
 
 -- All that a world keeps is what the definition gives for a network, arrivals and what is shown over the seconds below its own.
-pub record Stands (net : Net) (arriving : ℕ → ℕ → ℕ) (shown : ℕ → ℕ → Option (ℕ × ℕ)) (w : Kept) : Type 0 where
+pub record Stands (net : Net) (arriving : ℕ → ℕ → ℕ) (shown : ℕ → ℕ → Option (ℕ × ℕ)) (w : WorldState) : Type 0 where
   pub shape : HasShape net w
   pub by : w.second ≤ 18000
   pub keeps : Keeps net (past_of net arriving shown w.second) w.queues w.recent w.waits w.second
@@ -51,7 +51,7 @@ pub record Stands (net : Net) (arriving : ℕ → ℕ → ℕ) (shown : ℕ → 
   pub totals : w.totals ≡ totals net arriving (past_of net arriving shown w.second) w.second
 
 -- a world stands for this network with some arrivals and timelines
-pub record IsWorldOf (net : Net) (w : Kept) : Type 0 where
+pub record IsWorldOf (net : Net) (w : WorldState) : Type 0 where
   pub arrivals : Amounts
   pub lines : ℕ → List Green
   pub enter : AreArrivals net arrivals

@@ -3,13 +3,13 @@
 ghost use Rattle.std.specs.Prelude.{◌≡◌, ◌≢◌, ℕ, ◌+◌, ◌-◌, ◌*◌, ◌/◌, ◌%◌, ◌≤◌, ◌<◌, ◌^◌, None, Some, IfSome, length, slice_index, slice_index_or};
 ghost use Rattle.control_flow.specs.Greens.{green_at};
 ghost use Rattle.net_numbers.specs.Outline.{link_at, turns_at};
+ghost use Rattle.net_simulator.specs.Arriving.{arriving_of};
+ghost use Rattle.net_simulator.specs.Counts.{counts_at};
+ghost use Rattle.net_simulator.specs.Rows.{cell};
+ghost use Rattle.net_simulator.specs.Steps.{is_open, goes, waits_at, goes_out, all_of, counted, FitsSeconds};
+ghost use Rattle.net_simulator.specs.Sums.{outward};
 ghost use Rattle.road_net.specs.Joins.{split_of};
 ghost use Rattle.road_net.specs.Totals.{total};
-ghost use Rattle.net_simulator.specs.Rows.{cell};
-ghost use Rattle.net_simulator.specs.Sums.{outward};
-ghost use Rattle.net_simulator.specs.Counts.{counts_at};
-ghost use Rattle.net_simulator.specs.Arriving.{arriving_of};
-ghost use Rattle.net_simulator.specs.Steps.{is_open, goes, waits_at, goes_out, all_of, counted, IsSmall};
 
 use super::lights::Lights;
 use super::rows;
@@ -37,7 +37,7 @@ pub(crate) fn arrive(recent: &mut [u32], links: u32, arrivals: &Arrivals, second
 {
     let mut all = 0;
     for l in 0..links {
-        let amount = arrivals.entering(l, second);
+        let amount = arrivals.amount_entering(l, second);
         rows::put(recent, l, second, amount);
         all += u64::from(amount);
     }
@@ -96,12 +96,12 @@ fn goes(
 }
 
 /// What waits at the end of link `l`: its queue, and what entered it one travel time ago.
-fn waiting(net: &Network, queues: &[u32], recent: &[u32], second: u32, l: u32) -> u32
+fn waiting_amount(net: &Network, queues: &[u32], recent: &[u32], second: u32, l: u32) -> u32
     requires link { l < length net.now.link_names }
     requires queues { length queues.now ≡ length net.now.link_names }
     requires recent { length recent.now ≡ length net.now.link_names * 128 }
     requires second { second < 18000 }
-    requires room { slice_index queues.now l + cell recent.now l (second + 128 - (link_at net.now l).travel) < 2 ^ 32 }
+    requires fits { slice_index queues.now l + cell recent.now l (second + 128 - (link_at net.now l).travel) < 2 ^ 32 }
     ensures { result ≡ slice_index queues.now l + cell recent.now l (second + 128 - (link_at net.now l).travel) }
 {
     let travel = net.link(l).travel;
@@ -136,14 +136,16 @@ pub(crate) fn leave(
     requires greens { length greens.now ≡ length net.now.node_names }
     requires begun { (n : ℕ) → n < length net.now.node_names → IfSome (slice_index_or greens.now n None) (λ g. g.from ≤ second) }
     requires second { second < 18000 }
-    requires room { (l : ℕ) → l < length net.now.link_names → waits_at net.now queues.old recent.now second l < 2 ^ 32 }
-    ensures leaving { (l : ℕ) → l < length net.now.link_names → slice_index leaving.new l ≡ goes net.now greens.now waits.now second l (waits_at net.now queues.old recent.now second l) (link_at net.now l).to }
-    ensures queues { (l : ℕ) → l < length net.now.link_names → slice_index queues.new l ≡ waits_at net.now queues.old recent.now second l - slice_index leaving.new l }
+    requires fits { (l : ℕ) → l < length net.now.link_names → waits_at net.now queues.old recent.now second l < 2 ^ 32 }
+    ensures leaving { (l : ℕ) → l < length net.now.link_names → slice_index leaving.new l ≡
+        goes net.now greens.now waits.now second l (waits_at net.now queues.old recent.now second l) (link_at net.now l).to }
+    ensures queues { (l : ℕ) → l < length net.now.link_names → slice_index queues.new l ≡
+        waits_at net.now queues.old recent.now second l - slice_index leaving.new l }
     ensures out { result ≡ goes_out net.now leaving.new }
 {
     let mut out = 0;
     for l in 0..net.links() {
-        let waiting = waiting(net, queues, recent, second, l);
+        let waiting = waiting_amount(net, queues, recent, second, l);
         let amount = goes(net, waits, second, l, waiting, greens);
         leaving[l as usize] = amount;
         queues[l as usize] = waiting - amount;
@@ -156,8 +158,10 @@ pub(crate) fn leave(
 fn turn(recent: &mut [u32], net: &Network, l: u32, amount: u32, second: u32)
     requires link { l < length net.now.link_names }
     requires recent { length recent.old ≡ length net.now.link_names * 128 }
-    requires room { (k : ℕ) → k < length net.now.link_names → cell recent.old k second + split_of (turns_at net.now l) amount k < 2 ^ 32 }
-    ensures here { (k : ℕ) → k < length net.now.link_names → cell recent.new k second ≡ cell recent.old k second + split_of (turns_at net.now l) amount k }
+    requires fits { (k : ℕ) → k < length net.now.link_names
+        → cell recent.old k second + split_of (turns_at net.now l) amount k < 2 ^ 32 }
+    ensures here { (k : ℕ) → k < length net.now.link_names
+        → cell recent.new k second ≡ cell recent.old k second + split_of (turns_at net.now l) amount k }
     ensures others { (k y : ℕ) → y % 128 ≢ second % 128 → cell recent.new k y ≡ cell recent.old k y }
 {
     if amount == 0 {
@@ -176,8 +180,10 @@ fn turn(recent: &mut [u32], net: &Network, l: u32, amount: u32, second: u32)
 pub(crate) fn enter(recent: &mut [u32], net: &Network, leaving: &[u32], second: u32)
     requires recent { length recent.old ≡ length net.now.link_names * 128 }
     requires leaving { length leaving.now ≡ length net.now.link_names }
-    requires room { (k : ℕ) → k < length net.now.link_names → cell recent.old k second + total (λ l. split_of (turns_at net.now l) (slice_index leaving.now l) k) (length net.now.link_names) < 2 ^ 32 }
-    ensures here { (k : ℕ) → k < length net.now.link_names → cell recent.new k second ≡ cell recent.old k second + total (λ l. split_of (turns_at net.now l) (slice_index leaving.now l) k) (length net.now.link_names) }
+    requires fits { (k : ℕ) → k < length net.now.link_names → cell recent.old k second
+        + total (λ l. split_of (turns_at net.now l) (slice_index leaving.now l) k) (length net.now.link_names) < 2 ^ 32 }
+    ensures here { (k : ℕ) → k < length net.now.link_names → cell recent.new k second ≡ cell recent.old k second
+        + total (λ l. split_of (turns_at net.now l) (slice_index leaving.now l) k) (length net.now.link_names) }
     ensures others { (k y : ℕ) → y % 128 ≢ second % 128 → cell recent.new k y ≡ cell recent.old k y }
 {
     for l in 0..net.links() {
@@ -185,19 +191,19 @@ pub(crate) fn enter(recent: &mut [u32], net: &Network, leaving: &[u32], second: 
     }
 }
 
-/// Keeps the queues behind this second.
-pub(crate) fn remember(waits: &mut [u32], queues: &[u32], links: u32, behind: u32)
+/// Keeps the queues after this second.
+pub(crate) fn remember(waits: &mut [u32], queues: &[u32], links: u32, next: u32)
     requires waits { length waits.old ≡ links * 128 }
     requires queues { length queues.now ≡ links }
-    ensures here { (l : ℕ) → l < links → cell waits.new l behind ≡ slice_index queues.now l }
-    ensures others { (l y : ℕ) → y % 128 ≢ behind % 128 → cell waits.new l y ≡ cell waits.old l y }
+    ensures here { (l : ℕ) → l < links → cell waits.new l next ≡ slice_index queues.now l }
+    ensures others { (l y : ℕ) → y % 128 ≢ next % 128 → cell waits.new l y ≡ cell waits.old l y }
 {
     for l in 0..links {
-        rows::put(waits, l, behind, queues[l as usize]);
+        rows::put(waits, l, next, queues[l as usize]);
     }
 }
 
-/// Counts what passed each link in this second. Tells how much waits behind it.
+/// Counts what passed each link in this second. Tells how much waits after it.
 pub(crate) fn count(
     counts: &mut [LinkTotals],
     recent: &[u32],
@@ -210,9 +216,10 @@ pub(crate) fn count(
     requires recent { length recent.now ≡ links * 128 }
     requires leaving { length leaving.now ≡ links }
     requires queues { length queues.now ≡ links }
-    requires room { (l : ℕ) → l < links → IsSmall second (counts_at counts.old l) }
+    requires fits { (l : ℕ) → l < links → FitsSeconds second (counts_at counts.old l) }
     requires second { second < 18000 }
-    ensures counts { (l : ℕ) → l < links → counts_at counts.new l ≡ counted (counts_at counts.old l) (cell recent.now l second) (slice_index leaving.now l) (slice_index queues.now l) }
+    ensures counts { (l : ℕ) → l < links → counts_at counts.new l ≡
+        counted (counts_at counts.old l) (cell recent.now l second) (slice_index leaving.now l) (slice_index queues.now l) }
     ensures waits { result ≡ all_of queues.now links }
     ensures most { result ≤ links * 4294967295 }
 {

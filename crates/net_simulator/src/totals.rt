@@ -11,7 +11,7 @@ pub struct LinkTotals {
     pub entered: u64,
     /// All that left it, in thousandths of a vehicle.
     pub left: u64,
-    /// The sum of its queues behind each second, in thousandths of a vehicle times seconds.
+    /// The sum of its queues after each second, in thousandths of a vehicle times seconds.
     pub delay: u64,
 }
 

@@ -6,9 +6,9 @@ ghost use Rattle.control_flow.specs.declared.greens.Green.{Green};
 ghost use Rattle.control_flow.specs.Greens.{standing};
 ghost use Rattle.road_net.specs.Senses.{IsSensedOf};
 ghost use Rattle.net_simulator.specs.Flow.{past_of};
-ghost use Rattle.net_simulator.specs.Counts.{counts_at, no_totals, IsWhole};
+ghost use Rattle.net_simulator.specs.Counts.{counts_at, no_totals, IsBalanced};
 ghost use Rattle.arrivals.specs.Amounts.{Amounts, AreArrivals};
-ghost use Rattle.net_simulator.specs.Worlds.{Kept, Stands, IsWorldOf, standing_by};
+ghost use Rattle.net_simulator.specs.Worlds.{WorldState, Stands, IsWorldOf, standing_by};
 ghost use Rattle.net_simulator.specs.Senses.{sense};
 ghost use Rattle.net_simulator.specs.Arriving.{arriving_of};
 
@@ -43,25 +43,28 @@ pub struct World {
 
 impl Model for World {
     ghost use Rattle.std.specs.Prelude.{◌≡◌, length};
-    ghost use Rattle.net_simulator.specs.Counts.{IsWhole};
-    ghost use Rattle.net_simulator.specs.Worlds.{Kept};
+    ghost use Rattle.net_simulator.specs.Counts.{IsBalanced};
+    ghost use Rattle.net_simulator.specs.Worlds.{WorldState};
 
-    ghost Value = { Kept };
+    ghost Value = { WorldState };
 
     ghost view = { λ w. record { second = w.second; nodes = length w.greens.items; queues = w.queues.items; recent = w.recent.items; waits = w.waits.items; counts = w.counts.items; totals = w.totals } };
 
-    ghost invariant = { λ w. (length w.leaving.items ≡ length w.queues.items) × IsWhole w.totals };
+    ghost invariant = { λ w. (length w.leaving.items ≡ length w.queues.items) × IsBalanced w.totals };
 }
 
 impl CrossesThreads for World {}
 
 impl World {
-    /// The empty world of a network, at second 0, with all the room that it will need.
+    /// The empty world of a network, at second 0, with all the capacity that it will need.
+    ///
+    /// `Err`: out of memory.
     ///
     /// docs/RULES.md, "World".
     pub fn new(alloc: Global, net: &Network) -> Result<World, AllocError>
         ensures second { IfOk result (λ w. w.second ≡ 0) }
-        ensures stands { (arriving : ℕ → ℕ → ℕ) (shown : ℕ → ℕ → Option (ℕ × ℕ)) → IfOk result (λ w. Stands net.now arriving shown w) }
+        ensures stands { (arriving : ℕ → ℕ → ℕ) (shown : ℕ → ℕ → Option (ℕ × ℕ))
+            → IfOk result (λ w. Stands net.now arriving shown w) }
     {
         let links = net.links() as usize;
         let queues = zeros(alloc, links)?;
@@ -87,14 +90,14 @@ impl World {
         })
     }
 
-    /// The second up to which the world has moved.
+    /// The second up to which the world has moved, at most 18,000.
     pub fn now(&self) -> u32
         ensures { result ≡ self.now.second }
     {
         self.second
     }
 
-    /// What is counted of a link.
+    /// What is counted of link `l`, from second 0 on.
     ///
     /// docs/RULES.md, "World".
     pub fn link_totals(&self, l: u32) -> LinkTotals
@@ -109,20 +112,24 @@ impl World {
     /// docs/RULES.md, "World".
     pub fn totals(&self) -> Totals
         ensures value { result ≡ self.now.totals }
-        ensures whole { IsWhole result }
+        ensures whole { IsBalanced result }
     {
         self.totals
     }
 
     /// What a node of the network sees of its entry links: their queues, and what is on its way to their ends.
     ///
+    /// `Err`: out of memory.
+    ///
     /// docs/RULES.md, "What a node sees".
     pub fn sense(&self, alloc: Global, net: &Network, node: u32) -> Result<Sensed, AllocError>
         requires node { node < length net.now.node_names }
         requires world { IsWorldOf net.now self.now }
         ensures sensed { IfOk result (IsSensedOf net.now node) }
-        ensures value { (arriving : ℕ → ℕ → ℕ) (lines : ℕ → List Green) → Stands net.now arriving (standing_by lines) self.now
-            → IfOk result (λ s. s ≡ sense net.now (past_of net.now arriving (standing_by lines) self.now.second) self.now.second node) }
+        ensures value { (arriving : ℕ → ℕ → ℕ) (lines : ℕ → List Green)
+            → Stands net.now arriving (standing_by lines) self.now
+            → IfOk result (λ s. s ≡
+            sense net.now (past_of net.now arriving (standing_by lines) self.now.second) self.now.second node) }
     {
         let links = sensing::sense_links(
             alloc,
@@ -138,7 +145,7 @@ impl World {
         })
     }
 
-    /// Moves by so many seconds under these lights, up to second 18,000.
+    /// Moves by `seconds` seconds under these lights, up to second 18,000.
     ///
     /// docs/RULES.md, "World".
     pub fn advance<T: Lights>(
@@ -168,47 +175,75 @@ impl World {
         ensures stands { Stands net.now (arriving_of arrivals.now) (standing_by (T.lines lights.now)) self.new }
     {
         let x = self.second;
-        self.totals = second(
+        let moment = Moment {
+            net,
+            lights,
+            arrivals,
+            totals: self.totals,
+            second: x,
+        };
+        self.totals = pass_second(
             self.queues.as_mut_slice(),
             self.recent.as_mut_slice(),
             self.waits.as_mut_slice(),
             self.greens.as_mut_slice(),
             self.leaving.as_mut_slice(),
             self.counts.as_mut_slice(),
-            &self.totals,
-            net,
-            lights,
-            arrivals,
-            x,
+            &moment,
         );
         self.second = x + 1;
     }
 }
 
+/// What a second begins with: the network, what its signals show, what comes from outside, and what is counted so far.
+#[derive(Drop)]
+struct Moment<'a, T> {
+    net: &'a Network,
+    lights: &'a T,
+    arrivals: &'a Arrivals,
+    totals: Totals,
+    second: u32,
+}
+
 /// What happens in one second. Answers what is counted then of the whole network.
-fn second<T: Lights>(
+fn pass_second<T: Lights>(
     queues: &mut [u32],
     recent: &mut [u32],
     waits: &mut [u32],
     greens: &mut [Option<Green>],
     leaving: &mut [u32],
     counts: &mut [LinkTotals],
-    totals: &Totals,
-    net: &Network,
-    lights: &T,
-    arrivals: &Arrivals,
-    x: u32,
+    moment: &Moment<T>,
 ) -> Totals
-    requires second { x < 18000 }
+    requires second { moment.now.second < 18000 }
     requires leaving { length leaving.old ≡ length queues.old }
-    requires arrivals { AreArrivals net.now arrivals.now }
-    requires stands { Stands net.now (arriving_of arrivals.now) (standing_by (T.lines lights.now)) (record { second = x; nodes = length greens.old; queues = queues.old; recent = recent.old; waits = waits.old; counts = counts.old; totals = totals.now }) }
-    ensures whole { IsWhole result }
-    ensures stands { Stands net.now (arriving_of arrivals.now) (standing_by (T.lines lights.now)) (record { second = x + 1; nodes = length greens.new; queues = queues.new; recent = recent.new; waits = waits.new; counts = counts.new; totals = result }) }
+    requires arrivals { AreArrivals moment.now.net.now moment.now.arrivals.now }
+    requires stands { Stands moment.now.net.now (arriving_of moment.now.arrivals.now) (standing_by (T.lines moment.now.lights.now)) (record {
+      second = moment.now.second;
+      nodes = length greens.old;
+      queues = queues.old;
+      recent = recent.old;
+      waits = waits.old;
+      counts = counts.old;
+      totals = moment.now.totals;
+    }) }
+    ensures whole { IsBalanced result }
+    ensures stands { Stands moment.now.net.now (arriving_of moment.now.arrivals.now) (standing_by (T.lines moment.now.lights.now)) (record {
+      second = moment.now.second + 1;
+      nodes = length greens.new;
+      queues = queues.new;
+      recent = recent.new;
+      waits = waits.new;
+      counts = counts.new;
+      totals = result;
+    }) }
 {
+    let net = moment.net;
+    let x = moment.second;
+    let totals = &moment.totals;
     let links = net.links();
-    seconds::look(greens, net, lights, x);
-    let arriving = seconds::arrive(recent, links, arrivals, x);
+    seconds::look(greens, net, moment.lights, x);
+    let arriving = seconds::arrive(recent, links, moment.arrivals, x);
     let out = seconds::leave(leaving, queues, net, recent, waits, greens, x);
     seconds::enter(recent, net, leaving, x);
     seconds::remember(waits, queues, links, x + 1);
@@ -228,18 +263,20 @@ fn second<T: Lights>(
 ///
 /// docs/RULES.md, "World".
 pub fn law_of_lights()
-    ensures { (net : Net) (arriving : ℕ → ℕ → ℕ) (lines others : ℕ → List Green) (w : Kept) → Stands net arriving (standing_by lines) w
-        → ((x node : ℕ) → x < w.second → standing (lines node) x ≡ standing (others node) x) → Stands net arriving (standing_by others) w }
+    ensures { (net : Net) (arriving : ℕ → ℕ → ℕ) (lines others : ℕ → List Green) (w : WorldState)
+        → Stands net arriving (standing_by lines) w
+        → ((x node : ℕ) → x < w.second → standing (lines node) x ≡ standing (others node) x)
+        → Stands net arriving (standing_by others) w }
 {}
 
-/// So many zeros.
+/// `count` zeros.
 fn zeros(alloc: Global, n: usize) -> Result<Vec<u32>, AllocError>
     ensures { IfOk result (λ v. v.items ≡ replicate n 0) }
 {
     vec![in alloc; 0; n]
 }
 
-/// What is counted at second 0 of so many links.
+/// What is counted at second 0 of `links` links.
 fn no_counts(alloc: Global, n: usize) -> Result<Vec<LinkTotals>, AllocError>
     ensures { IfOk result (λ v. v.items ≡ replicate n no_totals) }
 {
@@ -251,7 +288,7 @@ fn no_counts(alloc: Global, n: usize) -> Result<Vec<LinkTotals>, AllocError>
     vec![in alloc; nothing; n]
 }
 
-/// Room for what so many nodes show.
+/// Capacity for what `nodes` nodes show.
 fn no_greens(alloc: Global, n: usize) -> Result<Vec<Option<Green>>, AllocError>
     ensures { IfOk result (λ v. length v.items ≡ n) }
 {

@@ -21,7 +21,7 @@ use Rattle.intersection_actor.specs.declared.records.Used.{Used}
 use Rattle.merged_calls.specs.Calls.{AreCalls}
 use Rattle.merged_calls.specs.Places.{AreTold}
 use Rattle.net_numbers.specs.Numbers.{Net}
-use Rattle.net_simulator.specs.Worlds.{Kept}
+use Rattle.net_simulator.specs.Worlds.{WorldState}
 use Rattle.road_net.specs.Network.{IsNetwork}
 use Rattle.runs.specs.Kept as kept
 use Rattle.runs.specs.Kept.{IsKeptRun}
@@ -39,7 +39,7 @@ contains-map f xs x (k, below, is) = (k, (omega (arith, length-map xs f)), get_o
 used : Heard → Used
 used x = record { link = x.link; version = x.version }
 
-module _ (net : Net) (network : IsNetwork net) (arrivals : Amounts) (boards : BoardsView) (passes : List PassView) (actors : List Acting) (world : Kept) (b : Between net arrivals boards net.run.rounds passes actors world) where
+module _ (net : Net) (network : IsNetwork net) (arrivals : Amounts) (boards : BoardsView) (passes : List PassView) (actors : List Acting) (world : WorldState) (b : Between net arrivals boards net.run.rounds passes actors world) where
   -- the merge of the logs of the calls is lawful
   pub are-calls : AreCalls (board_steps net) net.run.rounds (calls_in passes)
   are-calls = record { rounds_made = rounds-made net b.heard b.made net.run.rounds (calls_in passes) b.calls; rising = b.rising }

@@ -3,8 +3,8 @@ use foundation::items::Items;
 use foundation::text::Text;
 use phase_plan::Phase;
 use road_net::{
-    Draft, DraftConflict, DraftLink, DraftNode, DraftPhase, DraftTurn, NetFault, Network, Part,
-    Place, Run, build,
+    Draft, DraftConflict, DraftLink, DraftNode, DraftPhase, DraftTurn, NetFault, Network, Place,
+    Run, Section, build,
 };
 use std::alloc::{AllocError, Global};
 use std::test::Fail;
@@ -125,14 +125,14 @@ fn counts_of(made: Result<Network, NetFault>) -> Result<(u32, u32), NetFault> {
 
 /// More of something than a network may have.
 const TOO_MANY: NetFault = NetFault::Bound(Place {
-    part: Part::Top,
+    part: Section::Top,
     item: 0,
     sub: 0,
 });
 
 /// More links than a phase may serve.
 const TOO_MANY_SERVED: NetFault = NetFault::Bound(Place {
-    part: Part::Phase,
+    part: Section::Phase,
     item: 1,
     sub: 1,
 });

@@ -2,7 +2,7 @@
 use crate::orders::{BOUNDS_IN_ORDER, JOINS_IN_ORDER, NAMES_IN_ORDER, SHAPES_IN_ORDER, STAGES};
 use crate::rows::{TOLD, WRONG, fault_of, misjudged};
 use crate::texts::BARE;
-use road_net::{NetFault, Part, Place};
+use road_net::{NetFault, Place, Section};
 use std::alloc::{AllocError, Global};
 use std::test::Fail;
 use worked_network::NETWORK;
@@ -287,7 +287,7 @@ fn with_tail(alloc: Global, tail: &[u8]) -> Result<Option<NetFault>, AllocError>
 
 /// A further key in the last table.
 const LAST_TABLE: NetFault = NetFault::Shape(Place {
-    part: Part::Conflict,
+    part: Section::Conflict,
     item: 2,
     sub: 0,
 });

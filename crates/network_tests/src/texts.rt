@@ -1,5 +1,5 @@
 //! A text with nothing in its arrays, and the faults that words name.
-use road_net::{NetFault, Part, Place};
+use road_net::{NetFault, Place, Section};
 
 /// A text with all that the top needs, and nothing in its arrays.
 pub(crate) const BARE: &str = "node = []
@@ -13,15 +13,15 @@ rounds = 4
 ";
 
 /// The kind of table with this name.
-fn part_named(name: &str) -> Option<Part> {
+fn part_named(name: &str) -> Option<Section> {
     match name {
-        "top" => Some(Part::Top),
-        "run" => Some(Part::Run),
-        "node" => Some(Part::Node),
-        "phase" => Some(Part::Phase),
-        "link" => Some(Part::Link),
-        "turn" => Some(Part::Turn),
-        "conflict" => Some(Part::Conflict),
+        "top" => Some(Section::Top),
+        "run" => Some(Section::Run),
+        "node" => Some(Section::Node),
+        "phase" => Some(Section::Phase),
+        "link" => Some(Section::Link),
+        "turn" => Some(Section::Turn),
+        "conflict" => Some(Section::Conflict),
         _ => None,
     }
 }

@@ -5,7 +5,7 @@ use Rattle.std.proofs.lemmas.List.{get_or-append-add, get_or_append_left, take-a
 use Rattle.board_rule.specs.Passes.{PassView}
 use Rattle.intersection_actor.specs.Acting.{Acting}
 use Rattle.net_numbers.specs.Numbers.{Net}
-use Rattle.net_simulator.specs.Worlds.{Kept}
+use Rattle.net_simulator.specs.Worlds.{WorldState}
 use Rattle.round_calls.specs.Nodes.{HasPlayed}
 use Rattle.round_calls.specs.Rounds.{HaveAllPlayed}
 
@@ -13,7 +13,7 @@ pub ok-both : {X E : Type 0} (r : Result X E) (A B C : Type 0) → (A → B → 
 ok-both (Ok x) A B C f a b = f a b
 ok-both (Err e) A B C f a b = tt
 
-module _ (net : Net) (round : ℕ) (world : Kept) where
+module _ (net : Net) (round : ℕ) (world : WorldState) where
   -- two parts that played a round
   pub played-two : (xs a' ys b' : List Acting) (ps p' qs q' : List PassView) → length xs ≡ length ps → HaveAllPlayed net round world xs a' ps p' → HaveAllPlayed net round world ys b' qs q' → HaveAllPlayed net round world (xs ++ ys) (a' ++ b') (ps ++ qs) (p' ++ q')
   played-two xs a' ys b' ps p' qs q' same one other = record {

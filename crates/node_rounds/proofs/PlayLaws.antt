@@ -19,8 +19,8 @@ use Rattle.intersection_actor.specs.declared.records.PlanRecord.{PlanRecord}
 use Rattle.intersection_actor.specs.declared.records.Want.TheVariants.{Done}
 use Rattle.merged_calls.specs.Calls.{step_of}
 use Rattle.net_numbers.specs.Numbers.{Net}
-use Rattle.net_simulator.specs.Worlds.{Kept}
-use Rattle.outflow.specs.Outflow.{departures, forecast_of}
+use Rattle.net_simulator.specs.Worlds.{WorldState}
+use Rattle.outflow.specs.Outflow.{departures, told_forecast}
 use Rattle.road_net.specs.Network.{heard_links, told_links}
 use Rattle.road_net.specs.declared.senses.Sensed.{Sensed}
 use Rattle.runs.specs.Runs.{told_in}
@@ -68,7 +68,7 @@ publishes-all calls links same k d inside reads =
 pub is-done : (net : Net) (d e : Acting) (q r : PassView) → HasTold net d e q r (told_links net d.node) → e.want ≡ Done
 is-done net d e q r told = ap (λ (x : Acting). x.want) told.actor ∙ ap telling (slice_get_past (told_links net d.node) (length (told_links net d.node)) (omega arith))
 
-module _ (net : Net) (round : ℕ) (world : Kept) (a b c d e f : Acting) (p q r : PassView) (sensed : Sensed) (seen : IsSeen net world a.node sensed) (begins : b ≡ begun net round sensed a)
+module _ (net : Net) (round : ℕ) (world : WorldState) (a b c d e f : Acting) (p q r : PassView) (sensed : Sensed) (seen : IsSeen net world a.node sensed) (begins : b ≡ begun net round sensed a)
     (heard : HasHeard b c p q) (all : c.left ≡ []) (committed : IsCommitted net c d) (kept : KeepsPast net c d) (told : HasTold net d e q r (told_links net d.node)) (rests : f ≡ resting e) (of : IsOf net f) (order : AreInOrder r.known r.calls) where
   abbrev made : Commitment
   made = committed.made
@@ -115,8 +115,8 @@ module _ (net : Net) (round : ℕ) (world : Kept) (a b c d e f : Acting) (p q r 
   tells-is : (link : ℕ) → outgoing net link d ≡ told_in net round link made
   tells-is link =
       ap (outgoing net link) committed.all
-      ∙ ap (λ (s : Sensed). forecast_of net link s.now (departures made.window.lists (counts_of made.window.lists) (phases_of made.answer) made.served)) sensed-c
-      ∙ ap (λ n. forecast_of net link n (departures made.window.lists (counts_of made.window.lists) (phases_of made.answer) made.served)) commit.now
+      ∙ ap (λ (s : Sensed). told_forecast net link s.now (departures made.window.lists (counts_of made.window.lists) (phases_of made.answer) made.served)) sensed-c
+      ∙ ap (λ n. told_forecast net link n (departures made.window.lists (counts_of made.window.lists) (phases_of made.answer) made.served)) commit.now
 
   abbrev calls : List Call
   calls = heard.calls ++ told.calls

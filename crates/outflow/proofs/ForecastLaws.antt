@@ -3,12 +3,12 @@ use Rattle.std.proofs.Common.{◌≡◌, ℕ, zero, suc, ◌+◌, ◌-◌, ◌<�
 use Rattle.std.specs.List.{range_with_len}
 use Rattle.std.proofs.lemmas.List.Elements.{All-cons, All-contains}
 use Rattle.std.proofs.lemmas.Bool.{cases_lt, cond_below, cond_above}
-use Rattle.board_model.specs.declared.forecasts.Row.{Row}
+use Rattle.board_model.specs.declared.forecasts.ForecastRow.{ForecastRow}
 use Rattle.net_numbers.specs.Numbers.{Net}
 use Rattle.net_numbers.specs.Outline.{link_at}
 use Rattle.road_net.specs.Network.{IsNetwork, exit_links}
 use Rattle.clusters.proofs.ListLaws.{range-append}
-use Rattle.outflow.specs.Outflow.{Departure, coming_in, forecast_of, positive_rows}
+use Rattle.outflow.specs.Outflow.{Departure, coming_in, told_forecast, positive_rows}
 use Rattle.outflow.specs.Steps.{AreArriving}
 use Rattle.outflow.proofs.RowLaws.{positive-append, positive-none, positive-same}
 
@@ -19,8 +19,8 @@ exit-there net node exit exits h all e has =
     omega (arith, All-contains (λ l. l < length net.links) (exit_links net node) exit (subst P e all) has, h.outline.road_count)
 
 pub forecast-made : (net : Net) (exit now : ℕ) (leave : List Departure) (amounts : List ℕ) → AreArriving net exit now leave amounts
-    → positive_rows (λ d. get_or amounts (d - now) 0) (range_with_len now (length amounts)) ≡ forecast_of net exit now leave
-unfolding forecast_of
+    → positive_rows (λ d. get_or amounts (d - now) 0) (range_with_len now (length amounts)) ≡ told_forecast net exit now leave
+unfolding told_forecast
 forecast-made net exit now leave amounts h =
     let f : ℕ → ℕ = coming_in net exit leave in
     let start : 0 + now ≡ now = omega arith in
@@ -37,20 +37,20 @@ pub positive-later : (f : ℕ → ℕ) (a n low : ℕ) → ((d : ℕ) → d < lo
 positive-later f a zero low h = λ k d lt. absurd (omega arith)
 positive-later f a (suc n) low h = elim (cases_lt 0 (f a)) [
   | inl some ↦
-      let P : List Row → Type 0 = All (λ row. low ≤ row.second) in
+      let P : List ForecastRow → Type 0 = All (λ row. low ≤ row.second) in
       let late : low ≤ a = elim (cases_lt a low) [
         | inl early ↦ absurd (let e : f a ≡ 0 = h a early in omega (arith, e))
         | inr fine ↦ fine
       ] in
       subst P (cond_below 0 (f a) (record { second = a; amount = f a } ∷ positive_rows f (range_with_len (a + 1) n)) (positive_rows f (range_with_len (a + 1) n)) some)
-      (All-cons (λ (row : Row). low ≤ row.second) (record { second = a; amount = f a }) (positive_rows f (range_with_len (a + 1) n)) late (positive-later f (a + 1) n low h))
+      (All-cons (λ (row : ForecastRow). low ≤ row.second) (record { second = a; amount = f a }) (positive_rows f (range_with_len (a + 1) n)) late (positive-later f (a + 1) n low h))
   | inr none ↦
-      let P : List Row → Type 0 = All (λ row. low ≤ row.second) in
+      let P : List ForecastRow → Type 0 = All (λ row. low ≤ row.second) in
       subst P (cond_above 0 (f a) (record { second = a; amount = f a } ∷ positive_rows f (range_with_len (a + 1) n)) (positive_rows f (range_with_len (a + 1) n)) _ none refl)
       (positive-later f (a + 1) n low h)
 ]
 
 pub forecast-later : (net : Net) (exit now : ℕ) (leave : List Departure) (amounts : List ℕ) → AreArriving net exit now leave amounts
-    → All (λ row. now + (link_at net exit).travel ≤ row.second) (forecast_of net exit now leave)
-unfolding forecast_of
+    → All (λ row. now + (link_at net exit).travel ≤ row.second) (told_forecast net exit now leave)
+unfolding told_forecast
 forecast-later net exit now leave amounts h = positive-later (coming_in net exit leave) 0 (now + net.run.look) (now + (link_at net exit).travel) h.early

@@ -5,14 +5,14 @@ ghost use Rattle.net_numbers.specs.Outline.{link_at, plan_at};
 ghost use Rattle.road_net.specs.Network.{exit_links};
 ghost use Rattle.clusters.specs.Sound.{AreOfNode};
 ghost use Rattle.clusters.specs.Windows.{counts_of};
-ghost use Rattle.outflow.specs.Outflow.{AreServed, departures, forecast_of, positive_rows};
+ghost use Rattle.outflow.specs.Outflow.{AreServed, departures, told_forecast, positive_rows};
 
-use crate::arriving::arriving;
-use board_model::{Forecast, Row};
+use crate::exit_flow::exit_flow;
+use crate::servings::Servings;
+use board_model::{Forecast, ForecastRow};
 use clusters::Window;
 use road_net::Network;
 use std::alloc::{AllocError, Global};
-use switch_rules::Served;
 
 /// When the vehicles of these servings will come to the end of an exit link of the node: for each second before
 /// `now` + look, what turns into the exit of all that leaves in time, where that is more than nothing.
@@ -22,30 +22,31 @@ use switch_rules::Served;
 /// sequence of the window's clusters, or none at all.
 ///
 /// The rows are at most 180, each of 1 to 80,000 in a second before `now` + look, and none comes before `now` + travel of the
-/// exit. No servings make the empty forecast. An `Err` comes only where memory runs out.
+/// exit. No servings make the empty forecast. `Err`: out of memory.
 ///
 /// docs/RULES.md, "Predicted outflow".
 pub fn forecast(
     alloc: Global,
     net: &Network,
     node: u32,
-    w: &Window,
-    phases: &[u8],
-    served: &[Served],
+    window: &Window,
+    servings: &Servings,
     exit: u32,
     now: u32,
 ) -> Result<Forecast, AllocError>
     requires node { node < length net.now.node_names }
     requires now { now ≤ 18000 }
     requires exit { Contains (exit_links net.now node) exit }
-    requires platoons { AreOfNode net.now node now w.now.lists }
-    requires served { AreServed (plan_at net.now node) w.now.lists phases.now served.now }
-    ensures value { IfOk result (λ forecast. forecast ≡ forecast_of net.now exit now (departures w.now.lists (counts_of w.now.lists) phases.now served.now)) }
+    requires platoons { AreOfNode net.now node now window.now.lists }
+    requires served { AreServed (plan_at net.now node) window.now.lists servings.now.phases.now
+        servings.now.served.now }
+    ensures value { IfOk result (λ forecast. forecast ≡ told_forecast net.now exit now
+        (departures window.now.lists (counts_of window.now.lists) servings.now.phases.now servings.now.served.now)) }
     ensures later { IfOk result (λ forecast. All (λ row. now + (link_at net.now exit).travel ≤ row.second) forecast) }
 {
     // The exit is one of these links, so it exists.
     let _exits = net.exit_links(node);
-    let amounts = arriving(alloc, net, node, w, phases, served, exit, now)?;
+    let amounts = exit_flow(alloc, net, node, window, servings, exit, now)?;
     rows(alloc, now, amounts.as_slice())
 }
 
@@ -54,13 +55,14 @@ fn rows(alloc: Global, now: u32, amounts: &[u32]) -> Result<Forecast, AllocError
     requires now { now ≤ 18000 }
     requires few { length amounts.now ≤ 180 }
     requires most { (k : ℕ) → slice_index amounts.now k ≤ 80000 }
-    ensures { IfOk result (λ forecast. forecast ≡ positive_rows (λ d. slice_index amounts.now (d - now)) (range_with_len now (length amounts.now))) }
+    ensures { IfOk result (λ forecast. forecast ≡
+        positive_rows (λ d. slice_index amounts.now (d - now)) (range_with_len now (length amounts.now))) }
 {
     let filled = amounts.iter().filter(|amount| **amount > 0).count();
-    let mut forecast = Forecast::with_room(alloc, filled)?;
+    let mut forecast = Forecast::with_capacity(alloc, filled)?;
     for (k, amount) in amounts.iter().enumerate() {
         if *amount > 0 {
-            forecast.push(Row {
+            forecast.push(ForecastRow {
                 second: now + k as u32,
                 amount: *amount,
             })?;

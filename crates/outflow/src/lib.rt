@@ -1,7 +1,9 @@
 //! What a node tells its neighbours: when the vehicles that it has planned to serve will come to them.
 #![tactic(auto)]
 
-mod arriving;
+mod exit_flow;
 mod forecasting;
+mod servings;
 
 pub use forecasting::forecast;
+pub use servings::Servings;

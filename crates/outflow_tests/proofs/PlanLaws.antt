@@ -10,7 +10,7 @@ use Rattle.schedule_meaning.specs.Instances.{IsInstance, Problem}
 use Rattle.control_flow.specs.Timelines.{AreServings}
 use Rattle.control_flow.proofs.SequenceLaws.{next-servings}
 use Rattle.clusters.specs.Sound.{cluster_lists, clusters_of}
-use Rattle.clusters.specs.declared.shapes.Platoon.{Platoon}
+use Rattle.clusters.specs.declared.vehicle_groups.Platoon.{Platoon}
 use Rattle.outflow.specs.Outflow.{AreServed}
 
 -- there are as many clusters as platoons

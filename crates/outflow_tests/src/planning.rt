@@ -14,7 +14,7 @@ use board_model::Heard;
 use clusters::{Platoon, Window, platoons, window};
 use control_flow::{head_at, timeline};
 use foundation::items::Items;
-use outflow::forecast;
+use outflow::{Servings, forecast};
 use phase_plan::PhasePlan;
 use road_net::{Network, Sensed};
 use schedule_meaning::{Answer, Instance, PlainPlanner, best_answer, servings};
@@ -159,7 +159,8 @@ fn note_forecasts(
     let exits = net.exit_links(node);
     for exit in exits {
         seen.push(*exit)?;
-        let told = forecast(alloc, net, node, window, phases, served, *exit, NOW)?;
+        let servings = Servings { phases, served };
+        let told = forecast(alloc, net, node, window, &servings, *exit, NOW)?;
         for row in told.rows() {
             seen.push(row.second)?;
             seen.push(row.amount)?;

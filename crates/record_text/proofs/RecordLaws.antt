@@ -1,9 +1,12 @@
 -- What a reader of records has left.
-use Rattle.std.proofs.Common.{Bor, ◌≡◌, ℕ, zero, suc, ◌+◌, ◌<◌, ◌≤◌, Bool, true, false, cond, ◌==◌, List, [], ◌∷◌, ◌++◌, length, Option, Some, None, IsSome, Result, Ok, Err, IfOk, OnOk, ok_or, refl, sym, ap, ◌∙◌, inl, add-one, arith}
+use Rattle.std.proofs.Common.{Bor, ◌≡◌, ℕ, zero, suc, ◌+◌, ◌<◌, ◌≤◌, Bool, true, false, cond, ◌==◌, List, [], ◌∷◌, ◌++◌, length, Option, Some, None, IsSome, Result, Ok, Err, IfOk, IfErr, OnOk, OnErr, ok_or, refl, sym, ap, ◌∙◌, inl, add-one, arith}
 use Rattle.std.proofs.lemmas.Bool.{cond_both, false≢true}
 use Rattle.std.proofs.lemmas.Option.{same_Some}
 use Rattle.csv.specs.Machine.{Read, ends_with, after_end, in_field, start_field, start_record, step, ends_at_end, is_end, fields_after, field_after, next_record}
-use Rattle.csv.specs.Reading.{Reached, ReadRecord, Ready, default_config, records_from, records_next}
+use Rattle.csv.specs.Reading.{ExplainsRead, Reached, ReadRecord, Ready, default_config, error_kind, has_failed, is_flexible, records_from, records_next, stops_reader}
+use Rattle.csv.specs.declared.error.Error.{Error}
+use Rattle.csv.specs.declared.error.ErrorKind.{ErrorKind}
+use Rattle.csv.specs.declared.error.ErrorKind.TheVariants as kind
 use Rattle.csv.specs.declared.parser.Action.{Action}
 use Rattle.csv.specs.declared.parser.State.{State}
 use Rattle.csv.specs.declared.parser.State.TheVariants as st
@@ -97,7 +100,7 @@ enough (suc n) (suc m) s bytes between h g =
     let fewer = taken-some s [] [] bytes p between e in
     enough n m p.1 p.2 (taken s [] [] bytes p e).between (omega (arith, fewer)) (omega (arith, fewer)))
 
--- the first record, and those behind it
+-- the first record, and those after it
 first-of : (s : State) (bytes : List ℕ) (p : Read) → ends_at_end s ≡ false → next_record default_config s [] [] bytes ≡ Some p → records_in s (Some bytes) ≡ p.0 ∷ records_in p.1 (Some p.2)
 unfolding records_from
 first-of s bytes p between e =
@@ -113,9 +116,9 @@ module _ (old new : Reader (Bor (List ℕ))) (fields : List (List ℕ)) (is : Is
   known None some = absurd (false≢true some)
   known (Some bytes) some = (bytes, refl)
 
-  takes-one : (bytes : List ℕ) → source old ≡ Some bytes → ReadRecord (λ (s : Bor (List ℕ)). Some s.now) old new true fields → new.first ≡ true → IsReading new × (left_of old ≡ fields ∷ left_of new)
+  takes-one : (bytes : List ℕ) → source old ≡ Some bytes → ReadRecord (λ (s : Bor (List ℕ)). Some s.now) old new true fields → new.first ≡ true → is_flexible new ≡ is_flexible old → IsReading new × (left_of old ≡ fields ∷ left_of new)
   unfolding Reached
-  takes-one bytes at read first =
+  takes-one bytes at read first flexible =
       let (rest, after, reached) = rows-more (λ (s : Bor (List ℕ)). Some s.now) old new fields default_config old.state bytes bytes [] is.config at (refl, refl) read in
       let (next, found, its, end) = reached in
       let (state, left) = end in
@@ -124,6 +127,7 @@ module _ (old new : Reader (Bor (List ℕ))) (fields : List (List ℕ)) (is : Is
         plain = read.3 ∙ is.plain;
         ready = inl first;
         config = read.2 ∙ is.config;
+        any_length = flexible ∙ is.any_length;
         known = rw after refl;
         between = rw (← state) between;
       } in
@@ -135,16 +139,31 @@ module _ (old new : Reader (Bor (List ℕ))) (fields : List (List ℕ)) (is : Is
       let (bytes, at) = known (source old) is.known in
       rw at (none-of old.state bytes (rows-end (λ (s : Bor (List ℕ)). Some s.now) old new fields default_config bytes is.config at read))
 
-  pub takes : (found : Bool) → ReadRecord (λ (s : Bor (List ℕ)). Some s.now) old new found fields → new.first ≡ true → Takes old new found fields
-  takes true read first = let (bytes, at) = known (source old) is.known in takes-one bytes at read first
-  takes false read first = takes-none read
+  pub takes : (found : Bool) → ReadRecord (λ (s : Bor (List ℕ)). Some s.now) old new found fields → new.first ≡ true → is_flexible new ≡ is_flexible old → Takes old new found fields
+  takes true read first flexible = let (bytes, at) = known (source old) is.known in takes-one bytes at read first flexible
+  takes false read first flexible = takes-none read
 
--- the same of what a read answers, whose error is want of memory
+-- the same of what a read answers, whose error is out of memory
 pub takes-ok : {E D : Type 0} (want : D) (old new : Reader (Bor (List ℕ))) (fields : List (List ℕ)) (read : Result Bool E) (answer : Result Bool D) → IsReading old → answer ≡ ok_or (result_ok read) want
-    → IfOk read (λ found. old.trim ≡ trim.None → Ready old → ReadRecord (λ (s : Bor (List ℕ)). Some s.now) old new found fields) → ((old.trim ≡ trim.None) → OnOk read (new.first ≡ true))
+    → IfOk read (λ found. old.trim ≡ trim.None → Ready old → ReadRecord (λ (s : Bor (List ℕ)). Some s.now) old new found fields) → ((old.trim ≡ trim.None) → OnOk read (new.first ≡ true)) → OnOk read (is_flexible new ≡ is_flexible old)
     → IfOk answer (λ found. Takes old new found fields)
-takes-ok want old new fields (Ok found) answer is same reads first = rw same (takes old new fields is found (reads is.plain is.ready) (first is.plain))
-takes-ok want old new fields (Err e) answer is same reads first = rw same tt
+takes-ok want old new fields (Ok found) answer is same reads first flexible = rw same (takes old new fields is found (reads is.plain is.ready) (first is.plain) flexible)
+takes-ok want old new fields (Err e) answer is same reads first flexible = rw same tt
+
+-- where records of any length are taken, no read of bytes fails but one that stops the reader
+stopping : (old new : Reader (Bor (List ℕ))) (k : ErrorKind) → is_flexible old ≡ true → ExplainsRead (λ (s : Bor (List ℕ)). Some s.now) old new false k → stops_reader k ≡ true
+stopping old new (kind.Io e) flexible why = refl
+stopping old new kind.OutOfMemory flexible why = refl
+stopping old new (kind.UnequalLengths pos expected len) flexible why = absurd (false≢true (sym why.0 ∙ flexible))
+stopping old new (kind.Utf8 pos err) flexible why = absurd (false≢true why.0)
+stopping old new (kind.Serialize text) flexible why = absurd why
+stopping old new (kind.Deserialize pos err) flexible why = absurd why
+
+pub stops-err : {D : Type 0} (want : D) (old new : Reader (Bor (List ℕ))) (read : Result Bool Error) (answer : Result Bool D) → IsReading old → answer ≡ ok_or (result_ok read) want
+    → IfErr read (λ e. has_failed new ≡ stops_reader (error_kind e)) → IfErr read (λ e. Ready old → ExplainsRead (λ (s : Bor (List ℕ)). Some s.now) old new false (error_kind e))
+    → OnErr answer (has_failed new ≡ true)
+stops-err want old new (Ok found) answer is same fails why = rw same tt
+stops-err want old new (Err e) answer is same fails why = rw same (fails ∙ stopping old new (error_kind e) is.any_length (why is.ready))
 
 -- a record that was found was the first that was left
 pub found-one : (old new : Reader (Bor (List ℕ))) (found : Bool) (fields : List (List ℕ)) → found ≡ true → Takes old new found fields → IsReading new × (left_of old ≡ fields ∷ left_of new)

@@ -1,9 +1,9 @@
 -- The course of a reader of records.
-use Rattle.std.specs.Prelude.{◌≡◌, ◌+◌, ℕ, Bool, false, List, [], ◌∷◌, Option, Some, None, IsSome, length}
+use Rattle.std.specs.Prelude.{◌≡◌, ◌+◌, ℕ, Bool, true, false, List, [], ◌∷◌, Option, Some, None, IsSome, length}
 use Rattle.std.specs.Bool.{MatchBool}
 use Rattle.std.specs.Borrow.{Bor}
 use Rattle.csv.specs.Machine.{ends_at_end}
-use Rattle.csv.specs.Reading.{Ready, default_config, reader_config, reader_state, reader_trim, records_from, source_of}
+use Rattle.csv.specs.Reading.{Ready, default_config, is_flexible, reader_config, reader_state, reader_trim, records_from, source_of}
 use Rattle.csv.specs.declared.parser.State.{State}
 use Rattle.csv.specs.declared.reader.Reader.{Reader}
 use Rattle.csv.specs.declared.reader.Trim.TheVariants as trim
@@ -21,11 +21,12 @@ records_in state (Some bytes) = records_from default_config (length bytes + 1) s
 abbrev pub left_of : Reader (Bor (List ℕ)) → List (List (List ℕ))
 left_of reader = records_in (reader_state reader) (source reader)
 
--- a reader between two records
+-- a reader between two records, which takes records of any length
 pub record IsReading (reader : Reader (Bor (List ℕ))) : Type 0 where
   pub plain : reader_trim reader ≡ trim.None
   pub ready : Ready reader
   pub config : reader_config reader ≡ default_config
+  pub any_length : is_flexible reader ≡ true
   pub known : IsSome (source reader)
   pub between : ends_at_end (reader_state reader) ≡ false
 

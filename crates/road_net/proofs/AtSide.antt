@@ -71,5 +71,9 @@ module _ (side : Side) (node : ℕ) (links : List Link) where
       record { have = whole.have; all = whole.all; rising = whole.rising }
 
 -- the list that stands for a node
-pub by_node-at : (side : Side) (links : List Link) (nodes node : ℕ) (lists : List (List ℕ)) (x : List ℕ) → AreByNode side links nodes lists → node < nodes → x ≡ get_or lists node x → x ≡ links_of_node side links node
+by_node-at : (side : Side) (links : List Link) (nodes node : ℕ) (lists : List (List ℕ)) (x : List ℕ) → AreByNode side links nodes lists → node < nodes → x ≡ get_or lists node x → x ≡ links_of_node side links node
 by_node-at side links nodes node lists x by_node h at = at ∙ get_or_default lists node x [] (omega (arith, by_node.count)) ∙ by_node.each node h
+
+-- and it has the links at the node's side
+pub links-at : (side : Side) (links given : List Link) (nodes node : ℕ) (lists : List (List ℕ)) (x out : List ℕ) → AreByNode side links nodes lists → links ≡ given → node < nodes → x ≡ get_or lists node x → out ≡ x → AreLinksAt side given node out
+links-at side links given nodes node lists x out by_node same h at is = rw (← same, is, by_node-at side links nodes node lists x by_node h at) (links_of_node-are side node links)

@@ -13,12 +13,12 @@ use Rattle.net_numbers.specs.FirstFaults.{Refuses}
 use Rattle.net_numbers.specs.Parts.{net_of}
 use Rattle.road_net.specs.declared.NodeLinks.{NodeLinks}
 use Rattle.road_net.specs.FirstFaults.{IsJoinFault}
-use Rattle.road_net.specs.Stored.{TestsEach, clash_at, HasRoomAt}
-use Rattle.road_net.specs.Joins.{HasEnds, HasEndsAt, AreRoomy, AreByNode, HasSharesAt, AreShared, IsPhasedAt, ArePhased, conflict_at, IsConflict, IsConflictAt}
+use Rattle.road_net.specs.Stored.{TestsEach, clash_at, HasFewAt}
+use Rattle.road_net.specs.Joins.{HasEnds, HasEndsAt, HaveFewEntries, AreByNode, HasSharesAt, AreShared, IsPhasedAt, ArePhased, conflict_at, IsConflict, IsConflictAt}
 use Rattle.road_net.specs.Network.{IsJoined}
 use Rattle.road_net.specs.Stored.{Joins, Links}
 use Rattle.road_net.specs.declared.joins.Side.TheVariants.{To}
-use Rattle.road_net.proofs.Joining.{roomy, crowded}
+use Rattle.road_net.proofs.Joining.{few-entries, crowded}
 
 module _ (net : Net) where
   -- the fault of a test, where each of its faults is one of the joins
@@ -30,7 +30,7 @@ module _ (net : Net) where
   pub fault-refuses : (fault : NetFault) → IsJoinFault net fault → Refuses fault (IsJoined net → ⊥)
   fault-refuses NoMemory h = tt
   fault-refuses (Ends link) h = λ joined. h.here (joined.ends link no_link h.below)
-  fault-refuses (Crowd node) h = λ joined. h.1.here (joined.room node h.1.below)
+  fault-refuses (Crowd node) h = λ joined. h.1.here (joined.entries node h.1.below)
   fault-refuses (Shares link) h = λ joined. h.2.here (joined.shares link h.2.below)
   fault-refuses (Phaseless link) h = λ joined. h.3.here (joined.phases link h.3.below)
   fault-refuses (Clash a b) h = λ joined. h.4.first.here (joined.conflicts h.4.place (0, 0) h.4.first.below)
@@ -58,28 +58,28 @@ module _ (net : Net) (lists : List (List ℕ)) (by_node : AreByNode To net.links
   have_ends : All HasEnds net.links
   have_ends = All-each HasEnds net.links no_link ends
 
-  pub room-fault : (seen : List (List ℕ)) → seen ≡ lists → (fault : NetFault) → TestsEach Crowd (HasRoomAt seen) (length seen) (Err fault) → IsJoinFault net fault
-  room-fault seen are fault h =
-      fault-from net Crowd (HasRoomAt seen) (length seen) (λ k first. (have_ends, crowded net.links (length net.node_names) k lists by_node (rw are at first))) fault h
+  pub entries-fault : (seen : List (List ℕ)) → seen ≡ lists → (fault : NetFault) → TestsEach Crowd (HasFewAt seen) (length seen) (Err fault) → IsJoinFault net fault
+  entries-fault seen are fault h =
+      fault-from net Crowd (HasFewAt seen) (length seen) (λ k first. (have_ends, crowded net.links (length net.node_names) k lists by_node (rw are at first))) fault h
 
-  module _ (short : (k : ℕ) → k < length lists → HasRoomAt lists k) where
-    have_room : AreRoomy net.links (length net.node_names)
-    have_room = roomy net.links (length net.node_names) lists by_node short
+  module _ (short : (k : ℕ) → k < length lists → HasFewAt lists k) where
+    have_few : HaveFewEntries net.links (length net.node_names)
+    have_few = few-entries net.links (length net.node_names) lists by_node short
 
     pub shares-fault : (links : List Link) (turns : List (List Turn)) → links ≡ net.links → turns ≡ net.turns → (fault : NetFault) → TestsEach Shares (HasSharesAt links turns) (length links) (Err fault) → IsJoinFault net fault
     shares-fault links turns links_are turns_are fault h =
-        fault-from net Shares (HasSharesAt links turns) (length links) (λ k first. (have_ends, have_room, rw (links_are, turns_are) at first)) fault h
+        fault-from net Shares (HasSharesAt links turns) (length links) (λ k first. (have_ends, have_few, rw (links_are, turns_are) at first)) fault h
 
     module _ (shares : AreShared net.links net.turns) where
       pub phases-fault : (links : List Link) (phase_links : List (List (List ℕ))) → links ≡ net.links → phase_links ≡ net.phase_links → (fault : NetFault) → TestsEach Phaseless (IsPhasedAt links phase_links) (length links) (Err fault) → IsJoinFault net fault
       phases-fault links phase_links links_are phases_are fault h =
-          fault-from net Phaseless (IsPhasedAt links phase_links) (length links) (λ k first. (have_ends, have_room, shares, rw (links_are, phases_are) at first)) fault h
+          fault-from net Phaseless (IsPhasedAt links phase_links) (length links) (λ k first. (have_ends, have_few, shares, rw (links_are, phases_are) at first)) fault h
 
       module _ (phases : ArePhased net.links net.phase_links) where
         pub conflicts-fault : (links : List Link) (conflicts : List (ℕ × ℕ)) → links ≡ net.links → conflicts ≡ net.conflicts → (fault : NetFault) → TestsEach (clash_at conflicts) (IsConflictAt links conflicts) (length conflicts) (Err fault) → IsJoinFault net fault
         conflicts-fault links conflicts links_are conflicts_are fault h =
-            fault-from net (clash_at conflicts) (IsConflictAt links conflicts) (length conflicts) (λ k first. (have_ends, have_room, shares, phases, record { place = k; there = ap (λ cs. conflict_at cs k) (sym conflicts_are); first = rw (links_are, conflicts_are) at first })) fault h
+            fault-from net (clash_at conflicts) (IsConflictAt links conflicts) (length conflicts) (λ k first. (have_ends, have_few, shares, phases, record { place = k; there = ap (λ cs. conflict_at cs k) (sym conflicts_are); first = rw (links_are, conflicts_are) at first })) fault h
 
         -- a network that passes all of them
         pub passed : ((k : ℕ) → k < length net.conflicts → IsConflictAt net.links net.conflicts k) → IsJoined net
-        passed conflicts = record { ends = have_ends; room = have_room; shares = shares; phases = phases; conflicts = All-each (IsConflict net.links) net.conflicts (0, 0) conflicts }
+        passed conflicts = record { ends = have_ends; entries = have_few; shares = shares; phases = phases; conflicts = All-each (IsConflict net.links) net.conflicts (0, 0) conflicts }

@@ -1,4 +1,4 @@
--- What testing the joins of a network stands on.
+-- What the tests of the joins of a network depend on.
 use Rattle.std.proofs.Common.{ℕ, ◌<◌, ◌^◌, List, length, sum_by, arith}
 use Rattle.std.proofs.Math.Nat.{mul-le-mul_right}
 use Rattle.std.proofs.lemmas.List.Sums.{sum_by-le}
@@ -7,19 +7,19 @@ use Rattle.net_numbers.specs.declared.roads.Turn.{Turn}
 use Rattle.net_numbers.specs.Outline.{AreTurns}
 use Rattle.road_net.specs.declared.joins.Side.TheVariants.{To}
 use Rattle.foundation.specs.Firsts.{IsFirstWithout}
-use Rattle.road_net.specs.Joins.{share_of, AreByNode, IsRoomy, AreRoomy}
-use Rattle.road_net.specs.Stored.{HasRoomAt}
+use Rattle.road_net.specs.Joins.{share_of, AreByNode, HasFewEntries, HaveFewEntries}
+use Rattle.road_net.specs.Stored.{HasFewAt}
 
 -- the sum of the shares of a link fits
 pub shares-small : (links : ℕ) (ts : List Turn) → AreTurns links ts → sum_by share_of ts < 2 ^ 32
 shares-small links ts bounds = omega (arith, sum_by-le share_of 1000 ts bounds.shares, mul-le-mul_right 1000 bounds.count)
 
 -- lists of the links of each node, of which none is too long
-pub roomy : (links : List Link) (nodes : ℕ) (lists : List (List ℕ)) → AreByNode To links nodes lists → ((k : ℕ) → k < length lists → HasRoomAt lists k) → AreRoomy links nodes
-roomy links nodes lists by_node short n h = rw (← by_node.each n h) (short n (omega (arith, by_node.count)))
+pub few-entries : (links : List Link) (nodes : ℕ) (lists : List (List ℕ)) → AreByNode To links nodes lists → ((k : ℕ) → k < length lists → HasFewAt lists k) → HaveFewEntries links nodes
+few-entries links nodes lists by_node short n h = rw (← by_node.each n h) (short n (omega (arith, by_node.count)))
 
--- the first list that is too long is that of the first node with no room
-pub crowded : (links : List Link) (nodes n : ℕ) (lists : List (List ℕ)) → AreByNode To links nodes lists → IsFirstWithout (HasRoomAt lists) (length lists) n → IsFirstWithout (IsRoomy links) nodes n
+-- the first list that is too long is that of the first node with more links than it may have
+pub crowded : (links : List Link) (nodes n : ℕ) (lists : List (List ℕ)) → AreByNode To links nodes lists → IsFirstWithout (HasFewAt lists) (length lists) n → IsFirstWithout (HasFewEntries links) nodes n
 crowded links nodes n lists by_node long =
     let inside : n < nodes = omega (arith, by_node.count, long.below) in
     record {

@@ -8,7 +8,7 @@ use Rattle.net_draft.specs.declared.faults.NetFault.TheVariants.{NoMemory, Bound
 use Rattle.net_numbers.specs.Bounds.{IsBounded}
 use Rattle.net_numbers.specs.FirstFaults.{IsBoundFault, IsTwiceFault, IsUnknownFault}
 use Rattle.net_numbers.specs.Numbers.{Net, AreDistinct, numbered, node_names, link_names}
-use Rattle.road_net.specs.Joins.{HasEnds, HasEndsAt, IsRoomy, AreRoomy, HasSharesAt, AreShared, IsPhasedAt, ArePhased, conflict_at, IsConflictAt}
+use Rattle.road_net.specs.Joins.{HasEnds, HasEndsAt, HasFewEntries, HaveFewEntries, HasSharesAt, AreShared, IsPhasedAt, ArePhased, conflict_at, IsConflictAt}
 
 -- the pair of links is the first conflict of the file that can be none
 pub record IsFirstClash (net : Net) (pair : ℕ × ℕ) : Type 0 where
@@ -17,20 +17,20 @@ pub record IsFirstClash (net : Net) (pair : ℕ × ℕ) : Type 0 where
   pub first : IsFirstWithout (IsConflictAt net.links net.conflicts) (length net.conflicts) place
 
 -- Why the parts of a network are not joined as they have to be: the first link without its ends; where all have them, the
--- first node with no room; else the first link whose turns are not as they must; else the first that phases do not name as
+-- first node with more links than it may have; else the first link whose turns are not as they must; else the first that phases do not name as
 -- they must; else the first conflict that can be none.
 abbrev pub IsJoinFault : Net → NetFault → Type 0
 IsJoinFault net NoMemory = Unit {0}
 IsJoinFault net (Ends l) = IsFirstWithout (HasEndsAt net.links) (length net.links) l
-IsJoinFault net (Crowd n) = All HasEnds net.links × IsFirstWithout (IsRoomy net.links) (length net.node_names) n
+IsJoinFault net (Crowd n) = All HasEnds net.links × IsFirstWithout (HasFewEntries net.links) (length net.node_names) n
 IsJoinFault net (Shares l) =
-    All HasEnds net.links × AreRoomy net.links (length net.node_names)
+    All HasEnds net.links × HaveFewEntries net.links (length net.node_names)
     × IsFirstWithout (HasSharesAt net.links net.turns) (length net.links) l
 IsJoinFault net (Phaseless l) =
-    All HasEnds net.links × AreRoomy net.links (length net.node_names) × AreShared net.links net.turns
+    All HasEnds net.links × HaveFewEntries net.links (length net.node_names) × AreShared net.links net.turns
     × IsFirstWithout (IsPhasedAt net.links net.phase_links) (length net.links) l
 IsJoinFault net (Clash a b) =
-    All HasEnds net.links × AreRoomy net.links (length net.node_names) × AreShared net.links net.turns × ArePhased net.links net.phase_links
+    All HasEnds net.links × HaveFewEntries net.links (length net.node_names) × AreShared net.links net.turns × ArePhased net.links net.phase_links
     × IsFirstClash net (a, b)
 IsJoinFault net _ = ⊥
 

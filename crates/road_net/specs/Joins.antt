@@ -43,12 +43,12 @@ pub record AreLinksAt (side : Side) (links : List Link) (node : ℕ) (numbers : 
   pub rising : IsStrictlyIncreasing numbers
 
 -- at most 16 links end at a node
-abbrev pub IsRoomy : List Link → ℕ → Type 0
-IsRoomy links node = length (links_of_node To links node) ≤ 16
+abbrev pub HasFewEntries : List Link → ℕ → Type 0
+HasFewEntries links node = length (links_of_node To links node) ≤ 16
 
--- and at each of so many nodes
-abbrev pub AreRoomy : List Link → ℕ → Type 0
-AreRoomy links nodes = (node : ℕ) → node < nodes → IsRoomy links node
+-- and at each of this number of nodes
+abbrev pub HaveFewEntries : List Link → ℕ → Type 0
+HaveFewEntries links nodes = (node : ℕ) → node < nodes → HasFewEntries links node
 
 -- the share of a turn, in thousandths
 abbrev pub share_of : Turn → ℕ

@@ -14,12 +14,12 @@ use Rattle.net_numbers.specs.Numbers.{Net, AreDistinct, numbered, node_names, li
 use Rattle.net_numbers.specs.Outline.{IsOutline, link_at, plan_at, phase_links_at}
 use Rattle.road_net.specs.FirstFaults.{IsDraftFault}
 use Rattle.road_net.specs.Joins as joins
-use Rattle.road_net.specs.Joins.{HasEnds, AreRoomy, AreShared, ArePhased, IsConflict}
+use Rattle.road_net.specs.Joins.{HasEnds, HaveFewEntries, AreShared, ArePhased, IsConflict}
 
 -- How the parts of a network by numbers have to be joined, in the order in which it is tested.
 pub record IsJoined (net : Net) : Type 0 where
   pub ends : All HasEnds net.links
-  pub room : AreRoomy net.links (length net.node_names)
+  pub entries : HaveFewEntries net.links (length net.node_names)
   pub shares : AreShared net.links net.turns
   pub phases : ArePhased net.links net.phase_links
   pub conflicts : All (IsConflict net.links) net.conflicts

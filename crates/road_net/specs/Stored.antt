@@ -39,7 +39,7 @@ Drafts bytes (Err NotToml) = IsUtf8 bytes → parse_document bytes ≡ None
 Drafts bytes (Err (Shape place)) = HasNoDraft bytes place
 Drafts bytes (Err _) = ⊥
 
--- A test of all numbers below the count answers Ok where the fact holds of each. A fault is want of memory, or the one that
+-- A test of all numbers below the count answers Ok where the fact holds of each. A fault is out of memory, or the one that
 -- names the first number of which the fact does not hold.
 abbrev pub TestsEach : (ℕ → NetFault) → (ℕ → Type 0) → ℕ → Result (Unit {0}) NetFault → Type 0
 TestsEach fault_at fact count (Ok _) = (k : ℕ) → k < count → fact k
@@ -51,5 +51,5 @@ abbrev pub clash_at : List (ℕ × ℕ) → ℕ → NetFault
 clash_at conflicts place = Clash (conflict_at conflicts place).0 (conflict_at conflicts place).1
 
 -- the list of links of this node is not too long
-abbrev pub HasRoomAt : List (List ℕ) → ℕ → Type 0
-HasRoomAt lists node = length (slice_index_or lists node []) ≤ 16
+abbrev pub HasFewAt : List (List ℕ) → ℕ → Type 0
+HasFewAt lists node = length (slice_index_or lists node []) ≤ 16

@@ -1,7 +1,7 @@
 //! How the parts of a network are joined.
 ghost use Rattle.std.specs.Prelude.{◌≡◌, ◌≢◌, ◌≤◌, ◌<◌, ◌^◌, ◌↔◌, IsTrue, IfOk, OnOk, IfSome, ◌++◌, Some, [], All, AllPairs, length, slice_index_or, sum_by};
 ghost use Rattle.std.specs.List.{concat};
-ghost use Rattle.road_net.specs.Stored.{TestsEach, clash_at, HasRoomAt};
+ghost use Rattle.road_net.specs.Stored.{TestsEach, clash_at, HasFewAt};
 ghost use Rattle.road_net.specs.Joins.{HasEndsAt, link_at, node_at, is_node, links_of_node, AreByNode, HasShares, HasSharesAt, share_of, named_links, IsPhased, IsPhasedAt, IsConflict, IsConflictAt};
 
 use foundation::items::Items;
@@ -81,9 +81,9 @@ fn has_node(link: &Link, side: Side, node: u32) -> bool
 }
 
 /// Tests that no list has more than 16 links. The node of the first that has is named.
-pub(crate) fn check_room(entry_links: &[Items<u32>]) -> Result<(), NetFault>
+pub(crate) fn check_entries(entry_links: &[Items<u32>]) -> Result<(), NetFault>
     requires { length entry_links.now ≤ 64 }
-    ensures { TestsEach NetFault.Crowd (HasRoomAt entry_links.now) (length entry_links.now) result }
+    ensures { TestsEach NetFault.Crowd (HasFewAt entry_links.now) (length entry_links.now) result }
 {
     for (index, links) in entry_links.iter().enumerate() {
         if links.len() > 16 {

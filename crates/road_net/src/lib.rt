@@ -19,13 +19,14 @@ use foundation::items::Items;
 use foundation::threads::CrossesThreads;
 use joins::Side;
 pub use net_draft::{
-    Draft, DraftConflict, DraftLink, DraftNode, DraftPhase, DraftTurn, NetFault, Part, Place, Run,
+    Draft, DraftConflict, DraftLink, DraftNode, DraftPhase, DraftTurn, NetFault, Place, Run,
+    Section,
 };
-use net_numbers::{Parts, check_bounds, numbered};
+use net_numbers::{Parts, check_bounds, number_draft};
 pub use net_numbers::{Link, Turn};
 use phase_plan::PhasePlan;
 pub use senses::{LinkSense, Sensed};
-pub use splits::{part_of_turn, parts_are_the_whole};
+pub use splits::{law_of_parts, part_of_turn};
 use std::alloc::Global;
 use std::marker::Model;
 
@@ -145,7 +146,7 @@ impl Network {
     }
 
     /// The turns of a link, at most 16, in the order of the file; none where it ends at no node. What turns into the exit
-    /// of each is `part_of_turn` of its share, behind the shares of those before it.
+    /// of each is `part_of_turn` of its share, after the shares of those before it.
     ///
     /// docs/RULES.md, "Turning".
     pub fn turns(&self, l: u32) -> &[Turn]
@@ -166,8 +167,10 @@ impl Network {
         requires { l < length self.now.link_names }
         ensures value { result ≡ split_of (turns_at self.now l) amount exit }
         ensures bounds { result ≤ amount }
-        ensures whole { IsSome (link_at self.now l).to → sum_by (λ t. split_of (turns_at self.now l) amount t.exit) (turns_at self.now l) ≡ amount }
-        ensures everywhere { IsSome (link_at self.now l).to → total (split_of (turns_at self.now l) amount) (length self.now.link_names) ≡ amount }
+        ensures whole { IsSome (link_at self.now l).to
+            → sum_by (λ t. split_of (turns_at self.now l) amount t.exit) (turns_at self.now l) ≡ amount }
+        ensures everywhere { IsSome (link_at self.now l).to
+            → total (split_of (turns_at self.now l) amount) (length self.now.link_names) ≡ amount }
         ensures network { IsNetwork self.now }
     {
         splits::split(self.turns(l), amount, exit)
@@ -226,7 +229,7 @@ impl Network {
 
 /// The network of a draft.
 ///
-/// The fault is want of memory, or the first that is found when the whole draft is tested for bounds, then for
+/// The fault is out of memory, or the first that is found when the whole draft is tested for bounds, then for
 /// names that come twice, for unknown names, for the ends of links, for crowded nodes, for shares, for phases
 /// and for conflicts. It is never `NotToml` or `Shape`.
 ///
@@ -237,15 +240,15 @@ pub fn build(alloc: Global, draft: Draft) -> Result<Network, NetFault>
     ensures first { IfErr result (IsDraftFault draft) }
 {
     check_bounds(&draft)?;
-    let parts = numbered(alloc, &draft)?;
-    joined(alloc, parts)
+    let parts = number_draft(alloc, &draft)?;
+    join_parts(alloc, parts)
 }
 
 /// The network of these parts, where they are joined as they must be. The fault is that of `node_links`.
 ///
-/// The parts are tested by reference and become part of the network behind all tests, since the proof of a function that
+/// The parts are tested by reference and become part of the network after all tests, since the proof of a function that
 /// owns them goes over all that they hold at each way out of it.
-fn joined(alloc: Global, parts: Parts) -> Result<Network, NetFault>
+fn join_parts(alloc: Global, parts: Parts) -> Result<Network, NetFault>
     requires { IsOutline (net_of parts) }
     ensures joins { Joins (net_of parts) result }
     ensures first { IfErr result (IsJoinFault (net_of parts)) }
@@ -274,7 +277,7 @@ struct NodeLinks {
     exit: Vec<Items<u32>>,
 }
 
-/// The links of each node of these parts, where the parts are joined as they must be. The fault is want of memory, or the
+/// The links of each node of these parts, where the parts are joined as they must be. The fault is out of memory, or the
 /// first that is found when all are tested for the ends of links, then for crowded nodes, for shares, for phases and for
 /// conflicts.
 fn node_links(alloc: Global, parts: &Parts) -> Result<NodeLinks, NetFault>
@@ -285,7 +288,7 @@ fn node_links(alloc: Global, parts: &Parts) -> Result<NodeLinks, NetFault>
     let nodes = parts.node_names.len();
     joins::check_ends(links)?;
     let entry = joins::links_by_node(alloc, links, nodes, Side::To)?;
-    joins::check_room(entry.as_slice())?;
+    joins::check_entries(entry.as_slice())?;
     joins::check_shares(links, parts.turns.as_slice())?;
     joins::check_phases(alloc, links, parts.phase_links.as_slice())?;
     joins::check_conflicts(links, parts.conflicts.as_slice())?;
@@ -295,7 +298,7 @@ fn node_links(alloc: Global, parts: &Parts) -> Result<NodeLinks, NetFault>
 
 /// The network of a text, which is read as TOML. The text has fewer than 2^32 bytes.
 ///
-/// The fault is want of memory, `NotToml` where the text is no UTF-8 or no TOML, `Shape` of the first table that has
+/// The fault is out of memory, `NotToml` where the text is no UTF-8 or no TOML, `Shape` of the first table that has
 /// not the form of its place, and else that of `build`.
 ///
 /// docs/FORMATS.md, "Network file".
@@ -305,12 +308,12 @@ pub fn read_network(alloc: Global, bytes: &[u8]) -> Result<Network, NetFault>
     ensures refused { IfErr result (λ fault. Unless fault ((net : Net) → ¬ IsNetworkText bytes.now net)) }
     ensures first { IfErr result (IsCause bytes.now) }
 {
-    let draft = drafted(alloc, bytes)?;
+    let draft = parse_draft(alloc, bytes)?;
     build(alloc, draft)
 }
 
 /// The draft of a text. The text's table is given back before the network is built.
-fn drafted(alloc: Global, bytes: &[u8]) -> Result<Draft, NetFault>
+fn parse_draft(alloc: Global, bytes: &[u8]) -> Result<Draft, NetFault>
     requires { length bytes.now < 2 ^ 32 }
     ensures { Drafts bytes.now result }
 {

@@ -38,7 +38,7 @@ pub fn part_of_turn(amount: u32, before: u32, share: u32) -> u32
 /// The parts of a split are the whole amount, for all turns into links that differ whose shares are the whole.
 ///
 /// docs/RULES.md, "Turning".
-pub fn parts_are_the_whole()
+pub fn law_of_parts()
     ensures { (turns : List Turn) (amount : ℕ) → AllPairs (λ s t. s.exit ≢ t.exit) turns → sum_by share_of turns ≡ 1000
         → sum_by (λ t. split_of turns amount t.exit) turns ≡ amount }
 {}

@@ -15,7 +15,7 @@ use Rattle.net_simulator.specs.Arriving.{arriving_of}
 use Rattle.net_simulator.specs.Flow.{Passed, past_of}
 use Rattle.net_simulator.specs.Senses.{sense}
 use Rattle.net_simulator.specs.Sums.{link_totals, totals}
-use Rattle.net_simulator.specs.Worlds.{Keeps, Kept, Stands, standing_by}
+use Rattle.net_simulator.specs.Worlds.{Keeps, WorldState, Stands, standing_by}
 use Rattle.road_net.specs.Network.{IsNetwork}
 use Rattle.runs.specs.Runs.{AllCommit, line_before, sensed_in, shown_by}
 use Rattle.runs.proofs.Keep.{all-keep}
@@ -41,7 +41,7 @@ no_commitment = record {
 }
 
 -- a world counts what is shown only at the nodes of the network, and before its second
-pub stands-same : (net : Net) → IsNetwork net → (arriving : ℕ → ℕ → ℕ) (shown seen : ℕ → ℕ → Option (ℕ × ℕ)) (w : Kept)
+pub stands-same : (net : Net) → IsNetwork net → (arriving : ℕ → ℕ → ℕ) (shown seen : ℕ → ℕ → Option (ℕ × ℕ)) (w : WorldState)
     → ((x node : ℕ) → x < w.second → node < length net.node_names → shown x node ≡ seen x node) → Stands net arriving shown w → Stands net arriving seen w
 stands-same net network arriving shown seen w same s =
     let e : past_of net arriving shown w.second ≡ past_of net arriving seen w.second = past-at-nodes net network arriving shown seen w.second same in
@@ -62,12 +62,12 @@ module _ (net : Net) (network : IsNetwork net) (arrivals : Amounts) (round : ℕ
   pub before-shows : (x node : ℕ) → x < round * net.run.step → node < length net.node_names → standing (line_before net made round node) x ≡ shown_by net made x node
   before-shows x node less below = shows net network made round (all-keep net network arrivals heard made round most commits) round (omega arith) x node below (div_below x net.run.step round network.outline.run.step.0 less)
 
-  pub before-stands : (world : Kept) → world.second ≡ round * net.run.step → Stands net (arriving_of arrivals) (shown_by net made) world → Stands net (arriving_of arrivals) (standing_by (line_before net made round)) world
+  pub before-stands : (world : WorldState) → world.second ≡ round * net.run.step → Stands net (arriving_of arrivals) (shown_by net made) world → Stands net (arriving_of arrivals) (standing_by (line_before net made round)) world
   before-stands world second stands = stands-same net network (arriving_of arrivals) (shown_by net made) (standing_by (line_before net made round)) world
       (λ x node less below. sym (before-shows x node (omega (arith, second)) below)) stands
 
   -- what a node senses of such a world
-  pub sense-is : (world : Kept) → world.second ≡ round * net.run.step → (n : ℕ)
+  pub sense-is : (world : WorldState) → world.second ≡ round * net.run.step → (n : ℕ)
       → sense net (past_of net (arriving_of arrivals) (standing_by (line_before net made round)) world.second) world.second n ≡ sensed_in net arrivals made round n
   sense-is world second n =
       ap (λ s. sense net (past_of net (arriving_of arrivals) (standing_by (line_before net made round)) s) s n) second

@@ -25,7 +25,7 @@ use Rattle.net_numbers.specs.Numbers.{Net}
 use Rattle.net_simulator.specs.Arriving.{arriving_of}
 use Rattle.net_simulator.specs.Flow.{past_of}
 use Rattle.net_simulator.specs.Senses.{sense}
-use Rattle.net_simulator.specs.Worlds.{Kept, Stands, standing_by}
+use Rattle.net_simulator.specs.Worlds.{WorldState, Stands, standing_by}
 use Rattle.round_calls.specs.Nodes.{IsRoundOf, NodeRound}
 use Rattle.round_calls.specs.Told.{AreCallsOf}
 use Rattle.road_net.specs.Network.{IsNetwork}
@@ -50,7 +50,7 @@ module _ {A : Type 0} (f : ℕ → ℕ → A) (round : ℕ) (g : ℕ → A) wher
   round-else r n other = ap (λ b. cond b (g n) (f r n)) (ne_eqb r round other)
 
 module _ (net : Net) (network : IsNetwork net) (arrivals : Amounts) (round : ℕ) where
-  module _ (boards : BoardsView) (passes : List PassView) (actors : List Acting) (world : Kept) (b : Between net arrivals boards round passes actors world) (less : round < net.run.rounds) where
+  module _ (boards : BoardsView) (passes : List PassView) (actors : List Acting) (world : WorldState) (b : Between net arrivals boards round passes actors world) (less : round < net.run.rounds) where
     -- each node may play the round
     pub can-play : AreArrivals net arrivals → (planners : ℕ) → planners ≡ length net.node_names → CanAllPlay net round world boards planners actors passes
     can-play enter planners count =
@@ -292,7 +292,7 @@ module _ (net : Net) (network : IsNetwork net) (arrivals : Amounts) (round : ℕ
           (λ x n less below. shown-before x n (omega (arith, b.second)) ∙ sym (lines-show x n (omega (arith, next-second, b.second)) below)) b.stands
 
       -- so the next round can begin
-      pub round-over : AreSamePasses passes called → (moved : Kept) → moved.second ≡ world.second + net.run.step → Stands net (arriving_of arrivals) (standing_by (lines_of acted)) moved
+      pub round-over : AreSamePasses passes called → (moved : WorldState) → moved.second ≡ world.second + net.run.step → Stands net (arriving_of arrivals) (standing_by (lines_of acted)) moved
           → Between net arrivals boards (round + 1) met acted moved
       round-over same moved second stands =
           let now : moved.second ≡ (round + 1) * net.run.step = omega (arith, next-second, second, b.second) in

@@ -11,7 +11,7 @@ use Rattle.intersection_actor.specs.Acting.{Acting}
 use Rattle.merged_calls.specs.Calls.{IsRising}
 use Rattle.net_numbers.specs.Numbers.{Net}
 use Rattle.net_simulator.specs.Arriving.{arriving_of}
-use Rattle.net_simulator.specs.Worlds.{Kept, Stands}
+use Rattle.net_simulator.specs.Worlds.{WorldState, Stands}
 use Rattle.runs.specs.Runs.{shown_by}
 use Rattle.round_calls.specs.Resting.{AreNew}
 use Rattle.round_calls.specs.Rounds.{Between}
@@ -25,7 +25,7 @@ no-calls boards passes none n = elim (cases_lt n (length passes)) [
   | inr past ↦ calls-past passes n past
 ]
 
-pub at-first : (net : Net) (arrivals : Amounts) (boards : BoardsView) (passes : List PassView) (actors : List Acting) (world : Kept) → AreNew net (length net.node_names) actors → world.second ≡ 0
+pub at-first : (net : Net) (arrivals : Amounts) (boards : BoardsView) (passes : List PassView) (actors : List Acting) (world : WorldState) → AreNew net (length net.node_names) actors → world.second ≡ 0
     → ((arriving : ℕ → ℕ → ℕ) (shown : ℕ → ℕ → Option (ℕ × ℕ)) → Stands net arriving shown world) → length passes ≡ length net.node_names → AreAllPasses boards passes → All (λ (p : PassView). p.calls ≡ []) passes
     → ((node : ℕ) (p : PassView) → node < length net.node_names → net.run.rounds * length (board_steps net node) ≤ (get_or passes node p).left) → Between net arrivals boards 0 passes actors world
 at-first net arrivals boards passes actors world new second stands all own none left = record {

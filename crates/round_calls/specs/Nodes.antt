@@ -2,7 +2,7 @@
 use Rattle.std.specs.Prelude.{◌≡◌, ℕ, ◌+◌, ◌*◌, ◌<◌, ◌≤◌, true, false, List, [], ◌∷◌, ◌++◌, All, length, map}
 use Rattle.board_model.specs.declared.boards.Heard.{Heard}
 use Rattle.board_model.specs.declared.calls.Call.{Call}
-use Rattle.board_model.specs.declared.forecasts.Row.{Row}
+use Rattle.board_model.specs.declared.forecasts.ForecastRow.{ForecastRow}
 use Rattle.board_rule.specs.Passes.{AreInOrder, BoardsView, PassView, after_call}
 use Rattle.clusters.specs.Inflow.{IsHeardOf}
 use Rattle.clusters.specs.Windows.{counts_of}
@@ -18,14 +18,14 @@ use Rattle.merged_calls.specs.Calls.{step_of}
 use Rattle.net_numbers.specs.Numbers.{Net}
 use Rattle.net_simulator.specs.Flow.{past_of}
 use Rattle.net_simulator.specs.Senses.{sense}
-use Rattle.net_simulator.specs.Worlds.{IsWorldOf, Kept, Stands, standing_by}
-use Rattle.outflow.specs.Outflow.{departures, forecast_of}
+use Rattle.net_simulator.specs.Worlds.{IsWorldOf, WorldState, Stands, standing_by}
+use Rattle.outflow.specs.Outflow.{departures, told_forecast}
 use Rattle.road_net.specs.declared.senses.Sensed.{Sensed}
 use Rattle.round_calls.specs.Told.{AreCallsOf, heard_of}
 
 -- a node may play a round: the round begins in the world's second, the node's actor rests, and its pass is of these boards, has the
 -- node's number, and has the calls of a round left
-pub record CanPlay (net : Net) (round : ℕ) (world : Kept) (boards : BoardsView) (a : Acting) (p : PassView) : Type 0 where
+pub record CanPlay (net : Net) (round : ℕ) (world : WorldState) (boards : BoardsView) (a : Acting) (p : PassView) : Type 0 where
   pub more : round < net.run.rounds
   pub second : world.second ≡ round * net.run.step
   pub stands : IsWorldOf net world
@@ -49,7 +49,7 @@ pub record HasMade (old new : PassView) (calls : List Call) : Type 0 where
   pub known : old.known ≤ new.known
 
 -- what a node sensed is what it senses of any arrivals and lines for which the world stands
-abbrev pub IsSeen : Net → Kept → ℕ → Sensed → Type 0
+abbrev pub IsSeen : Net → WorldState → ℕ → Sensed → Type 0
 IsSeen net world node sensed = (arriving : ℕ → ℕ → ℕ) (lines : ℕ → List Green) → Stands net arriving (standing_by lines) world
     → sensed ≡ sense net (past_of net arriving (standing_by lines) world.second) world.second node
 
@@ -72,8 +72,8 @@ pub record HasHeard (a b : Acting) (p q : PassView) : Type 0 where
   pub actor : b ≡ record a { want = b.want; left = b.left; heard = a.heard ++ map heard_of calls }
 
 -- what an actor tells on a link
-abbrev pub outgoing : Net → ℕ → Acting → List Row
-outgoing net link a = forecast_of net link a.sensed.now (departures a.window.lists (counts_of a.window.lists) a.phases a.served)
+abbrev pub outgoing : Net → ℕ → Acting → List ForecastRow
+outgoing net link a = told_forecast net link a.sensed.now (departures a.window.lists (counts_of a.window.lists) a.phases a.served)
 
 -- a publishing on a link: the call was added to the pass, with what the actor tells, and the actor wants the next
 pub record HasSent (net : Net) (link : ℕ) (a b : Acting) (p q : PassView) : Type 0 where
@@ -112,7 +112,7 @@ pub record RestsBehind (net : Net) (round : ℕ) (heard : List Heard) (made : Co
 
 -- This is what a node did in a round: it sensed the world and heard each link on which it hears another node; its commit is made
 -- from its line, and from what it sensed and heard; it rests again; and the calls of its pass are those of the round.
-pub record IsRoundOf (net : Net) (round : ℕ) (world : Kept) (a b : Acting) (p q : PassView) (did : NodeRound) : Type 0 where
+pub record IsRoundOf (net : Net) (round : ℕ) (world : WorldState) (a b : Acting) (p q : PassView) (did : NodeRound) : Type 0 where
   pub sensed : IsSeen net world a.node did.sensed
   pub heard : IsHeardOf net a.node did.heard
   pub commit : IsCommit net a.node round a.line did.sensed did.heard did.made
@@ -122,5 +122,5 @@ pub record IsRoundOf (net : Net) (round : ℕ) (world : Kept) (a b : Acting) (p 
   pub order : AreInOrder q.known q.calls
 
 -- a node has played a round
-abbrev pub HasPlayed : Net → ℕ → Kept → Acting → Acting → PassView → PassView → Type 0
+abbrev pub HasPlayed : Net → ℕ → WorldState → Acting → Acting → PassView → PassView → Type 0
 HasPlayed net round world a b p q = (did : NodeRound) × IsRoundOf net round world a b p q did

@@ -11,7 +11,7 @@ use Rattle.intersection_actor.specs.Commits.{Commitment}
 use Rattle.merged_calls.specs.Calls.{IsRising}
 use Rattle.net_numbers.specs.Numbers.{Net}
 use Rattle.net_simulator.specs.Arriving.{arriving_of}
-use Rattle.net_simulator.specs.Worlds.{Kept, Stands}
+use Rattle.net_simulator.specs.Worlds.{WorldState, Stands}
 use Rattle.runs.specs.Runs.{AllCommit, shown_by}
 use Rattle.round_calls.specs.Nodes.{CanPlay, HasPlayed}
 use Rattle.round_calls.specs.Resting.{Rests}
@@ -26,13 +26,13 @@ abbrev pub AreSamePasses : List PassView → List PassView → Type 0
 AreSamePasses old new = names new ≡ names old
 
 -- each of these nodes may play a round
-pub record CanAllPlay (net : Net) (round : ℕ) (world : Kept) (boards : BoardsView) (planners : ℕ) (actors : List Acting) (passes : List PassView) : Type 0 where
+pub record CanAllPlay (net : Net) (round : ℕ) (world : WorldState) (boards : BoardsView) (planners : ℕ) (actors : List Acting) (passes : List PassView) : Type 0 where
   pub planned : planners ≡ length passes
   pub acted : length actors ≡ length passes
   pub each : (k : ℕ) (a : Acting) (p : PassView) → k < length passes → CanPlay net round world boards (slice_index_or actors k a) (slice_index_or passes k p)
 
 -- each of these nodes has played a round
-pub record HaveAllPlayed (net : Net) (round : ℕ) (world : Kept) (old new : List Acting) (before after : List PassView) : Type 0 where
+pub record HaveAllPlayed (net : Net) (round : ℕ) (world : WorldState) (old new : List Acting) (before after : List PassView) : Type 0 where
   pub actors : length new ≡ length old
   pub passes : length after ≡ length before
   pub each : (k : ℕ) (a : Acting) (p : PassView) → k < length before
@@ -63,7 +63,7 @@ pub record HaveLeft (net : Net) (boards : BoardsView) (round mark : ℕ) (passes
 
 -- Between two rounds: so many are done, each node rests, the world is at the begin of the next round, and the calls of the passes
 -- are those of the rounds that are done.
-pub record Between (net : Net) (arrivals : Amounts) (boards : BoardsView) (round : ℕ) (passes : List PassView) (actors : List Acting) (world : Kept) : Type 0 where
+pub record Between (net : Net) (arrivals : Amounts) (boards : BoardsView) (round : ℕ) (passes : List PassView) (actors : List Acting) (world : WorldState) : Type 0 where
   pub heard : ℕ → ℕ → List Heard
   pub made : ℕ → ℕ → Commitment
   pub mark : ℕ

@@ -4,8 +4,8 @@ use Rattle.std.proofs.lemmas.Option.{same_Some}
 use Rattle.board_model.specs.declared.boards.Heard.{Heard}
 use Rattle.clusters.specs.Sound.{cluster_lists}
 use Rattle.clusters.specs.Windows.{IsWindow}
-use Rattle.clusters.specs.declared.shapes.Platoon.{Platoon}
-use Rattle.clusters.specs.declared.shapes.Window.{Window}
+use Rattle.clusters.specs.declared.vehicle_groups.Platoon.{Platoon}
+use Rattle.clusters.specs.declared.vehicle_groups.Window.{Window}
 use Rattle.control_flow.specs.Greens.{spliced}
 use Rattle.control_flow.specs.declared.greens.Green.{Green}
 use Rattle.intersection_actor.specs.Commits.{Commitment, IsCommit, AreServedBy, line_for}

@@ -5,8 +5,8 @@ use Rattle.board_model.specs.declared.boards.Heard.{Heard}
 use Rattle.clusters.specs.Platoons.{ArePlatoonsOf}
 use Rattle.clusters.specs.Sound.{cluster_lists}
 use Rattle.clusters.specs.Windows.{IsWindow}
-use Rattle.clusters.specs.declared.shapes.Platoon.{Platoon}
-use Rattle.clusters.specs.declared.shapes.Window.{Window}
+use Rattle.clusters.specs.declared.vehicle_groups.Platoon.{Platoon}
+use Rattle.clusters.specs.declared.vehicle_groups.Window.{Window}
 use Rattle.control_flow.specs.Greens.{head_at}
 use Rattle.histories.specs.Histories.{round_at, step_at, version_at}
 use Rattle.histories.specs.Steps.{board_steps}

@@ -1,4 +1,4 @@
--- The rows of a grid are lawful, and no fault comes but want of memory.
+-- The rows of a grid are lawful, and no fault comes but out of memory.
 use Rattle.std.proofs.Common.{◌≡◌, ℕ, ◌+◌, ◌*◌, ◌<◌, ◌≤◌, Bool, true, List, [], ◌∷◌, ◌++◌, length, get_or, Option, Some, None, All, is_none, refl, sym, ap, ◌∙◌, subst, arith, filter, ◌%◌, ◌==◌, sum_by}
 use Rattle.std.specs.List.{flat_map, range_with_len}
 use Rattle.std.proofs.lemmas.Bool.{cond_both, false≢true}
@@ -21,7 +21,7 @@ use Rattle.arrivals.specs.declared.rows.RowFault.TheVariants as row_fault
 use Rattle.arrivals.specs.Faults.{IsAtBound, IsAtLink, IsFirst, IsRowFault}
 use Rattle.arrivals.specs.Rows.{AreRows, IsRow, IsSource, amount_of, most_of_all}
 use Rattle.rand_pcg.specs.Lcg.{Lcg}
-use Rattle.scenario_gen.specs.Arrivals.{behind, generator, row_by, rows, rows_from, rows_of_second, sources, word}
+use Rattle.scenario_gen.specs.Arrivals.{after_words, generator, row_by, rows, rows_from, rows_of_second, sources, word}
 use Rattle.scenario_gen.specs.Grids.{AreRounds, HasGrid}
 use Rattle.scenario_gen.specs.Layout.{IsSide}
 use Rattle.scenario_gen.proofs.Legal.{HasNetwork}
@@ -81,14 +81,14 @@ module _ (net : Net) (entered : List ℕ) (sound : All (IsSource net) entered) w
   module _ (few : length entered ≤ 320) (g : Lcg) (seconds : ℕ) (short : seconds ≤ 3000) where
     all-lawful : All (IsRow net) (rows_from g entered seconds)
     all-lawful =
-        all-flat (IsRow net) (λ second. rows_of_second second entered (behind g (second * length entered))) (range_with_len 0 seconds)
-        (below seconds (λ second. All (IsRow net) (rows_of_second second entered (behind g (second * length entered)))) (λ second h. second-lawful second (behind g (second * length entered)) (omega (arith, h, short))))
+        all-flat (IsRow net) (λ second. rows_of_second second entered (after_words g (second * length entered))) (range_with_len 0 seconds)
+        (below seconds (λ second. All (IsRow net) (rows_of_second second entered (after_words g (second * length entered)))) (λ second h. second-lawful second (after_words g (second * length entered)) (omega (arith, h, short))))
 
     all-few : sum_by amount_of (rows_from g entered seconds) ≤ most_of_all
     all-few =
-        let pieces : ℕ → List ArrivalRow = λ second. rows_of_second second entered (behind g (second * length entered)) in
+        let pieces : ℕ → List ArrivalRow = λ second. rows_of_second second entered (after_words g (second * length entered)) in
         let a = sum-flat amount_of pieces (range_with_len 0 seconds) in
-        let b = sum_by-le (λ second. sum_by amount_of (pieces second)) 320000 (range_with_len 0 seconds) (below seconds (λ second. sum_by amount_of (pieces second) ≤ 320000) (λ second h. omega (arith, few, second-few second (behind g (second * length entered))))) in
+        let b = sum_by-le (λ second. sum_by amount_of (pieces second)) 320000 (range_with_len 0 seconds) (below seconds (λ second. sum_by amount_of (pieces second) ≤ 320000) (λ second h. omega (arith, few, second-few second (after_words g (second * length entered))))) in
         omega (arith, a, b, short, length-range_with_len 0 seconds)
 
 -- the rows of a grid are lawful in a network of few links
@@ -99,19 +99,19 @@ are-rows net number rounds few are =
     let sources_few : length (sources net) ≤ 320 = omega (arith, few, few-sources net) in
     record { each = all-lawful net (sources net) (are-sources net) sources_few (generator number) (5 * rounds) short; few = all-few net (sources net) (are-sources net) sources_few (generator number) (5 * rounds) short }
 
--- a draft that stands for a network is refused for want of memory alone
-pub only-want : (d : Draft) (fault : NetFault) → HasNetwork d → Refuses fault ((net : Net) → IsNetworkOf d net → ⊥) → fault ≡ net_fault.NoMemory
-only-want d net_fault.NoMemory has why = refl
-only-want d net_fault.NotToml has why = absurd why
-only-want d (net_fault.Shape place) has why = absurd why
-only-want d (net_fault.Bound place) has why = absurd (why has.net has.network)
-only-want d (net_fault.Twice place) has why = absurd (why has.net has.network)
-only-want d (net_fault.Unknown place) has why = absurd (why has.net has.network)
-only-want d (net_fault.Ends l) has why = absurd (why has.net has.network)
-only-want d (net_fault.Crowd n) has why = absurd (why has.net has.network)
-only-want d (net_fault.Shares l) has why = absurd (why has.net has.network)
-only-want d (net_fault.Phaseless l) has why = absurd (why has.net has.network)
-only-want d (net_fault.Clash a b) has why = absurd (why has.net has.network)
+-- a draft that stands for a network is refused only when out of memory
+pub memory-alone : (d : Draft) (fault : NetFault) → HasNetwork d → Refuses fault ((net : Net) → IsNetworkOf d net → ⊥) → fault ≡ net_fault.NoMemory
+memory-alone d net_fault.NoMemory has why = refl
+memory-alone d net_fault.NotToml has why = absurd why
+memory-alone d (net_fault.Shape place) has why = absurd why
+memory-alone d (net_fault.Bound place) has why = absurd (why has.net has.network)
+memory-alone d (net_fault.Twice place) has why = absurd (why has.net has.network)
+memory-alone d (net_fault.Unknown place) has why = absurd (why has.net has.network)
+memory-alone d (net_fault.Ends l) has why = absurd (why has.net has.network)
+memory-alone d (net_fault.Crowd n) has why = absurd (why has.net has.network)
+memory-alone d (net_fault.Shares l) has why = absurd (why has.net has.network)
+memory-alone d (net_fault.Phaseless l) has why = absurd (why has.net has.network)
+memory-alone d (net_fault.Clash a b) has why = absurd (why has.net has.network)
 
 -- a row at fault among lawful ones
 module _ (net : Net) (all : List ArrivalRow) (are : AreRows net all) where
@@ -125,15 +125,15 @@ module _ (net : Net) (all : List ArrivalRow) (are : AreRows net all) where
       length-parts [] y ys = omega arith
       length-parts (x ∷ xs) y ys = let h = length-parts xs y ys in omega arith
 
-  -- rows that are lawful are refused for want of memory alone
-  pub only-want-of-rows : (fault : RowFault) → IsRowFault net all fault → fault ≡ row_fault.NoMemory
-  only-want-of-rows row_fault.NoMemory why = refl
-  only-want-of-rows row_fault.Header why = absurd why
-  only-want-of-rows (row_fault.Row n) why = absurd why
-  only-want-of-rows (row_fault.Link n) why = absurd (why.faulty (here-lawful n (λ before r. IsAtLink net r) why).source)
-  only-want-of-rows (row_fault.Bound n) why = absurd (why.faulty.1 (here-lawful n (λ before r. IsAtBound net r) why).bounds)
-  only-want-of-rows (row_fault.Sum n) why = absurd (
-      let same : why.before ≡ why.rows = same_Some why.before why.rows (sym (each-self why.before) ∙ why.reads) in
+  -- rows that are lawful are refused only when out of memory
+  pub memory-alone-of-rows : (fault : RowFault) → IsRowFault net all fault → fault ≡ row_fault.NoMemory
+  memory-alone-of-rows row_fault.NoMemory why = refl
+  memory-alone-of-rows row_fault.Header why = absurd why
+  memory-alone-of-rows (row_fault.Row n) why = absurd why
+  memory-alone-of-rows (row_fault.Link n) why = absurd (why.faulty (here-lawful n (λ before r. IsAtLink net r) why).source)
+  memory-alone-of-rows (row_fault.Bound n) why = absurd (why.faulty.1 (here-lawful n (λ before r. IsAtBound net r) why).bounds)
+  memory-alone-of-rows (row_fault.Sum n) why = absurd (
+      let same : why.before ≡ why.so_far = same_Some why.before why.so_far (sym (each-self why.before) ∙ why.reads.reads) in
       let whole = ap (sum_by amount_of) why.are ∙ sum_by-append amount_of why.before (why.here ∷ why.after) in
       let few = are.few in
       omega (arith, whole, sum_by-cons amount_of why.here why.after, ap (sum_by amount_of) same, why.faulty.1))

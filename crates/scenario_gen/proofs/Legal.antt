@@ -18,7 +18,7 @@ use Rattle.net_numbers.specs.declared.roads.Link.{Link}
 use Rattle.net_numbers.specs.declared.roads.Turn.{Turn}
 use Rattle.net_numbers.specs.Bounds.{IsNameByte, IsName, IsRun, IsBoundedPhase, IsBoundedNode, IsBoundedTurn, IsBoundedLink, IsBounded}
 use Rattle.net_numbers.specs.Numbers.{Net, AreDistinct, has_link, node_names, link_names, numbered}
-use Rattle.road_net.specs.Joins.{HasEnds, IsRoomy, IsShareTable, HasShares, HasSharesAt, IsPhased, IsPhasedAt, IsConflict, is_node, link_at, share_of, times_named}
+use Rattle.road_net.specs.Joins.{HasEnds, HasFewEntries, IsShareTable, HasShares, HasSharesAt, IsPhased, IsPhasedAt, IsConflict, is_node, link_at, share_of, times_named}
 use Rattle.road_net.specs.Network.{IsJoined, IsNetworkOf, entry_links}
 
 -- all elements, and all numbers below a bound
@@ -237,8 +237,8 @@ conflict-by links c e =
       phases = eqb-false (link_at links c.0).phase (link_at links c.1).phase (not-true ((link_at links c.0).phase == (link_at links c.1).phase) node.1);
     }
 
-abbrev has_room : Net → ℕ → Bool
-has_room net node = nat_le (length (entry_links net node)) 16
+abbrev has_few_entries : Net → ℕ → Bool
+has_few_entries net node = nat_le (length (entry_links net node)) 16
 
 abbrev has_shares_at : List Link → List (List Turn) → ℕ → Bool
 has_shares_at links turns l = has_shares links (slice_index_or turns l []) (link_at links l).to
@@ -249,7 +249,7 @@ is_phased_at links phase_links l = is_phased phase_links l (link_at links l).to
 abbrev is_joined : Net → Bool
 is_joined net =
     list_all (λ (l : Link). not (same_end l.from l.to)) net.links
-    && (all_below (has_room net) (length net.node_names)
+    && (all_below (has_few_entries net) (length net.node_names)
     && (all_below (has_shares_at net.links net.turns) (length net.links)
     && (all_below (is_phased_at net.links net.phase_links) (length net.links)
     && list_all (is_conflict net.links) net.conflicts)))
@@ -257,12 +257,12 @@ is_joined net =
 joined-by : (net : Net) → is_joined net ≡ true → IsJoined net
 joined-by net e =
     let ends = and_parts (list_all (λ (l : Link). not (same_end l.from l.to)) net.links) _ e in
-    let room = and_parts (all_below (has_room net) (length net.node_names)) _ ends.1 in
-    let shares = and_parts (all_below (has_shares_at net.links net.turns) (length net.links)) _ room.1 in
+    let entries = and_parts (all_below (has_few_entries net) (length net.node_names)) _ ends.1 in
+    let shares = and_parts (all_below (has_shares_at net.links net.turns) (length net.links)) _ entries.1 in
     let phases = and_parts (all_below (is_phased_at net.links net.phase_links) (length net.links)) (list_all (is_conflict net.links) net.conflicts) shares.1 in
     record {
       ends = all-by (λ (l : Link). not (same_end l.from l.to)) HasEnds ends-by net.links ends.0;
-      room = below-by (has_room net) (IsRoomy net.links) (λ n h. leb-true (length (entry_links net n)) 16 h) (length net.node_names) room.0;
+      entries = below-by (has_few_entries net) (HasFewEntries net.links) (λ n h. leb-true (length (entry_links net n)) 16 h) (length net.node_names) entries.0;
       shares = below-by (has_shares_at net.links net.turns) (HasSharesAt net.links net.turns) (λ l h. shares-by net.links (slice_index_or net.turns l []) (link_at net.links l).to h) (length net.links) shares.0;
       phases = below-by (is_phased_at net.links net.phase_links) (IsPhasedAt net.links net.phase_links) (λ l h. phased-by net.phase_links l (link_at net.links l).to h) (length net.links) phases.0;
       conflicts = all-by (is_conflict net.links) (IsConflict net.links) (conflict-by net.links) net.conflicts phases.1;

@@ -9,8 +9,8 @@ use Rattle.std.proofs.lemmas.List.FromFn.{get_or-range_with_len, length-range_wi
 use Rattle.rand_pcg.specs.Lcg.{Lcg, next_state, state_after}
 use Rattle.rand_pcg.specs.Pcg.{multiplier_64, pcg32}
 use Rattle.scenario_gen.specs.declared.layout.Road.{Road}
-use Rattle.scenario_gen.specs.Layout.{directions, entering, entering_by, leaving, leaving_by, neighbour, nodes, roads}
-use Rattle.scenario_gen.specs.Arrivals.{behind}
+use Rattle.scenario_gen.specs.Layout.{directions, entry_roads, entering_by, exit_roads, leaving_by, neighbour, nodes, roads}
+use Rattle.scenario_gen.specs.Arrivals.{after_words}
 
 -- the numbers below one more
 pub range-more : (n : ℕ) → range_with_len 0 (n + 1) ≡ range_with_len 0 n ++ n ∷ []
@@ -28,7 +28,7 @@ after-add w m increment (suc a) b state =
     ap (λ n. state_after w m increment n state) (let e : suc a + b ≡ suc (a + b) = omega arith in e)
     ∙ after-add w m increment a b (next_state w m increment state)
 
--- a loop over numbers that puts a piece for each behind a list
+-- a loop over numbers that appends a piece for each
 pub flat-step : {X : Type 0} (f : ℕ → List X) (n : ℕ) (start now next piece : List X) → now ≡ start ++ flat_map f (range_with_len 0 n) → next ≡ now ++ piece → piece ≡ f n → next ≡ start ++ flat_map f (range_with_len 0 (n + 1))
 flat-step f n start now next piece was is same =
     is ∙ ap (λ l. l ++ piece) was ∙ append_assoc start (flat_map f (range_with_len 0 n)) piece
@@ -44,20 +44,20 @@ filter-step test n now next was is =
     is ∙ ap (λ l. l ++ (if test n then n ∷ [] else [])) (was ∙ ap (filter test) (sym (map-id (range_with_len 0 n))))
     ∙ sym (filter_of_map_range_with_len_more test (λ k. k) 0 n n (omega arith)) ∙ ap (filter test) (map-id (range_with_len 0 (n + 1)))
 
--- a generator behind some words, and some more
-pub behind-add : (g : Lcg) (a b : ℕ) → behind (behind g a) b ≡ behind g (a + b)
-behind-add g a b = ap (λ s. record g { state = s }) (sym (after-add 64 multiplier_64 g.increment a b g.state))
+-- a generator after some words, and some more
+pub words-add : (g : Lcg) (a b : ℕ) → after_words (after_words g a) b ≡ after_words g (a + b)
+words-add g a b = ap (λ s. record g { state = s }) (sym (after-add 64 multiplier_64 g.increment a b g.state))
 
-after-one : (g : Lcg) → (pcg32 g).1 ≡ behind g 1
+after-one : (g : Lcg) → (pcg32 g).1 ≡ after_words g 1
 unfolding state_after
 after-one g = refl
 
-pub behind-more : (g : Lcg) (n : ℕ) → (pcg32 (behind g n)).1 ≡ behind g (n + 1)
-behind-more g n = after-one (behind g n) ∙ behind-add g n 1
+pub words-more : (g : Lcg) (n : ℕ) → (pcg32 (after_words g n)).1 ≡ after_words g (n + 1)
+words-more g n = after-one (after_words g n) ∙ words-add g n 1
 
-pub behind-none : (g : Lcg) → g ≡ behind g 0
+pub words-none : (g : Lcg) → g ≡ after_words g 0
 unfolding state_after
-behind-none g = refl
+words-none g = refl
 
 -- the nodes of roads
 pub all-flat : {X Y : Type 0} (P : Y → Type 0) (f : X → List Y) (xs : List X) → All (λ x. All P (f x)) xs → All P (flat_map f xs)
@@ -74,9 +74,9 @@ IsInside side r = r.node < side * side
 
 roads-inside : (side : ℕ) → All (IsInside side) (roads side)
 roads-inside side =
-    All-append (IsInside side) (flat_map leaving (nodes side)) (flat_map (entering side) (nodes side))
-    (all-flat (IsInside side) leaving (nodes side) (below (side * side) (λ n. All (IsInside side) (leaving n)) (λ n h. All-map (IsInside side) (leaving_by n) directions (λ k d inside. h))))
-    (all-flat (IsInside side) (entering side) (nodes side) (below (side * side) (λ n. All (IsInside side) (entering side n)) (λ n h. All-map (IsInside side) (entering_by n) (filter (λ d. is_none (neighbour side n d)) directions) (λ k d inside. h))))
+    All-append (IsInside side) (flat_map exit_roads (nodes side)) (flat_map (entry_roads side) (nodes side))
+    (all-flat (IsInside side) exit_roads (nodes side) (below (side * side) (λ n. All (IsInside side) (exit_roads n)) (λ n h. All-map (IsInside side) (leaving_by n) directions (λ k d inside. h))))
+    (all-flat (IsInside side) (entry_roads side) (nodes side) (below (side * side) (λ n. All (IsInside side) (entry_roads side n)) (λ n h. All-map (IsInside side) (entering_by n) (filter (λ d. is_none (neighbour side n d)) directions) (λ k d inside. h))))
 
 pub node-inside : (side i : ℕ) (rs : List Road) (d : Road) → rs ≡ roads side → i < length rs → (get_or rs i d).node < side * side
 node-inside side i rs d are h = (rw (sym are) at (roads-inside side)) i d h

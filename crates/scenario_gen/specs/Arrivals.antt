@@ -11,12 +11,12 @@ use Rattle.arrivals.specs.declared.rows.ArrivalRow.{ArrivalRow}
 abbrev pub generator : ℕ → Lcg
 generator number = started 64 multiplier_64 number (increment_of 64 54)
 
--- a generator behind so many words, and its word with this number, from 0
-abbrev pub behind : Lcg → ℕ → Lcg
-behind g words = advance 64 multiplier_64 words g
+-- a generator after n words, and its word with this number, from 0
+abbrev pub after_words : Lcg → ℕ → Lcg
+after_words g words = advance 64 multiplier_64 words g
 
 abbrev pub word : Lcg → ℕ → ℕ
-word g index = (pcg32 (behind g index)).0
+word g index = (pcg32 (after_words g index)).0
 
 -- the links of a network that are entered from outside, in their order
 abbrev pub sources : Net → List ℕ
@@ -30,9 +30,9 @@ row_by second link word = if word % 10 == 0 then record { second = second; link 
 abbrev pub rows_of_second : ℕ → List ℕ → Lcg → List ArrivalRow
 rows_of_second second entered g = flat_map (λ place. row_by second (slice_index entered place) (word g place)) (range_with_len 0 (length entered))
 
--- The words of a second come behind those of all seconds before it. There are 5 seconds for each round.
+-- The words of a second come after those of all seconds before it. There are 5 seconds for each round.
 abbrev pub rows_from : Lcg → List ℕ → ℕ → List ArrivalRow
-rows_from g entered seconds = flat_map (λ second. rows_of_second second entered (behind g (second * length entered))) (range_with_len 0 seconds)
+rows_from g entered seconds = flat_map (λ second. rows_of_second second entered (after_words g (second * length entered))) (range_with_len 0 seconds)
 
 abbrev pub rows : ℕ → ℕ → Net → List ArrivalRow
 rows number rounds net = rows_from (generator number) (sources net) (5 * rounds)

@@ -66,6 +66,6 @@ conflicts side k = conflicts_of (phase_roads side k 0) (phase_roads side k 1)
 abbrev pub run : ℕ → Run
 run rounds = record { step = 5; look = 60; gap = 2; rounds = rounds }
 
--- the grid with so many nodes a side, for so many rounds
+-- the grid with `side` nodes a side, for `rounds` rounds
 abbrev pub grid_draft : ℕ → ℕ → Draft
 grid_draft side rounds = record { run = run rounds; nodes = map (node side) (nodes side); links = map (link side) (roads side); conflicts = flat_map (conflicts side) (nodes side) }

@@ -12,7 +12,7 @@ pub record AreRounds (rounds : ℕ) : Type 0 where
   pub least : 1 ≤ rounds
   pub most : rounds ≤ 600
 
--- The grid of a number, with so many nodes a side and for so many rounds: the network is that of its draft, and the arrivals
+-- The grid of a number, with `side` nodes a side and for `rounds` rounds: the network is that of its draft, and the arrivals
 -- are those of the rows that the number's words decide.
 pub record IsGrid (number side rounds : ℕ) (net : Net) (a : Amounts) : Type 0 where
   pub network : IsNetworkOf (grid_draft side rounds) net

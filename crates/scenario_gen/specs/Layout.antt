@@ -54,19 +54,19 @@ neighbour side node West = node_if (nat_lt 0 (node % side)) (node - 1)
 abbrev pub leaving_by : ℕ → Direction → Road
 leaving_by node direction = record { kind = Leaving; node = node; direction = direction }
 
-abbrev pub leaving : ℕ → List Road
-leaving node = map (leaving_by node) directions
+abbrev pub exit_roads : ℕ → List Road
+exit_roads node = map (leaving_by node) directions
 
 -- the roads that come to a node from outside, one from each side on which it has no neighbour
 abbrev pub entering_by : ℕ → Direction → Road
 entering_by node direction = record { kind = Entering; node = node; direction = direction }
 
-abbrev pub entering : ℕ → ℕ → List Road
-entering side node = map (entering_by node) (filter (λ d. is_none (neighbour side node d)) directions)
+abbrev pub entry_roads : ℕ → ℕ → List Road
+entry_roads side node = map (entering_by node) (filter (λ d. is_none (neighbour side node d)) directions)
 
 -- all roads: those that leave the nodes, node by node, and then those that come from outside, node by node
 abbrev pub roads : ℕ → List Road
-roads side = flat_map leaving (nodes side) ++ flat_map (entering side) (nodes side)
+roads side = flat_map exit_roads (nodes side) ++ flat_map (entry_roads side) (nodes side)
 
 -- the node that a road comes from, and the one that it ends at
 abbrev pub begin_by : Kind → ℕ → Option ℕ

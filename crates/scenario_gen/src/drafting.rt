@@ -24,12 +24,13 @@ const USUAL: Phase = Phase {
     wait: 300,
 };
 
-/// The shares of those who go straight on, and of those who turn to each side, in thousandths.
+/// The share of those who go straight on, in thousandths.
 const STRAIGHT: u32 = 700;
 
+/// The share of those who turn to each side, in thousandths.
 const ASIDE: u32 = 150;
 
-/// The network of a grid with so many nodes a side, for so many rounds.
+/// The network of a grid with `side` nodes a side, for `rounds` rounds.
 pub(crate) fn draft(alloc: Global, side: u32, rounds: u32) -> Result<Draft, AllocError>
     requires { IsSide side }
     ensures { IfOk result (λ d. d ≡ grid_draft side rounds) }
@@ -208,7 +209,7 @@ fn conflicts(alloc: Global, side: u32, roads: &[Road]) -> Result<Items<DraftConf
     Ok(Items::from_vec(conflicts))
 }
 
-/// Puts the conflicts of a node behind a list.
+/// Appends the conflicts of a node.
 fn push_conflicts_at(
     alloc: Global,
     side: u32,
@@ -225,7 +226,7 @@ fn push_conflicts_at(
     push_conflicts(alloc, first.as_slice(), second.as_slice(), conflicts)
 }
 
-/// Puts the conflicts of each road of the first list with each of the second behind a list.
+/// Appends the conflicts of each road of the first list with each of the second.
 fn push_conflicts(
     alloc: Global,
     first: &[Road],
@@ -240,7 +241,7 @@ fn push_conflicts(
     Ok(())
 }
 
-/// Puts the conflicts of a road with each of these behind a list.
+/// Appends the conflicts of a road with each of these.
 fn push_conflicts_of(
     alloc: Global,
     a: Road,

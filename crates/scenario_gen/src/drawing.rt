@@ -4,7 +4,7 @@ ghost use Rattle.net_numbers.specs.Outline.{link_at};
 ghost use Rattle.road_net.specs.Network.{IsNetwork};
 ghost use Rattle.arrivals.specs.Rows.{AreRows};
 ghost use Rattle.scenario_gen.specs.Arrivals as words;
-ghost use Rattle.scenario_gen.specs.Arrivals.{behind, row_by, rows_of_second};
+ghost use Rattle.scenario_gen.specs.Arrivals.{after_words, row_by, rows_of_second};
 ghost use Rattle.scenario_gen.specs.Grids.{AreRounds};
 
 use arrivals::ArrivalRow;
@@ -19,7 +19,7 @@ const STREAM: u64 = 54;
 /// The seconds of a round.
 const STEP: u32 = 5;
 
-/// The rows of arrivals that the words of a number decide, in so many rounds of a network.
+/// The rows of arrivals that the words of a number decide, in `rounds` rounds of a network.
 pub(crate) fn rows(
     alloc: Global,
     number: u64,
@@ -39,7 +39,7 @@ pub(crate) fn rows(
     Ok(rows)
 }
 
-/// Draws a word for each of these links, and puts what they bring in a second behind a list.
+/// Draws a word for each of these links, and appends the rows that they bring in a second.
 fn push_second(
     second: u32,
     entered: &[u32],
@@ -47,7 +47,7 @@ fn push_second(
     rows: &mut Vec<ArrivalRow>,
 ) -> Result<(), AllocError>
     ensures rows { OnOk result (rows.new.items ≡ rows.old.items ++ rows_of_second second entered.now generator.old) }
-    ensures drawn { OnOk result (generator.new ≡ behind generator.old (length entered.now)) }
+    ensures drawn { OnOk result (generator.new ≡ after_words generator.old (length entered.now)) }
 {
     for link in entered {
         push_drawn(second, *link, generator.next_word(), rows)?;
@@ -55,7 +55,7 @@ fn push_second(
     Ok(())
 }
 
-/// Puts what a link brings in a second, by the word that was drawn for it, behind a list.
+/// Appends the row that a link brings in a second, by the word that was drawn for it, if it brings one.
 fn push_drawn(
     second: u32,
     link: u32,
@@ -86,7 +86,7 @@ fn sources(alloc: Global, net: &Network) -> Result<Vec<u32>, AllocError>
     Ok(entered)
 }
 
-/// Puts a link behind a list, if it is entered from outside.
+/// Appends a link, if it is entered from outside.
 fn push_source(net: &Network, link: u32, entered: &mut Vec<u32>) -> Result<(), AllocError>
     requires { link < length net.now.link_names }
     ensures { OnOk result (entered.new.items ≡ entered.old.items ++ (if is_none (link_at net.now link).from then link ∷ [] else [])) }

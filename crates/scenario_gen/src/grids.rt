@@ -14,8 +14,7 @@ use road_net::{NetFault, Network, build};
 use std::alloc::{AllocError, Global};
 
 /// A square grid, made from a number: a network with `side` nodes a side, 2 to 8, for `rounds` rounds, 1 to 600, and what
-/// enters it, which the words of a generator decide that the number starts. One number gives one grid. An `Err` comes only
-/// where memory runs out.
+/// enters it, which the words of a generator decide that the number starts. One number gives one grid. `Err`: out of memory.
 ///
 /// docs/RULES.md, "Grids".
 pub fn grid(
@@ -44,12 +43,12 @@ fn network(alloc: Global, side: u32, rounds: u32) -> Result<Network, AllocError>
     let draft = draft(alloc, side, rounds)?;
     match build(alloc, draft) {
         Ok(network) => Ok(network),
-        Err(fault) => Err(only_want(fault)),
+        Err(fault) => Err(alloc_error(fault)),
     }
 }
 
-/// A grid is refused for want of memory alone.
-fn only_want(fault: NetFault) -> AllocError
+/// The only fault of a grid: out of memory.
+fn alloc_error(fault: NetFault) -> AllocError
     requires { fault ≡ NetFault.NoMemory }
 {
     match fault {
@@ -58,7 +57,7 @@ fn only_want(fault: NetFault) -> AllocError
     }
 }
 
-/// What enters a network in so many rounds, by the words of a number.
+/// What enters a network in `rounds` rounds, by the words of a number.
 fn arrivals(alloc: Global, number: u64, rounds: u32, net: &Network) -> Result<Arrivals, AllocError>
     requires { AreRounds rounds }
     ensures of { IfOk result (AreArrivalsOf net.now (words.rows number rounds net.now)) }
@@ -67,12 +66,12 @@ fn arrivals(alloc: Global, number: u64, rounds: u32, net: &Network) -> Result<Ar
     let rows = rows(alloc, number, rounds, net)?;
     match Arrivals::new(alloc, net, rows) {
         Ok(arrivals) => Ok(arrivals),
-        Err(fault) => Err(only_want_of_rows(fault)),
+        Err(fault) => Err(alloc_error_of_rows(fault)),
     }
 }
 
-/// The rows of a grid are refused for want of memory alone.
-fn only_want_of_rows(fault: RowFault) -> AllocError
+/// The only fault of the rows of a grid: out of memory.
+fn alloc_error_of_rows(fault: RowFault) -> AllocError
     requires { fault ≡ RowFault.NoMemory }
 {
     match fault {

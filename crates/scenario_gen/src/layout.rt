@@ -2,7 +2,7 @@
 ghost use Rattle.std.specs.Prelude.{◌≡◌, ◌*◌, ◌<◌, ◌++◌, IfOk, OnOk, filter, is_none, map};
 ghost use Rattle.std.specs.List.{flat_map};
 ghost use Rattle.scenario_gen.specs.Layout as layout;
-ghost use Rattle.scenario_gen.specs.Layout.{entering, leaving, node_if, nodes, IsSide};
+ghost use Rattle.scenario_gen.specs.Layout.{entry_roads, exit_roads, node_if, nodes, IsSide};
 
 use std::alloc::{AllocError, Global};
 
@@ -104,7 +104,7 @@ impl Road {
         }
     }
 
-    /// The node that it ends at, in a grid with so many nodes a side.
+    /// The node that it ends at, in a grid with `side` nodes a side.
     pub(crate) fn end(self, side: u32) -> Option<u32>
         requires side { IsSide side }
         requires node { self.node < side * side }
@@ -171,10 +171,10 @@ pub(crate) fn roads(alloc: Global, side: u32) -> Result<Vec<Road>, AllocError>
     Ok(roads)
 }
 
-/// Puts the roads that leave each node behind a list.
+/// Appends the roads that leave each node.
 fn push_leaving(side: u32, roads: &mut Vec<Road>) -> Result<(), AllocError>
     requires { IsSide side }
-    ensures { OnOk result (roads.new.items ≡ roads.old.items ++ flat_map leaving (nodes side)) }
+    ensures { OnOk result (roads.new.items ≡ roads.old.items ++ flat_map exit_roads (nodes side)) }
 {
     for node in 0..side * side {
         push_leaving_node(&DIRECTIONS, node, roads)?;
@@ -182,7 +182,7 @@ fn push_leaving(side: u32, roads: &mut Vec<Road>) -> Result<(), AllocError>
     Ok(())
 }
 
-/// Puts the roads that leave a node in these directions behind a list.
+/// Appends the roads that leave a node in these directions.
 fn push_leaving_node(
     towards: &[Direction],
     node: u32,
@@ -200,10 +200,10 @@ fn push_leaving_node(
     Ok(())
 }
 
-/// Puts the roads that come to each node from outside behind a list.
+/// Appends the roads that come to each node from outside.
 fn push_entering(side: u32, roads: &mut Vec<Road>) -> Result<(), AllocError>
     requires { IsSide side }
-    ensures { OnOk result (roads.new.items ≡ roads.old.items ++ flat_map (entering side) (nodes side)) }
+    ensures { OnOk result (roads.new.items ≡ roads.old.items ++ flat_map (entry_roads side) (nodes side)) }
 {
     for node in 0..side * side {
         push_entering_node(&DIRECTIONS, side, node, roads)?;
@@ -211,7 +211,7 @@ fn push_entering(side: u32, roads: &mut Vec<Road>) -> Result<(), AllocError>
     Ok(())
 }
 
-/// Puts the roads that come to a node from outside, from these sides of it, behind a list.
+/// Appends the roads that come to a node from outside, from these sides of it.
 fn push_entering_node(
     sides: &[Direction],
     side: u32,
@@ -220,7 +220,8 @@ fn push_entering_node(
 ) -> Result<(), AllocError>
     requires side { IsSide side }
     requires node { node < side * side }
-    ensures { OnOk result (roads.new.items ≡ roads.old.items ++ map (layout.entering_by node) (filter (λ d. is_none (layout.neighbour side node d)) sides.now)) }
+    ensures { OnOk result (roads.new.items ≡ roads.old.items
+        ++ map (layout.entering_by node) (filter (λ d. is_none (layout.neighbour side node d)) sides.now)) }
 {
     for direction in sides {
         if neighbour(side, node, *direction).is_none() {

@@ -5,8 +5,8 @@ use Rattle.road_net.specs.FirstFaults.{IsDraftFault, IsNumbersOf}
 use Rattle.road_net.proofs.Building.{numbers-none, IsDraftFault-bounds, IsDraftFault-numbers, IsDraftFault-joins}
 use Rattle.road_net.proofs.build.Goals as goal
 
-pub joined-requires : goal.joined-requires
-joined-requires c = outline c.args.draft _ c.in_ok-check_bounds.ensures.ok c.in_ok-parts.ensures.ok.node_names c.in_ok-parts.ensures.ok.link_names c.in_ok-parts.ensures.ok.numbers
+pub join_parts-requires : goal.join_parts-requires
+join_parts-requires c = outline c.args.draft _ c.in_ok-check_bounds.ensures.ok c.in_ok-parts.ensures.ok.node_names c.in_ok-parts.ensures.ok.link_names c.in_ok-parts.ensures.ok.numbers
 
 pub returns-in_err-check_bounds-clause-first : goal.returns-in_err-check_bounds-clause-first
 returns-in_err-check_bounds-clause-first c =
@@ -26,4 +26,4 @@ returns-in_err-parts-clause-refused c =
 pub returns-clause-first : goal.returns-clause-first
 returns-clause-first c =
     let is : IsNumbersOf c.args.draft (net_of c.in_ok-parts.parts) = record { bounds = c.in_ok-check_bounds.ensures.ok; node_names = c.in_ok-parts.ensures.ok.node_names; link_names = c.in_ok-parts.ensures.ok.link_names; numbers = c.in_ok-parts.ensures.ok.numbers } in
-    IfErr-weaker c.joined.result _ (IsDraftFault c.args.draft) (IsDraftFault-joins c.args.draft (net_of c.in_ok-parts.parts) is) c.joined.ensures.first
+    IfErr-weaker c.join_parts.result _ (IsDraftFault c.args.draft) (IsDraftFault-joins c.args.draft (net_of c.in_ok-parts.parts) is) c.join_parts.ensures.first

@@ -3,7 +3,7 @@ use Rattle.record_text.specs.Reading.{IsReading, left_of}
 use Rattle.arrivals.proofs.TextLaws.{IsUnder}
 use Rattle.arrivals.proofs.texts.read_records.Given as goal
 
--- the reader stands behind the records that were read, whose amounts are those so far
+-- the reader stands after the records that were read, whose amounts are those so far
 abbrev pub invariant-loop-arrivals : goal.invariant-loop-arrivals
 invariant-loop-arrivals l = record {
   reading : IsReading l.reader;

@@ -13,8 +13,8 @@ together-requires c =
     (streams-sound c.args.net.now c.args.node c.args.phase c.args.sensed.now c.args.heard.now c.phase_links.result.now c.in_ok-streams.streams.items c.run-run.result.look
     c.plan.ensures.network c.requires.node c.requires.phase c.phase_links.ensures.value (ap (λ (r : Run). r.look) c.run-run.ensures.value) c.in_ok-streams.ensures)
 
-pub gathered-requires-clause-streams : goal.gathered-requires-clause-streams
-gathered-requires-clause-streams c =
+pub gather_platoons-requires-clause-streams : goal.gather_platoons-requires-clause-streams
+gather_platoons-requires-clause-streams c =
     let look : length c.as_slice-2.result.now ≡ c.run-run.result.look = omega (arith, c.as_slice-2.ensures.len, c.in_ok-series.ensures.count) in
     rw (look, c.as_slice-3.ensures.value)
     (streams-sound c.args.net.now c.args.node c.args.phase c.args.sensed.now c.args.heard.now c.phase_links.result.now c.in_ok-streams.streams.items c.run-run.result.look
@@ -22,7 +22,7 @@ gathered-requires-clause-streams c =
 
 pub returns : goal.returns
 returns c =
-    IfOk-weaker c.gathered.result
+    IfOk-weaker c.gather_platoons.result
     (λ list. AreGathered c.run-run.result.gap (c.phase-times.result.now.greatest - c.phase-times.result.now.loss) c.args.sensed.now.now c.as_slice-2.result.now c.as_slice-3.result.now list.items)
     (λ list. AreOfPhase c.args.net.now c.args.node c.args.phase c.args.sensed.now c.args.heard.now list.items)
     (λ list made.
@@ -34,4 +34,4 @@ returns c =
     c.plan.ensures.network c.requires.node c.requires.phase c.phase_links.ensures.value (ap (λ (r : Run). r.look) c.run-run.ensures.value) c.in_ok-streams.ensures))
     (c.as_slice-2.ensures.value ∙ c.in_ok-series.ensures.value ∙ ap (λ ss. together ss c.run-run.result.look) (c.as_slice.ensures.value ∙ sym c.as_slice-3.ensures.value))
     made)
-    c.gathered.ensures
+    c.gather_platoons.ensures

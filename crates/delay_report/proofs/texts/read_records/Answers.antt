@@ -8,7 +8,7 @@ use Rattle.delay_report.proofs.texts.read_records.Goals as goal
 pub returns-in_err-take_steps-clause-refused : goal.returns-in_err-take_steps-clause-refused
 returns-in_err-take_steps-clause-refused c =
     let p = err_from_is_err_and c.from_residual-in_err-take_steps.result c.from_residual-in_err-take_steps.ensures.1 in
-    let (reading, left) = found-one c.args.reader.now c.next_record.new.reader _ _ c.if-not-branch.false c.in_ok-next_record.ensures in
+    let (reading, left) = found-one c.args.reader.now c.next_record.new.reader _ _ c.if-not-branch.false c.in_ok-next_record.ensures.ok in
     let first = c.is_header.ensures.0 c.if-not-is_header.false in
     let faulty : AreFaulty c.args.net.now (left_of c.args.reader.now) _ = rw (left, first) c.in_err-take_steps.ensures.first in
     rw (p.1, p.2) (records-refuse c.args.net.now (left_of c.args.reader.now) _ faulty)

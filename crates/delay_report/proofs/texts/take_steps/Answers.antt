@@ -9,17 +9,17 @@ loop-number-init c = record { reading = c.requires.reading; under = under-none c
 
 pub overflow_add-number : goal.overflow_add-number
 overflow_add-number c =
-    let (reading, left) = found-one c.loop-number.reader c.next_record.new.reader _ _ c.if-branch.true c.in_ok-next_record.ensures in
+    let (reading, left) = found-one c.loop-number.reader c.next_record.new.reader _ _ c.if-branch.true c.in_ok-next_record.ensures.ok in
     let a = under-few c.args.net.now _ _ _ _ _ _ (under-at c.args.net.now _ _ _ _ _ _ _ left c.loop-number.invariant.under) in
     omega (arith, a, c.requires.few)
 
 pub returns-in_err-take_step-clause-first : goal.returns-in_err-take_step-clause-first
 returns-in_err-take_step-clause-first c =
     let p = err_from_is_err_and c.from_residual-in_err-take_step.result c.from_residual-in_err-take_step.ensures.1 in
-    let (reading, left) = found-one c.loop-number.reader c.next_record.new.reader _ _ c.if-branch.true c.in_ok-next_record.ensures in
+    let (reading, left) = found-one c.loop-number.reader c.next_record.new.reader _ _ c.if-branch.true c.in_ok-next_record.ensures.ok in
     rw (p.1, p.2) (fault-here c.args.net.now _ _ _ _ _ _ (under-at c.args.net.now _ _ _ _ _ _ _ left c.loop-number.invariant.under) _ c.in_err-take_step.ensures.first)
 
 pub loop-number-preserved : goal.loop-number-preserved
 loop-number-preserved c =
-    let (reading, left) = found-one c.loop-number.reader c.next_record.new.reader _ _ c.if-branch.true c.in_ok-next_record.ensures in
+    let (reading, left) = found-one c.loop-number.reader c.next_record.new.reader _ _ c.if-branch.true c.in_ok-next_record.ensures.ok in
     record { reading = reading; under = under-more c.args.net.now _ _ _ _ _ _ (under-at c.args.net.now _ _ _ _ _ _ _ left c.loop-number.invariant.under) _ _ c.in_ok-take_step.ensures.taken }

@@ -12,7 +12,7 @@ returns-in_default c =
 
 pub loop-value-preserved : goal.loop-value-preserved
 loop-value-preserved c =
-    let text = sym c.as_str.ensures ∙ ap option_copied c.in-Some.is ∙ ap Some (sym c.in_ok-copied.ensures) in
+    let text = sym c.as_str.ensures ∙ ap option_copied c.in-Some.is ∙ ap Some (sym c.in_ok-copy_text.ensures) in
     rw c.in_ok-push.ensures.items (each-more (λ v. as_str (view v)) c.args.values.now c.loop-value.value-index c.value-item.result c.loop-value.texts.items _ c.loop-value-test.true c.value-item.is c.loop-value.invariant text)
 
 pub returns : goal.returns

@@ -1,7 +1,7 @@
 use Rattle.std.proofs.Common.{◌∙◌, ap, sym, Err, Some}
 use Rattle.std.proofs.lemmas.Result.{err_from_is_err_and}
 use Rattle.foundation.proofs.EachLaws.{each-more}
-use Rattle.net_draft.specs.declared.faults.Part.TheVariants.{Link, Turn}
+use Rattle.net_draft.specs.declared.faults.Section.TheVariants.{Link, Turn}
 use Rattle.net_numbers.specs.Numbers.{link_of, turns_of}
 use Rattle.std.proofs.Common.{Contains, refl}
 use Rattle.net_numbers.proofs.FirstFaults.{IsUnknownAt-weaker}

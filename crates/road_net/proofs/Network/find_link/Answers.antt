@@ -1,14 +1,10 @@
-use Rattle.std.proofs.Common.{◌≡◌, ap, ◌∙◌}
+use Rattle.std.proofs.Common.{ap, ◌∙◌}
 use Rattle.net_numbers.specs.Numbers.{number_of}
 use Rattle.net_numbers.proofs.Distinct.{number_of-none, number_of-found}
 use Rattle.road_net.proofs.Network.find_link.Goals as goal
 
 pub returns-clause-none : goal.returns-clause-none
-returns-clause-none c =
-    let is : c.find.result ≡ number_of c.args.self.now.link_names c.args.name.now = c.find.ensures ∙ ap (λ net. number_of net.link_names c.args.name.now) c.self.view_is in
-    rw is (number_of-none c.args.self.now.link_names c.args.name.now)
+returns-clause-none c = rw (c.find.ensures ∙ ap (λ net. number_of net.link_names c.args.name.now) c.self.view_is) (number_of-none c.args.self.now.link_names c.args.name.now)
 
 pub returns-clause-some : goal.returns-clause-some
-returns-clause-some c =
-    let is : c.find.result ≡ number_of c.args.self.now.link_names c.args.name.now = c.find.ensures ∙ ap (λ net. number_of net.link_names c.args.name.now) c.self.view_is in
-    rw is (number_of-found c.args.self.now.link_names c.args.name.now)
+returns-clause-some c = rw (c.find.ensures ∙ ap (λ net. number_of net.link_names c.args.name.now) c.self.view_is) (number_of-found c.args.self.now.link_names c.args.name.now)

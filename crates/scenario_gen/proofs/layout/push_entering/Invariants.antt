@@ -1,7 +1,7 @@
 use Rattle.std.proofs.Common.{◌≡◌, ◌++◌}
 use Rattle.std.specs.List.{flat_map, range_with_len}
-use Rattle.scenario_gen.specs.Layout.{entering}
+use Rattle.scenario_gen.specs.Layout.{entry_roads}
 use Rattle.scenario_gen.proofs.layout.push_entering.Given as goal
 
 abbrev pub invariant-loop-node : goal.invariant-loop-node
-invariant-loop-node l = l.roads.items ≡ l.fn.roads.items ++ flat_map (entering l.side) (range_with_len 0 l.node)
+invariant-loop-node l = l.roads.items ≡ l.fn.roads.items ++ flat_map (entry_roads l.side) (range_with_len 0 l.node)

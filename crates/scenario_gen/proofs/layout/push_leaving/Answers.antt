@@ -1,7 +1,7 @@
-use Rattle.scenario_gen.specs.Layout.{leaving}
+use Rattle.scenario_gen.specs.Layout.{exit_roads}
 use Rattle.scenario_gen.proofs.Loops.{flat-step}
 use Rattle.std.proofs.Common.{refl}
 use Rattle.scenario_gen.proofs.layout.push_leaving.Goals as goal
 
 pub loop-node-preserved : goal.loop-node-preserved
-loop-node-preserved c = flat-step leaving c.loop-node.node c.args.roads.now.items c.loop-node.roads.items c.push_leaving_node.new.roads.items _ c.loop-node.invariant c.in_ok-push_leaving_node.ensures refl
+loop-node-preserved c = flat-step exit_roads c.loop-node.node c.args.roads.now.items c.loop-node.roads.items c.push_leaving_node.new.roads.items _ c.loop-node.invariant c.in_ok-push_leaving_node.ensures refl

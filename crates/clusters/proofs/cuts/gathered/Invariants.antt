@@ -1,9 +1,0 @@
-use Rattle.std.proofs.Common.{◌-◌, length}
-use Rattle.clusters.proofs.GatherLaws.{IsGathering}
-use Rattle.clusters.proofs.cuts.gathered.Given as goal
-
-abbrev pub invariant-loop-first : goal.invariant-loop-first
-invariant-loop-first l = IsGathering l.cutting.gap l.cutting.most l.cutting.now l.series l.streams l.platoons.items l.from
-
-abbrev pub decreases-loop-first : goal.decreases-loop-first
-decreases-loop-first l = length l.series - l.from

@@ -1,5 +1,0 @@
-use Rattle.clusters.proofs.TakingLaws.{IsTaking}
-use Rattle.clusters.proofs.windows.taken.Given as goal
-
-abbrev pub invariant-loop-taken : goal.invariant-loop-taken
-invariant-loop-taken l = IsTaking l.lists l.counts.items l._taken

@@ -1,5 +1,0 @@
-use Rattle.intersection_actor.proofs.ServedLaws.{best-short}
-use Rattle.intersection_actor.proofs.planning.served_by.Goals as goal
-
-pub servings-requires : goal.servings-requires
-servings-requires c = rw c.as_slice.ensures (best-short c.args.i.now c.args.answer.now c.in-Plan.sequence c.in-Plan.delay c.head.ensures.instance c.requires c.in-Plan.is)

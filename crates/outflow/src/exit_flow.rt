@@ -1,0 +1,108 @@
+//! What comes to the end of an exit link, second by second.
+ghost use Rattle.std.specs.Prelude.{◌≡◌, ◌+◌, ◌-◌, ◌<◌, ◌≤◌, ℕ, All, IfOk, length, slice_get, slice_index, option_copied, sum_by};
+ghost use Rattle.net_numbers.specs.Outline.{plan_at};
+ghost use Rattle.road_net.specs.Joins.{part_between, share_of};
+ghost use Rattle.clusters.specs.Sound.{AreOfNode};
+ghost use Rattle.clusters.specs.Windows.{counts_of};
+ghost use Rattle.outflow.specs.Outflow.{AreServed, departures, part_coming};
+ghost use Rattle.outflow.specs.Steps.{AreArriving, IsShareInto};
+
+use crate::servings::Servings;
+use clusters::{LinkFlow, Platoon, Window};
+use road_net::{Network, Turn, part_of_turn};
+use std::alloc::{AllocError, Global};
+
+/// What comes to the end of an exit link in each second from `now` on, as long as the network looks ahead.
+pub(crate) fn exit_flow(
+    alloc: Global,
+    net: &Network,
+    node: u32,
+    window: &Window,
+    servings: &Servings,
+    exit: u32,
+    now: u32,
+) -> Result<Vec<u32>, AllocError>
+    requires node { node < length net.now.node_names }
+    requires now { now ≤ 18000 }
+    requires exit { exit < length net.now.link_names }
+    requires platoons { AreOfNode net.now node now window.now.lists }
+    requires served { AreServed (plan_at net.now node) window.now.lists servings.now.phases.now
+        servings.now.served.now }
+    ensures { IfOk result (λ amounts. AreArriving net.now exit now
+        (departures window.now.lists (counts_of window.now.lists) servings.now.phases.now servings.now.served.now) amounts.items) }
+{
+    let travel = net.link(exit).travel;
+    let mut amounts = vec![in alloc; 0; net.run().look as usize]?;
+    let mut taken = [0usize; 4];
+    for (i, phase) in servings.phases.iter().enumerate() {
+        let k = *phase as usize;
+        let Some(platoon) = platoon_at(window.lists.as_slice()[k].as_slice(), taken[k]) else {
+            return Ok(amounts);
+        };
+        taken[k] += 1;
+        let first = servings.served[i].start as usize + travel as usize - now as usize;
+        add_platoon(
+            amounts.as_mut_slice(),
+            net,
+            platoon.parts.as_slice(),
+            first,
+            exit,
+        );
+    }
+    Ok(amounts)
+}
+
+/// The platoon with this place, if there is one.
+fn platoon_at(list: &[Platoon], place: usize) -> Option<&Platoon>
+    ensures { option_copied result ≡ slice_get list.entry.now place }
+{
+    list.get(place)
+}
+
+/// Adds what of each part comes, the first of it in this place.
+fn add_platoon(amounts: &mut [u32], net: &Network, parts: &[LinkFlow], first: usize, exit: u32)
+    requires links { All (λ part. part.link < length net.now.link_names) parts.now }
+    requires few { length parts.now ≤ 16 }
+    requires small { All (λ part. All (λ amount. amount ≤ 5000) part.amounts) parts.now }
+    requires none { (k : ℕ) → first ≤ k → slice_index amounts.old k ≡ 0 }
+    ensures near { (k : ℕ) → k < first → slice_index amounts.new k ≡ slice_index amounts.old k }
+    ensures far { (k : ℕ) → first ≤ k → k < length amounts.old
+        → slice_index amounts.new k ≡ sum_by (part_coming net.now exit 0 k first) parts.now }
+{
+    for part in parts {
+        let share = share_into(net.turns(part.link), exit);
+        add_part(amounts, part.amounts.as_slice(), first, share);
+    }
+}
+
+/// Adds the part of each amount that has this share, the first of them in this place, as far as there are places.
+fn add_part(amounts: &mut [u32], part: &[u32], first: usize, share: (u32, u32))
+    requires share { share.0 + share.1 ≤ 1000 }
+    requires small { All (λ amount. amount ≤ 5000) part.now }
+    requires fits { (k : ℕ) → first ≤ k → slice_index amounts.old k ≤ 80000 }
+    ensures near { (k : ℕ) → k < first → slice_index amounts.new k ≡ slice_index amounts.old k }
+    ensures far { (k : ℕ) → first ≤ k → k < length amounts.old → slice_index amounts.new k ≡
+        slice_index amounts.old k + part_between (slice_index part.now (k - first)) share.0 (share.0 + share.1) }
+{
+    if first >= amounts.len() || share.1 == 0 {
+        return;
+    }
+    for j in 0..part.len().min(amounts.len() - first) {
+        amounts[first + j] += part_of_turn(part[j], share.0, share.1);
+    }
+}
+
+/// The share of the turns before the one into the exit, and its own share; nothing where no turn leads there.
+fn share_into(turns: &[Turn], exit: u32) -> (u32, u32)
+    requires { sum_by share_of turns.now ≤ 1000 }
+    ensures { IsShareInto turns.now exit result }
+{
+    let mut before = 0;
+    for turn in turns {
+        if turn.exit == exit {
+            return (before, turn.share);
+        }
+        before += turn.share;
+    }
+    (0, 0)
+}

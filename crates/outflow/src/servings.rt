@@ -1,0 +1,13 @@
+//! Servings that a node has planned.
+use switch_rules::Served;
+
+/// The servings of a sequence, one after another, and the phase of each.
+///
+/// docs/RULES.md, "Predicted outflow".
+#[derive(Drop)]
+pub struct Servings<'a> {
+    /// The phase of each serving.
+    pub phases: &'a [u8],
+    /// The servings.
+    pub served: &'a [Served],
+}

@@ -1,7 +1,0 @@
-use Rattle.std.proofs.Common.{ℕ, ◌<◌}
-use Rattle.road_net.specs.Stored.{HasRoomAt}
-use Rattle.road_net.proofs.joins.check_room.Given as goal
-
--- the lists so far have at most 16 links
-abbrev pub invariant-loop-index : goal.invariant-loop-index
-invariant-loop-index l = (k : ℕ) → k < l.index → HasRoomAt l.entry_links k
