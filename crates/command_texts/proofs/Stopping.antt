@@ -9,7 +9,7 @@ use Rattle.command_texts.specs.declared.refusals.Place.TheVariants.{Third}
 use Rattle.command_texts.specs.declared.refusals.Refusal.{Refusal}
 use Rattle.command_texts.specs.declared.refusals.Refusal.TheVariants as refusal
 
--- a history of a network, behind the network and arrivals at it
+-- a history of a network, after the network and arrivals at it
 pub history_stops : (old new : ShelfState) (net arr hist : List ℕ) (network : Net) (enters : ℕ → ℕ → ℕ) (why : Refusal) → IsIn old.files net NetworkText network → IsIn old.files arr (ArrivalsText network) enters
     → StopsAt why Third (HistoryText network) hist old new → StopsIn (history_texts net arr hist) old new why
 history_stops old new net arr hist network enters (refusal.Bad place why) is bring stops =

@@ -57,11 +57,11 @@ status_of (refusal.Unread text) = ReadFault
 status_of refusal.Unwritten = WriteFault
 status_of refusal.NoMemory = NoMemory
 
--- a line was written, or a front of it where the sink's count of faults rose
+-- a line was written, or a front of it where just one put failed
 abbrev pub Writes : List ℕ → SinkState → SinkState → Type 0
 Writes line old new = Gains old new line ⊎ Breaks old new line
 
--- the line of a refusal was written, or a front of it where the sink's count of faults rose
+-- the line of a refusal was written, or a front of it where just one put failed
 abbrev pub Says : Refusal → SinkState → SinkState → Type 0
 Says why old new = Writes (line_of why) old new
 
@@ -70,6 +70,6 @@ abbrev pub TakesMemory : Refusal → Type 0
 TakesMemory (refusal.Bad text why) = Unit {0}
 TakesMemory _ = ⊥
 
--- a refusal was answered with its status and its line, or with want of memory for the line
+-- a refusal was answered with its status and its line, or with `NoMemory`, where there is no memory for the line
 abbrev pub Refuses : Refusal → SinkState → SinkState → Status → Type 0
 Refuses why err err' status = ((status ≡ status_of why) × Says why err err') ⊎ (TakesMemory why × (status ≡ NoMemory) × Says refusal.NoMemory err err')

@@ -45,7 +45,7 @@ pub record IsBroughtBy (net : Net) (text : List ℕ) (enters : ℕ → ℕ → �
   pub of_text : IsArrivalText net text arrivals
   pub bring : entering arrivals ≡ enters
 
--- a text spells this
+-- a text is the text of this
 abbrev pub Spells : (kind : Kind) → List ℕ → Said kind → Type 0
 Spells InstanceText text p = IsInstance p × (text ≡ instance_text p.plan p.head p.lists)
 Spells CertificateText text c = IsCertificate c × cert.Spells text c
@@ -53,7 +53,7 @@ Spells NetworkText text net = IsNetworkText text net
 Spells (ArrivalsText net) text enters = IsBroughtBy net text enters
 Spells (HistoryText net) text history = IsHistoryText net text history
 
--- a text is read as this: it is within the limit, and spells it
+-- a text is read as this: it is within the limit, and is the text of it
 abbrev pub Reads : (kind : Kind) → List ℕ → Said kind → Type 0
 Reads kind text said = (length text ≤ most_bytes) × Spells kind text said
 
@@ -89,13 +89,13 @@ pub record IsBad (files : Files) (why : BadText) (kind : Kind) (name : List ℕ)
   pub unread : (said : Said kind) → ¬ Reads kind text said
   pub fault : HasFault kind text why
 
--- The texts of a command, in the order of its words: none any more, or one in the file with this name, and those behind
+-- The texts of a command, in the order of its words: none any more, or one in the file with this name, and those after
 -- it, which may depend on what it says.
 pub data Texts : Type 0 where
   NoMore : Texts
   Next : (kind : Kind) → (name : List ℕ) → (Said kind → Texts) → Texts
 
--- a network's text, one of arrivals at it, and these behind them
+-- a network's text, one of arrivals at it, and these after them
 abbrev pub network_texts : List ℕ → List ℕ → (Net → Texts) → Texts
 network_texts net arr rest = Next NetworkText net (λ network. Next (ArrivalsText network) arr (λ enters. rest network))
 

@@ -55,8 +55,8 @@ impl From<AllocError> for Refusal {
     }
 }
 
-/// Writes the line of a refusal, or that of want of memory where there is none for the line, and answers the status that
-/// goes with it. Where the sink fails, the status stays.
+/// Writes the line of a refusal, or that of `NoMemory` where there is no memory for the line, and answers the status that
+/// goes with it. Where the sink fails, a front of the line is written, and the status stays.
 pub fn refuse<E: Sink>(alloc: Global, why: Refusal, err: &mut E) -> Status
     ensures { Refuses why (E.state err.old) (E.state err.new) result }
 {

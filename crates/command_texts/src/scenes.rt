@@ -21,7 +21,7 @@ pub struct Scene {
     pub arrivals: Arrivals,
 }
 
-/// The network that a command's first text spells, and the arrivals at it that its second text spells.
+/// The network that a command's first text is the text of, and the arrivals at it of its second text.
 pub fn fetch_scene<S: Shelf>(
     alloc: Global,
     shelf: &mut S,

@@ -47,7 +47,7 @@ fn fetch_text<S: Shelf>(
     }
 }
 
-/// The instance that the text at this place spells.
+/// The instance of the text at this place.
 pub fn fetch_instance<S: Shelf>(
     alloc: Global,
     shelf: &mut S,
@@ -69,7 +69,7 @@ pub fn fetch_instance<S: Shelf>(
     }
 }
 
-/// The certificate that the text at this place spells.
+/// The certificate of the text at this place.
 pub fn fetch_certificate<S: Shelf>(
     alloc: Global,
     shelf: &mut S,
@@ -91,7 +91,7 @@ pub fn fetch_certificate<S: Shelf>(
     }
 }
 
-/// The network that the text at this place spells.
+/// The network of the text at this place.
 pub fn fetch_network<S: Shelf>(
     alloc: Global,
     shelf: &mut S,
@@ -113,7 +113,7 @@ pub fn fetch_network<S: Shelf>(
     }
 }
 
-/// The arrivals at a network that the text at this place spells.
+/// The arrivals at a network of the text at this place.
 pub fn fetch_arrivals<S: Shelf>(
     alloc: Global,
     shelf: &mut S,
@@ -137,7 +137,7 @@ pub fn fetch_arrivals<S: Shelf>(
     }
 }
 
-/// The history of a network that the text at this place spells.
+/// The history of a network of the text at this place.
 pub fn fetch_history<S: Shelf>(
     alloc: Global,
     shelf: &mut S,

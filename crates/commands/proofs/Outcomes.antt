@@ -187,7 +187,7 @@ explained : (call : Call) (old new : ShelfState) (why : Refusal) → StopsIn (te
 explained call old new (refusal.Missing what) stops = absurd stops
 explained call old new _ stops = stops
 
--- what explains it is handed on as the answer
+-- what explains it is the answer
 pub handed_on : (call : Call) (old new : ShelfState) (result : Result Made Refusal) (why : Refusal) → Explains call old new why → IsErrAnd result (λ e. e ≡ why) → Makes call old new result
 handed_on call old new (Ok made) why explains handed = absurd handed
 handed_on call old new (Err e) why explains handed = subst (Explains call old new) (sym handed) explains

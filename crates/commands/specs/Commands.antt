@@ -71,7 +71,7 @@ texts_of (Net net arr) = network_texts net arr (λ network. NoMore)
 texts_of (Instance net arr hist node round) = history_texts net arr hist
 texts_of (Grid number side rounds) = NoMore
 
--- These bytes are a certificate's text that `check` accepts: the text is within the limit, and spells this certificate and no
+-- These bytes are a certificate's text that `check` accepts: the text is within the limit, and is the text of this certificate and no
 -- other; and the certificate proves its answer.
 pub record IsAcceptedText (bytes : List ℕ) (c : Claim) : Type 0 where
   pub short : length bytes ≤ most_bytes
@@ -102,7 +102,7 @@ abbrev pub IsRejectionOf : (call : Call) → AllSaid (texts_of call) → List �
 IsRejectionOf (Check file) said bytes = (why : Why) × (¬ Proves said.0) × IsWhy said.0 why × (bytes ≡ rejected_line why)
 IsRejectionOf _ said bytes = ⊥
 
--- what a word of the command names is not in its texts: the network has no such node, or it has, and not so many rounds
+-- what a word of the command names is not in its texts: the network has no such node, or it has, and fewer rounds
 abbrev pub IsMissing : (call : Call) → AllSaid (texts_of call) → Named → Type 0
 IsMissing (Instance net arr hist node round) said Node = number_of said.0.node_names node ≡ None
 IsMissing (Instance net arr hist node round) said Round = IsSome (number_of said.0.node_names node) × (said.0.run.rounds ≤ round)

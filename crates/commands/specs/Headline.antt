@@ -33,7 +33,7 @@ pub record Headline (net : Net) (enters : ℕ → ℕ → ℕ) (history : List �
   pub runs : IsRunOf net enters history run
   pub report : bytes ≡ report_text net run history
 
--- The headline for a history that the bytes themselves spell, and no other: which one it is, the machine decides.
+-- The headline for the history that the bytes are a text of, and of no other: which one it is, the machine decides.
 pub record ToldHeadline (net : Net) (enters : ℕ → ℕ → ℕ) (bytes : List ℕ) : Type 0 where
   pub history : List ℕ
   pub headline : Headline net enters history bytes

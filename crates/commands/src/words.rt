@@ -139,7 +139,7 @@ fn three(words: &[Text]) -> Option<(&str, &str, &str)>
     }
 }
 
-// The four words and the number behind them, where there are just these.
+// The four words and the number after them, where there are just these.
 fn four_and_number(words: &[Text]) -> Option<(&str, &str, &str, &str, u32)>
     ensures some { IfSome result (λ w. (words.now ≡ w.0.now ∷ w.1.now ∷ w.2.now ∷ w.3.now ∷ decimal w.4 ∷ []) × (w.4 < 2 ^ 32)) }
     ensures none { IfNone result ((a b c d : List ℕ) (n : ℕ) → n < 2 ^ 32 → words.now ≢ a ∷ b ∷ c ∷ d ∷ decimal n ∷ []) }

@@ -33,7 +33,7 @@ front-parts net h nodes o0 o1 o2 is_history start first steps =
     let b = subst (λ l. Adds o1 o2 (map (step_record_at net l) (range_with_len 0 (length l)))) is_history steps in
     (adds-then o0 o1 o2 _ _ first b).adds [] start
 
--- what is behind it
+-- what comes after it
 pub outcome-parts : {Z : Type 0} (net : Net) (run : RunRecord) (text : List ℕ) (plans : List PlanRecord) (lines : List (List Green)) (links : List LinkTotals) (o2 o3 o4 o5 o6 : Writer (Vec ℕ Z))
     → plans ≡ run.plans → lines ≡ run.timelines → links ≡ run.links → HasWritten o2 text
     → Adds o2 o3 (map (plan_record net) plans)

@@ -11,7 +11,7 @@ use Rattle.delay_report.specs.declared.faults.HistoryFault.{HistoryFault}
 use Rattle.delay_report.specs.declared.faults.HistoryFault.TheVariants.{NoMemory, Header, Row, Node, Extra, Turn, Short}
 use Rattle.delay_report.specs.Entries.{header, steps_of, told_of}
 
--- the steps that records tell are this history, which is under way: so many rounds are done
+-- the steps that records tell are this history, which is under way: `done` rounds are done
 pub record AreUnderWay (net : Net) (records : List (List (List ℕ))) (history : List ℕ) (done : ℕ) : Type 0 where
   pub steps : List (List ℕ)
   pub reads : each (steps_of net) records ≡ Some steps
@@ -38,7 +38,7 @@ pub record EndEarly (net : Net) (all : List (List (List ℕ))) : Type 0 where
   pub under_way : AreUnderWay net all history done
   pub early : done < net.run.rounds
 
--- a record that tells nothing; a step of a name that no node has; and a step of a node, behind a history all of whose rounds
+-- a record that tells nothing; a step of a name that no node has; and a step of a node, after a history all of whose rounds
 -- are done, or in whose round the node has done all its steps
 abbrev pub IsAtRow : List (List ℕ) → Type 0
 IsAtRow fields = told_of fields ≡ None
@@ -52,7 +52,7 @@ IsAtExtra net history fields = (node : ℕ) × (steps_of net fields ≡ Some (no
 abbrev pub IsAtTurn : Net → List ℕ → List (List ℕ) → Type 0
 IsAtTurn net history fields = (node : ℕ) × (steps_of net fields ≡ Some (node ∷ [])) × IsDoneInRound net history node
 
--- why the records behind the header are no history
+-- why the records after the header are no history
 abbrev pub IsRecordFault : Net → List (List (List ℕ)) → HistoryFault → Type 0
 IsRecordFault net records (Row n) = IsFirst net records n (λ history fields. IsAtRow fields)
 IsRecordFault net records (Node n) = IsFirst net records n (λ history fields. IsAtNode net fields)
@@ -78,7 +78,7 @@ AreFaulty net all fault = HasFaultBehind net all fault
 abbrev pub IsTextFault : Net → List ℕ → HistoryFault → Type 0
 IsTextFault net bytes fault = AreFaulty net (records_of bytes) fault
 
--- the fact holds, unless the fault is want of memory
+-- the fact holds, unless memory ran out
 abbrev pub Refuses : HistoryFault → Type 0 → Type 0
 Refuses NoMemory fact = Unit {0}
 Refuses _ fact = fact

@@ -1,4 +1,4 @@
--- How far nodes and links have come along a history. No public clause names these words.
+-- How far nodes and links have come along a history. No public clause names these definitions.
 use Rattle.std.specs.Prelude.{◌≡◌, ℕ, ◌<◌, List, length, map, slice_index, take}
 use Rattle.std.specs.List.{range_with_len}
 use Rattle.histories.specs.Histories.{count, version_at}

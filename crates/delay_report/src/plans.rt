@@ -83,7 +83,7 @@ fn used_text(alloc: Global, net: &Network, used: &[Used]) -> Result<Vec<u8>, All
     Ok(text)
 }
 
-/// Writes a semicolon behind a text, unless nothing stands before this place.
+/// Appends a semicolon to a text, unless the place is the first.
 fn push_semicolon(place: usize, text: &mut Vec<u8>) -> Result<(), AllocError>
     ensures { OnOk result (text.new.items ≡ text.old.items ++ (if place == 0 then [] else 59 ∷ [])) }
 {
@@ -94,7 +94,7 @@ fn push_semicolon(place: usize, text: &mut Vec<u8>) -> Result<(), AllocError>
     Ok(())
 }
 
-/// Writes a version behind a text.
+/// Appends a version to a text.
 fn push_version(net: &Network, used: Used, text: &mut Vec<u8>) -> Result<(), AllocError>
     requires { used.link < length net.now.link_names }
     ensures { OnOk result (text.new.items ≡ text.old.items ++ report.used_text net.now used) }

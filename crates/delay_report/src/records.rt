@@ -7,7 +7,7 @@ use csv::Writer;
 use number_text::Line;
 use std::alloc::{AllocError, Global};
 
-/// A writer behind this text.
+/// A writer that appends to this text.
 pub(crate) fn start(text: Vec<u8>) -> Writer<Vec<u8>>
     ensures { HasWritten result text.items }
 {

@@ -19,14 +19,14 @@ use road_net::Network;
 use runs::RunRecord;
 use std::alloc::{AllocError, Global};
 
-// Bytes to set aside for a step of a report, so that the text seldom has to move as it grows: the record takes some 28, and what stands
-// behind the steps a third as much again.
+// The capacity for a step of a report, in bytes, so that the text seldom has to move as it grows: the record takes some 28, and what
+// follows the steps a third as much again.
 const ROOM_FOR_A_STEP: usize = 40;
 
-// Bytes to set aside for a plan: its record takes some 60, and the greens and links behind the plans few more for each.
+// The capacity for a plan, in bytes: its record takes some 60, and the greens and links after the plans few more for each.
 const ROOM_FOR_A_PLAN: usize = 80;
 
-/// The report of a run of a history, from which `read_history` reads the history again. An `Err` comes only where memory runs out.
+/// The report of a run of a history, from which `read_history` reads the history again. `Err`: out of memory.
 ///
 /// docs/FORMATS.md, "Report".
 pub fn render(
@@ -44,7 +44,7 @@ pub fn render(
     render_outcome(alloc, net, run, steps)
 }
 
-/// The front of the report of a history: the header, and the steps in their order. An `Err` comes only where memory runs out.
+/// The front of the report of a history: the header, and the steps in their order. `Err`: out of memory.
 ///
 /// docs/FORMATS.md, "Report".
 pub fn render_steps(alloc: Global, net: &Network, h: &History) -> Result<Vec<u8>, AllocError>
@@ -59,7 +59,7 @@ pub fn render_steps(alloc: Global, net: &Network, h: &History) -> Result<Vec<u8>
     finish(out)
 }
 
-/// Puts behind a text what a run came to: the plans, the greens, the links and all totals. An `Err` comes only where memory runs out.
+/// Appends to a text the outcome of a run: the plans, the greens, the links and all totals. `Err`: out of memory.
 ///
 /// docs/FORMATS.md, "Report".
 pub fn render_outcome(
@@ -80,7 +80,7 @@ pub fn render_outcome(
     finish(out)
 }
 
-/// The report of a run of a history: its front, and behind it what the run came to. An `Err` comes only where memory runs out.
+/// The report of a run of a history: its front, and after it the outcome of the run. `Err`: out of memory.
 ///
 /// docs/FORMATS.md, "Report".
 pub fn join_report(net: &Network, steps: Vec<u8>, outcome: &[u8]) -> Result<Vec<u8>, AllocError>

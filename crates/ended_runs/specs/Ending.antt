@@ -10,7 +10,7 @@ use Rattle.net_simulator.specs.Worlds.{Kept}
 use Rattle.runs.specs.declared.records.RunRecord.{RunRecord}
 use Rattle.ended_runs.specs.declared.Room.{Room}
 
--- empty lists, with room for all that the record of a run has
+-- empty lists, with capacity for all that the record of a run has
 pub record HasRoom (net : Net) (room : Room) : Type 0 where
   pub no_plans : room.plans.items ≡ []
   pub no_queues : room.queues.items ≡ []
@@ -36,7 +36,7 @@ module _ {A : Type 0} where
   abbrev pub without_first : List (List A) → List (List A)
   without_first lists = map (drop 1) lists
 
-  -- the elements of the lists, so many of each: the first of each list, then the second of each, and so on
+  -- the first `rounds` elements of each list: the first of each, then the second of each, and so on
   abbrev pub round_by_round : ℕ → List (List A) → List A
   round_by_round rounds lists = flat_map (λ round. first_of_each (map (drop round) lists)) (range_with_len 0 rounds)
 

@@ -17,7 +17,8 @@ use runs::RunRecord;
 use std::alloc::{AllocError, Global};
 use std::collections::VecDeque;
 
-/// Room for the record of a run: it is taken before the first round, so that the record itself takes no memory.
+/// Empty lists with capacity for the record of a run: they are made before the first round, so that the record itself takes no
+/// memory.
 ///
 /// docs/RULES.md, "Run".
 #[derive(Drop)]
@@ -32,9 +33,9 @@ pub struct Room {
 
 impl CrossesThreads for Room {}
 
-/// Takes room for the record of a run of a network.
+/// Makes the lists for the record of a run of a network.
 ///
-/// An `Err` comes only where memory runs out.
+/// `Err`: out of memory.
 ///
 /// docs/RULES.md, "Run".
 pub fn room_of(alloc: Global, net: &Network) -> Result<Room, AllocError>
@@ -53,7 +54,7 @@ pub fn room_of(alloc: Global, net: &Network) -> Result<Room, AllocError>
     })
 }
 
-/// The record of actors and a world behind the last round, moved into the room that was taken for it: the plans of all nodes, round
+/// The record of actors and a world after the last round, moved into the lists that were made for it: the plans of all nodes, round
 /// by round, the line of each, and what was counted. It takes no memory.
 ///
 /// docs/RULES.md, "Run".
@@ -98,7 +99,7 @@ fn push_parts(
     }
 }
 
-/// Moves the plans of so many rounds from the queues behind the plans, round by round.
+/// Appends the plans of the first `rounds` rounds from the queues to the plans, round by round.
 fn push_plans(rounds: u32, queues: &mut Vec<VecDeque<PlanRecord>>, plans: &mut Vec<PlanRecord>)
     requires { vec_len plans.old + rounds * length queues.old.items ≤ vec_capacity plans.old }
     ensures { plans.new.items ≡ plans.old.items ++ round_by_round rounds (map deque_items queues.old.items) }
@@ -108,7 +109,7 @@ fn push_plans(rounds: u32, queues: &mut Vec<VecDeque<PlanRecord>>, plans: &mut V
     }
 }
 
-/// Moves the next plan of each queue behind the plans.
+/// Appends the next plan of each queue to the plans.
 fn push_round(queues: &mut [VecDeque<PlanRecord>], plans: &mut Vec<PlanRecord>)
     requires { vec_len plans.old + length queues.old ≤ vec_capacity plans.old }
     ensures queues { map deque_items queues.new ≡ without_first (map deque_items queues.old) }
@@ -120,7 +121,7 @@ fn push_round(queues: &mut [VecDeque<PlanRecord>], plans: &mut Vec<PlanRecord>)
     }
 }
 
-/// Moves the next plan of a queue, where it has one, behind the plans.
+/// Appends the next plan of a queue, where it has one, to the plans.
 fn push_next(queue: &mut VecDeque<PlanRecord>, plans: &mut Vec<PlanRecord>)
     requires { vec_len plans.old < vec_capacity plans.old }
     ensures queue { queue.new.items ≡ drop 1 queue.old.items }
@@ -132,7 +133,7 @@ fn push_next(queue: &mut VecDeque<PlanRecord>, plans: &mut Vec<PlanRecord>)
     }
 }
 
-/// Puts the totals of all links behind a list that is empty.
+/// Appends the totals of all links to a list that is empty.
 fn push_totals(net: &Network, world: &World, links: &mut Vec<LinkTotals>)
     requires counts { length world.now.counts ≡ length net.now.link_names }
     requires empty { links.old.items ≡ [] }

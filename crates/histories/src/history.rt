@@ -1,4 +1,4 @@
-// Histories, and which are lawful.
+//! Histories, and which are lawful.
 ghost use Rattle.std.specs.Prelude.{◌≡◌, ◌≤◌, ◌<◌, ◌↔◌, ◌++◌, ℕ, List, IfOk, IsSome, IsTrue, OnOk, [], length, replicate, take};
 ghost use Rattle.histories.specs.Steps.{board_steps};
 ghost use Rattle.histories.specs.Histories as histories;
@@ -75,8 +75,7 @@ fn are_lawful(net: &Network, nodes: &[u32]) -> bool
     progress.is_over()
 }
 
-/// The turn order: round by round, the nodes do all their board steps in number order. It is lawful. An `Err` comes only
-/// where memory runs out.
+/// The turn order: round by round, the nodes do all their board steps in number order. It is lawful. `Err`: out of memory.
 ///
 /// docs/RULES.md, "Histories".
 pub fn turn_order(alloc: Global, net: &Network) -> Result<History, AllocError>
@@ -92,7 +91,7 @@ pub fn turn_order(alloc: Global, net: &Network) -> Result<History, AllocError>
     Ok(History::new(steps))
 }
 
-/// Puts the turns of all nodes behind a list that is empty.
+/// Appends the turns of all nodes to a list that is empty.
 fn push_turns(net: &Network, round: &mut Vec<u32>) -> Result<(), AllocError>
     requires { round.old.items ≡ [] }
     ensures { OnOk result (round.new.items ≡ turns (board_steps net.now) (length net.now.node_names)) }
@@ -103,7 +102,7 @@ fn push_turns(net: &Network, round: &mut Vec<u32>) -> Result<(), AllocError>
     Ok(())
 }
 
-/// Puts a node behind a list so many times.
+/// Appends a node to a list `count` times.
 fn push_turn(node: u32, count: u32, round: &mut Vec<u32>) -> Result<(), AllocError>
     ensures { OnOk result (round.new.items ≡ round.old.items ++ replicate count node) }
 {

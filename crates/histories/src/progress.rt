@@ -1,4 +1,4 @@
-// How far a history has come, step by step.
+//! How far a history has come, step by step.
 ghost use Rattle.std.specs.Prelude.{◌≡◌, ◌≤◌, ◌==◌, ℕ, All, if◌then◌else◌, length, slice_index_or, sum_by};
 ghost use Rattle.histories.specs.Steps.{board_steps};
 

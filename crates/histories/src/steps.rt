@@ -1,4 +1,4 @@
-// The board steps of a node in a round.
+//! The board steps of a node in a round.
 ghost use Rattle.std.specs.Prelude.{◌≡◌, ◌<◌, ◌≤◌, ◌++◌, All, IfOk, OnOk, filter, is_some, length, map, vec_len};
 ghost use Rattle.net_numbers.specs.Outline.{link_at};
 ghost use Rattle.histories.specs.declared.steps.BoardStep.TheVariants.{Read, Publish};
@@ -32,7 +32,7 @@ pub fn step_count(net: &Network, node: u32) -> u32
     heard_count(net, net.entry_links(node)) + told_count(net, net.exit_links(node))
 }
 
-/// The board steps of a node in a round, in their order, at most 320. An `Err` comes only where memory runs out.
+/// The board steps of a node in a round, in their order, at most 320. `Err`: out of memory.
 ///
 /// docs/RULES.md, "Rounds".
 pub fn node_steps(alloc: Global, net: &Network, node: u32) -> Result<Vec<BoardStep>, AllocError>
@@ -76,7 +76,7 @@ fn told_count(net: &Network, links: &[u32]) -> u32
     count
 }
 
-/// Puts a reading of each of these links that comes from a node behind the steps.
+/// Appends a reading of each of these links that comes from a node.
 fn push_reads(net: &Network, links: &[u32], steps: &mut Vec<BoardStep>) -> Result<(), AllocError>
     requires { All (λ l. l < length net.now.link_names) links.now }
     ensures { OnOk result (steps.new.items ≡ steps.old.items ++ map Read (filter (λ l. is_some (link_at net.now l).from) links.now)) }
@@ -89,7 +89,7 @@ fn push_reads(net: &Network, links: &[u32], steps: &mut Vec<BoardStep>) -> Resul
     Ok(())
 }
 
-/// Puts a publishing on each of these links that ends at a node behind the steps.
+/// Appends a publishing on each of these links that ends at a node.
 fn push_publishes(
     net: &Network,
     links: &[u32],

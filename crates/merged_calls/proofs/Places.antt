@@ -15,7 +15,7 @@ use Rattle.histories.proofs.Lists.{filter-yes}
 use Rattle.merged_calls.proofs.Nodes.{mark}
 use Rattle.merged_calls.proofs.Rounds.{nodes, count-is, has}
 
--- a list so many times, end to end
+-- a list some number of times, end to end
 abbrev pub repeated : ℕ → List BoardStep → List BoardStep
 repeated zero steps = []
 repeated (suc rounds) steps = repeated rounds steps ++ steps

@@ -39,7 +39,7 @@ cut-at [] i inside = absurd (omega arith)
 cut-at (m ∷ ms) zero inside = ([], m, ms, refl, refl)
 cut-at (m ∷ ms) (suc i) inside = let (before, x, after, e, there) = cut-at ms i (omega arith) in (m ∷ before, x, after, ap (λ l. m ∷ l) e, ap suc there)
 
--- the call behind a marked one
+-- the call after a marked one
 call-of : (n : ℕ) (cs : List Call) (front : List Marked) (m : Marked) (rest : List Marked) → map (mark n) cs ≡ front ++ m ∷ rest → (call : Call) × (slice_get cs (length front) ≡ Some call) × (mark n call ≡ m)
 call-of n [] [] m rest e = absurd (let f : [] ≡ m ∷ rest = e in cc)
 call-of n [] (x ∷ front) m rest e = absurd (let f : [] ≡ x ∷ (front ++ m ∷ rest) = e in cc)

@@ -27,7 +27,7 @@ module _ (steps : ℕ → List BoardStep) where
   AreRounds zero calls = (node : ℕ) → calls node ≡ []
   AreRounds (suc rounds) calls = (early last : ℕ → List Call) × (mark : ℕ) × IsLastRound mark calls early last × AreRounds rounds early
 
-  -- the calls of so many rounds, each node's in the order of its stamps
+  -- the calls of `rounds` rounds, each node's in the order of its stamps
   pub record AreCalls (rounds : ℕ) (calls : ℕ → List Call) : Type 0 where
     pub rounds_made : AreRounds rounds calls
     pub rising : (node : ℕ) → IsRising (calls node)

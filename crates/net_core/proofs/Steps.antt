@@ -75,7 +75,7 @@ telling-next L c inside = ap telling_first (drop_more L c 0 inside)
 pub telling-none : (L : List ℕ) (c : ℕ) → length L ≤ c → telling_first (drop c L) ≡ Done
 telling-none L c past = ap telling_first (drop_all c L past)
 
--- the steps behind the readings publish
+-- the steps after the readings publish
 pub told-step : (net : Net) (n c : ℕ) → length (heard_links net n) ≤ c → c - length (heard_links net n) < length (told_links net n) → get_or (board_steps net n) c (steps.Read 0) ≡ steps.Publish (get_or (told_links net n) (c - length (heard_links net n)) 0)
 told-step net n c past inside =
     let reads : length (map steps.Read (heard_links net n)) ≡ length (heard_links net n) = length-map (heard_links net n) steps.Read in

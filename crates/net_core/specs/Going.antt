@@ -27,7 +27,7 @@ abbrev pub telling_first : List ℕ → Want
 telling_first [] = Done
 telling_first (link ∷ links) = Publish link
 
--- A node listens in a round: it has done so many readings, and has yet to commit.
+-- A node listens in a round: it has done `done` readings, and has yet to commit.
 pub record Listens (net : Net) (arrivals : Amounts) (heard : ℕ → ℕ → List Heard) (made : ℕ → ℕ → Commitment) (round done node : ℕ) (a : Acting) : Type 0 where
   pub node_is : a.node ≡ node
   pub round_is : a.round ≡ round
@@ -78,7 +78,7 @@ pub record IsRunning (net : Net) (arrivals : Amounts) (heard : ℕ → ℕ → L
   pub second : world.second ≡ done * net.run.step
   pub stands : Stands net (arriving_of arrivals) (shown_by net made) world
 
--- Within a round: so many rounds are done, and of the next one a part; each node has played as much of it as it stands in it.
+-- Within a round: `round` rounds are done, and of the next one a part; each node has played as much of it as it stands in it.
 pub record InRound (net : Net) (arrivals : Amounts) (history : List ℕ) (round : ℕ) (actors : List Acting) (boards : List Board) (world : Kept) : Type 0 where
   pub heard : ℕ → ℕ → List Heard
   pub made : ℕ → ℕ → Commitment
@@ -93,7 +93,7 @@ pub record InRound (net : Net) (arrivals : Amounts) (history : List ℕ) (round 
   pub fresh : (later node : ℕ) → round < later → heard later node ≡ []
   pub plays : (node : ℕ) (d : Acting) → node < length net.node_names → Plays net arrivals heard made round (count node part) node (slice_index_or actors node d)
 
--- Between two rounds: so many are done, and each node rests.
+-- Between two rounds: `round` are done, and each node rests.
 pub record Between (net : Net) (arrivals : Amounts) (history : List ℕ) (round : ℕ) (actors : List Acting) (boards : List Board) (world : Kept) : Type 0 where
   pub heard : ℕ → ℕ → List Heard
   pub made : ℕ → ℕ → Commitment
@@ -122,7 +122,7 @@ pub record IsOpen (actors : List Acting) : Type 0 where
   pub there : node < length actors
   pub wants : (d : Acting) → (slice_index_or actors node d).want ≢ Done
 
--- A core that is not spent is in a round in which some node wants something, or behind the last round.
+-- A core that is not spent is in a round in which some node wants something, or after the last round.
 abbrev pub Goes : Net → Amounts → List ℕ → ℕ → List Acting → List Board → Kept → Type 0
 Goes net arrivals history round actors boards world =
     (InRound net arrivals history round actors boards world × IsOpen actors) ⊎ (Between net arrivals history round actors boards world × (round ≡ net.run.rounds))
@@ -141,7 +141,7 @@ AreBetween net arrivals p = Between net arrivals p.history.items p.round p.actor
 abbrev pub AreBeginning : Net → Amounts → Parts → ℕ → Type 0
 AreBeginning net arrivals p first = Begins net arrivals p.history.items p.round p.actors.all.items p.boards.items p.world first
 
--- within a round behind this history
+-- within a round after this history
 abbrev pub AreAfter : Net → Amounts → List ℕ → Parts → Type 0
 AreAfter net arrivals history p = InRound net arrivals history p.round p.actors.all.items p.boards.items p.world
 
@@ -156,7 +156,7 @@ Wants p node want = (d : Acting) → (slice_index_or p.actors.all.items node d).
 abbrev pub WantsMore : Parts → ℕ → Type 0
 WantsMore p node = (d : Acting) → (slice_index_or p.actors.all.items node d).want ≢ Done
 
--- so many boards on which nothing is published
+-- a board for each of `links` links, on which nothing is published
 pub record AreBlank (links : ℕ) (boards : List Board) : Type 0 where
   pub all : length boards ≡ links
   pub versions : (link : ℕ) (d : Board) → link < links → (slice_index_or boards link d).version ≡ 0
@@ -173,7 +173,7 @@ pub record IsSound (net : Net) (arrivals : Amounts) (p : Parts) (spent : Bool) :
   pub enter : AreArrivals net arrivals
   pub going : spent ≡ false → AreGoing net arrivals p
 
--- and with room for its record
+-- and with the lists for its record
 pub record IsReady (net : Net) (arrivals : Amounts) (p : Parts) (spent : Bool) (room : Room) : Type 0 where
   pub sound : IsSound net arrivals p spent
   pub room_for : HasRoom net room

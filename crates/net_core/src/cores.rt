@@ -23,7 +23,7 @@ pub struct Core<'a> {
     net: &'a Network,
     arrivals: &'a Arrivals,
     parts: Parts,
-    /// Room for the record of the run.
+    /// The lists for the record of the run.
     room: Room,
     /// Whether an earlier step ran out of memory.
     spent: bool,
@@ -53,7 +53,7 @@ impl<'a> Core<'a> {
     /// Begins a run: the nodes begin the first round, and rounds in which no node has a board step run at once. The arrivals are
     /// those of the network.
     ///
-    /// An `Err` comes only where memory runs out.
+    /// `Err`: out of memory.
     ///
     /// docs/RULES.md, "Core".
     pub fn start<P: Planner>(
@@ -122,7 +122,7 @@ impl<'a> Core<'a> {
         !self.spent && self.parts.round == rounds
     }
 
-    /// A node does its next board step, with its own work behind it: once it has read all, it plans. Rounds that are over then end,
+    /// A node does its next board step, and its own work after it: once it has read all, it plans. Rounds that are over then end,
     /// and the next ones begin.
     ///
     /// The first of `UnknownNode`, `Spent`, `Over` and `NotItsTurn` that holds is answered, takes no memory and leaves the core as it
@@ -175,7 +175,7 @@ impl<'a> Core<'a> {
         requires lawful { IsLawful self.net self.steps }
         ensures { IsKeptRun self.entry.net self.entry.arrivals self.entry.steps result }
     {
-        // What it says of the network is wanted here, and not the count.
+        // Called for its clause `network`.
         let _ = self.net.nodes();
         law_of_runs(self.net);
         let Core {

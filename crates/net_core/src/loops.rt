@@ -27,7 +27,7 @@ fn begin_node<P: Planner>(
     ensures history { parts.new.history ≡ parts.old.history }
     ensures round { parts.new.round ≡ parts.old.round }
 {
-    // What it says of the network is wanted here, and not the count.
+    // Called for its clause `network`.
     let _ = net.nodes();
     begin(
         alloc,
@@ -137,7 +137,7 @@ fn read_board<P: Planner>(
     ensures after { OnOk result (AreAfter net.now arrivals.now (parts.old.history.items ++ node ∷ []) parts.new) }
     ensures history { parts.new.history ≡ parts.old.history }
 {
-    // What it says of the network is wanted here, and not the count.
+    // Called for its clause `network`.
     let _ = net.nodes();
     read(
         alloc,
@@ -164,7 +164,7 @@ fn tell_board(
     ensures after { OnOk result (AreAfter net.now arrivals.now (parts.old.history.items ++ node ∷ []) parts.new) }
     ensures history { parts.new.history ≡ parts.old.history }
 {
-    // What it says of the network is wanted here, and not the count.
+    // Called for its clause `network`.
     let _ = net.nodes();
     tell(
         alloc,

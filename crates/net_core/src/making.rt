@@ -15,7 +15,7 @@ pub(crate) fn parts_of(alloc: Global, net: &Network) -> Result<Parts, AllocError
     ensures first { (arrivals : Amounts) → IfOk result (AreAtFirst net.now arrivals) }
     ensures below { IfOk result (λ parts. parts.round < net.now.run.rounds) }
 {
-    // What it says of the network is wanted here, and not the count.
+    // Called for its clause `network`.
     let _ = net.nodes();
     let actors = actors_of(alloc, net)?;
     let boards = boards_of(alloc, net)?;

@@ -16,7 +16,7 @@ use std::alloc::{AllocError, Global};
 
 /// The run of a lawful history: the nodes do their board steps in just its order. The arrivals are those of the network.
 ///
-/// An `Err` comes only where memory runs out.
+/// `Err`: out of memory.
 ///
 /// docs/RULES.md, "Run".
 pub fn run<P: Planner>(
@@ -30,7 +30,7 @@ pub fn run<P: Planner>(
     requires lawful { IsLawful net.now h.now }
     ensures { IfOk result (IsKeptRun net.now arrivals.now h.now) }
 {
-    // What it says of the network is wanted here, and not the count.
+    // Called for its clause `network`.
     let _ = net.nodes();
     law_of_histories(net);
     let mut core = Core::start(alloc, net, arrivals, planner)?;

@@ -113,7 +113,7 @@ pub all_whole : {E : Type 0} (net : Net) (arrivals : Amounts) (history : List �
 all_whole net arrivals history (Ok run) whole kept = whole run kept.run
 all_whole net arrivals history (Err e) whole kept = tt
 
--- a network has so many rounds and nodes that a run of it has few plans
+-- a run of a network has few plans, since the network has few rounds and nodes
 few_pairs : (rounds nodes : ℕ) → length (rounds_and_nodes rounds nodes) ≤ rounds * nodes
 few_pairs rounds nodes =
     let row : ℕ → List (ℕ × ℕ) = λ round. map (λ node. (round, node)) (range_with_len 0 nodes) in

@@ -43,7 +43,7 @@ fn summed_up(alloc: Global, number: u64, side: u32, rounds: u32) -> Result<Vec<u
     summary(alloc, number, side, rounds, &run)
 }
 
-// The same, as what the command makes of no text, whatever the shelf is.
+// Wraps `summary_of_grid` as a command's result; reads no file.
 fn made(alloc: Global, number: u64, side: u32, rounds: u32) -> Result<Made, Refusal>
     requires side { IsSide side }
     requires rounds { AreRounds rounds }

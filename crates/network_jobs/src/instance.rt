@@ -75,8 +75,8 @@ fn planned_by(
     Ok(text)
 }
 
-// The text of the instance that a node planned in a round of the run of the history that the third file's text spells, with the
-// network and the arrivals of the first two.
+// The text of the instance that a node planned in a round of the run of the history in the third file, with the network and the
+// arrivals in the first two.
 fn planned<S: Shelf>(
     alloc: Global,
     shelf: &mut S,
@@ -102,8 +102,8 @@ fn planned<S: Shelf>(
 }
 
 /// The command `instance NET ARR HIST NODE ROUND`: writes the instance that a node planned in a round of the run of the history
-/// that the third file's text spells, with the network and the arrivals that the first two spell. The answer of each certificate
-/// of it agrees with the plan.
+/// in the third file, with the network and the arrivals in the first two. The answer of each certificate of it agrees with the
+/// plan.
 ///
 /// Each status has its cause, and each refusal writes its line to `err`, as `signal` says.
 ///

@@ -9,7 +9,7 @@ use commands::{Made, end};
 use outside_world::{Shelf, Sink};
 use std::alloc::Global;
 
-// The report of the run of the history that the third file's text spells, with the network and the arrivals of the first two.
+// The report of the run of the history in the third file, with the network and the arrivals in the first two.
 fn reported<S: Shelf>(
     alloc: Global,
     shelf: &mut S,
@@ -25,9 +25,8 @@ fn reported<S: Shelf>(
     Ok(Made::Done(text))
 }
 
-/// The command `replay NET ARR HIST`: writes the report of the run of the history that the third file's text spells, with the
-/// network and the arrivals that the other two spell. In it all is kept that is promised of runs, whatever the order of the
-/// history's board steps.
+/// The command `replay NET ARR HIST`: writes the report of the run of the history in the third file, with the network and the
+/// arrivals in the other two. In it all is kept that is promised of runs, whatever the order of the history's board steps.
 ///
 /// Each status has its cause, and each refusal writes its line to `err`, as `signal` says.
 ///

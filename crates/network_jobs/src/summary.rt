@@ -10,7 +10,7 @@ use runs::RunRecord;
 use schedule_meaning::Answer;
 use std::alloc::{AllocError, Global};
 
-/// The summary of a run on the grid of a number, with so many nodes a side and for so many rounds.
+/// The summary of a run on the grid of a number, with `side` nodes a side and for `rounds` rounds. `Err`: out of memory.
 pub fn summary(
     alloc: Global,
     number: u64,

@@ -25,7 +25,7 @@ fn report_of_turns(alloc: Global, net: &Network, arrivals: &Arrivals) -> Result<
     report(alloc, net, arrivals, &history)
 }
 
-// The report of the run of the turn order, with the network and the arrivals that the files' texts spell.
+// The report of the run of the turn order, with the network and the arrivals in the files.
 fn reported<S: Shelf>(alloc: Global, shelf: &mut S, net: &str, arr: &str) -> Result<Made, Refusal>
     ensures { Makes (Turns net.now arr.now) (S.state shelf.old) (S.state shelf.new) result }
 {
@@ -34,8 +34,8 @@ fn reported<S: Shelf>(alloc: Global, shelf: &mut S, net: &str, arr: &str) -> Res
     Ok(Made::Done(text))
 }
 
-/// The command `turns NET ARR`: writes the report of the run of the turn order, with the network and the arrivals that the files'
-/// texts spell. In it all is kept that is promised of runs.
+/// The command `turns NET ARR`: writes the report of the run of the turn order, with the network and the arrivals in the files. In
+/// it all is kept that is promised of runs.
 ///
 /// Each status has its cause, and each refusal writes its line to `err`, as `signal` says.
 ///

@@ -101,7 +101,7 @@ pub record NodeRound : Type 0 where
   pub made : Commitment
   pub calls : List Call
 
--- a node rests behind a round in which it has heard this and made this commit
+-- a node rests after a round in which it has heard this and made this commit
 pub record RestsBehind (net : Net) (round : ℕ) (heard : List Heard) (made : Commitment) (a b : Acting) : Type 0 where
   pub node : b.node ≡ a.node
   pub of : IsOf net b

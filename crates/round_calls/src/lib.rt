@@ -1,5 +1,5 @@
-//! What the calls of the nodes' passes tell of the rounds of a network, however the threads ran. No code runs here: the crates above
-//! make the calls.
+//! The actors of a network, by whose lines its world moves; and what the calls of the nodes' passes tell of the rounds, however the
+//! threads ran. The crates above make the calls.
 #![tactic(auto)]
 
 ghost use Rattle.std.specs.Prelude.{ℕ, List};

@@ -36,7 +36,7 @@ impl Lights for Actors {
 
 /// The new actors of all nodes.
 ///
-/// An `Err` comes only where memory runs out.
+/// `Err`: out of memory.
 ///
 /// docs/RULES.md, "Core".
 pub fn actors_of(alloc: Global, net: &Network) -> Result<Actors, AllocError>

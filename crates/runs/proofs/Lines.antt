@@ -29,7 +29,7 @@ pub record KeepsLine (net : Net) (made : ℕ → ℕ → Commitment) (round node
   pub lawful : IsLawful (plan_at net node) (made round node).line
   pub past : (second : ℕ) → second < round * net.run.step → standing (made round node).line second ≡ standing (line_before net made round node) second
 
--- each commit of so many rounds does
+-- each commit of the first rounds does
 abbrev pub AllKeep : Net → (ℕ → ℕ → Commitment) → ℕ → Type 0
 AllKeep net made rounds = (round node : ℕ) → round < rounds → node < length net.node_names → KeepsLine net made round node
 
@@ -127,7 +127,7 @@ module _ (net : Net) (network : IsNetwork net) (made : ℕ → ℕ → Commitmen
   lawful-after zero some most node below = absurd (omega arith)
   lawful-after (suc r) some most node below = (keep r node (omega arith) below).lawful
 
--- the last line of a node is that behind the last round
+-- the last line of a node is that after the last round
 pub last-is : (net : Net) (arrivals : Amounts) (heard : ℕ → ℕ → List Heard) (made : ℕ → ℕ → Commitment) (run : RunRecord) → IsRunBy net arrivals heard made run → (node : ℕ) → node < length net.node_names
     → last_line run node ≡ line_before net made net.run.rounds node
 last-is net arrivals heard made run by node below =

@@ -7,7 +7,7 @@ use Rattle.net_numbers.specs.Numbers.{Net}
 use Rattle.road_net.specs.Network.{heard_links}
 use Rattle.runs.specs.declared.records.RunRecord.{RunRecord}
 
--- each of so many rounds with each of so many nodes, round by round
+-- each of these rounds with each of these nodes, round by round
 abbrev pub rounds_and_nodes : ℕ → ℕ → List (ℕ × ℕ)
 rounds_and_nodes rounds nodes = flat_map (λ round. map (λ node. (round, node)) (range_with_len 0 nodes)) (range_with_len 0 rounds)
 

@@ -16,7 +16,7 @@ use road_net::Network;
 pub struct RunRecord {
     /// The plans, by round and node.
     pub plans: Items<PlanRecord>,
-    /// The timeline of each node behind the last round.
+    /// The timeline of each node after the last round.
     pub timelines: Items<Timeline>,
     /// What was counted of each link.
     pub links: Items<LinkTotals>,

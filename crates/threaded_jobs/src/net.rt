@@ -12,7 +12,7 @@ use std::alloc::Global;
 use std::sync::Wait;
 use std::thread::Threads;
 
-// The report of the run in threads, with the network and the arrivals that the files' texts spell.
+// The report of the run in threads, with the network and the arrivals in the files.
 fn reported<R: Threads + Wait + Sync, S: Shelf, G: Gate + Sync>(
     rt: &R,
     alloc: Global,
@@ -28,8 +28,8 @@ fn reported<R: Threads + Wait + Sync, S: Shelf, G: Gate + Sync>(
     Ok(Made::Done(text))
 }
 
-/// The command `net NET ARR`: plays the network and the arrivals that the files' texts spell with the nodes in threads, each with a
-/// planner and a pass at the boards of its own, and writes the report of the run of the history that the boards tell. It is the
+/// The command `net NET ARR`: plays the network and the arrivals in the files with the nodes in threads, each with a planner and a
+/// pass at the boards of its own, and writes the report of the run of the history that the boards tell. It is the
 /// report of one lawful history, which is read from it again; which one it is, the machine decides. In it all is kept that is
 /// promised of runs.
 ///

@@ -31,7 +31,7 @@ struct Told {
     logs: Vec<BoardLog>,
 }
 
-/// The run of a network in threads that last, by new passes with so many calls, one for each node, and the passes behind it.
+/// The run of a network in threads that last, by new passes, one for each node, and the passes after it.
 fn run_by<R: Threads + Wait + Sync, G: Gate + Sync>(
     rt: &R,
     alloc: Global,
@@ -81,7 +81,7 @@ fn play<R: Threads + Wait + Sync, G: Gate + Sync>(
     Ok(Told { run, logs })
 }
 
-/// What a run came to, written out. The run is let go here: of so many parts, that takes as long.
+/// The outcome of a run, written out. The run is dropped here: it has many parts, and dropping them takes as long.
 fn outcome_of(alloc: Global, net: &Network, run: RunRecord) -> Result<Vec<u8>, AllocError>
     requires { IsWhole net.now run }
     ensures { IfOk result (λ text. text.items ≡ records_text (outcome_records net.now run)) }
@@ -89,7 +89,7 @@ fn outcome_of(alloc: Global, net: &Network, run: RunRecord) -> Result<Vec<u8>, A
     render_outcome(alloc, net, &run, Vec::new(alloc))
 }
 
-/// The steps of the history that logs tell, written out while another thread lets the logs go.
+/// The steps of the history that logs tell, written out while another thread drops the logs.
 fn steps_of<R: Threads>(
     rt: &R,
     alloc: Global,
@@ -114,8 +114,8 @@ fn steps_of<R: Threads>(
     steps
 }
 
-/// The report of what was told. The logs are merged and the steps written out while another thread writes out what the run came to, and
-/// what is no more wanted is let go beside.
+/// The report of a run with its logs. The logs are merged and the steps written out while another thread writes out the outcome of the
+/// run, and what is no longer needed is dropped beside.
 fn told_report<R: Threads>(
     rt: &R,
     alloc: Global,
