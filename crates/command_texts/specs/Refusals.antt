@@ -5,8 +5,8 @@ use Rattle.outside_world.specs.Sink.{Breaks, Gains, SinkState}
 use Rattle.command_texts.specs.Codes.{code_of}
 use Rattle.command_texts.specs.declared.refusals.Named.{Named}
 use Rattle.command_texts.specs.declared.refusals.Named.TheVariants.{Node, Round}
-use Rattle.command_texts.specs.declared.refusals.Place.{Place}
-use Rattle.command_texts.specs.declared.refusals.Place.TheVariants.{First, Second, Third}
+use Rattle.command_texts.specs.declared.refusals.TextPlace.{TextPlace}
+use Rattle.command_texts.specs.declared.refusals.TextPlace.TheVariants.{First, Second, Third}
 use Rattle.command_texts.specs.declared.refusals.Refusal.{Refusal}
 use Rattle.command_texts.specs.declared.refusals.Refusal.TheVariants as refusal
 use Rattle.command_texts.specs.declared.status.Status.{Status}
@@ -23,13 +23,13 @@ exit_status WriteFault = 5
 exit_status NoMemory = 6
 
 -- the number of a text, from 1
-abbrev pub number_of : Place → ℕ
+abbrev pub number_of : TextPlace → ℕ
 number_of First = 1
 number_of Second = 2
 number_of Third = 3
 
 -- the line for a text that cannot be read
-abbrev pub unread_line : Place → List ℕ
+abbrev pub unread_line : TextPlace → List ℕ
 unread_line First = codes "signal: cannot read 1\n"
 unread_line Second = codes "signal: cannot read 2\n"
 unread_line Third = codes "signal: cannot read 3\n"

@@ -19,8 +19,8 @@ use Rattle.delay_report.specs.declared.faults.HistoryFault.TheVariants as histor
 use Rattle.command_texts.specs.Limits.{most_bytes}
 use Rattle.command_texts.specs.declared.bad_texts.BadText.{BadText}
 use Rattle.command_texts.specs.declared.bad_texts.BadText.TheVariants.{Long, Fault, Certificate, Network, Arrivals, History}
-use Rattle.command_texts.specs.declared.refusals.Place.{Place}
-use Rattle.command_texts.specs.declared.refusals.Place.TheVariants.{First, Second, Third}
+use Rattle.command_texts.specs.declared.refusals.TextPlace.{TextPlace}
+use Rattle.command_texts.specs.declared.refusals.TextPlace.TheVariants.{First, Second, Third}
 
 -- What a text is to be. A kind whose reader depends on the network that a text before it says holds that network.
 pub data Kind : Type 0 where
@@ -114,7 +114,7 @@ AreIn files NoMore said = Unit {0}
 AreIn files (Next kind name rest) said = IsIn files name kind said.0 × AreIn files (rest said.0) said.1
 
 -- this is so of the text at this place, and all texts before it are read
-abbrev pub At : (Kind → List ℕ → Type 0) → Files → Texts → Place → Type 0
+abbrev pub At : (Kind → List ℕ → Type 0) → Files → Texts → TextPlace → Type 0
 At here files NoMore place = ⊥
 At here files (Next kind name rest) First = here kind name
 At here files (Next kind name rest) Second = (said : Said kind) × IsIn files name kind said × At here files (rest said) First
@@ -126,7 +126,7 @@ Tells files NoMore said = Unit {0}
 Tells files (Next kind name rest) said = ((text : List ℕ) × (text_of files name ≡ Some text) × Reads kind text said.0) × Tells files (rest said.0) said.1
 
 -- the shelf tells the texts up to this place: the one there is read as nothing of its kind, and all before it are read
-abbrev pub TellsBad : Files → Texts → Place → Type 0
+abbrev pub TellsBad : Files → Texts → TextPlace → Type 0
 TellsBad files NoMore place = ⊥
 TellsBad files (Next kind name rest) First = (text : List ℕ) × (text_of files name ≡ Some text) × ((said : Said kind) → ¬ Reads kind text said)
 TellsBad files (Next kind name rest) Second = (text : List ℕ) × (text_of files name ≡ Some text) × ((said : Said kind) × Reads kind text said × TellsBad files (rest said) First)

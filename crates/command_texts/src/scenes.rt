@@ -5,7 +5,7 @@ ghost use Rattle.net_numbers.specs.Numbers.{Net};
 ghost use Rattle.command_texts.specs.Stops.{StopsIn};
 ghost use Rattle.command_texts.specs.Texts.{ArrivalsText, IsIn, NetworkText, Texts, network_texts};
 
-use super::refusals::{Place, Refusal};
+use super::refusals::{TextPlace, Refusal};
 use super::texts::{fetch_arrivals, fetch_network};
 use arrivals::Arrivals;
 use outside_world::Shelf;
@@ -34,7 +34,7 @@ pub fn fetch_scene<S: Shelf>(
     ensures ok { OnOk result (S.state shelf.new ≡ S.state shelf.old) }
     ensures refused { IfErr result (λ why. (rest : Net → Texts) → StopsIn (network_texts net.now arr.now rest) (S.state shelf.old) (S.state shelf.new) why) }
 {
-    let network = fetch_network(alloc, shelf, Place::First, net)?;
-    let arrivals = fetch_arrivals(alloc, shelf, Place::Second, arr, &network)?;
+    let network = fetch_network(alloc, shelf, TextPlace::First, net)?;
+    let arrivals = fetch_arrivals(alloc, shelf, TextPlace::Second, arr, &network)?;
     Ok(Scene { network, arrivals })
 }

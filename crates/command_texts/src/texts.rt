@@ -7,7 +7,7 @@ ghost use Rattle.command_texts.specs.Limits.{most_bytes};
 ghost use Rattle.command_texts.specs.Texts.{ArrivalsText, CertificateText, HistoryText, InstanceText, IsIn, Kind, NetworkText, text_of};
 
 use super::bad_texts::BadText;
-use super::refusals::{Place, Refusal};
+use super::refusals::{TextPlace, Refusal};
 use arrivals::{Arrivals, RowFault, read_arrivals};
 use certificate_form::{CertText, read_certificate};
 use delay_report::{HistoryFault, read_history};
@@ -28,7 +28,7 @@ const MOST_BYTES: usize = 100_663_296;
 fn fetch_text<S: Shelf>(
     alloc: Global,
     shelf: &mut S,
-    place: Place,
+    place: TextPlace,
     file: &str,
 ) -> Result<Vec<u8>, Refusal>
     ensures limit { IfOk result (λ text. length text.items ≤ most_bytes) }
@@ -51,7 +51,7 @@ fn fetch_text<S: Shelf>(
 pub fn fetch_instance<S: Shelf>(
     alloc: Global,
     shelf: &mut S,
-    place: Place,
+    place: TextPlace,
     file: &str,
 ) -> Result<Instance, Refusal>
     ensures text { IfOk result (IsIn (S.state shelf.old).files file.now InstanceText) }
@@ -73,7 +73,7 @@ pub fn fetch_instance<S: Shelf>(
 pub fn fetch_certificate<S: Shelf>(
     alloc: Global,
     shelf: &mut S,
-    place: Place,
+    place: TextPlace,
     file: &str,
 ) -> Result<Certificate, Refusal>
     ensures text { IfOk result (IsIn (S.state shelf.old).files file.now CertificateText) }
@@ -95,7 +95,7 @@ pub fn fetch_certificate<S: Shelf>(
 pub fn fetch_network<S: Shelf>(
     alloc: Global,
     shelf: &mut S,
-    place: Place,
+    place: TextPlace,
     file: &str,
 ) -> Result<Network, Refusal>
     ensures text { IfOk result (IsIn (S.state shelf.old).files file.now NetworkText) }
@@ -117,7 +117,7 @@ pub fn fetch_network<S: Shelf>(
 pub fn fetch_arrivals<S: Shelf>(
     alloc: Global,
     shelf: &mut S,
-    place: Place,
+    place: TextPlace,
     file: &str,
     net: &Network,
 ) -> Result<Arrivals, Refusal>
@@ -141,7 +141,7 @@ pub fn fetch_arrivals<S: Shelf>(
 pub fn fetch_history<S: Shelf>(
     alloc: Global,
     shelf: &mut S,
-    place: Place,
+    place: TextPlace,
     file: &str,
     net: &Network,
 ) -> Result<History, Refusal>

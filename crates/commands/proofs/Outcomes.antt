@@ -8,7 +8,7 @@ use Rattle.dp_certificate.specs.Certificates.{Claim}
 use Rattle.certificate_form.specs.CertificateText.{certificate_text}
 use Rattle.commands.specs.declared.ending.Made.{Made}
 use Rattle.commands.specs.declared.ending.Made.TheVariants as made
-use Rattle.command_texts.specs.declared.refusals.Place.{Place}
+use Rattle.command_texts.specs.declared.refusals.TextPlace.{TextPlace}
 use Rattle.command_texts.specs.declared.refusals.Refusal.{Refusal}
 use Rattle.command_texts.specs.declared.refusals.Refusal.TheVariants as refusal
 use Rattle.command_texts.specs.declared.status.Status.{Status}
@@ -30,7 +30,7 @@ module _ (call : Call) (old new : Outside) where
   told_so : (holds : AllSaid (texts_of call) → Type 0) (read said : AllSaid (texts_of call)) → AreIn old.shelf.files (texts_of call) read → Tells old.shelf.files (texts_of call) said → holds read → holds said
   told_so holds read said are told h = as_told old.shelf.files (texts_of call) read said are told holds h
 
-  none_refused : (said : AllSaid (texts_of call)) → AreIn old.shelf.files (texts_of call) said → (place : Place) → TellsBad old.shelf.files (texts_of call) place → ⊥
+  none_refused : (said : AllSaid (texts_of call)) → AreIn old.shelf.files (texts_of call) said → (place : TextPlace) → TellsBad old.shelf.files (texts_of call) place → ⊥
   none_refused said are place bad = none_told_bad old.shelf.files (texts_of call) said place are bad
 
   done : (text : List ℕ) (status : Status) → new.shelf ≡ old.shelf
@@ -132,7 +132,7 @@ module _ (call : Call) (old new : Outside) where
     against = λ said told none against e kept. absurd (never said told none);
   }
 
-  unread : (place : Place) (status : Status) → IsUnread call old.shelf new.shelf place
+  unread : (place : TextPlace) (status : Status) → IsUnread call old.shelf new.shelf place
       → status ≡ ReadFault → new.out ≡ old.out → Says (refusal.Unread place) old.err new.err → Outcome call old new status
   unread place status at is left line =
       let gained : new.shelf ≡ old.shelf → ⊥ = λ e. none_gains old.shelf.failed new.shelf.failed old.shelf.files (texts_of call) place at (ap (λ (s : ShelfState). s.failed) e) in record {

@@ -113,13 +113,13 @@ abbrev pub MissesNothing : (call : Call) → AllSaid (texts_of call) → Type 0
 MissesNothing call said = (what : Named) → ¬ IsMissing call said what
 
 -- a command of the program, as contracts see it
-abbrev pub seen : Told → Call
-seen (told.Plan file) = Plan file.now
-seen (told.Certify file) = Certify file.now
-seen (told.CertifyBound file) = CertifyBound file.now
-seen (told.Check file) = Check file.now
-seen (told.Turns net arr) = Turns net.now arr.now
-seen (told.Replay net arr hist) = Replay net.now arr.now hist.now
-seen (told.Net net arr) = Net net.now arr.now
-seen (told.Instance net arr hist node round) = Instance net.now arr.now hist.now node.now round
-seen (told.Grid number side rounds) = Grid number side rounds
+abbrev pub call_of : Told → Call
+call_of (told.Plan file) = Plan file.now
+call_of (told.Certify file) = Certify file.now
+call_of (told.CertifyBound file) = CertifyBound file.now
+call_of (told.Check file) = Check file.now
+call_of (told.Turns net arr) = Turns net.now arr.now
+call_of (told.Replay net arr hist) = Replay net.now arr.now hist.now
+call_of (told.Net net arr) = Net net.now arr.now
+call_of (told.Instance net arr hist node round) = Instance net.now arr.now hist.now node.now round
+call_of (told.Grid number side rounds) = Grid number side rounds

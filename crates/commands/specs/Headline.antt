@@ -6,7 +6,7 @@ use Rattle.dp_certificate.specs.Certificates.{Claim}
 use Rattle.histories.specs.Histories.{IsLawful, turn_order}
 use Rattle.intersection_actor.specs.declared.records.PlanRecord.{PlanRecord}
 use Rattle.net_numbers.specs.Numbers.{Net, number_of}
-use Rattle.runs.specs.Kept.{IsKeptRun}
+use Rattle.runs.specs.Promises.{IsKeptRun}
 use Rattle.runs.specs.declared.records.RunRecord.{RunRecord}
 use Rattle.scenario_gen.specs.Grids.{IsGrid}
 use Rattle.schedule_meaning.specs.Best.{IsBest}

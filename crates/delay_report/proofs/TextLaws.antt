@@ -15,8 +15,8 @@ use Rattle.histories.proofs.HowFar.{come-over}
 use Rattle.histories.proofs.Rounds.{all-done, next}
 use Rattle.delay_report.specs.declared.faults.HistoryFault.{HistoryFault}
 use Rattle.delay_report.specs.declared.faults.HistoryFault.TheVariants.{NoMemory, Header, Row, Node, Extra, Turn, Short}
-use Rattle.delay_report.specs.Entries.{header, steps_by, steps_of, told_of}
-use Rattle.delay_report.specs.Faults.{AreFaulty, HasFaultBehind, IsAtExtra, IsAtNode, IsAtRow, IsAtTurn, IsFirst, IsRecordFault, Refuses}
+use Rattle.delay_report.specs.Entries.{header, steps_by, steps_of, node_field_of}
+use Rattle.delay_report.specs.Faults.{AreFaulty, HasFaultAfter, IsAtExtra, IsAtNode, IsAtRow, IsAtTurn, IsFirst, IsRecordFault, Refuses}
 use Rattle.delay_report.specs.Taken.{AreAllTaken, AreTaken, IsEntryFault}
 use Rattle.delay_report.specs.Texts.{AreHistoryRecords}
 
@@ -64,7 +64,7 @@ module _ (net : Net) (all : List (List (List ℕ))) (number : ℕ) (fields : Lis
     faulty = fault;
   }
 
-  behind : (fault : HistoryFault) → IsRecordFault net (under.records ++ fields ∷ left) fault → HasFaultBehind net all fault
+  behind : (fault : HistoryFault) → IsRecordFault net (under.records ++ fields ∷ left) fault → HasFaultAfter net all fault
   behind fault first = record { records = under.records ++ fields ∷ left; are = under.are; first = first }
 
   -- the record is at fault
@@ -117,13 +117,13 @@ module _ (net : Net) (all behind : List (List (List ℕ))) (history : List ℕ) 
   }
 
 -- a record that tells nothing, or names no node, has no steps
-none-told : (net : Net) (fields : List (List ℕ)) (more : List ℕ) → told_of fields ≡ None → steps_of net fields ≡ Some more → ⊥
+none-told : (net : Net) (fields : List (List ℕ)) (more : List ℕ) → node_field_of fields ≡ None → steps_of net fields ≡ Some more → ⊥
 unfolding steps_of
-none-told net fields more none some = let (name, is, rest) = bind-some (told_of fields) (steps_by net) more some in none-some name (sym none ∙ is)
+none-told net fields more none some = let (name, is, rest) = bind-some (node_field_of fields) (steps_by net) more some in none-some name (sym none ∙ is)
 
 none-named : (net : Net) (fields : List (List ℕ)) (more : List ℕ) → IsAtNode net fields → steps_of net fields ≡ Some more → ⊥
 unfolding steps_of
-none-named net fields more at some = let (name, is, rest) = bind-some (told_of fields) (steps_by net) more some in by name (rw is at at) rest
+none-named net fields more at some = let (name, is, rest) = bind-some (node_field_of fields) (steps_by net) more some in by name (rw is at at) rest
   where
     by : (name : Option (List ℕ)) → IsSomeAnd name (λ n. number_of net.node_names n ≡ None) → steps_by net name ≡ Some more → ⊥
     by None at rest = absurd at
@@ -177,7 +177,7 @@ module _ (net : Net) (records : List (List (List ℕ))) (h : List ℕ) (is : Are
       let done = all-done (board_steps net) net.run.rounds f.done f.history f.under_way.way (subst (IsLawful net) whole is.lawful) in
       omega (arith, f.early)
 
-behind-refuses : (net : Net) (all : List (List (List ℕ))) (fault : HistoryFault) → HasFaultBehind net all fault → (h : List ℕ) → AreHistoryRecords net all h → ⊥
+behind-refuses : (net : Net) (all : List (List (List ℕ))) (fault : HistoryFault) → HasFaultAfter net all fault → (h : List ℕ) → AreHistoryRecords net all h → ⊥
 behind-refuses net all fault f h is = clash net f.records h (subst (λ (l : List (List (List ℕ))). AreHistoryRecords net l h) f.are is) fault f.first
 
 pub records-refuse : (net : Net) (all : List (List (List ℕ))) (fault : HistoryFault) → AreFaulty net all fault → Refuses fault ((h : List ℕ) → AreHistoryRecords net all h → ⊥)

@@ -9,7 +9,7 @@ use Rattle.histories.specs.Steps.{board_steps}
 use Rattle.record_text.specs.Records.{records_of}
 use Rattle.delay_report.specs.declared.faults.HistoryFault.{HistoryFault}
 use Rattle.delay_report.specs.declared.faults.HistoryFault.TheVariants.{NoMemory, Header, Row, Node, Extra, Turn, Short}
-use Rattle.delay_report.specs.Entries.{header, steps_of, told_of}
+use Rattle.delay_report.specs.Entries.{header, steps_of, node_field_of}
 
 -- the steps that records tell are this history, which is under way: `done` rounds are done
 pub record AreUnderWay (net : Net) (records : List (List (List ℕ))) (history : List ℕ) (done : ℕ) : Type 0 where
@@ -41,10 +41,10 @@ pub record EndEarly (net : Net) (all : List (List (List ℕ))) : Type 0 where
 -- a record that tells nothing; a step of a name that no node has; and a step of a node, after a history all of whose rounds
 -- are done, or in whose round the node has done all its steps
 abbrev pub IsAtRow : List (List ℕ) → Type 0
-IsAtRow fields = told_of fields ≡ None
+IsAtRow fields = node_field_of fields ≡ None
 
 abbrev pub IsAtNode : Net → List (List ℕ) → Type 0
-IsAtNode net fields = IsSomeAnd (told_of fields) (λ name. IsSomeAnd name (λ n. number_of net.node_names n ≡ None))
+IsAtNode net fields = IsSomeAnd (node_field_of fields) (λ name. IsSomeAnd name (λ n. number_of net.node_names n ≡ None))
 
 abbrev pub IsAtExtra : Net → List ℕ → List (List ℕ) → Type 0
 IsAtExtra net history fields = (node : ℕ) × (steps_of net fields ≡ Some (node ∷ [])) × IsLawful net history
@@ -62,7 +62,7 @@ IsRecordFault net records Short = EndEarly net records
 IsRecordFault net records _ = ⊥
 
 -- the first record is the header, and the others have this fault
-pub record HasFaultBehind (net : Net) (all : List (List (List ℕ))) (fault : HistoryFault) : Type 0 where
+pub record HasFaultAfter (net : Net) (all : List (List (List ℕ))) (fault : HistoryFault) : Type 0 where
   pub records : List (List (List ℕ))
   pub are : all ≡ header ∷ records
   pub first : IsRecordFault net records fault
@@ -72,7 +72,7 @@ pub record HasFaultBehind (net : Net) (all : List (List (List ℕ))) (fault : Hi
 abbrev pub AreFaulty : Net → List (List (List ℕ)) → HistoryFault → Type 0
 AreFaulty net all NoMemory = Unit {0}
 AreFaulty net all Header = (records : List (List (List ℕ))) → all ≢ header ∷ records
-AreFaulty net all fault = HasFaultBehind net all fault
+AreFaulty net all fault = HasFaultAfter net all fault
 
 -- the fault of a text is that of its records
 abbrev pub IsTextFault : Net → List ℕ → HistoryFault → Type 0

@@ -14,7 +14,7 @@ use Rattle.net_numbers.specs.Numbers.{Net}
 use Rattle.net_numbers.specs.Outline.{link_name_at, node_name_at}
 use Rattle.net_simulator.specs.declared.totals.LinkTotals.{LinkTotals}
 use Rattle.net_simulator.specs.declared.totals.Totals.{Totals}
-use Rattle.runs.specs.Kept.{last_line}
+use Rattle.runs.specs.Promises.{last_line}
 use Rattle.runs.specs.Runs.{end_of_run}
 use Rattle.runs.specs.declared.records.RunRecord.{RunRecord}
 use Rattle.schedule_meaning.specs.declared.planners.Answer.{Answer}

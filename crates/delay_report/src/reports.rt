@@ -1,7 +1,7 @@
 //! The report of a run.
 ghost use Rattle.std.specs.Prelude.{◌≡◌, ℕ, List, [], ◌∷◌, ◌++◌, IfOk, OnOk};
 ghost use Rattle.histories.specs.Histories.{IsLawful};
-ghost use Rattle.runs.specs.Whole.{IsWhole};
+ghost use Rattle.runs.specs.Complete.{IsComplete};
 ghost use Rattle.runs.specs.declared.records.RunRecord.{RunRecord};
 ghost use Rattle.delay_report.specs.Entries.{header};
 ghost use Rattle.delay_report.specs.Reports.{outcome_records, records_text, report_text, steps_records};
@@ -36,7 +36,7 @@ pub fn render(
     h: &History,
 ) -> Result<Vec<u8>, AllocError>
     requires lawful { IsLawful net.now h.now }
-    requires whole { IsWhole net.now run.now }
+    requires whole { IsComplete net.now run.now }
     ensures text { IfOk result (λ text. text.items ≡ report_text net.now run.now h.now) }
     ensures history { IfOk result (λ text. IsHistoryText net.now text.items h.now) }
 {
@@ -68,7 +68,7 @@ pub fn render_outcome(
     run: &RunRecord,
     mut text: Vec<u8>,
 ) -> Result<Vec<u8>, AllocError>
-    requires { IsWhole net.now run.now }
+    requires { IsComplete net.now run.now }
     ensures { IfOk result (λ all. all.items ≡ text.items ++ records_text (outcome_records net.now run.now)) }
 {
     text.reserve(run.plans.len().saturating_mul(ROOM_FOR_A_PLAN))?;

@@ -7,10 +7,10 @@ ghost use Rattle.histories.specs.Steps.{board_steps};
 ghost use Rattle.net_numbers.specs.Outline.{link_name_at, node_name_at};
 ghost use Rattle.road_net.specs.Network.{IsNetwork};
 ghost use Rattle.delay_report.specs.Reports.{step_record_at};
-ghost use Rattle.delay_report.specs.Walks.{StandsAt, link_of};
+ghost use Rattle.delay_report.specs.Walks.{HasWalkedTo, link_of};
 ghost use Rattle.delay_report.specs.Written.{Adds};
 
-use crate::records::{number, write_record};
+use crate::records::{digits_of, write_record};
 use csv::Writer;
 use histories::{BoardStep, node_steps};
 use road_net::Network;
@@ -47,7 +47,7 @@ pub(crate) fn write_steps(
 
 /// Where all stand before the first step.
 fn begin(alloc: Global, net: &Network, nodes: &[u32]) -> Result<Walk, AllocError>
-    ensures { IfOk result (λ walk. StandsAt net.now nodes.now 0 walk) }
+    ensures { IfOk result (λ walk. HasWalkedTo net.now nodes.now 0 walk) }
 {
     let steps = all_steps(alloc, net)?;
     let taken = vec![in alloc; 0; net.nodes() as usize]?;
@@ -76,9 +76,9 @@ fn write_step(
 ) -> Result<(), AllocError>
     requires lawful { IsLawful net.now nodes.now }
     requires inside { place < length nodes.now }
-    requires stands { StandsAt net.now nodes.now place walk.old }
+    requires stands { HasWalkedTo net.now nodes.now place walk.old }
     ensures record { OnOk result (Adds out.old out.new (step_record_at net.now nodes.now place ∷ [])) }
-    ensures stands { OnOk result (StandsAt net.now nodes.now (place + 1) walk.new) }
+    ensures stands { OnOk result (HasWalkedTo net.now nodes.now (place + 1) walk.new) }
 {
     let node = nodes[place];
     let (round, step) = next_of(net, nodes, place, walk);
@@ -107,7 +107,7 @@ fn write_step(
 fn next_of(net: &Network, nodes: &[u32], place: usize, walk: &Walk) -> (usize, BoardStep)
     requires lawful { IsLawful net.now nodes.now }
     requires inside { place < length nodes.now }
-    requires stands { StandsAt net.now nodes.now place walk.now }
+    requires stands { HasWalkedTo net.now nodes.now place walk.now }
     ensures round { result.0 ≡ round_at (board_steps net.now) nodes.now place }
     ensures step { result.1 ≡ step_at (board_steps net.now) nodes.now place }
     ensures link { link_of result.1 < length net.now.link_names }
@@ -132,8 +132,8 @@ fn write_fields(
     requires link { link < length net.now.link_names }
     ensures { OnOk result (Adds out.old out.new ((codes "step" ∷ decimal round ∷ node_name_at net.now node ∷ kind.now ∷ link_name_at net.now link ∷ decimal version ∷ [] ∷ []) ∷ [])) }
 {
-    let round = number(round as u64);
-    let version = number(version);
+    let round = digits_of(round as u64);
+    let version = digits_of(version);
     write_record(
         out,
         &[

@@ -5,7 +5,7 @@ ghost use Rattle.runs.specs.Runs.{end_of_run};
 ghost use Rattle.delay_report.specs.Reports.{green_record, link_record, no_totals, total_record};
 ghost use Rattle.delay_report.specs.Written.{Adds};
 
-use crate::records::{number, write_record};
+use crate::records::{digits_of, write_record};
 use control_flow::greens::{Green, Timeline};
 use csv::Writer;
 use net_simulator::{LinkTotals, Totals};
@@ -59,9 +59,9 @@ fn write_green(
     if green.from >= end {
         return Ok(());
     }
-    let phase = number(u64::from(green.phase));
-    let from = number(u64::from(green.from));
-    let to = number(u64::from(green.to));
+    let phase = digits_of(u64::from(green.phase));
+    let from = digits_of(u64::from(green.from));
+    let to = digits_of(u64::from(green.to));
     let name = net.node_name(node).as_bytes();
     write_record(
         out,
@@ -102,9 +102,9 @@ fn write_link(
     requires { link < length net.now.link_names }
     ensures { OnOk result (Adds out.old out.new (link_record net.now link totals ∷ [])) }
 {
-    let entered = number(totals.entered);
-    let left = number(totals.left);
-    let delay = number(totals.delay);
+    let entered = digits_of(totals.entered);
+    let left = digits_of(totals.left);
+    let delay = digits_of(totals.delay);
     let name = net.link_name(link).as_bytes();
     write_record(
         out,
@@ -124,10 +124,10 @@ fn write_link(
 pub(crate) fn write_totals(totals: Totals, out: &mut Writer<Vec<u8>>) -> Result<(), AllocError>
     ensures { OnOk result (Adds out.old out.new (total_record totals ∷ [])) }
 {
-    let entered = number(totals.entered);
-    let left = number(totals.left);
-    let on = number(totals.on);
-    let delay = number(totals.delay);
+    let entered = digits_of(totals.entered);
+    let left = digits_of(totals.left);
+    let on = digits_of(totals.on);
+    let delay = digits_of(totals.delay);
     write_record(
         out,
         &[

@@ -67,8 +67,8 @@ module _ {A : Type 0} where
       omega (arith, e, few, many, rounds-few lists rounds)
 
   -- there is capacity for one round more
-  pub rounds-room : (start plans : List A) (lists : List (List A)) (round rounds room : ℕ) → plans ≡ start ++ round_by_round round lists → round < rounds → length start + rounds * length lists ≤ room → length plans + length lists ≤ room
-  rounds-room start plans lists round rounds room is less all =
+  pub rounds-capacity : (start plans : List A) (lists : List (List A)) (round rounds capacity : ℕ) → plans ≡ start ++ round_by_round round lists → round < rounds → length start + rounds * length lists ≤ capacity → length plans + length lists ≤ capacity
+  rounds-capacity start plans lists round rounds capacity is less all =
       let long : length plans ≡ length start + length (round_by_round round lists) = ap length is ∙ length-append start (round_by_round round lists) in
       let most : suc round * length lists ≤ rounds * length lists = mul-le-mul_right {m = suc round} {n = rounds} (length lists) (omega arith) in
       let one : suc round * length lists ≡ round * length lists + length lists = omega arith in
@@ -132,8 +132,8 @@ module _ {A : Type 0} where
           ∙ ap (λ l. start ++ l) (ap (λ l. first_of_each (map f (take many initial)) ++ l) (sym (append-nil (take 1 (f old)))) ∙ sym (flat_map-append (take 1) (map f (take many initial)) (f old ∷ [])) ∙ ap first_of_each (sym front-more))
 
     -- there is capacity for one queue more
-    pub firsts-room : (start plans : List A) (many room : ℕ) → plans ≡ start ++ first_of_each (map f (take many initial)) → many < length initial → length start + length initial ≤ room → length plans < room
-    firsts-room start plans many room is inside all =
+    pub firsts-capacity : (start plans : List A) (many capacity : ℕ) → plans ≡ start ++ first_of_each (map f (take many initial)) → many < length initial → length start + length initial ≤ capacity → length plans < capacity
+    firsts-capacity start plans many capacity is inside all =
         let long : length plans ≡ length start + length (first_of_each (map f (take many initial))) = ap length is ∙ length-append start (first_of_each (map f (take many initial))) in
         let few : length (first_of_each (map f (take many initial))) ≤ many = omega (arith, first-few (map f (take many initial)), length-map (take many initial) f, length-take many initial) in
         omega (arith, long, few, inside, all)

@@ -8,18 +8,18 @@ use Rattle.net_numbers.specs.Numbers.{Net}
 use Rattle.net_simulator.specs.Counts.{counts_at}
 use Rattle.net_simulator.specs.Worlds.{Kept}
 use Rattle.runs.specs.declared.records.RunRecord.{RunRecord}
-use Rattle.ended_runs.specs.declared.Room.{Room}
+use Rattle.ended_runs.specs.declared.run_records.EmptyRecord.{EmptyRecord}
 
 -- empty lists, with capacity for all that the record of a run has
-pub record HasRoom (net : Net) (room : Room) : Type 0 where
-  pub no_plans : room.plans.items ≡ []
-  pub no_queues : room.queues.items ≡ []
-  pub no_timelines : room.timelines.items ≡ []
-  pub no_links : room.links.items ≡ []
-  pub plans : net.run.rounds * length net.node_names ≤ vec_capacity room.plans
-  pub queues : length net.node_names ≤ vec_capacity room.queues
-  pub timelines : length net.node_names ≤ vec_capacity room.timelines
-  pub links : length net.link_names ≤ vec_capacity room.links
+pub record HasCapacity (net : Net) (empty : EmptyRecord) : Type 0 where
+  pub no_plans : empty.plans.items ≡ []
+  pub no_queues : empty.queues.items ≡ []
+  pub no_timelines : empty.timelines.items ≡ []
+  pub no_links : empty.links.items ≡ []
+  pub plans : net.run.rounds * length net.node_names ≤ vec_capacity empty.plans
+  pub queues : length net.node_names ≤ vec_capacity empty.queues
+  pub timelines : length net.node_names ≤ vec_capacity empty.timelines
+  pub links : length net.link_names ≤ vec_capacity empty.links
 
 -- the plan records of actors, and their lines
 abbrev pub records_in : List Acting → List (List PlanRecord)

@@ -2,12 +2,12 @@
 ghost use Rattle.std.specs.Prelude.{◌≡◌, ℕ, [], All, IfOk, length, vec_len};
 ghost use Rattle.arrivals.specs.Amounts.{AreArrivals};
 ghost use Rattle.board_rule.specs.Passes.{AreAllPasses, calls_in};
-ghost use Rattle.net_threads.specs.Calls.{AreStepsOf, HaveCallsLeft, IsRunOfCalls, MergeToLawful};
+ghost use Rattle.round_calls.specs.Calls.{AreStepsOf, HaveCallsLeft, IsRunOfCalls, MergeToLawful};
 
 use crate::cuts::{put_together, quartered};
 use arrivals::Arrivals;
 use board_model::Gate;
-use ended_runs::{record_of, room_of};
+use ended_runs::{record_of, empty_record};
 use lasting_rounds::{Nodes, play_lasting};
 use merged_calls::law_of_merged_calls;
 use net_simulator::World;
@@ -54,7 +54,7 @@ pub fn run_lasting<P: Planner + Send + Drop, R: Threads + Wait + Sync, G: Gate +
     let _ = net.nodes();
     law_of_merged_calls(net);
     law_of_runs(net);
-    let room = room_of(alloc, net)?;
+    let room = empty_record(alloc, net)?;
     let made = actors_of(alloc, net)?;
     let world = World::new(alloc, net)?;
     let Actors { all } = made;

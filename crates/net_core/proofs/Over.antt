@@ -9,7 +9,7 @@ use Rattle.road_net.specs.Network.{IsNetwork}
 use Rattle.round_calls.proofs.Resting.{no_acting}
 use Rattle.runs.specs.Runs.{IsRun}
 use Rattle.runs.specs.declared.records.RunRecord.{RunRecord}
-use Rattle.net_core.specs.Going.{AreGoing, Between}
+use Rattle.net_core.specs.States.{AreGoing, Between}
 use Rattle.net_core.specs.declared.parts.Parts.{Parts}
 use Rattle.net_core.proofs.Wanting.{going-last}
 

@@ -25,7 +25,7 @@ use Rattle.runs.proofs.Heard.{have-at, rise-at}
 use Rattle.runs.proofs.PlanLaws.{used-links}
 use Rattle.round_calls.specs.Resting.{Rests, records_of}
 use Rattle.round_calls.proofs.Resting.{records-same}
-use Rattle.net_core.specs.Going.{Listens, Plays, Tells, telling_first}
+use Rattle.net_core.specs.States.{Listens, Plays, Tells, telling_first}
 use Rattle.net_core.proofs.Put.{put, put-here, put-round}
 
 -- the first of some links from a number on

@@ -32,7 +32,7 @@ use Rattle.runs.proofs.Places.{first-small}
 use Rattle.round_calls.specs.Resting.{lines_of}
 use Rattle.round_calls.proofs.Resting.{before-shows, stands-same}
 use Rattle.net_core.specs.Acts.{Settles}
-use Rattle.net_core.specs.Going.{AllDone, Between, Hears, InRound, IsRunning, Listens, Plays, Tells, telling_first}
+use Rattle.net_core.specs.States.{AllDone, Between, Hears, InRound, IsRunning, Listens, Plays, Tells, telling_first}
 use Rattle.net_core.specs.declared.parts.Board.{Board}
 use Rattle.net_core.proofs.Playing.{commits-on, listens-on, plays-moved, tells-on, told-ends, took}
 use Rattle.net_core.proofs.Prefixes.{Begun}

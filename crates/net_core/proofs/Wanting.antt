@@ -19,7 +19,7 @@ use Rattle.intersection_actor.specs.declared.records.Want.TheVariants.{Done}
 use Rattle.net_numbers.specs.Numbers.{Net}
 use Rattle.road_net.specs.Network.{IsNetwork, heard_links, told_links}
 use Rattle.net_core.specs.Cores.{IsItsTurn, IsWanted, wanted_step}
-use Rattle.net_core.specs.Going.{AreBetween, AreGoing, AreInRound, IsOpen, Plays}
+use Rattle.net_core.specs.States.{AreBetween, AreGoing, AreInRound, IsOpen, Plays}
 use Rattle.net_core.specs.declared.parts.Parts.{Parts}
 use Rattle.net_core.proofs.Steps.{reading-next, telling-next, telling-none, told-step}
 

@@ -96,7 +96,7 @@ pub(crate) fn tell(
 ) -> Result<(), AllocError>
     requires of { IsOf net.now actor.old }
     requires want { actor.old.want ≡ Want.Publish link }
-    requires room { board.old.version < 1000 }
+    requires below { board.old.version < 1000 }
     ensures told { OnOk result (actor.new ≡ wanting (tells_from net.now actor.old.node (link + 1)) actor.old) }
     ensures version { OnOk result (board.new.version ≡ board.old.version + 1) }
     ensures forecast { OnOk result (board.new.forecast ≡ forecast_of net.now link actor.old.sensed.now (departures actor.old.window.lists (counts_of actor.old.window.lists) actor.old.phases actor.old.served)) }

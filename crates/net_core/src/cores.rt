@@ -1,10 +1,10 @@
 //! A run under way.
 use crate::faults::StepFault;
-use crate::loops::{begin_round, go_on, is_done, play};
-use crate::making::parts_of;
+use crate::stepping::{begin_round, go_on, is_done, play};
+use crate::first_parts::parts_of;
 use crate::parts::Parts;
 use arrivals::Arrivals;
-use ended_runs::{Room, record_of, room_of};
+use ended_runs::{EmptyRecord, record_of, empty_record};
 use foundation::threads::CrossesThreads;
 use intersection_actor::Want;
 use road_net::Network;
@@ -24,7 +24,7 @@ pub struct Core<'a> {
     arrivals: &'a Arrivals,
     parts: Parts,
     /// The lists for the record of the run.
-    room: Room,
+    empty: EmptyRecord,
     /// Whether an earlier step ran out of memory.
     spent: bool,
 }
@@ -34,11 +34,11 @@ impl<'a> Model for Core<'a> {
 
     ghost Value = { Course };
 
-    ghost use Rattle.net_core.specs.Going.{IsReady};
+    ghost use Rattle.net_core.specs.States.{IsReady};
 
     ghost view = { λ core. record { net = core.net.now; arrivals = core.arrivals.now; steps = core.parts.history.items; spent = core.spent } };
 
-    ghost invariant = { λ core. IsReady core.net.now core.arrivals.now core.parts core.spent core.room };
+    ghost invariant = { λ core. IsReady core.net.now core.arrivals.now core.parts core.spent core.empty };
 }
 
 impl<'a> CrossesThreads for Core<'a> {}
@@ -48,7 +48,7 @@ impl<'a> Core<'a> {
     ghost use Rattle.arrivals.specs.Amounts.{AreArrivals};
     ghost use Rattle.histories.specs.Histories.{IsLawful};
     ghost use Rattle.net_core.specs.Cores.{IsStepFault, IsWanted, MayStep, Stays};
-    ghost use Rattle.runs.specs.Kept.{IsKeptRun};
+    ghost use Rattle.runs.specs.Promises.{IsKeptRun};
 
     /// Begins a run: the nodes begin the first round, and rounds in which no node has a board step run at once. The arrivals are
     /// those of the network.
@@ -65,7 +65,7 @@ impl<'a> Core<'a> {
         requires { AreArrivals net.now arrivals.now }
         ensures { IfOk result (λ core. core ≡ record { net = net.now; arrivals = arrivals.now; steps = []; spent = false }) }
     {
-        let room = room_of(alloc, net)?;
+        let empty = empty_record(alloc, net)?;
         let mut parts = parts_of(alloc, net)?;
         begin_round(alloc, net, arrivals, &mut parts, planner)?;
         go_on(alloc, net, arrivals, &mut parts, planner)?;
@@ -73,7 +73,7 @@ impl<'a> Core<'a> {
             net,
             arrivals,
             parts,
-            room,
+            empty,
             spent: false,
         })
     }
@@ -99,11 +99,11 @@ impl<'a> Core<'a> {
         if self.spent {
             return Want::Done;
         }
-        self.wanted(node)
+        self.next_want(node)
     }
 
     /// What a node wants, where the core is not spent.
-    fn wanted(&self, node: u32) -> Want
+    fn next_want(&self, node: u32) -> Want
         requires node { node < length self.now.net.node_names }
         requires spent { self.now.spent ≡ false }
         ensures { IsWanted self.now.net self.now.steps node result }
@@ -181,11 +181,11 @@ impl<'a> Core<'a> {
         let Core {
             net,
             parts,
-            room,
+            empty,
             ..
         } = self;
         let Parts { actors, world, .. } = parts;
         let Actors { all } = actors;
-        record_of(net, all, &world, room)
+        record_of(net, all, &world, empty)
     }
 }

@@ -9,9 +9,9 @@ ghost use Rattle.commands.specs.Headline.{IsPlannedText};
 ghost use Rattle.commands.specs.Outcome.{Outcome};
 ghost use Rattle.network_jobs.specs.Missing.{Misses};
 
-use super::runs_kept::kept_run;
+use super::history_runs::kept_run;
 use arrivals::Arrivals;
-use command_texts::{Named, Place, Refusal, Status, fetch_history, fetch_scene};
+use command_texts::{Named, TextPlace, Refusal, Status, fetch_history, fetch_scene};
 use commands::{Made, end};
 use histories::History;
 use outside_world::{Shelf, Sink};
@@ -56,7 +56,7 @@ fn planned_text(
 }
 
 // The text of the instance that a node planned in a round of the run of a history.
-fn planned_by(
+fn find_planned_text(
     alloc: Global,
     net: &Network,
     arrivals: &Arrivals,
@@ -77,7 +77,7 @@ fn planned_by(
 
 // The text of the instance that a node planned in a round of the run of the history in the third file, with the network and the
 // arrivals in the first two.
-fn planned<S: Shelf>(
+fn make_instance<S: Shelf>(
     alloc: Global,
     shelf: &mut S,
     net: &str,
@@ -89,8 +89,8 @@ fn planned<S: Shelf>(
     ensures { Makes (Instance net.now arr.now hist.now node.now round) (S.state shelf.old) (S.state shelf.new) result }
 {
     let scene = fetch_scene(alloc, shelf, net, arr)?;
-    let history = fetch_history(alloc, shelf, Place::Third, hist, &scene.network)?;
-    let text = planned_by(
+    let history = fetch_history(alloc, shelf, TextPlace::Third, hist, &scene.network)?;
+    let text = find_planned_text(
         alloc,
         &scene.network,
         &scene.arrivals,
@@ -123,6 +123,6 @@ pub fn instance_job<S: Shelf, O: Sink, E: Sink>(
         (record { shelf = S.state shelf.old; out = O.state out.old; err = E.state err.old })
         (record { shelf = S.state shelf.new; out = O.state out.new; err = E.state err.new }) result }
 {
-    let made = planned(alloc, shelf, net, arr, hist, node, round);
+    let made = make_instance(alloc, shelf, net, arr, hist, node, round);
     end(alloc, made, out, err)
 }

@@ -6,7 +6,7 @@ mod grid;
 mod instance;
 mod laws;
 mod replay;
-mod runs_kept;
+mod history_runs;
 mod summary;
 mod turns;
 

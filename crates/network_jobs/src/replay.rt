@@ -3,14 +3,14 @@ ghost use Rattle.commands.specs.Commands.{Replay};
 ghost use Rattle.commands.specs.Ending.{Makes};
 ghost use Rattle.commands.specs.Outcome.{Outcome};
 
-use super::runs_kept::report;
-use command_texts::{Place, Refusal, Status, fetch_history, fetch_scene};
+use super::history_runs::report;
+use command_texts::{TextPlace, Refusal, Status, fetch_history, fetch_scene};
 use commands::{Made, end};
 use outside_world::{Shelf, Sink};
 use std::alloc::Global;
 
 // The report of the run of the history in the third file, with the network and the arrivals in the first two.
-fn reported<S: Shelf>(
+fn make_report<S: Shelf>(
     alloc: Global,
     shelf: &mut S,
     net: &str,
@@ -20,7 +20,7 @@ fn reported<S: Shelf>(
     ensures { Makes (Replay net.now arr.now hist.now) (S.state shelf.old) (S.state shelf.new) result }
 {
     let scene = fetch_scene(alloc, shelf, net, arr)?;
-    let history = fetch_history(alloc, shelf, Place::Third, hist, &scene.network)?;
+    let history = fetch_history(alloc, shelf, TextPlace::Third, hist, &scene.network)?;
     let text = report(alloc, &scene.network, &scene.arrivals, &history)?;
     Ok(Made::Done(text))
 }
@@ -44,5 +44,5 @@ pub fn replay_job<S: Shelf, O: Sink, E: Sink>(
         (record { shelf = S.state shelf.old; out = O.state out.old; err = E.state err.old })
         (record { shelf = S.state shelf.new; out = O.state out.new; err = E.state err.new }) result }
 {
-    end(alloc, reported(alloc, shelf, net, arr, hist), out, err)
+    end(alloc, make_report(alloc, shelf, net, arr, hist), out, err)
 }

@@ -15,7 +15,7 @@ use Rattle.histories.specs.declared.steps.BoardStep.{BoardStep}
 use Rattle.histories.specs.declared.steps.BoardStep.TheVariants.{Read, Publish}
 use Rattle.histories.proofs.Lists.{filter-map}
 use Rattle.intersection_actor.specs.Commits.{Commitment}
-use Rattle.merged_calls.specs.Calls.{AreRounds, step_of}
+use Rattle.merged_calls.specs.Calls.{AreStepRounds, step_of}
 use Rattle.merged_calls.specs.Places.{sent}
 use Rattle.net_numbers.specs.Numbers.{Net}
 use Rattle.round_calls.specs.Told.{AreCallsOf, heard_of, repeated}
@@ -115,7 +115,7 @@ in-moved net heard seen made other (suc rounds) calls h m (early, last, mark, is
 
 module _ (net : Net) (heard : ℕ → ℕ → List Heard) (made : ℕ → ℕ → Commitment) where
   -- they are the steps, round by round
-  pub rounds-made : (rounds : ℕ) (calls : ℕ → List Call) → AreCallsIn net heard made rounds calls → AreRounds (board_steps net) rounds calls
+  pub rounds-made : (rounds : ℕ) (calls : ℕ → List Call) → AreCallsIn net heard made rounds calls → AreStepRounds (board_steps net) rounds calls
   rounds-made zero calls are = are
   rounds-made (suc rounds) calls (early, last, mark, is, before) = (
     early,

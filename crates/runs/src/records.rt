@@ -1,6 +1,6 @@
 //! The record of a run.
 ghost use Rattle.std.specs.Prelude.{◌≡◌, ◌<◌, Contains, length};
-ghost use Rattle.runs.specs.Whole.{IsWhole};
+ghost use Rattle.runs.specs.Complete.{IsComplete};
 
 use control_flow::greens::Timeline;
 use foundation::items::Items;
@@ -29,7 +29,7 @@ impl RunRecord {
     ///
     /// docs/RULES.md, "Run".
     pub fn plan(&self, net: &Network, round: u32, node: u32) -> &PlanRecord
-        requires whole { IsWhole net.now self.now }
+        requires whole { IsComplete net.now self.now }
         requires round { round < net.now.run.rounds }
         requires node { node < length net.now.node_names }
         ensures among { Contains self.now.plans result.now }

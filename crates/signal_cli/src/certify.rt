@@ -10,7 +10,7 @@ ghost use Rattle.commands.specs.Outcome.{Outcome};
 
 use crate::delivery::deliver;
 use certificate_form::{has_text, one_certificate};
-use command_texts::{Place, Refusal, Status, fetch_instance};
+use command_texts::{TextPlace, Refusal, Status, fetch_instance};
 use dp_certificate::Certificate;
 use foundation::steps::Steps;
 use outside_world::{Shelf, Sink};
@@ -49,7 +49,7 @@ fn counted<L: Ledger>(alloc: Global, i: &Instance, blank: Blank) -> Result<Certi
 fn made<S: Shelf>(alloc: Global, shelf: &mut S, file: &str) -> Result<Certificate, Refusal>
     ensures { MakesCertificate (Certify file.now) (S.state shelf.old) (S.state shelf.new) result }
 {
-    let instance = fetch_instance(alloc, shelf, Place::First, file)?;
+    let instance = fetch_instance(alloc, shelf, TextPlace::First, file)?;
     let certificate = certified(alloc, &instance)?;
     has_text(&certificate);
     one_certificate();

@@ -1,6 +1,6 @@
 //! The top call: the words of the command line, and what is done.
 ghost use Rattle.std.specs.Prelude.{◌≡◌, ◌≢◌, ◌↔◌};
-ghost use Rattle.commands.specs.Commands.{Call, IsCall, IsWithin, seen};
+ghost use Rattle.commands.specs.Commands.{Call, IsCall, IsWithin, call_of};
 ghost use Rattle.commands.specs.Outcome.{Outcome};
 ghost use Rattle.command_texts.specs.Refusals.{Says};
 ghost use Rattle.command_texts.specs.declared.refusals.Refusal.TheVariants as refusal;
@@ -60,8 +60,8 @@ fn run<R: Threads + Wait + Sync, S: Shelf, O: Sink, E: Sink, G: Gate + Sync>(
     err: &mut E,
     gate: &G,
 ) -> Status
-    requires { IsWithin (seen command) }
-    ensures { Outcome (seen command.entry)
+    requires { IsWithin (call_of command) }
+    ensures { Outcome (call_of command.entry)
         (record { shelf = S.state shelf.old; out = O.state out.old; err = E.state err.old })
         (record { shelf = S.state shelf.new; out = O.state out.new; err = E.state err.new }) result }
 {

@@ -13,7 +13,7 @@ use std::sync::Wait;
 use std::thread::Threads;
 
 // The report of the run in threads, with the network and the arrivals in the files.
-fn reported<R: Threads + Wait + Sync, S: Shelf, G: Gate + Sync>(
+fn make_report<R: Threads + Wait + Sync, S: Shelf, G: Gate + Sync>(
     rt: &R,
     alloc: Global,
     shelf: &mut S,
@@ -51,6 +51,6 @@ pub fn net_job<R: Threads + Wait + Sync, S: Shelf, O: Sink, E: Sink, G: Gate + S
         (record { shelf = S.state shelf.old; out = O.state out.old; err = E.state err.old })
         (record { shelf = S.state shelf.new; out = O.state out.new; err = E.state err.new }) result }
 {
-    let made = reported(rt, alloc, shelf, net, arr, gate);
+    let made = make_report(rt, alloc, shelf, net, arr, gate);
     end(alloc, made, out, err)
 }

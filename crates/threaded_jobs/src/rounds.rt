@@ -5,8 +5,8 @@ ghost use Rattle.board_rule.specs.Passes.{AreAllPasses, AreLogsOfPasses, calls_i
 ghost use Rattle.delay_report.specs.Reports.{outcome_records, records_text, report_text, steps_records};
 ghost use Rattle.histories.specs.Histories.{IsLawful};
 ghost use Rattle.histories.specs.Steps.{board_steps};
-ghost use Rattle.runs.specs.Whole.{IsWhole};
-ghost use Rattle.net_threads.specs.Calls.{IsRunOfCalls, MergeToLawful};
+ghost use Rattle.runs.specs.Complete.{IsComplete};
+ghost use Rattle.round_calls.specs.Calls.{IsRunOfCalls, MergeToLawful};
 ghost use Rattle.commands.specs.Headline.{ToldHeadline};
 ghost use Rattle.threaded_jobs.specs.Merged.{HaveLawfulMerge, IsRunOfMerge, IsTextOfMerge};
 
@@ -26,7 +26,7 @@ use std::thread::{Threads, join};
 
 /// A run, and the logs of the boards that tell its history.
 #[derive(Drop)]
-struct Told {
+struct LoggedRun {
     run: RunRecord,
     logs: Vec<BoardLog>,
 }
@@ -56,7 +56,7 @@ fn run_by<R: Threads + Wait + Sync, G: Gate + Sync>(
 }
 
 /// The logs of the boards.
-fn closed(alloc: Global, boards: Boards, passes: Vec<Pass>) -> Result<Vec<BoardLog>, AllocError>
+fn close_boards(alloc: Global, boards: Boards, passes: Vec<Pass>) -> Result<Vec<BoardLog>, AllocError>
     requires { AreAllPasses boards passes.items }
     ensures { IfOk result (λ logs. AreLogsOfPasses boards.links passes.items logs.items) }
 {
@@ -70,20 +70,20 @@ fn play<R: Threads + Wait + Sync, G: Gate + Sync>(
     net: &Network,
     arrivals: &Arrivals,
     gate: &G,
-) -> Result<Told, AllocError>
+) -> Result<LoggedRun, AllocError>
     requires { AreArrivals net.now arrivals.now }
-    ensures { IfOk result (λ told. IsRunOfMerge net.now (entering arrivals.now) told.logs.items told.run) }
+    ensures { IfOk result (λ logged. IsRunOfMerge net.now (entering arrivals.now) logged.logs.items logged.run) }
 {
     let calls = calls_for_pass(net);
     let (boards, passes) = Boards::new(alloc, net.links(), net.nodes(), calls)?;
     let (run, passes) = run_by(rt, alloc, net, arrivals, &boards, passes, calls, gate)?;
-    let logs = closed(alloc, boards, passes)?;
-    Ok(Told { run, logs })
+    let logs = close_boards(alloc, boards, passes)?;
+    Ok(LoggedRun { run, logs })
 }
 
 /// The outcome of a run, written out. The run is dropped here: it has many parts, and dropping them takes as long.
 fn outcome_of(alloc: Global, net: &Network, run: RunRecord) -> Result<Vec<u8>, AllocError>
-    requires { IsWhole net.now run }
+    requires { IsComplete net.now run }
     ensures { IfOk result (λ text. text.items ≡ records_text (outcome_records net.now run)) }
 {
     render_outcome(alloc, net, &run, Vec::new(alloc))
@@ -116,21 +116,21 @@ fn steps_of<R: Threads>(
 
 /// The report of a run with its logs. The logs are merged and the steps written out while another thread writes out the outcome of the
 /// run, and what is no longer needed is dropped beside.
-fn told_report<R: Threads>(
+fn write_report<R: Threads>(
     rt: &R,
     alloc: Global,
     net: &Network,
-    told: Told,
+    logged: LoggedRun,
 ) -> Result<Vec<u8>, AllocError>
-    requires lawful { HaveLawfulMerge net.now told.logs.items }
-    requires whole { IsWhole net.now told.run }
-    ensures { IfOk result (λ text. IsTextOfMerge told.logs.items (report_text net.now told.run) text.items) }
+    requires lawful { HaveLawfulMerge net.now logged.logs.items }
+    requires whole { IsComplete net.now logged.run }
+    ensures { IfOk result (λ text. IsTextOfMerge logged.logs.items (report_text net.now logged.run) text.items) }
 {
-    let Told { run, logs } = told;
+    let LoggedRun { run, logs } = logged;
     let (outcome, steps) = join(
         rt,
         move || -> Result<Vec<u8>, AllocError>
-            requires { IsWhole net.now run }
+            requires { IsComplete net.now run }
             ensures { IfOk result (λ text. text.items ≡ records_text (outcome_records net.entry.now run)) }
         { outcome_of(alloc, net, run) },
         move || -> Result<Vec<u8>, AllocError>
@@ -154,8 +154,8 @@ pub(crate) fn report<R: Threads + Wait + Sync, G: Gate + Sync>(
     requires { AreArrivals net.now arrivals.now }
     ensures { IfOk result (λ text. ToldHeadline net.now (entering arrivals.now) text.items) }
 {
-    let told = play(rt, alloc, net, arrivals, gate)?;
+    let logged = play(rt, alloc, net, arrivals, gate)?;
     law_of_runs(net);
     law_of_reports(net);
-    told_report(rt, alloc, net, told)
+    write_report(rt, alloc, net, logged)
 }

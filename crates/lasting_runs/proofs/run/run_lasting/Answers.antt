@@ -5,8 +5,8 @@ use Rattle.intersection_actor.specs.Acting.{Acting}
 use Rattle.net_simulator.specs.Worlds.{Kept}
 use Rattle.round_calls.specs.Rounds.{Between}
 use Rattle.round_calls.proofs.Starting.{at-first}
-use Rattle.net_threads.proofs.Beginning.{left-at}
-use Rattle.net_threads.proofs.Ending.{are-steps, is-run-of, merge-lawful}
+use Rattle.round_calls.proofs.FreshPasses.{left-at}
+use Rattle.round_calls.proofs.ThreadRuns.{are-steps, is-run-of, merge-lawful}
 use Rattle.lasting_runs.proofs.run.run_lasting.Goals as goal
 
 pub play_lasting-first-requires-clause-between : goal.play_lasting-first-requires-clause-between

@@ -2,8 +2,8 @@ use Rattle.std.proofs.Common.{◌≡◌, [], length, subst, sym, ap, ◌∙◌}
 use Rattle.std.specs.Prelude.{All}
 use Rattle.std.proofs.lemmas.List.FromFn.{length-map-range_with_len}
 use Rattle.board_rule.specs.Passes.{PassView, fresh_pass}
-use Rattle.net_threads.specs.Calls.{HaveCallsLeft}
-use Rattle.net_threads.proofs.Beginning.{fresh-left, fresh-none}
+use Rattle.round_calls.specs.Calls.{HaveCallsLeft}
+use Rattle.round_calls.proofs.FreshPasses.{fresh-left, fresh-none}
 use Rattle.threaded_jobs.proofs.rounds.run_by.Goals as goal
 
 pub run_lasting-requires-clause-nodes : goal.run_lasting-requires-clause-nodes
