@@ -29,10 +29,12 @@ pub fn fetch_scene<S: Shelf>(
     arr: &str,
 ) -> Result<Scene, Refusal>
     ensures network { IfOk result (λ scene. IsIn (S.state shelf.old).files net.now NetworkText scene.network) }
-    ensures arrivals { IfOk result (λ scene. IsIn (S.state shelf.old).files arr.now (ArrivalsText scene.network) (entering scene.arrivals)) }
+    ensures arrivals { IfOk result (λ scene.
+        IsIn (S.state shelf.old).files arr.now (ArrivalsText scene.network) (entering scene.arrivals)) }
     ensures lawful { IfOk result (λ scene. AreArrivals scene.network scene.arrivals) }
     ensures ok { OnOk result (S.state shelf.new ≡ S.state shelf.old) }
-    ensures refused { IfErr result (λ why. (rest : Net → Texts) → StopsIn (network_texts net.now arr.now rest) (S.state shelf.old) (S.state shelf.new) why) }
+    ensures refused { IfErr result (λ why. (rest : Net → Texts)
+        → StopsIn (network_texts net.now arr.now rest) (S.state shelf.old) (S.state shelf.new) why) }
 {
     let network = fetch_network(alloc, shelf, TextPlace::First, net)?;
     let arrivals = fetch_arrivals(alloc, shelf, TextPlace::Second, arr, &network)?;

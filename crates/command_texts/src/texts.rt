@@ -32,9 +32,11 @@ fn fetch_text<S: Shelf>(
     file: &str,
 ) -> Result<Vec<u8>, Refusal>
     ensures limit { IfOk result (λ text. length text.items ≤ most_bytes) }
-    ensures text { IfOk result (λ text. IsSome (S.state shelf.old).files → text_of (S.state shelf.old).files file.now ≡ Some text.items) }
+    ensures text { IfOk result (λ text. IsSome (S.state shelf.old).files
+        → text_of (S.state shelf.old).files file.now ≡ Some text.items) }
     ensures ok { OnOk result (S.state shelf.new ≡ S.state shelf.old) }
-    ensures refused { IfErr result (λ why. (kind : Kind) → StopsAt why place kind file.now (S.state shelf.old) (S.state shelf.new)) }
+    ensures refused { IfErr result (λ why. (kind : Kind)
+        → StopsAt why place kind file.now (S.state shelf.old) (S.state shelf.new)) }
 {
     match shelf.fetch(alloc, file, MOST_BYTES + 1) {
         Ok(text) if text.len() > MOST_BYTES => Err(Refusal::Bad {
@@ -56,7 +58,8 @@ pub fn fetch_instance<S: Shelf>(
 ) -> Result<Instance, Refusal>
     ensures text { IfOk result (IsIn (S.state shelf.old).files file.now InstanceText) }
     ensures ok { OnOk result (S.state shelf.new ≡ S.state shelf.old) }
-    ensures refused { IfErr result (λ why. StopsAt why place InstanceText file.now (S.state shelf.old) (S.state shelf.new)) }
+    ensures refused { IfErr result (λ why. StopsAt why place InstanceText file.now (S.state shelf.old)
+        (S.state shelf.new)) }
 {
     let text = fetch_text(alloc, shelf, place, file)?;
     match read_instance(alloc, &text) {
@@ -78,7 +81,8 @@ pub fn fetch_certificate<S: Shelf>(
 ) -> Result<Certificate, Refusal>
     ensures text { IfOk result (IsIn (S.state shelf.old).files file.now CertificateText) }
     ensures ok { OnOk result (S.state shelf.new ≡ S.state shelf.old) }
-    ensures refused { IfErr result (λ why. StopsAt why place CertificateText file.now (S.state shelf.old) (S.state shelf.new)) }
+    ensures refused { IfErr result (λ why. StopsAt why place CertificateText file.now (S.state shelf.old)
+        (S.state shelf.new)) }
 {
     let text = fetch_text(alloc, shelf, place, file)?;
     match read_certificate(alloc, &text) {
@@ -100,7 +104,8 @@ pub fn fetch_network<S: Shelf>(
 ) -> Result<Network, Refusal>
     ensures text { IfOk result (IsIn (S.state shelf.old).files file.now NetworkText) }
     ensures ok { OnOk result (S.state shelf.new ≡ S.state shelf.old) }
-    ensures refused { IfErr result (λ why. StopsAt why place NetworkText file.now (S.state shelf.old) (S.state shelf.new)) }
+    ensures refused { IfErr result (λ why. StopsAt why place NetworkText file.now (S.state shelf.old)
+        (S.state shelf.new)) }
 {
     let text = fetch_text(alloc, shelf, place, file)?;
     match read_network(alloc, &text) {
@@ -124,7 +129,8 @@ pub fn fetch_arrivals<S: Shelf>(
     ensures text { IfOk result (λ a. IsIn (S.state shelf.old).files file.now (ArrivalsText net.now) (entering a)) }
     ensures arrivals { IfOk result (AreArrivals net.now) }
     ensures ok { OnOk result (S.state shelf.new ≡ S.state shelf.old) }
-    ensures refused { IfErr result (λ why. StopsAt why place (ArrivalsText net.now) file.now (S.state shelf.old) (S.state shelf.new)) }
+    ensures refused { IfErr result (λ why. StopsAt why place (ArrivalsText net.now) file.now (S.state shelf.old)
+        (S.state shelf.new)) }
 {
     let text = fetch_text(alloc, shelf, place, file)?;
     match read_arrivals(alloc, &text, net) {
@@ -148,7 +154,8 @@ pub fn fetch_history<S: Shelf>(
     ensures text { IfOk result (IsIn (S.state shelf.old).files file.now (HistoryText net.now)) }
     ensures lawful { IfOk result (IsLawful net.now) }
     ensures ok { OnOk result (S.state shelf.new ≡ S.state shelf.old) }
-    ensures refused { IfErr result (λ why. StopsAt why place (HistoryText net.now) file.now (S.state shelf.old) (S.state shelf.new)) }
+    ensures refused { IfErr result (λ why. StopsAt why place (HistoryText net.now) file.now (S.state shelf.old)
+        (S.state shelf.new)) }
 {
     let text = fetch_text(alloc, shelf, place, file)?;
     match read_history(alloc, &text, net) {

@@ -141,8 +141,10 @@ fn three_words(words: &[Text]) -> Option<(&str, &str, &str)>
 
 // The four words and the number after them, where there are just these.
 fn four_words_and_number(words: &[Text]) -> Option<(&str, &str, &str, &str, u32)>
-    ensures some { IfSome result (λ w. (words.now ≡ w.0.now ∷ w.1.now ∷ w.2.now ∷ w.3.now ∷ decimal w.4 ∷ []) × (w.4 < 2 ^ 32)) }
-    ensures none { IfNone result ((a b c d : List ℕ) (n : ℕ) → n < 2 ^ 32 → words.now ≢ a ∷ b ∷ c ∷ d ∷ decimal n ∷ []) }
+    ensures some { IfSome result (λ w. (words.now ≡ w.0.now ∷ w.1.now ∷ w.2.now ∷ w.3.now ∷ decimal w.4 ∷ [])
+        × (w.4 < 2 ^ 32)) }
+    ensures none { IfNone result ((a b c d : List ℕ) (n : ℕ) → n < 2 ^ 32
+        → words.now ≢ a ∷ b ∷ c ∷ d ∷ decimal n ∷ []) }
 {
     match words {
         [first, second, third, fourth, last] => {
@@ -163,7 +165,8 @@ fn four_words_and_number(words: &[Text]) -> Option<(&str, &str, &str, &str, u32)
 fn grid_numbers(words: &[Text]) -> Option<(u64, u32, u32)>
     ensures spelled { IfSome result (λ w. words.now ≡ decimal w.0 ∷ decimal w.1 ∷ decimal w.2 ∷ []) }
     ensures within { IfSome result (λ w. (w.0 < 2 ^ 64) × IsSide w.1 × AreRounds w.2) }
-    ensures none { IfNone result ((number side rounds : ℕ) → number < 2 ^ 64 → IsSide side → AreRounds rounds → words.now ≢ decimal number ∷ decimal side ∷ decimal rounds ∷ []) }
+    ensures none { IfNone result ((number side rounds : ℕ) → number < 2 ^ 64 → IsSide side → AreRounds rounds
+        → words.now ≢ decimal number ∷ decimal side ∷ decimal rounds ∷ []) }
 {
     match words {
         [number, side, rounds] => {

@@ -64,7 +64,8 @@ pub(crate) fn read_step(
 ) -> Result<Option<u32>, HistoryFault>
     requires { IsNetwork net.now }
     ensures ok { IfOk result (λ node. steps_of net.now (fields_of row.now) ≡ Some (steps_if node)) }
-    ensures first { IfErr result (λ fault. (history : List ℕ) → IsEntryFault net.now history (fields_of row.now) number fault) }
+    ensures first { IfErr result (λ fault. (history : List ℕ)
+        → IsEntryFault net.now history (fields_of row.now) number fault) }
 {
     let Some((kind, _, node, _, _, _, _)) = seven_fields(row) else {
         return Err(HistoryFault::Row(number));

@@ -85,7 +85,8 @@ pub fn render_outcome(
 /// docs/FORMATS.md, "Report".
 pub fn join_report(net: &Network, steps: Vec<u8>, outcome: &[u8]) -> Result<Vec<u8>, AllocError>
     ensures text { (run : RunRecord) (history : List ℕ) → steps.items ≡ records_text (steps_records net.now history)
-        → outcome.now ≡ records_text (outcome_records net.now run) → IfOk result (λ text. text.items ≡ report_text net.now run history) }
+        → outcome.now ≡ records_text (outcome_records net.now run)
+        → IfOk result (λ text. text.items ≡ report_text net.now run history) }
 {
     let _nodes = net.nodes();
     let mut text = steps;
@@ -104,8 +105,10 @@ fn write_header(out: &mut Writer<Vec<u8>>) -> Result<(), AllocError>
 ///
 /// docs/FORMATS.md, "Report".
 pub fn law_of_reports(net: &Network)
-    ensures reads_back { (run : RunRecord) (history : List ℕ) → IsLawful net.now history → IsHistoryText net.now (report_text net.now run history) history }
-    ensures one { (bytes one other : List ℕ) → IsHistoryText net.now bytes one → IsHistoryText net.now bytes other → one ≡ other }
+    ensures reads_back { (run : RunRecord) (history : List ℕ) → IsLawful net.now history
+        → IsHistoryText net.now (report_text net.now run history) history }
+    ensures one { (bytes one other : List ℕ) → IsHistoryText net.now bytes one → IsHistoryText net.now bytes other
+        → one ≡ other }
 {
     let _nodes = net.nodes();
 }

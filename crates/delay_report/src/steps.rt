@@ -35,7 +35,8 @@ pub(crate) fn write_steps(
     out: &mut Writer<Vec<u8>>,
 ) -> Result<(), AllocError>
     requires { IsLawful net.now nodes.now }
-    ensures records { OnOk result (Adds out.old out.new (map (step_record_at net.now nodes.now) (range_with_len 0 (length nodes.now)))) }
+    ensures records { OnOk result (Adds out.old out.new
+        (map (step_record_at net.now nodes.now) (range_with_len 0 (length nodes.now)))) }
     ensures network { OnOk result (IsNetwork net.now) }
 {
     let mut walk = begin(alloc, net, nodes)?;
@@ -57,7 +58,8 @@ fn begin(alloc: Global, net: &Network, nodes: &[u32]) -> Result<Walk, AllocError
 
 /// The board steps of each node in a round.
 fn all_steps(alloc: Global, net: &Network) -> Result<Vec<Vec<BoardStep>>, AllocError>
-    ensures { IfOk result (λ steps. map (λ own. own.items) steps.items ≡ map (board_steps net.now) (range_with_len 0 (length net.now.node_names))) }
+    ensures { IfOk result (λ steps. map (λ own. own.items) steps.items
+        ≡ map (board_steps net.now) (range_with_len 0 (length net.now.node_names))) }
 {
     let mut steps = Vec::new(alloc);
     for node in 0..net.nodes() {
@@ -130,7 +132,9 @@ fn write_fields(
 ) -> Result<(), AllocError>
     requires node { node < length net.now.node_names }
     requires link { link < length net.now.link_names }
-    ensures { OnOk result (Adds out.old out.new ((codes "step" ∷ decimal round ∷ node_name_at net.now node ∷ kind.now ∷ link_name_at net.now link ∷ decimal version ∷ [] ∷ []) ∷ [])) }
+    ensures { OnOk result (Adds out.old out.new
+        ((codes "step" ∷ decimal round ∷ node_name_at net.now node ∷ kind.now ∷ link_name_at net.now link
+        ∷ decimal version ∷ [] ∷ []) ∷ [])) }
 {
     let round = digits_of(round as u64);
     let version = digits_of(version);

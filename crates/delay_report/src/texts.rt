@@ -49,7 +49,8 @@ fn read_records(
     requires few { length (left_of reader.old) ≤ 2 ^ 32 }
     ensures ok { IfOk result (AreHistoryRecords net.now (left_of reader.old)) }
     ensures lawful { IfOk result (IsLawful net.now) }
-    ensures refused { IfErr result (λ fault. Refuses fault ((h : List ℕ) → ¬ AreHistoryRecords net.now (left_of reader.old) h)) }
+    ensures refused { IfErr result (λ fault.
+        Refuses fault ((h : List ℕ) → ¬ AreHistoryRecords net.now (left_of reader.old) h)) }
     ensures first { IfErr result (AreFaulty net.now (left_of reader.old)) }
 {
     if !next_record(reader, row)? {

@@ -19,7 +19,10 @@ pub(crate) fn write_greens(
     out: &mut Writer<Vec<u8>>,
 ) -> Result<(), AllocError>
     requires { length lines.now ≡ length net.now.node_names }
-    ensures { OnOk result (Adds out.old out.new (flat_map (λ node. map (green_record net.now node) (filter (λ green. nat_lt green.from (end_of_run net.now)) (slice_index_or lines.now node []))) (range_with_len 0 (length net.now.node_names)))) }
+    ensures { OnOk result (Adds out.old out.new
+        (flat_map (λ node. map (green_record net.now node)
+        (filter (λ green. nat_lt green.from (end_of_run net.now)) (slice_index_or lines.now node [])))
+        (range_with_len 0 (length net.now.node_names)))) }
 {
     let end = net.run().rounds * net.run().step;
     for node in 0..net.nodes() {
@@ -37,7 +40,8 @@ fn write_greens_of(
     out: &mut Writer<Vec<u8>>,
 ) -> Result<(), AllocError>
     requires { node < length net.now.node_names }
-    ensures { OnOk result (Adds out.old out.new (map (green_record net.now node) (filter (λ green. nat_lt green.from end) greens.now))) }
+    ensures { OnOk result (Adds out.old out.new
+        (map (green_record net.now node) (filter (λ green. nat_lt green.from end) greens.now))) }
 {
     for green in greens {
         write_green(net, node, *green, end, out)?;
@@ -54,7 +58,8 @@ fn write_green(
     out: &mut Writer<Vec<u8>>,
 ) -> Result<(), AllocError>
     requires { node < length net.now.node_names }
-    ensures { OnOk result (Adds out.old out.new (if nat_lt green.from end then green_record net.now node green ∷ [] else [])) }
+    ensures { OnOk result (Adds out.old out.new
+        (if nat_lt green.from end then green_record net.now node green ∷ [] else [])) }
 {
     if green.from >= end {
         return Ok(());
@@ -84,7 +89,9 @@ pub(crate) fn write_links(
     out: &mut Writer<Vec<u8>>,
 ) -> Result<(), AllocError>
     requires { length totals.now ≡ length net.now.link_names }
-    ensures { OnOk result (Adds out.old out.new (map (λ link. link_record net.now link (slice_index_or totals.now link no_totals)) (range_with_len 0 (length net.now.link_names)))) }
+    ensures { OnOk result (Adds out.old out.new
+        (map (λ link. link_record net.now link (slice_index_or totals.now link no_totals))
+        (range_with_len 0 (length net.now.link_names)))) }
 {
     for link in 0..net.links() {
         write_link(net, link, totals[link as usize], out)?;

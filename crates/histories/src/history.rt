@@ -117,9 +117,12 @@ fn push_turn(node: u32, count: u32, round: &mut Vec<u32>) -> Result<(), AllocErr
 ///
 /// docs/RULES.md, "Histories".
 pub fn law_of_histories(net: &Network)
-    ensures goes_on { (done : ℕ) (h : List ℕ) → IsUnderWay (board_steps net.now) net.now.run.rounds done h → CanGoOn (board_steps net.now) net.now.run.rounds h }
-    ensures begins { (h : List ℕ) (place : ℕ) → IsLawful net.now h → place ≤ length h → (done : ℕ) × IsUnderWay (board_steps net.now) net.now.run.rounds done (take place h) }
-    ensures over { (done : ℕ) (h : List ℕ) → IsUnderWay (board_steps net.now) net.now.run.rounds done h → IsLawful net.now h ↔ (done ≡ net.now.run.rounds) }
+    ensures goes_on { (done : ℕ) (h : List ℕ) → IsUnderWay (board_steps net.now) net.now.run.rounds done h
+        → CanGoOn (board_steps net.now) net.now.run.rounds h }
+    ensures begins { (h : List ℕ) (place : ℕ) → IsLawful net.now h → place ≤ length h
+        → (done : ℕ) × IsUnderWay (board_steps net.now) net.now.run.rounds done (take place h) }
+    ensures over { (done : ℕ) (h : List ℕ) → IsUnderWay (board_steps net.now) net.now.run.rounds done h
+        → IsLawful net.now h ↔ (done ≡ net.now.run.rounds) }
 {
     let _nodes = net.nodes();
 }
@@ -129,8 +132,10 @@ pub fn law_of_histories(net: &Network)
 ///
 /// docs/RULES.md, "Histories".
 pub fn law_of_versions(net: &Network)
-    ensures rise { (h : List ℕ) (link early late : ℕ) → early ≤ late → version_at (board_steps net.now) h link early ≤ version_at (board_steps net.now) h link late }
-    ensures round { (h : List ℕ) (link place : ℕ) → IsLawful net.now h → place < length h → IsSome (link_at net.now link).from → IsSome (link_at net.now link).to
+    ensures rise { (h : List ℕ) (link early late : ℕ) → early ≤ late
+        → version_at (board_steps net.now) h link early ≤ version_at (board_steps net.now) h link late }
+    ensures round { (h : List ℕ) (link place : ℕ) → IsLawful net.now h → place < length h
+        → IsSome (link_at net.now link).from → IsSome (link_at net.now link).to
         → IsOfRound (board_steps net.now) h link place }
 {
     let _nodes = net.nodes();

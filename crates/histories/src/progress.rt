@@ -83,9 +83,12 @@ impl Progress {
     ///
     /// docs/RULES.md, "Histories".
     pub fn take(&mut self, node: u32) -> Result<(), Stop>
-        ensures ok { OnOk result ((net : Net) (history : List ℕ) → HasCome net history self.old → HasCome net (history ++ node ∷ []) self.new) }
-        ensures first { IfErr result (λ stop. (net : Net) (history : List ℕ) → HasCome net history self.old → IsStop net history node stop) }
-        ensures stuck { OnErr result ((net : Net) (history : List ℕ) → HasCome net history self.old → IsStuck net history node) }
+        ensures ok { OnOk result ((net : Net) (history : List ℕ) → HasCome net history self.old
+            → HasCome net (history ++ node ∷ []) self.new) }
+        ensures first { IfErr result (λ stop. (net : Net) (history : List ℕ) → HasCome net history self.old
+            → IsStop net history node stop) }
+        ensures stuck { OnErr result ((net : Net) (history : List ℕ) → HasCome net history self.old
+            → IsStuck net history node) }
         ensures unchanged { OnErr result (self.new ≡ self.old) }
     {
         if self.done == self.rounds {

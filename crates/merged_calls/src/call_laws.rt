@@ -18,12 +18,16 @@ use road_net::Network;
 ///
 /// docs/RULES.md, "Histories of threads".
 pub fn law_of_merged_calls(net: &Network)
-    ensures lawful { (calls : ℕ → List Call) (logs : List Log) (h : List ℕ) → AreCalls (board_steps net.now) net.now.run.rounds calls
+    ensures lawful { (calls : ℕ → List Call) (logs : List Log) (h : List ℕ)
+        → AreCalls (board_steps net.now) net.now.run.rounds calls
         → AreLogsOf calls (log_at logs) → IsMerge logs h → IsLawful net.now h }
-    ensures one { (calls : ℕ → List Call) (logs : List Log) (h other : List ℕ) → AreCalls (board_steps net.now) net.now.run.rounds calls
+    ensures one { (calls : ℕ → List Call) (logs : List Log) (h other : List ℕ)
+        → AreCalls (board_steps net.now) net.now.run.rounds calls
         → AreLogsOf calls (log_at logs) → IsMerge logs h → IsMerge logs other → h ≡ other }
-    ensures stands { (calls : ℕ → List Call) (logs : List Log) (h : List ℕ) → AreCalls (board_steps net.now) net.now.run.rounds calls
-        → AreLogsOf calls (log_at logs) → Agree calls (log_at logs) → IsMerge logs h → AreTold (board_steps net.now) (publisher net.now) calls h }
+    ensures stands { (calls : ℕ → List Call) (logs : List Log) (h : List ℕ)
+        → AreCalls (board_steps net.now) net.now.run.rounds calls
+        → AreLogsOf calls (log_at logs) → Agree calls (log_at logs) → IsMerge logs h
+        → AreTold (board_steps net.now) (publisher net.now) calls h }
 {
     let _nodes = net.nodes();
 }

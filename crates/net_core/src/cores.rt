@@ -36,7 +36,12 @@ impl<'a> Model for Core<'a> {
 
     ghost use Rattle.net_core.specs.States.{IsReady};
 
-    ghost view = { λ core. record { net = core.net.now; arrivals = core.arrivals.now; steps = core.parts.history.items; spent = core.spent } };
+    ghost view = { λ core. record {
+      net = core.net.now;
+      arrivals = core.arrivals.now;
+      steps = core.parts.history.items;
+      spent = core.spent;
+    } };
 
     ghost invariant = { λ core. IsReady core.net.now core.arrivals.now core.parts core.spent core.empty };
 }
@@ -63,7 +68,8 @@ impl<'a> Core<'a> {
         planner: &mut P,
     ) -> Result<Core<'a>, AllocError>
         requires { AreArrivals net.now arrivals.now }
-        ensures { IfOk result (λ core. core ≡ record { net = net.now; arrivals = arrivals.now; steps = []; spent = false }) }
+        ensures { IfOk result (λ core.
+            core ≡ record { net = net.now; arrivals = arrivals.now; steps = []; spent = false }) }
     {
         let empty = empty_record(alloc, net)?;
         let mut parts = parts_of(alloc, net)?;
@@ -167,6 +173,7 @@ impl<'a> Core<'a> {
             }
         }
     }
+
     /// The record of the run, all of whose rounds are done: it is over. It takes no memory.
     ///
     /// docs/RULES.md, "Core".

@@ -49,7 +49,8 @@ fn planned_text(
     requires lawful { IsLawful net.now h.now }
     requires number { number < length net.now.node_names }
     requires round { round < net.now.run.rounds }
-    ensures { IfOk result (λ text. (node : List ℕ) → number_of net.now.node_names node ≡ Some number → IsPlannedText net.now (entering arrivals.now) h.now node round text.items) }
+    ensures { IfOk result (λ text. (node : List ℕ) → number_of net.now.node_names node ≡ Some number
+        → IsPlannedText net.now (entering arrivals.now) h.now node round text.items) }
 {
     let run = kept_run(alloc, net, arrivals, h)?;
     write_instance(alloc, &run.plan(net, round, number).instance)
@@ -66,7 +67,8 @@ fn find_planned_text(
 ) -> Result<Vec<u8>, Refusal>
     requires arrivals { AreArrivals net.now arrivals.now }
     requires lawful { IsLawful net.now h.now }
-    ensures planned { IfOk result (λ text. IsPlannedText net.now (entering arrivals.now) h.now node.now round text.items) }
+    ensures planned { IfOk result (λ text. IsPlannedText net.now
+        (entering arrivals.now) h.now node.now round text.items) }
     ensures exists { OnOk result (IsSome (number_of net.now.node_names node.now) × (round < net.now.run.rounds)) }
     ensures refused { IfErr result (Misses net.now node.now round) }
 {

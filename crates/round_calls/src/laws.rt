@@ -16,8 +16,10 @@ use road_net::Network;
 ///
 /// docs/RULES.md, "Rounds in threads".
 pub fn law_of_round_calls(net: &Network)
-    ensures { (heard : ℕ → ℕ → List Heard) (made : ℕ → ℕ → Commitment) (calls : ℕ → List Call) (history : List ℕ) → AreCallsIn net.now heard made net.now.run.rounds calls
-        → IsLawful net.now history → AreTold (board_steps net.now) (publisher net.now) calls history → HearAlong net.now history heard made }
+    ensures { (heard : ℕ → ℕ → List Heard) (made : ℕ → ℕ → Commitment) (calls : ℕ → List Call) (history : List ℕ)
+        → AreCallsIn net.now heard made net.now.run.rounds calls
+        → IsLawful net.now history → AreTold (board_steps net.now) (publisher net.now) calls history
+        → HearAlong net.now history heard made }
 {
     let _nodes = net.nodes();
 }

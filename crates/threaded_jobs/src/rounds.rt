@@ -97,7 +97,8 @@ fn steps_of<R: Threads>(
     logs: Vec<BoardLog>,
 ) -> Result<Vec<u8>, AllocError>
     requires { HaveLawfulMerge net.now logs.items }
-    ensures { IfOk result (λ text. IsTextOfMerge logs.items (λ history. records_text (steps_records net.now history)) text.items) }
+    ensures { IfOk result (λ text. IsTextOfMerge logs.items
+        (λ history. records_text (steps_records net.now history)) text.items) }
 {
     let history = merge(alloc, &logs)?;
     let history = &history;
@@ -135,7 +136,8 @@ fn write_report<R: Threads>(
         { outcome_of(alloc, net, run) },
         move || -> Result<Vec<u8>, AllocError>
             requires { HaveLawfulMerge net.now logs.items }
-            ensures { IfOk result (λ text. IsTextOfMerge logs.items (λ history. records_text (steps_records net.entry.now history)) text.items) }
+            ensures { IfOk result (λ text. IsTextOfMerge logs.items
+                (λ history. records_text (steps_records net.entry.now history)) text.items) }
         { steps_of(rt, alloc, net, logs) },
     );
     let outcome = outcome?;
