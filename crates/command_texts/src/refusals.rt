@@ -13,15 +13,20 @@ use std::alloc::{AllocError, Global};
 /// Which of a command's texts, in the order of its words.
 #[derive(Debug, Clone, Copy, PartialEq, Eq)]
 pub enum TextPlace {
+    /// The first, with number 1 in a line of refusal.
     First,
+    /// The second, with number 2.
     Second,
+    /// The third, with number 3.
     Third,
 }
 
 /// What a word can name in the texts.
 #[derive(Debug, Clone, Copy, PartialEq, Eq)]
 pub enum Named {
+    /// A node of the network, by its name.
     Node,
+    /// A round of the run, from 0.
     Round,
 }
 

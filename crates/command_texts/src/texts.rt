@@ -50,6 +50,8 @@ fn fetch_text<S: Shelf>(
 }
 
 /// The instance of the text at this place.
+///
+/// `Err`: `Unread` where the shelf fails, `Bad` where the text is too long or is none of its kind, `NoMemory` where memory runs out.
 pub fn fetch_instance<S: Shelf>(
     alloc: Global,
     shelf: &mut S,
@@ -73,6 +75,8 @@ pub fn fetch_instance<S: Shelf>(
 }
 
 /// The certificate of the text at this place.
+///
+/// `Err`: `Unread` where the shelf fails, `Bad` where the text is too long or is none of its kind, `NoMemory` where memory runs out.
 pub fn fetch_certificate<S: Shelf>(
     alloc: Global,
     shelf: &mut S,
@@ -96,6 +100,8 @@ pub fn fetch_certificate<S: Shelf>(
 }
 
 /// The network of the text at this place.
+///
+/// `Err`: `Unread` where the shelf fails, `Bad` where the text is too long or is none of its kind, `NoMemory` where memory runs out.
 pub fn fetch_network<S: Shelf>(
     alloc: Global,
     shelf: &mut S,
@@ -118,7 +124,9 @@ pub fn fetch_network<S: Shelf>(
     }
 }
 
-/// The arrivals at a network of the text at this place.
+/// The arrivals at a network, of the text at this place.
+///
+/// `Err`: `Unread` where the shelf fails, `Bad` where the text is too long or is none of its kind, `NoMemory` where memory runs out.
 pub fn fetch_arrivals<S: Shelf>(
     alloc: Global,
     shelf: &mut S,
@@ -143,7 +151,9 @@ pub fn fetch_arrivals<S: Shelf>(
     }
 }
 
-/// The history of a network of the text at this place.
+/// The history of a network, of the text at this place. It is lawful.
+///
+/// `Err`: `Unread` where the shelf fails, `Bad` where the text is too long or is none of its kind, `NoMemory` where memory runs out.
 pub fn fetch_history<S: Shelf>(
     alloc: Global,
     shelf: &mut S,

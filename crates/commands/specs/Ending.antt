@@ -1,4 +1,4 @@
--- What a command makes of its texts, and how that is delivered. No public clause names anything here.
+-- What a command makes of its texts, and how that is delivered. No public clause of a command names anything here.
 use Rattle.std.specs.Prelude.{◌≡◌, ℕ, List, Result, Ok, Err, ◌⊎◌}
 use Rattle.outside_world.specs.Shelf.{ShelfState}
 use Rattle.outside_world.specs.Sink.{Breaks, Gains, SinkState}

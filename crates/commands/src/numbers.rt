@@ -22,10 +22,12 @@ pub fn number_u32(word: &str) -> Option<u32>
     ensures some { IfSome result (λ n. word.now ≡ decimal n) }
     ensures none { IfNone result ((n : ℕ) → n < 2 ^ 32 → word.now ≢ decimal n) }
 {
-    if !may_be_number(word.as_bytes()) {
-        return None;
+    let number = number_u64(word)?;
+    if number < 4_294_967_296 {
+        Some(number as u32)
+    } else {
+        None
     }
-    word.parse::<u32>().ok()
 }
 
 /// The number from `least` to `most` that a word is the text of.

@@ -83,7 +83,7 @@ fn write_step(
     ensures stands { OnOk result (HasWalkedTo net.now nodes.now (place + 1) walk.new) }
 {
     let node = nodes[place];
-    let (round, step) = next_of(net, nodes, place, walk);
+    let (round, step) = next_step(net, nodes, place, walk);
     walk.taken[node as usize] += 1;
     match step {
         BoardStep::Read(link) => {
@@ -106,7 +106,7 @@ fn write_step(
 }
 
 /// The round of the step at a place, and the step.
-fn next_of(net: &Network, nodes: &[u32], place: usize, walk: &Walk) -> (usize, BoardStep)
+fn next_step(net: &Network, nodes: &[u32], place: usize, walk: &Walk) -> (usize, BoardStep)
     requires lawful { IsLawful net.now nodes.now }
     requires inside { place < length nodes.now }
     requires stands { HasWalkedTo net.now nodes.now place walk.now }

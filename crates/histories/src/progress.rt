@@ -68,7 +68,7 @@ impl Progress {
         let steps = step_counts(net);
         let whole = total(&steps);
         let rounds = net.run().rounds;
-        let done = done_at_once(whole, rounds);
+        let done = rounds_without_steps(whole, rounds);
         Progress {
             rounds,
             done,
@@ -79,7 +79,7 @@ impl Progress {
         }
     }
 
-    /// Takes the next step of a node, where it has one; else it says why not, and nothing changes.
+    /// Takes the next step of a node, where it has one. `Err`: why it has none, and nothing changes. It takes no memory.
     ///
     /// docs/RULES.md, "Histories".
     pub fn take(&mut self, node: u32) -> Result<(), Stop>
@@ -119,7 +119,7 @@ impl Progress {
 }
 
 /// How many rounds are done before the first step: all, where no node has a step.
-fn done_at_once(whole: u32, rounds: u32) -> u32
+fn rounds_without_steps(whole: u32, rounds: u32) -> u32
     ensures { result ≡ (if whole == 0 then rounds else 0) }
 {
     if whole == 0 { rounds } else { 0 }

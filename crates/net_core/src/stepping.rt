@@ -88,7 +88,7 @@ pub(crate) fn go_on<P: Planner>(
     ensures going { OnOk result (AreGoing net.now arrivals.now parts.new) }
     ensures history { parts.new.history ≡ parts.old.history }
 {
-    'rounds: while all_done(parts.actors.all.as_slice()) {
+    'rounds: while are_all_done(parts.actors.all.as_slice()) {
         end_round(net, arrivals, parts);
         if parts.round == net.run().rounds {
             return Ok(());
@@ -99,7 +99,7 @@ pub(crate) fn go_on<P: Planner>(
 }
 
 /// Whether each node is done.
-fn all_done(actors: &[Actor]) -> bool
+fn are_all_done(actors: &[Actor]) -> bool
     ensures done { IsTrue result → AllDone actors.now }
     ensures more { result ≡ false → IsOpen actors.now }
 {

@@ -14,7 +14,7 @@ use road_net::Network;
 use runs::{RunRecord, law_of_runs};
 use std::alloc::{AllocError, Global};
 
-/// The run of a lawful history, with all that it keeps; it has at most 38,400 plans.
+/// The run of a lawful history, with all that it keeps; it has at most 38,400 plans. `Err`: out of memory.
 pub fn kept_run(
     alloc: Global,
     net: &Network,
@@ -32,7 +32,7 @@ pub fn kept_run(
     run(alloc, net, arrivals, h, &mut BoundPlanner::new(alloc))
 }
 
-/// The report of the run of a lawful history.
+/// The report of the run of a lawful history. `Err`: out of memory.
 pub fn report(
     alloc: Global,
     net: &Network,

@@ -3,21 +3,38 @@ ghost use Rattle.std.specs.Prelude.{◌≡◌, ℕ, ◌<◌, List, IfErr, IfOk, 
 ghost use Rattle.arrivals.specs.Amounts.{AreArrivals, entering};
 ghost use Rattle.histories.specs.Histories.{IsLawful};
 ghost use Rattle.net_numbers.specs.Numbers.{number_of};
-ghost use Rattle.commands.specs.Commands.{Instance};
 ghost use Rattle.commands.specs.Ending.{Makes};
 ghost use Rattle.commands.specs.Headline.{IsPlannedText};
 ghost use Rattle.commands.specs.Outcome.{Outcome};
+ghost use Rattle.network_jobs.specs.Args.{call_with};
 ghost use Rattle.network_jobs.specs.Missing.{Misses};
 
 use super::history_runs::kept_run;
 use arrivals::Arrivals;
-use command_texts::{Named, TextPlace, Refusal, Status, fetch_history, fetch_scene};
+use command_texts::{HistoryScene, Named, Refusal, Status, fetch_history_scene};
 use commands::{Made, end};
 use histories::History;
 use outside_world::{Shelf, Sink};
 use road_net::Network;
 use schedule_meaning::write_instance;
 use std::alloc::{AllocError, Global};
+
+/// The arguments of `instance`.
+///
+/// docs/FORMATS.md, "Words".
+#[derive(Clone, Copy)]
+pub struct InstanceArgs<'a> {
+    /// The file of the network.
+    pub net: &'a str,
+    /// The file of the arrivals at it.
+    pub arr: &'a str,
+    /// The file of a history of it.
+    pub hist: &'a str,
+    /// The name of the node that planned.
+    pub node: &'a str,
+    /// The round in which it did, from 0.
+    pub round: u32,
+}
 
 // The number of a node, in a network that has this round too.
 fn node_in_round(net: &Network, node: &str, round: u32) -> Result<u32, Refusal>
@@ -82,23 +99,19 @@ fn find_planned_text(
 fn make_instance<S: Shelf>(
     alloc: Global,
     shelf: &mut S,
-    net: &str,
-    arr: &str,
-    hist: &str,
-    node: &str,
-    round: u32,
+    args: &InstanceArgs<'_>,
 ) -> Result<Made, Refusal>
-    ensures { Makes (Instance net.now arr.now hist.now node.now round) (S.state shelf.old) (S.state shelf.new) result }
+    ensures { Makes (call_with args.now) (S.state shelf.old) (S.state shelf.new) result }
 {
-    let scene = fetch_scene(alloc, shelf, net, arr)?;
-    let history = fetch_history(alloc, shelf, TextPlace::Third, hist, &scene.network)?;
+    let HistoryScene { scene, history } =
+        fetch_history_scene(alloc, shelf, args.net, args.arr, args.hist)?;
     let text = find_planned_text(
         alloc,
         &scene.network,
         &scene.arrivals,
         &history,
-        node,
-        round,
+        args.node,
+        args.round,
     )?;
     Ok(Made::Done(text))
 }
@@ -112,19 +125,15 @@ fn make_instance<S: Shelf>(
 /// docs/FORMATS.md, "Words".
 pub fn instance_job<S: Shelf, O: Sink, E: Sink>(
     alloc: Global,
-    net: &str,
-    arr: &str,
-    hist: &str,
-    node: &str,
-    round: u32,
+    args: &InstanceArgs<'_>,
     shelf: &mut S,
     out: &mut O,
     err: &mut E,
 ) -> Status
-    ensures { Outcome (Instance net.now arr.now hist.now node.now round)
+    ensures { Outcome (call_with args.now)
         (record { shelf = S.state shelf.old; out = O.state out.old; err = E.state err.old })
         (record { shelf = S.state shelf.new; out = O.state out.new; err = E.state err.new }) result }
 {
-    let made = make_instance(alloc, shelf, net, arr, hist, node, round);
+    let made = make_instance(alloc, shelf, args);
     end(alloc, made, out, err)
 }

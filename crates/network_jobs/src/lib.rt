@@ -11,7 +11,7 @@ mod summary;
 mod turns;
 
 pub use grid::grid_job;
-pub use instance::instance_job;
+pub use instance::{InstanceArgs, instance_job};
 pub use laws::law_of_instances;
 pub use replay::replay_job;
 pub use turns::turns_job;

@@ -4,7 +4,7 @@ ghost use Rattle.commands.specs.Ending.{Makes};
 ghost use Rattle.commands.specs.Outcome.{Outcome};
 
 use super::history_runs::report;
-use command_texts::{TextPlace, Refusal, Status, fetch_history, fetch_scene};
+use command_texts::{HistoryScene, Refusal, Status, fetch_history_scene};
 use commands::{Made, end};
 use outside_world::{Shelf, Sink};
 use std::alloc::Global;
@@ -19,8 +19,7 @@ fn make_report<S: Shelf>(
 ) -> Result<Made, Refusal>
     ensures { Makes (Replay net.now arr.now hist.now) (S.state shelf.old) (S.state shelf.new) result }
 {
-    let scene = fetch_scene(alloc, shelf, net, arr)?;
-    let history = fetch_history(alloc, shelf, TextPlace::Third, hist, &scene.network)?;
+    let HistoryScene { scene, history } = fetch_history_scene(alloc, shelf, net, arr, hist)?;
     let text = report(alloc, &scene.network, &scene.arrivals, &history)?;
     Ok(Made::Done(text))
 }

@@ -1,7 +1,7 @@
 //! The summary of a run.
 ghost use Rattle.std.specs.Prelude.{◌≡◌, ◌≤◌, All, IfOk, length};
 ghost use Rattle.commands.specs.Summary as summary;
-ghost use Rattle.commands.specs.Summary.{is_no_plan, planned_delay, plans_none, planned_delays, summary_text};
+ghost use Rattle.commands.specs.Summary.{is_no_plan, planned_delay, none_count, planned_delays, summary_text};
 ghost use Rattle.schedule_meaning.specs.Best.{IsLeast};
 
 use intersection_actor::PlanRecord;
@@ -31,7 +31,7 @@ pub fn summary(
         &[number, u64::from(side), u64::from(rounds)],
     )?;
     push_line(&mut text, b"plans", &[plans.len() as u64])?;
-    push_line(&mut text, b"none", &[plans_none(plans)])?;
+    push_line(&mut text, b"none", &[none_count(plans)])?;
     push_line(&mut text, b"delay", &[planned_delays(plans)])?;
     push_line(
         &mut text,
@@ -42,8 +42,8 @@ pub fn summary(
 }
 
 // How many of these plans are none.
-fn plans_none(plans: &[PlanRecord]) -> u64
-    ensures { result ≡ summary.plans_none plans.now }
+fn none_count(plans: &[PlanRecord]) -> u64
+    ensures { result ≡ summary.none_count plans.now }
 {
     plans.iter().filter(|plan| is_no_plan(&plan.answer)).count() as u64
 }

@@ -1,4 +1,4 @@
--- No public clause names these: how far the nodes are between the rounds.
+-- How far the nodes are between the rounds, and what a round of all nodes is.
 use Rattle.std.specs.Prelude.{◌≡◌, ℕ, zero, suc, ◌-◌, ◌*◌, ◌<◌, ◌≤◌, List, [], ◌++◌, All, length, map, slice_index_or}
 use Rattle.arrivals.specs.Amounts.{Amounts}
 use Rattle.atomic_table.specs.Seated.{TableId}

@@ -10,10 +10,10 @@ use super::certify_bound::certify_bound_job;
 use super::check::check_job;
 use super::plan::plan_job;
 use board_model::Gate;
-use command_texts::{Refusal, Status, refuse};
+use command_texts::{Refusal, SceneFiles, Status, refuse};
 use commands::{Command, command_of};
 use foundation::text::Text;
-use network_jobs::{grid_job, instance_job, replay_job, turns_job};
+use network_jobs::{InstanceArgs, grid_job, instance_job, replay_job, turns_job};
 use outside_world::{Shelf, Sink};
 use std::alloc::Global;
 use std::sync::Wait;
@@ -72,14 +72,25 @@ fn run<R: Threads + Wait + Sync, S: Shelf, O: Sink, E: Sink, G: Gate + Sync>(
         Command::Check { file } => check_job(alloc, file, shelf, out, err),
         Command::Turns { net, arr } => turns_job(alloc, net, arr, shelf, out, err),
         Command::Replay { net, arr, hist } => replay_job(alloc, net, arr, hist, shelf, out, err),
-        Command::Net { net, arr } => net_job(rt, alloc, net, arr, shelf, out, err, gate),
+        Command::Net { net, arr } => {
+            net_job(rt, alloc, &SceneFiles { net, arr }, shelf, out, err, gate)
+        }
         Command::Instance {
             net,
             arr,
             hist,
             node,
             round,
-        } => instance_job(alloc, net, arr, hist, node, round, shelf, out, err),
+        } => {
+            let args = InstanceArgs {
+                net,
+                arr,
+                hist,
+                node,
+                round,
+            };
+            instance_job(alloc, &args, shelf, out, err)
+        }
         Command::Grid {
             number,
             side,

@@ -5,7 +5,7 @@ ghost use Rattle.commands.specs.Outcome.{Outcome};
 
 use super::rounds::report;
 use board_model::Gate;
-use command_texts::{Refusal, Status, fetch_scene};
+use command_texts::{Refusal, SceneFiles, Status, fetch_scene};
 use commands::{Made, end};
 use outside_world::{Shelf, Sink};
 use std::alloc::Global;
@@ -17,13 +17,12 @@ fn make_report<R: Threads + Wait + Sync, S: Shelf, G: Gate + Sync>(
     rt: &R,
     alloc: Global,
     shelf: &mut S,
-    net: &str,
-    arr: &str,
+    files: &SceneFiles<'_>,
     gate: &G,
 ) -> Result<Made, Refusal>
-    ensures { Makes (Net net.now arr.now) (S.state shelf.old) (S.state shelf.new) result }
+    ensures { Makes (Net files.now.net.now files.now.arr.now) (S.state shelf.old) (S.state shelf.new) result }
 {
-    let scene = fetch_scene(alloc, shelf, net, arr)?;
+    let scene = fetch_scene(alloc, shelf, files.net, files.arr)?;
     let text = report(rt, alloc, &scene.network, &scene.arrivals, gate)?;
     Ok(Made::Done(text))
 }
@@ -40,17 +39,16 @@ fn make_report<R: Threads + Wait + Sync, S: Shelf, G: Gate + Sync>(
 pub fn net_job<R: Threads + Wait + Sync, S: Shelf, O: Sink, E: Sink, G: Gate + Sync>(
     rt: &R,
     alloc: Global,
-    net: &str,
-    arr: &str,
+    files: &SceneFiles<'_>,
     shelf: &mut S,
     out: &mut O,
     err: &mut E,
     gate: &G,
 ) -> Status
-    ensures { Outcome (Net net.now arr.now)
+    ensures { Outcome (Net files.now.net.now files.now.arr.now)
         (record { shelf = S.state shelf.old; out = O.state out.old; err = E.state err.old })
         (record { shelf = S.state shelf.new; out = O.state out.new; err = E.state err.new }) result }
 {
-    let made = make_report(rt, alloc, shelf, net, arr, gate);
+    let made = make_report(rt, alloc, shelf, files, gate);
     end(alloc, made, out, err)
 }

@@ -1,12 +1,11 @@
 //! A run in threads, and the history that its boards tell.
-ghost use Rattle.std.specs.Prelude.{◌≡◌, ◌*◌, ◌≤◌, ℕ, IfOk, length};
+ghost use Rattle.std.specs.Prelude.{◌≡◌, All, IfOk, [], length};
 ghost use Rattle.arrivals.specs.Amounts.{AreArrivals, entering};
-ghost use Rattle.board_rule.specs.Passes.{AreAllPasses, AreLogsOfPasses, calls_in, fresh_passes};
+ghost use Rattle.board_rule.specs.Passes.{AreAllPasses, AreLogsOfPasses, calls_in};
 ghost use Rattle.delay_report.specs.Reports.{outcome_records, records_text, report_text, steps_records};
 ghost use Rattle.histories.specs.Histories.{IsLawful};
-ghost use Rattle.histories.specs.Steps.{board_steps};
 ghost use Rattle.runs.specs.Complete.{IsComplete};
-ghost use Rattle.round_calls.specs.Calls.{IsRunOfCalls, MergeToLawful};
+ghost use Rattle.round_calls.specs.Calls.{HaveCallsLeft, IsRunOfCalls, MergeToLawful};
 ghost use Rattle.commands.specs.Headline.{ToldHeadline};
 ghost use Rattle.threaded_jobs.specs.Merged.{HaveLawfulMerge, IsRunOfMerge, IsTextOfMerge};
 
@@ -31,22 +30,35 @@ struct LoggedRun {
     logs: Vec<BoardLog>,
 }
 
+/// New boards for the links of a network, and new passes at them, one for each node, with calls for all rounds.
+fn open_boards(alloc: Global, net: &Network) -> Result<(Boards, Vec<Pass>), AllocError>
+    ensures links { IfOk result (λ r. r.0.links ≡ length net.now.link_names) }
+    ensures all { IfOk result (λ r. AreAllPasses r.0 r.1.items) }
+    ensures nodes { IfOk result (λ r. length r.1.items ≡ length net.now.node_names) }
+    ensures fresh { IfOk result (λ r. All (λ p. p.calls ≡ []) r.1.items) }
+    ensures left { IfOk result (λ r. HaveCallsLeft net.now r.1.items) }
+{
+    let calls = calls_for_pass(net);
+    let (boards, passes) = Boards::new(alloc, net.links(), net.nodes(), calls)?;
+    Ok((boards, passes))
+}
+
 /// The run of a network in threads that last, by new passes, one for each node, and the passes after it.
-fn run_by<R: Threads + Wait + Sync, G: Gate + Sync>(
+fn run_with_passes<R: Threads + Wait + Sync, G: Gate + Sync>(
     rt: &R,
     alloc: Global,
     net: &Network,
     arrivals: &Arrivals,
     boards: &Boards,
     passes: Vec<Pass>,
-    calls: u32,
     gate: &G,
 ) -> Result<(RunRecord, Vec<Pass>), AllocError>
     requires arrivals { AreArrivals net.now arrivals.now }
     requires links { boards.now.links ≡ length net.now.link_names }
     requires all { AreAllPasses boards.now passes.items }
-    requires passes { passes.items ≡ fresh_passes boards.now.id calls 0 (length net.now.node_names) }
-    requires enough { (node : ℕ) → net.now.run.rounds * length (board_steps net.now node) ≤ calls }
+    requires nodes { length passes.items ≡ length net.now.node_names }
+    requires fresh { All (λ p. p.calls ≡ []) passes.items }
+    requires left { HaveCallsLeft net.now passes.items }
     ensures passes { IfOk result (λ r. AreAllPasses boards.now r.1.items) }
     ensures lawful { IfOk result (λ r. MergeToLawful net.now (calls_in r.1.items)) }
     ensures run { IfOk result (λ r. IsRunOfCalls net.now arrivals.now (calls_in r.1.items) r.0) }
@@ -74,9 +86,8 @@ fn play<R: Threads + Wait + Sync, G: Gate + Sync>(
     requires { AreArrivals net.now arrivals.now }
     ensures { IfOk result (λ logged. IsRunOfMerge net.now (entering arrivals.now) logged.logs.items logged.run) }
 {
-    let calls = calls_for_pass(net);
-    let (boards, passes) = Boards::new(alloc, net.links(), net.nodes(), calls)?;
-    let (run, passes) = run_by(rt, alloc, net, arrivals, &boards, passes, calls, gate)?;
+    let (boards, passes) = open_boards(alloc, net)?;
+    let (run, passes) = run_with_passes(rt, alloc, net, arrivals, &boards, passes, gate)?;
     let logs = close_boards(alloc, boards, passes)?;
     Ok(LoggedRun { run, logs })
 }

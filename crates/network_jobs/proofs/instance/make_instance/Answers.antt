@@ -1,53 +1,33 @@
-use Rattle.std.proofs.Common.{subst, ◌∙◌}
 use Rattle.arrivals.specs.Amounts.{entering}
-use Rattle.outside_world.specs.Shelf.{ShelfState}
-use Rattle.command_texts.specs.Stops.{StopsAt}
-use Rattle.command_texts.specs.Texts.{HistoryText, IsIn, Next, NoMore}
-use Rattle.command_texts.specs.declared.refusals.TextPlace.TheVariants.{Third}
-use Rattle.command_texts.proofs.Stopping.{history_stops}
-use Rattle.commands.specs.Commands.{Instance}
 use Rattle.commands.proofs.Outcomes.{failed, handed_on}
+use Rattle.network_jobs.specs.Args.{call_with}
 use Rattle.network_jobs.proofs.Missed.{missed, none_missed}
 use Rattle.network_jobs.proofs.instance.make_instance.Goals as goal
 
 pub returns-in_err-scene : goal.returns-in_err-scene
-returns-in_err-scene g c =
-    failed (Instance c.args.net.now c.args.arr.now c.args.hist.now c.args.node.now c.args.round) _ _ c.from_residual.result _
-    (c.in_err-scene.ensures.refused (λ network. Next (HistoryText network) c.args.hist.now (λ history. NoMore))) c.from_residual.ensures.1
-
-pub returns-in_err-history : goal.returns-in_err-history
-returns-in_err-history g c =
-    let made = c.in_ok-scene in
-    let scene = made.scene in
-    let why = c.in_err-history.field-0.0 in
-    let stops = subst (λ (s : ShelfState). StopsAt why Third (HistoryText scene.network) c.args.hist.now s (g.S.Shelf.state c.fetch_history.new.shelf)) made.ensures.ok c.in_err-history.ensures.refused in
-    failed (Instance c.args.net.now c.args.arr.now c.args.hist.now c.args.node.now c.args.round) _ _ c.from_residual-in_err-history.result why
-    (history_stops _ _ _ _ _ scene.network (entering scene.arrivals) why made.ensures.network made.ensures.arrivals stops) c.from_residual-in_err-history.ensures.1
+returns-in_err-scene g c = failed (call_with c.args.args.now) _ _ c.from_residual.result _ c.in_err-scene.ensures.refused c.from_residual.ensures.1
 
 pub returns-in_err-text : goal.returns-in_err-text
 returns-in_err-text g c =
+    let args = c.args.args.now in
     let made = c.in_ok-scene in
-    let scene = made.scene in
-    let read = c.in_ok-history in
-    let is = subst (λ (s : ShelfState). IsIn s.files c.args.hist.now (HistoryText scene.network) read.history) made.ensures.ok read.ensures.text in
-    handed_on (Instance c.args.net.now c.args.arr.now c.args.hist.now c.args.node.now c.args.round) _ _ c.from_residual-in_err-text.result _
-    (missed c.args.net.now c.args.arr.now c.args.hist.now c.args.node.now c.args.round scene.network (entering scene.arrivals) read.history _ _ _ (read.ensures.ok ∙ made.ensures.ok)
-    made.ensures.network made.ensures.arrivals is c.in_err-text.ensures.refused) c.from_residual-in_err-text.ensures.1
+    let texts = made.ensures.texts in
+    handed_on (call_with args) _ _ c.from_residual-in_err-text.result _
+    (missed args.net.now args.arr.now args.hist.now args.node.now args.round made.scene.network (entering made.scene.arrivals) made.history _ _ _ made.ensures.ok
+    texts.0 texts.1.0 texts.1.1.0 c.in_err-text.ensures.refused) c.from_residual-in_err-text.ensures.1
 
 pub returns : goal.returns
 returns g c =
+    let args = c.args.args.now in
     let made = c.in_ok-scene in
-    let scene = made.scene in
-    let read = c.in_ok-history in
-    let text = c.in_ok-text in
-    let is = subst (λ (s : ShelfState). IsIn s.files c.args.hist.now (HistoryText scene.network) read.history) made.ensures.ok read.ensures.text in (
-      read.ensures.ok ∙ made.ensures.ok,
+    let text = c.in_ok-text in (
+      made.ensures.ok,
       (
-        (scene.network, (entering scene.arrivals, (read.history, tt))),
-        (made.ensures.network, (made.ensures.arrivals, (is, tt))),
+        (made.scene.network, (entering made.scene.arrivals, (made.history, tt))),
+        made.ensures.texts,
         (
           (text.ensures.planned, λ against. against),
-          none_missed c.args.net.now c.args.arr.now c.args.hist.now c.args.node.now c.args.round scene.network (entering scene.arrivals) read.history text.ensures.exists.0 text.ensures.exists.1,
+          none_missed args.net.now args.arr.now args.hist.now args.node.now args.round made.scene.network (entering made.scene.arrivals) made.history text.ensures.exists.0 text.ensures.exists.1,
         ),
       ),
     )

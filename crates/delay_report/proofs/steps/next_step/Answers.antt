@@ -1,6 +1,6 @@
 use Rattle.std.proofs.Common.{refl, ◌∙◌, arith}
 use Rattle.delay_report.proofs.WalkLaws.{in-steps, in-taken, link-exists, own-is, own-few, round-is, some-own, step-is}
-use Rattle.delay_report.proofs.steps.next_of.Goals as goal
+use Rattle.delay_report.proofs.steps.next_step.Goals as goal
 
 pub index-requires : goal.index-requires
 index-requires c = omega (arith, in-steps c.args.net.now c.args.nodes.now c.requires.lawful c.args.place c.requires.inside c.args.walk.now c.requires.stands, c.args.walk.now.steps.ok.0)
