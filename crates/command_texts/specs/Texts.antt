@@ -46,16 +46,16 @@ pub record IsBroughtBy (net : Net) (text : List ℕ) (enters : ℕ → ℕ → �
   pub bring : entering arrivals ≡ enters
 
 -- a text is the text of this
-abbrev pub Spells : (kind : Kind) → List ℕ → Said kind → Type 0
-Spells InstanceText text p = IsInstance p × (text ≡ instance_text p.plan p.head p.lists)
-Spells CertificateText text c = IsCertificate c × cert.Spells text c
-Spells NetworkText text net = IsNetworkText text net
-Spells (ArrivalsText net) text enters = IsBroughtBy net text enters
-Spells (HistoryText net) text history = IsHistoryText net text history
+abbrev pub IsTextFor : (kind : Kind) → List ℕ → Said kind → Type 0
+IsTextFor InstanceText text p = IsInstance p × (text ≡ instance_text p.plan p.head p.lists)
+IsTextFor CertificateText text c = IsCertificate c × cert.Spells text c
+IsTextFor NetworkText text net = IsNetworkText text net
+IsTextFor (ArrivalsText net) text enters = IsBroughtBy net text enters
+IsTextFor (HistoryText net) text history = IsHistoryText net text history
 
 -- a text is read as this: it is within the limit, and is the text of it
 abbrev pub Reads : (kind : Kind) → List ℕ → Said kind → Type 0
-Reads kind text said = (length text ≤ most_bytes) × Spells kind text said
+Reads kind text said = (length text ≤ most_bytes) × IsTextFor kind text said
 
 -- the first fault for which a text within the limit is refused
 abbrev pub IsFault : Kind → List ℕ → BadText → Type 0

@@ -13,7 +13,7 @@ use Rattle.schedule_meaning.specs.Best.{IsBest}
 use Rattle.schedule_meaning.specs.Instances.{Problem}
 use Rattle.schedule_meaning.specs.declared.planners.Answer.{Answer}
 use Rattle.schedule_meaning.specs.declared.planners.Answer.TheVariants.{Plan, NoPlan}
-use Rattle.command_texts.specs.Texts.{HistoryText, InstanceText, Reads, Spells}
+use Rattle.command_texts.specs.Texts.{HistoryText, InstanceText, Reads, IsTextFor}
 use Rattle.commands.specs.Summary.{summary_text}
 
 -- The run of a lawful history, with arrivals that bring this. Whatever order the intersections' board steps take in it: every
@@ -37,8 +37,8 @@ pub record Headline (net : Net) (enters : ℕ → ℕ → ℕ) (history : List �
 pub record ToldHeadline (net : Net) (enters : ℕ → ℕ → ℕ) (bytes : List ℕ) : Type 0 where
   pub history : List ℕ
   pub headline : Headline net enters history bytes
-  pub spells : Spells (HistoryText net) bytes history
-  pub only : (other : List ℕ) → Spells (HistoryText net) bytes other → other ≡ history
+  pub is_text : IsTextFor (HistoryText net) bytes history
+  pub only : (other : List ℕ) → IsTextFor (HistoryText net) bytes other → other ≡ history
 
 -- one answer says what the other says: both plan with one delay, or both plan nothing
 abbrev pub AgreesWith : Answer → Answer → Type 0

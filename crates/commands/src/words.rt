@@ -163,7 +163,7 @@ fn four_words_and_number(words: &[Text]) -> Option<(&str, &str, &str, &str, u32)
 
 // The number of a grid, how many nodes a side it has, and for how many rounds, where the words are just these.
 fn grid_numbers(words: &[Text]) -> Option<(u64, u32, u32)>
-    ensures spelled { IfSome result (λ w. words.now ≡ decimal w.0 ∷ decimal w.1 ∷ decimal w.2 ∷ []) }
+    ensures words { IfSome result (λ w. words.now ≡ decimal w.0 ∷ decimal w.1 ∷ decimal w.2 ∷ []) }
     ensures within { IfSome result (λ w. (w.0 < 2 ^ 64) × IsSide w.1 × AreRounds w.2) }
     ensures none { IfNone result ((number side rounds : ℕ) → number < 2 ^ 64 → IsSide side → AreRounds rounds
         → words.now ≢ decimal number ∷ decimal side ∷ decimal rounds ∷ []) }

@@ -3,6 +3,7 @@ ghost use Rattle.std.specs.Prelude.{◌≡◌, ◌≤◌, All, IfOk, length};
 ghost use Rattle.commands.specs.Summary as summary;
 ghost use Rattle.commands.specs.Summary.{is_no_plan, planned_delay, none_count, planned_delays, summary_text};
 ghost use Rattle.schedule_meaning.specs.Best.{IsLeast};
+ghost use Rattle.switch_rules.specs.Bounds.{greatest_delay};
 
 use intersection_actor::PlanRecord;
 use number_text::push_line;
@@ -75,7 +76,7 @@ fn planned_delays(plans: &[PlanRecord]) -> u64
 fn planned_delay(plan: &PlanRecord) -> u64
     requires { IsLeast plan.now.instance plan.now.answer }
     ensures value { result ≡ planned_delay plan.now.answer }
-    ensures bound { result ≤ 2880000000000 }
+    ensures bound { result ≤ greatest_delay }
 {
     let _plan = plan.instance.plan();
     match &plan.answer {

@@ -26,7 +26,7 @@ returns g c =
     record {
       history = told.history;
       headline = record { run = run; runs = ran; report = told.text_is };
-      spells = spells;
+      is_text = spells;
       only = λ other also. c.law_of_reports.ensures.one text.items other told.history also spells;
     })
     c.write_report.ensures
