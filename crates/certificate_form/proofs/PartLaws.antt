@@ -6,7 +6,7 @@ use Rattle.std.specs.Prelude.{OnErr, OnOk, codes}
 use Rattle.std.proofs.Math.Seq.{take-append-add}
 use Rattle.std.proofs.lemmas.List.{append-nil, take-append-drop, take-append-le, take_min}
 use Rattle.std.proofs.lemmas.List.Concat.{flat_map-append}
-use Rattle.outside_world.specs.Sink.{Breaks, Gains, Rose, SinkState}
+use Rattle.outside_world.specs.Sink.{Breaks, Gains, SinkState, one_more}
 use Rattle.instance_form.specs.InstanceText.{instance_text}
 use Rattle.schedule_meaning.specs.Instances.{Problem}
 use Rattle.schedule_meaning.specs.declared.planners.Answer.{Answer}
@@ -47,7 +47,7 @@ take_front p q r count =
 -- what is broken off after a first part is broken off the whole
 breaks_more : (a b c : SinkState) (p q r : List ℕ) → Gains a b p → Breaks b c q → Breaks a c (p ++ (q ++ r))
 breaks_more a b c p q r first broken = record {
-  rose = subst (λ (n : ℕ). Rose n c.faults) (ap (λ (s : SinkState). s.faults) first) broken.rose;
+  faults = broken.faults ∙ ap (λ (s : SinkState). one_more s.faults) first;
   count = length p + min broken.count (length q);
   front = broken.front
       ∙ ap (λ (s : SinkState). append_known s.written (take broken.count q)) first

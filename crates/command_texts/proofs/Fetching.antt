@@ -1,10 +1,14 @@
 -- What a fetch says of the text of a file.
-use Rattle.std.proofs.Common.{◌≡◌, ℕ, ◌+◌, ◌<◌, ◌≤◌, List, length, Some, None, IfSome, IsSome, arith}
-use Rattle.outside_world.specs.Shelf.{Files, front_of}
+use Rattle.std.proofs.Common.{◌≡◌, ℕ, ◌+◌, ◌<◌, ◌≤◌, List, length, Some, None, IfSome, IsSome, refl, arith}
+use Rattle.outside_world.specs.Shelf.{Files, ShelfState, front_of}
 use Rattle.outside_world.proofs.ShelfLemmas.{whole_file, long_file}
 use Rattle.command_texts.specs.Limits.{most_bytes}
-use Rattle.command_texts.specs.Texts.{IsBad, Kind, Reads, Said, text_of}
+use Rattle.command_texts.specs.Stops.{StopsAt}
+use Rattle.command_texts.specs.Texts.{HasFault, IsBad, Kind, Reads, Said, text_of}
+use Rattle.command_texts.specs.declared.bad_texts.BadText.{BadText}
 use Rattle.command_texts.specs.declared.bad_texts.BadText.TheVariants.{Long}
+use Rattle.command_texts.specs.declared.refusals.Refusal.TheVariants as refusal
+use Rattle.command_texts.specs.declared.refusals.TextPlace.{TextPlace}
 
 -- what was fetched within the limit is the whole text
 pub fetched-whole : (files : Files) (name bytes : List ℕ) → IfSome files (λ known. front_of known name (most_bytes + 1) ≡ Some bytes) → length bytes ≤ most_bytes → IsSome files → text_of files name ≡ Some bytes
@@ -22,3 +26,8 @@ fetched-long (Some known) kind name bytes e long =
     let (content, same, past) = long_file known name (most_bytes + 1) bytes e (omega arith) in
     let over : most_bytes < length content = omega (arith, past) in
     record { text = content; told = λ told. same; unread = past-limit kind content over; fault = over }
+
+-- a text that was fetched and is read as nothing of its kind is refused for its fault
+pub fetched-bad : (old new : ShelfState) (place : TextPlace) (kind : Kind) (name text : List ℕ) (why : BadText) → new ≡ old → (IsSome old.files → text_of old.files name ≡ Some text)
+    → ((said : Said kind) → ¬ Reads kind text said) → HasFault kind text why → StopsAt (refusal.Bad place why) place kind name old new
+fetched-bad old new place kind name text why same told unread fault = (refl, (same, record { text = text; told = told; unread = unread; fault = fault }))

@@ -1,4 +1,4 @@
--- A fault that is no want of memory says that a text is read as nothing of its kind.
+-- A fault other than `NoMemory` says that a text is read as nothing of its kind.
 use Rattle.std.proofs.Common.{◌≢◌, refl}
 use Rattle.net_draft.specs.Faults.{Unless}
 use Rattle.net_draft.specs.declared.faults.NetFault.{NetFault}

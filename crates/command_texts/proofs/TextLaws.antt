@@ -2,8 +2,8 @@
 use Rattle.std.proofs.Common.{◌≡◌, ℕ, List, [], ◌∷◌, ◌++◌, length, Option, Some, None, IsSome, refl, sym, ap, subst, ◌∙◌, length-append, arith}
 use Rattle.outside_world.specs.Shelf.{Files, GainsLast}
 use Rattle.command_texts.specs.declared.bad_texts.BadText.{BadText}
-use Rattle.command_texts.specs.declared.refusals.Place.{Place}
-use Rattle.command_texts.specs.declared.refusals.Place.TheVariants.{First, Second, Third}
+use Rattle.command_texts.specs.declared.refusals.TextPlace.{TextPlace}
+use Rattle.command_texts.specs.declared.refusals.TextPlace.TheVariants.{First, Second, Third}
 use Rattle.command_texts.specs.Texts.{AllSaid, AreIn, At, IsBad, IsIn, Kind, Next, NoMore, Reads, Said, Tells, TellsBad, Texts, text_of}
 
 same_text : (o : Option (List ℕ)) (a b : List ℕ) → o ≡ Some a → o ≡ Some b → a ≡ b
@@ -25,7 +25,7 @@ not_bad files name kind said text why is reads bad =
     bad.unread said (subst (λ (t : List ℕ). Reads kind t said) (same_text (text_of files name) text bad.text is (bad.told (some_files files name text is))) reads)
 
 -- of texts that are told and read none is bad
-pub none_bad : (files : Files) (texts : Texts) (said : AllSaid texts) (place : Place) (why : BadText) → Tells files texts said → At (IsBad files why) files texts place → ⊥
+pub none_bad : (files : Files) (texts : Texts) (said : AllSaid texts) (place : TextPlace) (why : BadText) → Tells files texts said → At (IsBad files why) files texts place → ⊥
 none_bad files NoMore said place why tells at = at
 none_bad files (Next kind name rest) said First why tells at = not_bad files name kind said.0 tells.0.0 why tells.0.1 tells.0.2 at
 none_bad files (Next kind name rest) said Second why tells at =
@@ -46,7 +46,7 @@ as_told files (Next kind name rest) said other are tells holds h =
     subst (λ (first : Said kind). (later : AllSaid (rest first)) → AreIn files (rest first) later → holds (both first later) → holds other) (sym same) behind said.1 are.1 h
 
 -- of texts that are read none is told to be bad
-pub none_told_bad : (files : Files) (texts : Texts) (said : AllSaid texts) (place : Place) → AreIn files texts said → TellsBad files texts place → ⊥
+pub none_told_bad : (files : Files) (texts : Texts) (said : AllSaid texts) (place : TextPlace) → AreIn files texts said → TellsBad files texts place → ⊥
 none_told_bad files NoMore said place are bad = bad
 none_told_bad files (Next kind name rest) said First are bad =
     bad.2 said.0 (subst (λ (t : List ℕ). Reads kind t said.0) (same_text (text_of files name) are.0.text bad.0 (are.0.told (some_files files name bad.0 bad.1)) bad.1) are.0.reads)
@@ -63,7 +63,7 @@ no_gain old new name (more, e) same =
     omega (arith, ap length (sym same ∙ e), length-append (old ++ more) (name ∷ []), length-append old more)
 
 -- where no name was gained, no text was unread
-pub none_gains : (old new : List (List ℕ)) (files : Files) (texts : Texts) (place : Place) → At (λ kind name. GainsLast old new name) files texts place → new ≡ old → ⊥
+pub none_gains : (old new : List (List ℕ)) (files : Files) (texts : Texts) (place : TextPlace) → At (λ kind name. GainsLast old new name) files texts place → new ≡ old → ⊥
 none_gains old new files NoMore place at same = at
 none_gains old new files (Next kind name rest) First at same = no_gain old new name at same
 none_gains old new files (Next kind name rest) Second at same = none_gains old new files (rest at.0) First at.2 same

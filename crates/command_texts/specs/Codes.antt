@@ -47,7 +47,7 @@ instance_code (Order phase place) = codes "order " ++ decimal phase ++ 32 ∷ de
 instance_code Many = codes "many"
 
 -- the code of a fault of a certificate's text: those of a line, of the phases and of the instance, and of the entries the
--- first that is out of its bounds, or else the first that is not above the one before it, from 1; want of memory has none
+-- first that is out of its bounds, or else the first that is not above the one before it, from 1; `NoMemory` has none
 abbrev pub cert_code : CertText → List ℕ
 cert_code (text.Line n) = codes "line " ++ decimal n
 cert_code (text.Plan fault) = plan_code fault
@@ -70,7 +70,7 @@ part_name part.Conflict = codes "conflict"
 abbrev pub place_text : Place → List ℕ
 place_text place = part_name place.part ++ 32 ∷ decimal place.item ++ 32 ∷ decimal place.sub
 
--- the code of a fault of a network: a place, or a link or node by its number, from 1; want of memory has none
+-- the code of a fault of a network: a place, or a link or node by its number, from 1; `NoMemory` has none
 abbrev pub net_code : NetFault → List ℕ
 net_code net.NoMemory = []
 net_code net.NotToml = codes "toml"
@@ -84,7 +84,7 @@ net_code (net.Shares link) = codes "shares " ++ decimal (link + 1)
 net_code (net.Phaseless link) = codes "phaseless " ++ decimal (link + 1)
 net_code (net.Clash a b) = codes "clash " ++ decimal (a + 1) ++ 32 ∷ decimal (b + 1)
 
--- the code of a fault of arrivals: the header, or the first row at fault, from 1; want of memory has none
+-- the code of a fault of arrivals: the header, or the first row at fault, from 1; `NoMemory` has none
 abbrev pub row_code : RowFault → List ℕ
 row_code row.NoMemory = []
 row_code row.Header = codes "header"
@@ -93,7 +93,7 @@ row_code (row.Link n) = codes "link " ++ decimal n
 row_code (row.Bound n) = codes "amount " ++ decimal n
 row_code (row.Sum n) = codes "sum " ++ decimal n
 
--- the code of a fault of a history: the header, the first row at fault, from 1, or that it ends too early; want of memory has none
+-- the code of a fault of a history: the header, the first row at fault, from 1, or that it ends too early; `NoMemory` has none
 abbrev pub history_code : HistoryFault → List ℕ
 history_code history.NoMemory = []
 history_code history.Header = codes "header"
@@ -104,7 +104,7 @@ history_code (history.Turn n) = codes "turn " ++ decimal n
 history_code history.Short = codes "short"
 
 -- the code of what is wrong with a text: it is long, or the first line that has not its form, from 1, or else the fault
--- of the phases, or else that of the instance; want of memory is no fault of a text and has no code
+-- of the phases, or else that of the instance; `NoMemory` is no fault of a text and has no code
 abbrev pub code_of : BadText → List ℕ
 code_of Long = codes "long"
 code_of (Fault (Line n)) = codes "line " ++ decimal n

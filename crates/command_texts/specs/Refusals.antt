@@ -5,8 +5,8 @@ use Rattle.outside_world.specs.Sink.{Breaks, Gains, SinkState}
 use Rattle.command_texts.specs.Codes.{code_of}
 use Rattle.command_texts.specs.declared.refusals.Named.{Named}
 use Rattle.command_texts.specs.declared.refusals.Named.TheVariants.{Node, Round}
-use Rattle.command_texts.specs.declared.refusals.Place.{Place}
-use Rattle.command_texts.specs.declared.refusals.Place.TheVariants.{First, Second, Third}
+use Rattle.command_texts.specs.declared.refusals.TextPlace.{TextPlace}
+use Rattle.command_texts.specs.declared.refusals.TextPlace.TheVariants.{First, Second, Third}
 use Rattle.command_texts.specs.declared.refusals.Refusal.{Refusal}
 use Rattle.command_texts.specs.declared.refusals.Refusal.TheVariants as refusal
 use Rattle.command_texts.specs.declared.status.Status.{Status}
@@ -23,13 +23,13 @@ exit_status WriteFault = 5
 exit_status NoMemory = 6
 
 -- the number of a text, from 1
-abbrev pub number_of : Place → ℕ
+abbrev pub number_of : TextPlace → ℕ
 number_of First = 1
 number_of Second = 2
 number_of Third = 3
 
 -- the line for a text that cannot be read
-abbrev pub unread_line : Place → List ℕ
+abbrev pub unread_line : TextPlace → List ℕ
 unread_line First = codes "signal: cannot read 1\n"
 unread_line Second = codes "signal: cannot read 2\n"
 unread_line Third = codes "signal: cannot read 3\n"
@@ -57,11 +57,11 @@ status_of (refusal.Unread text) = ReadFault
 status_of refusal.Unwritten = WriteFault
 status_of refusal.NoMemory = NoMemory
 
--- a line was written, or a front of it where the sink's count of faults rose
+-- a line was written, or a front of it where just one put failed
 abbrev pub Writes : List ℕ → SinkState → SinkState → Type 0
 Writes line old new = Gains old new line ⊎ Breaks old new line
 
--- the line of a refusal was written, or a front of it where the sink's count of faults rose
+-- the line of a refusal was written, or a front of it where just one put failed
 abbrev pub Says : Refusal → SinkState → SinkState → Type 0
 Says why old new = Writes (line_of why) old new
 
@@ -70,6 +70,6 @@ abbrev pub TakesMemory : Refusal → Type 0
 TakesMemory (refusal.Bad text why) = Unit {0}
 TakesMemory _ = ⊥
 
--- a refusal was answered with its status and its line, or with want of memory for the line
+-- a refusal was answered with its status and its line, or with `NoMemory`, where there is no memory for the line
 abbrev pub Refuses : Refusal → SinkState → SinkState → Status → Type 0
 Refuses why err err' status = ((status ≡ status_of why) × Says why err err') ⊎ (TakesMemory why × (status ≡ NoMemory) × Says refusal.NoMemory err err')

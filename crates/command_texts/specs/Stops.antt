@@ -2,12 +2,12 @@
 use Rattle.std.specs.Prelude.{◌≡◌, ℕ, List}
 use Rattle.outside_world.specs.Shelf.{GainsLast, ShelfState}
 use Rattle.command_texts.specs.Texts.{At, IsBad, Kind, Texts}
-use Rattle.command_texts.specs.declared.refusals.Place.{Place}
+use Rattle.command_texts.specs.declared.refusals.TextPlace.{TextPlace}
 use Rattle.command_texts.specs.declared.refusals.Refusal.{Refusal}
 use Rattle.command_texts.specs.declared.refusals.Refusal.TheVariants as refusal
 
 -- why the text at this place, of this kind and in this file, could not be had
-abbrev pub StopsAt : Refusal → Place → Kind → List ℕ → ShelfState → ShelfState → Type 0
+abbrev pub StopsAt : Refusal → TextPlace → Kind → List ℕ → ShelfState → ShelfState → Type 0
 StopsAt (refusal.Bad text why) place kind name old new = (text ≡ place) × (new ≡ old) × IsBad old.files why kind name
 StopsAt (refusal.Unread text) place kind name old new = (text ≡ place) × GainsLast old.failed new.failed name
 StopsAt refusal.NoMemory place kind name old new = new ≡ old

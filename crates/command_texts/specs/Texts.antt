@@ -19,8 +19,8 @@ use Rattle.delay_report.specs.declared.faults.HistoryFault.TheVariants as histor
 use Rattle.command_texts.specs.Limits.{most_bytes}
 use Rattle.command_texts.specs.declared.bad_texts.BadText.{BadText}
 use Rattle.command_texts.specs.declared.bad_texts.BadText.TheVariants.{Long, Fault, Certificate, Network, Arrivals, History}
-use Rattle.command_texts.specs.declared.refusals.Place.{Place}
-use Rattle.command_texts.specs.declared.refusals.Place.TheVariants.{First, Second, Third}
+use Rattle.command_texts.specs.declared.refusals.TextPlace.{TextPlace}
+use Rattle.command_texts.specs.declared.refusals.TextPlace.TheVariants.{First, Second, Third}
 
 -- What a text is to be. A kind whose reader depends on the network that a text before it says holds that network.
 pub data Kind : Type 0 where
@@ -45,17 +45,17 @@ pub record IsBroughtBy (net : Net) (text : List ℕ) (enters : ℕ → ℕ → �
   pub of_text : IsArrivalText net text arrivals
   pub bring : entering arrivals ≡ enters
 
--- a text spells this
-abbrev pub Spells : (kind : Kind) → List ℕ → Said kind → Type 0
-Spells InstanceText text p = IsInstance p × (text ≡ instance_text p.plan p.head p.lists)
-Spells CertificateText text c = IsCertificate c × cert.IsCertificateText text c
-Spells NetworkText text net = IsNetworkText text net
-Spells (ArrivalsText net) text enters = IsBroughtBy net text enters
-Spells (HistoryText net) text history = IsHistoryText net text history
+-- a text is the text of this
+abbrev pub IsTextFor : (kind : Kind) → List ℕ → Said kind → Type 0
+IsTextFor InstanceText text p = IsInstance p × (text ≡ instance_text p.plan p.head p.lists)
+IsTextFor CertificateText text c = IsCertificate c × cert.IsCertificateText text c
+IsTextFor NetworkText text net = IsNetworkText text net
+IsTextFor (ArrivalsText net) text enters = IsBroughtBy net text enters
+IsTextFor (HistoryText net) text history = IsHistoryText net text history
 
--- a text is read as this: it is within the limit, and spells it
+-- a text is read as this: it is within the limit, and is the text of it
 abbrev pub Reads : (kind : Kind) → List ℕ → Said kind → Type 0
-Reads kind text said = (length text ≤ most_bytes) × Spells kind text said
+Reads kind text said = (length text ≤ most_bytes) × IsTextFor kind text said
 
 -- the first fault for which a text within the limit is refused
 abbrev pub IsFault : Kind → List ℕ → BadText → Type 0
@@ -89,13 +89,13 @@ pub record IsBad (files : Files) (why : BadText) (kind : Kind) (name : List ℕ)
   pub unread : (said : Said kind) → ¬ Reads kind text said
   pub fault : HasFault kind text why
 
--- The texts of a command, in the order of its words: none any more, or one in the file with this name, and those behind
+-- The texts of a command, in the order of its words: none any more, or one in the file with this name, and those after
 -- it, which may depend on what it says.
 pub data Texts : Type 0 where
   NoMore : Texts
   Next : (kind : Kind) → (name : List ℕ) → (Said kind → Texts) → Texts
 
--- a network's text, one of arrivals at it, and these behind them
+-- a network's text, one of arrivals at it, and these after them
 abbrev pub network_texts : List ℕ → List ℕ → (Net → Texts) → Texts
 network_texts net arr rest = Next NetworkText net (λ network. Next (ArrivalsText network) arr (λ enters. rest network))
 
@@ -114,7 +114,7 @@ AreIn files NoMore said = Unit {0}
 AreIn files (Next kind name rest) said = IsIn files name kind said.0 × AreIn files (rest said.0) said.1
 
 -- this is so of the text at this place, and all texts before it are read
-abbrev pub At : (Kind → List ℕ → Type 0) → Files → Texts → Place → Type 0
+abbrev pub At : (Kind → List ℕ → Type 0) → Files → Texts → TextPlace → Type 0
 At here files NoMore place = ⊥
 At here files (Next kind name rest) First = here kind name
 At here files (Next kind name rest) Second = (said : Said kind) × IsIn files name kind said × At here files (rest said) First
@@ -126,7 +126,7 @@ Tells files NoMore said = Unit {0}
 Tells files (Next kind name rest) said = ((text : List ℕ) × (text_of files name ≡ Some text) × Reads kind text said.0) × Tells files (rest said.0) said.1
 
 -- the shelf tells the texts up to this place: the one there is read as nothing of its kind, and all before it are read
-abbrev pub TellsBad : Files → Texts → Place → Type 0
+abbrev pub TellsBad : Files → Texts → TextPlace → Type 0
 TellsBad files NoMore place = ⊥
 TellsBad files (Next kind name rest) First = (text : List ℕ) × (text_of files name ≡ Some text) × ((said : Said kind) → ¬ Reads kind text said)
 TellsBad files (Next kind name rest) Second = (text : List ℕ) × (text_of files name ≡ Some text) × ((said : Said kind) × Reads kind text said × TellsBad files (rest said) First)

@@ -31,7 +31,7 @@ pub enum BadText {
     History(HistoryFault),
 }
 
-/// Writes the code of what is wrong with a text behind a line. An `Err` comes where memory runs out.
+/// Appends the code of what is wrong with a text to a line. `Err`: out of memory.
 pub fn push_code(line: &mut Vec<u8>, why: BadText) -> Result<(), AllocError>
     ensures { OnOk result (line.new.items ≡ line.old.items ++ code_of why) }
 {
@@ -48,7 +48,7 @@ pub fn push_code(line: &mut Vec<u8>, why: BadText) -> Result<(), AllocError>
     }
 }
 
-// Writes the code of a fault of a certificate's text.
+// Appends the code of a fault of a certificate's text.
 fn push_cert_code(line: &mut Vec<u8>, fault: CertText) -> Result<(), AllocError>
     ensures { OnOk result (line.new.items ≡ line.old.items ++ cert_code fault) }
 {
@@ -64,7 +64,7 @@ fn push_cert_code(line: &mut Vec<u8>, fault: CertText) -> Result<(), AllocError>
     }
 }
 
-// Writes the code of a fault of the phases.
+// Appends the code of a fault of the phases.
 fn push_plan_code(line: &mut Vec<u8>, fault: PlanFault) -> Result<(), AllocError>
     ensures { OnOk result (line.new.items ≡ line.old.items ++ plan_code fault) }
 {
@@ -77,7 +77,7 @@ fn push_plan_code(line: &mut Vec<u8>, fault: PlanFault) -> Result<(), AllocError
     }
 }
 
-// The name of a time of a phase, behind a space.
+// The name of a time of a phase, after a space.
 fn field_name(field: Field) -> &'static [u8]
     ensures { result.now ≡ 32 ∷ field_name field }
 {
@@ -91,7 +91,7 @@ fn field_name(field: Field) -> &'static [u8]
     }
 }
 
-// Writes the code of a fault of the instance.
+// Appends the code of a fault of the instance.
 fn push_instance_code(line: &mut Vec<u8>, fault: InstanceFault) -> Result<(), AllocError>
     ensures { OnOk result (line.new.items ≡ line.old.items ++ instance_code fault) }
 {
@@ -109,7 +109,7 @@ fn push_instance_code(line: &mut Vec<u8>, fault: InstanceFault) -> Result<(), Al
     }
 }
 
-// Writes the code of a fault of a network.
+// Appends the code of a fault of a network.
 fn push_net_code(line: &mut Vec<u8>, fault: NetFault) -> Result<(), AllocError>
     ensures { OnOk result (line.new.items ≡ line.old.items ++ net_code fault) }
 {
@@ -128,7 +128,7 @@ fn push_net_code(line: &mut Vec<u8>, fault: NetFault) -> Result<(), AllocError>
     }
 }
 
-// Writes a word and a place of a network's file.
+// Appends a word and a place of a network's file.
 fn push_place(line: &mut Vec<u8>, word: &[u8], place: Place) -> Result<(), AllocError>
     ensures { OnOk result (line.new.items ≡ line.old.items ++ (word.now ++ place_text place)) }
 {
@@ -152,7 +152,7 @@ fn part_name(part: Section) -> &'static [u8]
     }
 }
 
-// Writes the code of a fault of arrivals.
+// Appends the code of a fault of arrivals.
 fn push_row_code(line: &mut Vec<u8>, fault: RowFault) -> Result<(), AllocError>
     ensures { OnOk result (line.new.items ≡ line.old.items ++ row_code fault) }
 {
@@ -166,7 +166,7 @@ fn push_row_code(line: &mut Vec<u8>, fault: RowFault) -> Result<(), AllocError>
     }
 }
 
-// Writes the code of a fault of a history.
+// Appends the code of a fault of a history.
 fn push_history_code(line: &mut Vec<u8>, fault: HistoryFault) -> Result<(), AllocError>
     ensures { OnOk result (line.new.items ≡ line.old.items ++ history_code fault) }
 {

@@ -11,7 +11,7 @@ mod texts;
 
 pub use bad_texts::BadText;
 pub use pieces::{push_one, push_two};
-pub use refusals::{Named, Place, Refusal, refuse};
-pub use scenes::{Scene, fetch_scene};
+pub use refusals::{Named, Refusal, TextPlace, refuse};
+pub use scenes::{HistoryScene, Scene, SceneFiles, fetch_history_scene, fetch_scene};
 pub use status::Status;
 pub use texts::{fetch_arrivals, fetch_certificate, fetch_history, fetch_instance, fetch_network};

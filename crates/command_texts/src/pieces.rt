@@ -1,11 +1,11 @@
-//! Words with numbers behind them, of which the lines of commands are made.
+//! Words with numbers after them, of which the lines of commands are made.
 ghost use Rattle.std.specs.Prelude.{◌≡◌, ◌∷◌, ◌++◌, OnOk};
 ghost use Rattle.std.specs.Fmt.{decimal};
 
 use number_text::push_number;
 use std::alloc::AllocError;
 
-/// Writes a word and a number behind a text. An `Err` comes where memory runs out.
+/// Appends a word and a number to a text. `Err`: out of memory.
 pub fn push_one(text: &mut Vec<u8>, word: &[u8], number: u64) -> Result<(), AllocError>
     ensures { OnOk result (text.new.items ≡ text.old.items ++ (word.now ++ decimal number)) }
 {
@@ -13,7 +13,7 @@ pub fn push_one(text: &mut Vec<u8>, word: &[u8], number: u64) -> Result<(), Allo
     push_number(text, number)
 }
 
-/// Writes a word and two numbers, with a space between them, behind a text. An `Err` comes where memory runs out.
+/// Appends a word and two numbers, with a space between them, to a text. `Err`: out of memory.
 pub fn push_two(text: &mut Vec<u8>, word: &[u8], first: u64, second: u64) -> Result<(), AllocError>
     ensures { OnOk result (text.new.items ≡ text.old.items ++ (word.now ++ decimal first ++ 32 ∷ decimal second)) }
 {

@@ -12,16 +12,21 @@ use std::alloc::{AllocError, Global};
 
 /// Which of a command's texts, in the order of its words.
 #[derive(Debug, Clone, Copy, PartialEq, Eq)]
-pub enum Place {
+pub enum TextPlace {
+    /// The first, with number 1 in a line of refusal.
     First,
+    /// The second, with number 2.
     Second,
+    /// The third, with number 3.
     Third,
 }
 
 /// What a word can name in the texts.
 #[derive(Debug, Clone, Copy, PartialEq, Eq)]
 pub enum Named {
+    /// A node of the network, by its name.
     Node,
+    /// A round of the run, from 0.
     Round,
 }
 
@@ -33,11 +38,11 @@ pub enum Refusal {
     /// The words are no command.
     Usage,
     /// The text at this place is refused.
-    Bad { text: Place, why: BadText },
+    Bad { text: TextPlace, why: BadText },
     /// All texts are read, and a word names what is not in them.
     Missing { what: Named },
     /// The text at this place can't be read.
-    Unread { text: Place },
+    Unread { text: TextPlace },
     /// What was made can't be written.
     Unwritten,
     /// Memory ran out.
@@ -55,8 +60,8 @@ impl From<AllocError> for Refusal {
     }
 }
 
-/// Writes the line of a refusal, or that of want of memory where there is none for the line, and answers the status that
-/// goes with it. Where the sink fails, the status stays.
+/// Writes the line of a refusal, or that of `NoMemory` where there is no memory for the line, and answers the status that
+/// goes with it. Where the sink fails, a front of the line is written, and the status stays.
 pub fn refuse<E: Sink>(alloc: Global, why: Refusal, err: &mut E) -> Status
     ensures { Refuses why (E.state err.old) (E.state err.new) result }
 {
@@ -83,13 +88,13 @@ fn say<E: Sink>(line: &[u8], status: Status, err: &mut E) -> Status
 }
 
 // The line for a text that can't be read. It takes no memory.
-fn unread_line(text: Place) -> &'static [u8]
+fn unread_line(text: TextPlace) -> &'static [u8]
     ensures { result.now ≡ unread_line text }
 {
     match text {
-        Place::First => b"signal: cannot read 1\n",
-        Place::Second => b"signal: cannot read 2\n",
-        Place::Third => b"signal: cannot read 3\n",
+        TextPlace::First => b"signal: cannot read 1\n",
+        TextPlace::Second => b"signal: cannot read 2\n",
+        TextPlace::Third => b"signal: cannot read 3\n",
     }
 }
 
@@ -104,7 +109,7 @@ fn missing_line(what: Named) -> &'static [u8]
 }
 
 // The line for a text that is refused.
-fn bad_line(alloc: Global, text: Place, why: BadText) -> Result<Vec<u8>, AllocError>
+fn bad_line(alloc: Global, text: TextPlace, why: BadText) -> Result<Vec<u8>, AllocError>
     ensures { IfOk result (λ line. line.items ≡ line_of (refusal.Bad text why)) }
 {
     let mut line = Vec::new(alloc);
@@ -116,12 +121,12 @@ fn bad_line(alloc: Global, text: Place, why: BadText) -> Result<Vec<u8>, AllocEr
 }
 
 // The number of a text, from 1.
-fn number_of(text: Place) -> u64
+fn number_of(text: TextPlace) -> u64
     ensures { result ≡ number_of text }
 {
     match text {
-        Place::First => 1,
-        Place::Second => 2,
-        Place::Third => 3,
+        TextPlace::First => 1,
+        TextPlace::Second => 2,
+        TextPlace::Third => 3,
     }
 }

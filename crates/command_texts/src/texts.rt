@@ -7,7 +7,7 @@ ghost use Rattle.command_texts.specs.Limits.{most_bytes};
 ghost use Rattle.command_texts.specs.Texts.{ArrivalsText, CertificateText, HistoryText, InstanceText, IsIn, Kind, NetworkText, text_of};
 
 use super::bad_texts::BadText;
-use super::refusals::{Place, Refusal};
+use super::refusals::{TextPlace, Refusal};
 use arrivals::{Arrivals, RowFault, read_arrivals};
 use certificate_form::{CertText, read_certificate};
 use delay_report::{HistoryFault, read_history};
@@ -28,13 +28,15 @@ const MOST_BYTES: usize = 100_663_296;
 fn fetch_text<S: Shelf>(
     alloc: Global,
     shelf: &mut S,
-    place: Place,
+    place: TextPlace,
     file: &str,
 ) -> Result<Vec<u8>, Refusal>
     ensures limit { IfOk result (λ text. length text.items ≤ most_bytes) }
-    ensures text { IfOk result (λ text. IsSome (S.state shelf.old).files → text_of (S.state shelf.old).files file.now ≡ Some text.items) }
+    ensures text { IfOk result (λ text. IsSome (S.state shelf.old).files
+        → text_of (S.state shelf.old).files file.now ≡ Some text.items) }
     ensures ok { OnOk result (S.state shelf.new ≡ S.state shelf.old) }
-    ensures refused { IfErr result (λ why. (kind : Kind) → StopsAt why place kind file.now (S.state shelf.old) (S.state shelf.new)) }
+    ensures refused { IfErr result (λ why. (kind : Kind)
+        → StopsAt why place kind file.now (S.state shelf.old) (S.state shelf.new)) }
 {
     match shelf.fetch(alloc, file, MOST_BYTES + 1) {
         Ok(text) if text.len() > MOST_BYTES => Err(Refusal::Bad {
@@ -47,16 +49,19 @@ fn fetch_text<S: Shelf>(
     }
 }
 
-/// The instance that the text at this place spells.
+/// The instance of the text at this place.
+///
+/// `Err`: `Unread` where the shelf fails, `Bad` where the text is too long or is none of its kind, `NoMemory` where memory runs out.
 pub fn fetch_instance<S: Shelf>(
     alloc: Global,
     shelf: &mut S,
-    place: Place,
+    place: TextPlace,
     file: &str,
 ) -> Result<Instance, Refusal>
     ensures text { IfOk result (IsIn (S.state shelf.old).files file.now InstanceText) }
     ensures ok { OnOk result (S.state shelf.new ≡ S.state shelf.old) }
-    ensures refused { IfErr result (λ why. StopsAt why place InstanceText file.now (S.state shelf.old) (S.state shelf.new)) }
+    ensures refused { IfErr result (λ why. StopsAt why place InstanceText file.now (S.state shelf.old)
+        (S.state shelf.new)) }
 {
     let text = fetch_text(alloc, shelf, place, file)?;
     match read_instance(alloc, &text) {
@@ -69,16 +74,19 @@ pub fn fetch_instance<S: Shelf>(
     }
 }
 
-/// The certificate that the text at this place spells.
+/// The certificate of the text at this place.
+///
+/// `Err`: `Unread` where the shelf fails, `Bad` where the text is too long or is none of its kind, `NoMemory` where memory runs out.
 pub fn fetch_certificate<S: Shelf>(
     alloc: Global,
     shelf: &mut S,
-    place: Place,
+    place: TextPlace,
     file: &str,
 ) -> Result<Certificate, Refusal>
     ensures text { IfOk result (IsIn (S.state shelf.old).files file.now CertificateText) }
     ensures ok { OnOk result (S.state shelf.new ≡ S.state shelf.old) }
-    ensures refused { IfErr result (λ why. StopsAt why place CertificateText file.now (S.state shelf.old) (S.state shelf.new)) }
+    ensures refused { IfErr result (λ why. StopsAt why place CertificateText file.now (S.state shelf.old)
+        (S.state shelf.new)) }
 {
     let text = fetch_text(alloc, shelf, place, file)?;
     match read_certificate(alloc, &text) {
@@ -91,16 +99,19 @@ pub fn fetch_certificate<S: Shelf>(
     }
 }
 
-/// The network that the text at this place spells.
+/// The network of the text at this place.
+///
+/// `Err`: `Unread` where the shelf fails, `Bad` where the text is too long or is none of its kind, `NoMemory` where memory runs out.
 pub fn fetch_network<S: Shelf>(
     alloc: Global,
     shelf: &mut S,
-    place: Place,
+    place: TextPlace,
     file: &str,
 ) -> Result<Network, Refusal>
     ensures text { IfOk result (IsIn (S.state shelf.old).files file.now NetworkText) }
     ensures ok { OnOk result (S.state shelf.new ≡ S.state shelf.old) }
-    ensures refused { IfErr result (λ why. StopsAt why place NetworkText file.now (S.state shelf.old) (S.state shelf.new)) }
+    ensures refused { IfErr result (λ why. StopsAt why place NetworkText file.now (S.state shelf.old)
+        (S.state shelf.new)) }
 {
     let text = fetch_text(alloc, shelf, place, file)?;
     match read_network(alloc, &text) {
@@ -113,18 +124,21 @@ pub fn fetch_network<S: Shelf>(
     }
 }
 
-/// The arrivals at a network that the text at this place spells.
+/// The arrivals at a network, of the text at this place.
+///
+/// `Err`: `Unread` where the shelf fails, `Bad` where the text is too long or is none of its kind, `NoMemory` where memory runs out.
 pub fn fetch_arrivals<S: Shelf>(
     alloc: Global,
     shelf: &mut S,
-    place: Place,
+    place: TextPlace,
     file: &str,
     net: &Network,
 ) -> Result<Arrivals, Refusal>
     ensures text { IfOk result (λ a. IsIn (S.state shelf.old).files file.now (ArrivalsText net.now) (entering a)) }
     ensures arrivals { IfOk result (AreArrivals net.now) }
     ensures ok { OnOk result (S.state shelf.new ≡ S.state shelf.old) }
-    ensures refused { IfErr result (λ why. StopsAt why place (ArrivalsText net.now) file.now (S.state shelf.old) (S.state shelf.new)) }
+    ensures refused { IfErr result (λ why. StopsAt why place (ArrivalsText net.now) file.now (S.state shelf.old)
+        (S.state shelf.new)) }
 {
     let text = fetch_text(alloc, shelf, place, file)?;
     match read_arrivals(alloc, &text, net) {
@@ -137,18 +151,21 @@ pub fn fetch_arrivals<S: Shelf>(
     }
 }
 
-/// The history of a network that the text at this place spells.
+/// The history of a network, of the text at this place. It is lawful.
+///
+/// `Err`: `Unread` where the shelf fails, `Bad` where the text is too long or is none of its kind, `NoMemory` where memory runs out.
 pub fn fetch_history<S: Shelf>(
     alloc: Global,
     shelf: &mut S,
-    place: Place,
+    place: TextPlace,
     file: &str,
     net: &Network,
 ) -> Result<History, Refusal>
     ensures text { IfOk result (IsIn (S.state shelf.old).files file.now (HistoryText net.now)) }
     ensures lawful { IfOk result (IsLawful net.now) }
     ensures ok { OnOk result (S.state shelf.new ≡ S.state shelf.old) }
-    ensures refused { IfErr result (λ why. StopsAt why place (HistoryText net.now) file.now (S.state shelf.old) (S.state shelf.new)) }
+    ensures refused { IfErr result (λ why. StopsAt why place (HistoryText net.now) file.now (S.state shelf.old)
+        (S.state shelf.new)) }
 {
     let text = fetch_text(alloc, shelf, place, file)?;
     match read_history(alloc, &text, net) {

@@ -16,26 +16,26 @@ bytes_same bs = search rules
 -- the first words of two commands with the same words are the same
 same_word : (words : List (List ℕ)) (a b : Call) → IsCall words a → IsCall words b → bytes_eq (first (words_of a)) (first (words_of b)) ≡ true
 same_word words a b is other =
-    let same : first (words_of a) ≡ first (words_of b) = ap first (sym is.spelled ∙ other.spelled) in
+    let same : first (words_of a) ≡ first (words_of b) = ap first (sym is.words_are ∙ other.words_are) in
     rw same (bytes_same (first (words_of b)))
 
 -- of two commands with the same words both are the same
 pub one_call : (words : List (List ℕ)) (a b : Call) → IsCall words a → IsCall words b → a ≡ b
-one_call words (Plan f) (Plan g) is other = let e = is.spelled in let d = other.spelled in cc
-one_call words (Certify f) (Certify g) is other = let e = is.spelled in let d = other.spelled in cc
-one_call words (CertifyBound f) (CertifyBound g) is other = let e = is.spelled in let d = other.spelled in cc
-one_call words (Check f) (Check g) is other = let e = is.spelled in let d = other.spelled in cc
-one_call words (Turns n a) (Turns m b) is other = let e = is.spelled in let d = other.spelled in cc
-one_call words (Replay n a h) (Replay m b i) is other = let e = is.spelled in let d = other.spelled in cc
-one_call words (Net n a) (Net m b) is other = let e = is.spelled in let d = other.spelled in cc
+one_call words (Plan f) (Plan g) is other = let e = is.words_are in let d = other.words_are in cc
+one_call words (Certify f) (Certify g) is other = let e = is.words_are in let d = other.words_are in cc
+one_call words (CertifyBound f) (CertifyBound g) is other = let e = is.words_are in let d = other.words_are in cc
+one_call words (Check f) (Check g) is other = let e = is.words_are in let d = other.words_are in cc
+one_call words (Turns n a) (Turns m b) is other = let e = is.words_are in let d = other.words_are in cc
+one_call words (Replay n a h) (Replay m b i) is other = let e = is.words_are in let d = other.words_are in cc
+one_call words (Net n a) (Net m b) is other = let e = is.words_are in let d = other.words_are in cc
 one_call words (Instance n a h k r) (Instance m b i l q) is other =
-    let e = is.spelled in
-    let d = other.spelled in
+    let e = is.words_are in
+    let d = other.words_are in
     let round : r ≡ q = decimal_injective r q (omega (arith, is.within)) (omega (arith, other.within)) (cc) in
     cc
 one_call words (Grid n s r) (Grid m t q) is other =
-    let e = is.spelled in
-    let d = other.spelled in
+    let e = is.words_are in
+    let d = other.words_are in
     let number : n ≡ m = decimal_injective n m is.within.0 other.within.0 (cc) in
     let side : s ≡ t = decimal_injective s t (omega (arith, is.within.1.most)) (omega (arith, other.within.1.most)) (cc) in
     let rounds : r ≡ q = decimal_injective r q (omega (arith, is.within.2.most)) (omega (arith, other.within.2.most)) (cc) in

@@ -1,4 +1,4 @@
--- A word that spells a number.
+-- A word that is the text of a number.
 use Rattle.std.proofs.Common.{◌≡◌, ℕ, ◌<◌, ◌≤◌, ◌^◌, List, [], ◌∷◌, length, get_or, Result, Ok, Err, Option, Some, None, inl, inr, sym, ap, ◌∙◌, arith}
 use Rattle.std.specs.Prelude.{◌≢◌, IfNone, IfSome}
 use Rattle.std.specs.Fmt.{decimal}
@@ -31,7 +31,7 @@ plain n lt =
           record { no_sign = λ e. omega (arith, head, e); no_zero = λ e. ap length is }
     ]
 
--- what is parsed of a plain word is what it spells
+-- what is parsed of a plain word is the number that it is the text of
 pub parsed : (E : Type 0) (bits : ℕ) (word : List ℕ) (r : Result ℕ E) (o : Option ℕ) → 2 ^ bits ≤ 2 ^ 64 → ParsesUnsigned bits 10 word r → IsPlain word → o ≡ result_ok r → IfSome o (λ n. word ≡ decimal n)
 parsed E bits word r None fits parses is_plain e = tt
 parsed E bits word (Err f) (Some n) fits parses is_plain e = absurd (cc)
@@ -40,7 +40,7 @@ parsed E bits word (Ok m) (Some n) fits parses is_plain e =
     let same : m ≡ n = cc in
     sym (decimal-digits_value own word is.0.0 is.0.1 is_plain.no_zero (omega (arith, is.0.2, fits))) ∙ ap decimal (sym is.1 ∙ same)
 
--- a plain word of which nothing is parsed spells no number
+-- a plain word of which nothing is parsed is the text of no number
 pub not_parsed : (E : Type 0) (bits : ℕ) (word : List ℕ) (r : Result ℕ E) (o : Option ℕ) → 2 ^ bits ≤ 2 ^ 64 → ParsesUnsigned bits 10 word r → IsPlain word → o ≡ result_ok r → IfNone o ((n : ℕ) → n < 2 ^ bits → word ≢ decimal n)
 not_parsed E bits word r (Some n) fits parses is_plain e = tt
 not_parsed E bits word (Ok m) None fits parses is_plain e = absurd (cc)

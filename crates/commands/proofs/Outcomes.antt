@@ -1,14 +1,14 @@
 -- How a command ends, from what it made or why it made nothing, and from how that was delivered.
-use Rattle.std.proofs.Common.{◌≡◌, ℕ, List, Result, Ok, Err, inl, inr, sym, ap, subst}
+use Rattle.std.proofs.Common.{◌≡◌, ℕ, List, Result, Ok, Err, inl, inr, sym, ap, subst, arith}
 use Rattle.std.specs.Result.{IsErrAnd}
 use Rattle.std.specs.Prelude.{◌⊎◌}
 use Rattle.outside_world.specs.Shelf.{ShelfState}
-use Rattle.outside_world.specs.Sink.{Breaks, Gains}
+use Rattle.outside_world.specs.Sink.{Breaks, Gains, Rose, one_more}
 use Rattle.dp_certificate.specs.Certificates.{Claim}
 use Rattle.certificate_form.specs.CertificateText.{certificate_text}
 use Rattle.commands.specs.declared.ending.Made.{Made}
 use Rattle.commands.specs.declared.ending.Made.TheVariants as made
-use Rattle.command_texts.specs.declared.refusals.Place.{Place}
+use Rattle.command_texts.specs.declared.refusals.TextPlace.{TextPlace}
 use Rattle.command_texts.specs.declared.refusals.Refusal.{Refusal}
 use Rattle.command_texts.specs.declared.refusals.Refusal.TheVariants as refusal
 use Rattle.command_texts.specs.declared.status.Status.{Status}
@@ -21,12 +21,16 @@ use Rattle.command_texts.specs.Stops.{StopsIn}
 use Rattle.command_texts.specs.Texts.{AllSaid, AreIn, Tells, TellsBad}
 use Rattle.command_texts.proofs.TextLaws.{as_told, none_bad, none_gains, none_told_bad}
 
+-- a count with one fault more has risen
+risen : {before now : ℕ} → now ≡ one_more before → Rose before now
+risen {before} {now} more = omega (arith, more)
+
 module _ (call : Call) (old new : Outside) where
   -- what is so of the texts that were read is so of those that are told
   told_so : (holds : AllSaid (texts_of call) → Type 0) (read said : AllSaid (texts_of call)) → AreIn old.shelf.files (texts_of call) read → Tells old.shelf.files (texts_of call) said → holds read → holds said
   told_so holds read said are told h = as_told old.shelf.files (texts_of call) read said are told holds h
 
-  none_refused : (said : AllSaid (texts_of call)) → AreIn old.shelf.files (texts_of call) said → (place : Place) → TellsBad old.shelf.files (texts_of call) place → ⊥
+  none_refused : (said : AllSaid (texts_of call)) → AreIn old.shelf.files (texts_of call) said → (place : TextPlace) → TellsBad old.shelf.files (texts_of call) place → ⊥
   none_refused said are place bad = none_told_bad old.shelf.files (texts_of call) said place are bad
 
   done : (text : List ℕ) (status : Status) → new.shelf ≡ old.shelf
@@ -85,8 +89,8 @@ module _ (call : Call) (old new : Outside) where
     err = λ e. elim e [ inl a ↦ absurd (cc) | inr a ↦ absurd (cc) ];
     refused = λ place bad e. absurd (none_refused read.0 read.1 place bad);
     missing = λ said told what misses e. absurd (told_so (MissesNothing call) read.0 said read.1 told read.2.1 what misses);
-    complete = λ said told none for e kept. absurd (kept breaks.rose);
-    against = λ said told none against e kept. absurd (kept breaks.rose);
+    complete = λ said told none for e kept. absurd (kept (risen breaks.faults));
+    against = λ said told none against e kept. absurd (kept (risen breaks.faults));
   }
 
   wants : (status : Status) → new.shelf ≡ old.shelf → status ≡ NoMemory → new.out ≡ old.out → Says refusal.NoMemory old.err new.err → Outcome call old new status
@@ -128,7 +132,7 @@ module _ (call : Call) (old new : Outside) where
     against = λ said told none against e kept. absurd (never said told none);
   }
 
-  unread : (place : Place) (status : Status) → IsUnread call old.shelf new.shelf place
+  unread : (place : TextPlace) (status : Status) → IsUnread call old.shelf new.shelf place
       → status ≡ ReadFault → new.out ≡ old.out → Says (refusal.Unread place) old.err new.err → Outcome call old new status
   unread place status at is left line =
       let gained : new.shelf ≡ old.shelf → ⊥ = λ e. none_gains old.shelf.failed new.shelf.failed old.shelf.files (texts_of call) place at (ap (λ (s : ShelfState). s.failed) e) in record {
@@ -183,7 +187,7 @@ explained : (call : Call) (old new : ShelfState) (why : Refusal) → StopsIn (te
 explained call old new (refusal.Missing what) stops = absurd stops
 explained call old new _ stops = stops
 
--- what explains it is handed on as the answer
+-- what explains it is the answer
 pub handed_on : (call : Call) (old new : ShelfState) (result : Result Made Refusal) (why : Refusal) → Explains call old new why → IsErrAnd result (λ e. e ≡ why) → Makes call old new result
 handed_on call old new (Ok made) why explains handed = absurd handed
 handed_on call old new (Err e) why explains handed = subst (Explains call old new) (sym handed) explains

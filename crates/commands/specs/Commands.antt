@@ -17,10 +17,10 @@ use Rattle.scenario_gen.specs.Layout.{IsSide}
 use Rattle.commands.specs.Answers.{answer_text}
 use Rattle.commands.specs.Headline.{Headline, IsGridSummary, IsPlannedText, ToldHeadline}
 use Rattle.command_texts.specs.Limits.{most_bytes}
-use Rattle.command_texts.specs.Texts.{AllSaid, CertificateText, InstanceText, Next, NoMore, Spells, Texts, history_texts, network_texts}
+use Rattle.command_texts.specs.Texts.{AllSaid, CertificateText, InstanceText, Next, NoMore, IsTextFor, Texts, history_texts, network_texts}
 use Rattle.commands.specs.Verdicts.{accepted_line, rejected_line}
-use Rattle.commands.specs.declared.words.Command.{Command as Told}
-use Rattle.commands.specs.declared.words.Command.TheVariants as told
+use Rattle.commands.specs.declared.words.Command.{Command}
+use Rattle.commands.specs.declared.words.Command.TheVariants as command
 use Rattle.command_texts.specs.declared.refusals.Named.{Named}
 use Rattle.command_texts.specs.declared.refusals.Named.TheVariants.{Node, Round}
 
@@ -56,7 +56,7 @@ IsWithin _ = Unit {0}
 
 -- these are the words of this command
 pub record IsCall (words : List (List ℕ)) (call : Call) : Type 0 where
-  pub spelled : words ≡ words_of call
+  pub words_are : words ≡ words_of call
   pub within : IsWithin call
 
 -- the texts that it reads, in the order of its words
@@ -71,12 +71,12 @@ texts_of (Net net arr) = network_texts net arr (λ network. NoMore)
 texts_of (Instance net arr hist node round) = history_texts net arr hist
 texts_of (Grid number side rounds) = NoMore
 
--- These bytes are a certificate's text that `check` accepts: the text is within the limit, and spells this certificate and no
+-- These bytes are a certificate's text that `check` accepts: the text is within the limit, and is the text of this certificate and no
 -- other; and the certificate proves its answer.
 pub record IsAcceptedText (bytes : List ℕ) (c : Claim) : Type 0 where
   pub short : length bytes ≤ most_bytes
-  pub spells : Spells CertificateText bytes c
-  pub only : (other : Claim) → Spells CertificateText bytes other → other ≡ c
+  pub is_text : IsTextFor CertificateText bytes c
+  pub only : (other : Claim) → IsTextFor CertificateText bytes other → other ≡ c
   pub proves : Proves c
 
 -- what is written where the work is done; of the texts of a network `said.0` is the network, `said.1.0` what enters it, and
@@ -102,7 +102,7 @@ abbrev pub IsRejectionOf : (call : Call) → AllSaid (texts_of call) → List �
 IsRejectionOf (Check file) said bytes = (why : Why) × (¬ Proves said.0) × IsWhy said.0 why × (bytes ≡ rejected_line why)
 IsRejectionOf _ said bytes = ⊥
 
--- what a word of the command names is not in its texts: the network has no such node, or it has, and not so many rounds
+-- what a word of the command names is not in its texts: the network has no such node, or it has, and fewer rounds
 abbrev pub IsMissing : (call : Call) → AllSaid (texts_of call) → Named → Type 0
 IsMissing (Instance net arr hist node round) said Node = number_of said.0.node_names node ≡ None
 IsMissing (Instance net arr hist node round) said Round = IsSome (number_of said.0.node_names node) × (said.0.run.rounds ≤ round)
@@ -113,13 +113,13 @@ abbrev pub MissesNothing : (call : Call) → AllSaid (texts_of call) → Type 0
 MissesNothing call said = (what : Named) → ¬ IsMissing call said what
 
 -- a command of the program, as contracts see it
-abbrev pub seen : Told → Call
-seen (told.Plan file) = Plan file.now
-seen (told.Certify file) = Certify file.now
-seen (told.CertifyBound file) = CertifyBound file.now
-seen (told.Check file) = Check file.now
-seen (told.Turns net arr) = Turns net.now arr.now
-seen (told.Replay net arr hist) = Replay net.now arr.now hist.now
-seen (told.Net net arr) = Net net.now arr.now
-seen (told.Instance net arr hist node round) = Instance net.now arr.now hist.now node.now round
-seen (told.Grid number side rounds) = Grid number side rounds
+abbrev pub call_of : Command → Call
+call_of (command.Plan file) = Plan file.now
+call_of (command.Certify file) = Certify file.now
+call_of (command.CertifyBound file) = CertifyBound file.now
+call_of (command.Check file) = Check file.now
+call_of (command.Turns net arr) = Turns net.now arr.now
+call_of (command.Replay net arr hist) = Replay net.now arr.now hist.now
+call_of (command.Net net arr) = Net net.now arr.now
+call_of (command.Instance net arr hist node round) = Instance net.now arr.now hist.now node.now round
+call_of (command.Grid number side rounds) = Grid number side rounds

@@ -1,4 +1,4 @@
--- What a command makes of its texts, and how that is delivered. No public clause names anything here.
+-- What a command makes of its texts, and how that is delivered. No public clause of a command names anything here.
 use Rattle.std.specs.Prelude.{◌≡◌, ℕ, List, Result, Ok, Err, ◌⊎◌}
 use Rattle.outside_world.specs.Shelf.{ShelfState}
 use Rattle.outside_world.specs.Sink.{Breaks, Gains, SinkState}
@@ -46,7 +46,7 @@ pub record IsWritten (bytes : List ℕ) (means : Status) (out out' err err' : Si
   pub gains : Gains out out' bytes
   pub same : err' ≡ err
 
--- they could not be written whole
+-- they could not be written whole: a front of them was, and nothing after it
 pub record IsBroken (bytes : List ℕ) (out out' err err' : SinkState) (status : Status) : Type 0 where
   pub is : status ≡ WriteFault
   pub breaks : Breaks out out' bytes

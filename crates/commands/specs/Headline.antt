@@ -6,14 +6,14 @@ use Rattle.dp_certificate.specs.Certificates.{Claim}
 use Rattle.histories.specs.Histories.{IsLawful, turn_order}
 use Rattle.intersection_actor.specs.declared.records.PlanRecord.{PlanRecord}
 use Rattle.net_numbers.specs.Numbers.{Net, number_of}
-use Rattle.runs.specs.Kept.{IsKeptRun}
+use Rattle.runs.specs.Promises.{IsKeptRun}
 use Rattle.runs.specs.declared.records.RunRecord.{RunRecord}
 use Rattle.scenario_gen.specs.Grids.{IsGrid}
 use Rattle.schedule_meaning.specs.Best.{IsBest}
 use Rattle.schedule_meaning.specs.Instances.{Problem}
 use Rattle.schedule_meaning.specs.declared.planners.Answer.{Answer}
 use Rattle.schedule_meaning.specs.declared.planners.Answer.TheVariants.{Plan, NoPlan}
-use Rattle.command_texts.specs.Texts.{HistoryText, InstanceText, Reads, Spells}
+use Rattle.command_texts.specs.Texts.{HistoryText, InstanceText, Reads, IsTextFor}
 use Rattle.commands.specs.Summary.{summary_text}
 
 -- The run of a lawful history, with arrivals that bring this. Whatever order the intersections' board steps take in it: every
@@ -33,12 +33,12 @@ pub record Headline (net : Net) (enters : ℕ → ℕ → ℕ) (history : List �
   pub runs : IsRunOf net enters history run
   pub report : bytes ≡ report_text net run history
 
--- The headline for a history that the bytes themselves spell, and no other: which one it is, the machine decides.
+-- The headline for the history that the bytes are a text of, and of no other: which one it is, the machine decides.
 pub record ToldHeadline (net : Net) (enters : ℕ → ℕ → ℕ) (bytes : List ℕ) : Type 0 where
   pub history : List ℕ
   pub headline : Headline net enters history bytes
-  pub spells : Spells (HistoryText net) bytes history
-  pub only : (other : List ℕ) → Spells (HistoryText net) bytes other → other ≡ history
+  pub is_text : IsTextFor (HistoryText net) bytes history
+  pub only : (other : List ℕ) → IsTextFor (HistoryText net) bytes other → other ≡ history
 
 -- one answer says what the other says: both plan with one delay, or both plan nothing
 abbrev pub AgreesWith : Answer → Answer → Type 0

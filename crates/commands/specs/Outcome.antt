@@ -6,7 +6,7 @@ use Rattle.commands.specs.Commands.{Call, IsAgainst, IsMissing, IsRejectionOf, I
 use Rattle.command_texts.specs.Refusals.{Says}
 use Rattle.command_texts.specs.Texts.{AllSaid, AreIn, At, IsBad, Tells, TellsBad}
 use Rattle.command_texts.specs.declared.refusals.Named.{Named}
-use Rattle.command_texts.specs.declared.refusals.Place.{Place}
+use Rattle.command_texts.specs.declared.refusals.TextPlace.{TextPlace}
 use Rattle.command_texts.specs.declared.refusals.Refusal.{Refusal}
 use Rattle.command_texts.specs.declared.refusals.Refusal.TheVariants as refusal
 use Rattle.command_texts.specs.declared.status.Status.{Status}
@@ -23,7 +23,7 @@ abbrev pub Read : (call : Call) → Files → (AllSaid (texts_of call) → Type 
 Read call files holds = (said : AllSaid (texts_of call)) × AreIn files (texts_of call) said × holds said
 
 -- the text at this place could not be read, and all texts before it are read
-abbrev pub IsUnread : Call → ShelfState → ShelfState → Place → Type 0
+abbrev pub IsUnread : Call → ShelfState → ShelfState → TextPlace → Type 0
 IsUnread call old new place = At (λ kind name. GainsLast old.failed new.failed name) old.files (texts_of call) place
 
 -- the input is bad: the text at this place is refused for this fault, and all texts before it are read; or all texts are
@@ -44,7 +44,7 @@ pub record Outcome (call : Call) (old new : Outside) (status : Status) : Type 0 
   -- a text or a word is refused, and the line says which and why
   pub bad_input : status ≡ BadInput → (why : Refusal) × IsBadInput call old.shelf.files why × Says why old.err new.err
   -- a text could not be read, and the line says which
-  pub read_fault : status ≡ ReadFault → (place : Place) × IsUnread call old.shelf new.shelf place × Says (refusal.Unread place) old.err new.err
+  pub read_fault : status ≡ ReadFault → (place : TextPlace) × IsUnread call old.shelf new.shelf place × Says (refusal.Unread place) old.err new.err
   -- what was to be written was not written whole
   pub write_fault : status ≡ WriteFault → Says refusal.Unwritten old.err new.err
       × Read call old.shelf.files (λ said. (bytes : List ℕ) × (IsTextOf call said bytes ⊎ IsRejectionOf call said bytes) × Breaks old.out new.out bytes)
@@ -55,7 +55,7 @@ pub record Outcome (call : Call) (old new : Outside) (status : Status) : Type 0 
   pub out : status ≢ Done → status ≢ Rejected → status ≢ WriteFault → new.out ≡ old.out
   pub err : (status ≡ Done) ⊎ (status ≡ Rejected) → new.err ≡ old.err
   -- a text that the shelf tells, and that is read as nothing of its kind, is refused
-  pub refused : (place : Place) → TellsBad old.shelf.files (texts_of call) place → new.shelf ≡ old.shelf → (status ≡ BadInput) ⊎ (status ≡ NoMemory)
+  pub refused : (place : TextPlace) → TellsBad old.shelf.files (texts_of call) place → new.shelf ≡ old.shelf → (status ≡ BadInput) ⊎ (status ≡ NoMemory)
   -- and so is a word that names what is not in the texts
   pub missing : (said : AllSaid (texts_of call)) → Tells old.shelf.files (texts_of call) said → (what : Named) → IsMissing call said what
       → new.shelf ≡ old.shelf → (status ≡ BadInput) ⊎ (status ≡ NoMemory)

@@ -17,8 +17,8 @@ planned_delay NoPlan = 0
 planned_delay (Plan sequence delay) = delay
 
 -- how many of the plans are none, and the delays of the others together
-abbrev pub plans_none : List PlanRecord → ℕ
-plans_none plans = count_by (λ (plan : PlanRecord). is_no_plan plan.answer) plans
+abbrev pub none_count : List PlanRecord → ℕ
+none_count plans = count_by (λ (plan : PlanRecord). is_no_plan plan.answer) plans
 
 abbrev pub planned_delays : List PlanRecord → ℕ
 planned_delays plans = sum_by (λ (plan : PlanRecord). planned_delay plan.answer) plans
@@ -33,6 +33,6 @@ abbrev pub summary_text : ℕ → ℕ → ℕ → RunRecord → List ℕ
 summary_text number side rounds run =
     number_line (codes "grid") (number ∷ side ∷ rounds ∷ [])
     ++ number_line (codes "plans") (length run.plans ∷ [])
-    ++ number_line (codes "none") (plans_none run.plans ∷ [])
+    ++ number_line (codes "none") (none_count run.plans ∷ [])
     ++ number_line (codes "delay") (planned_delays run.plans ∷ [])
     ++ number_line (codes "total") (run.totals.entered ∷ run.totals.left ∷ run.totals.on ∷ run.totals.delay ∷ [])

@@ -14,7 +14,8 @@ pub enum Made {
     Rejected(Vec<u8>),
 }
 
-/// Writes what a command made, or why it made nothing, and answers how it ended.
+/// Writes what a command made, or why it made nothing, and answers how it ended. Where a put fails, a front of what was made is
+/// written, and nothing after it.
 pub fn end<O: Sink, E: Sink>(
     alloc: Global,
     made: Result<Made, Refusal>,

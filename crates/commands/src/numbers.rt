@@ -2,7 +2,7 @@
 ghost use Rattle.std.specs.Prelude.{◌≡◌, ◌≢◌, ◌<◌, ◌≤◌, ◌^◌, ◌↔◌, ℕ, length, slice_index, IfSome, IfNone, IsTrue};
 ghost use Rattle.std.specs.Fmt.{decimal};
 
-/// The number that a word spells in its one form: `0`, or a digit 1 to 9 followed by digits, if it has 64 bits.
+/// The number that a word is the text of: `0`, or a digit 1 to 9 followed by digits, if it has 64 bits.
 ///
 /// docs/FORMATS.md, "Numbers and lines".
 pub fn number_u64(word: &str) -> Option<u64>
@@ -15,20 +15,22 @@ pub fn number_u64(word: &str) -> Option<u64>
     word.parse::<u64>().ok()
 }
 
-/// The number that a word spells in its one form, if it has 32 bits.
+/// The number that a word is the text of, if it has 32 bits.
 ///
 /// docs/FORMATS.md, "Numbers and lines".
 pub fn number_u32(word: &str) -> Option<u32>
     ensures some { IfSome result (λ n. word.now ≡ decimal n) }
     ensures none { IfNone result ((n : ℕ) → n < 2 ^ 32 → word.now ≢ decimal n) }
 {
-    if !may_be_number(word.as_bytes()) {
-        return None;
+    let number = number_u64(word)?;
+    if number < 4_294_967_296 {
+        Some(number as u32)
+    } else {
+        None
     }
-    word.parse::<u32>().ok()
 }
 
-/// The number between these two that a word spells in its one form.
+/// The number from `least` to `most` that a word is the text of.
 ///
 /// docs/FORMATS.md, "Numbers and lines".
 pub fn number_within(word: &str, least: u32, most: u32) -> Option<u32>

@@ -3,7 +3,7 @@ ghost use Rattle.std.specs.Prelude.{◌≡◌, ◌≢◌, ◌^◌, ◌<◌, ◌�
 ghost use Rattle.std.specs.Fmt.{decimal};
 ghost use Rattle.scenario_gen.specs.Grids.{AreRounds};
 ghost use Rattle.scenario_gen.specs.Layout.{IsSide};
-ghost use Rattle.commands.specs.Commands.{Call, IsCall, seen};
+ghost use Rattle.commands.specs.Commands.{Call, IsCall, call_of};
 
 use super::numbers::{number_u32, number_u64, number_within};
 use foundation::text::Text;
@@ -63,29 +63,29 @@ pub enum Command<'a> {
 
 /// The command that the words are.
 pub fn command_of(words: &[Text]) -> Option<Command<'_>>
-    ensures some { IfSome result (λ command. IsCall words.now (seen command)) }
+    ensures some { IfSome result (λ command. IsCall words.now (call_of command)) }
     ensures none { IfNone result ((call : Call) → ¬ IsCall words.now call) }
 {
     let (word, rest) = words.split_first()?;
     match word.as_str() {
-        "plan" => Some(Command::Plan { file: one(rest)? }),
-        "certify" => Some(Command::Certify { file: one(rest)? }),
-        "certify_bound" => Some(Command::CertifyBound { file: one(rest)? }),
-        "check" => Some(Command::Check { file: one(rest)? }),
+        "plan" => Some(Command::Plan { file: only_word(rest)? }),
+        "certify" => Some(Command::Certify { file: only_word(rest)? }),
+        "certify_bound" => Some(Command::CertifyBound { file: only_word(rest)? }),
+        "check" => Some(Command::Check { file: only_word(rest)? }),
         "turns" => {
-            let (net, arr) = two(rest)?;
+            let (net, arr) = two_words(rest)?;
             Some(Command::Turns { net, arr })
         }
         "replay" => {
-            let (net, arr, hist) = three(rest)?;
+            let (net, arr, hist) = three_words(rest)?;
             Some(Command::Replay { net, arr, hist })
         }
         "net" => {
-            let (net, arr) = two(rest)?;
+            let (net, arr) = two_words(rest)?;
             Some(Command::Net { net, arr })
         }
         "instance" => {
-            let (net, arr, hist, node, round) = four_and_number(rest)?;
+            let (net, arr, hist, node, round) = four_words_and_number(rest)?;
             Some(Command::Instance {
                 net,
                 arr,
@@ -107,7 +107,7 @@ pub fn command_of(words: &[Text]) -> Option<Command<'_>>
 }
 
 // The word, where there is one.
-fn one(words: &[Text]) -> Option<&str>
+fn only_word(words: &[Text]) -> Option<&str>
     ensures some { IfSome result (λ word. words.now ≡ word.now ∷ []) }
     ensures none { IfNone result ((word : List ℕ) → words.now ≢ word ∷ []) }
 {
@@ -118,7 +118,7 @@ fn one(words: &[Text]) -> Option<&str>
 }
 
 // The two words, where there are just two.
-fn two(words: &[Text]) -> Option<(&str, &str)>
+fn two_words(words: &[Text]) -> Option<(&str, &str)>
     ensures some { IfSome result (λ w. words.now ≡ w.0.now ∷ w.1.now ∷ []) }
     ensures none { IfNone result ((a b : List ℕ) → words.now ≢ a ∷ b ∷ []) }
 {
@@ -129,7 +129,7 @@ fn two(words: &[Text]) -> Option<(&str, &str)>
 }
 
 // The three words, where there are just three.
-fn three(words: &[Text]) -> Option<(&str, &str, &str)>
+fn three_words(words: &[Text]) -> Option<(&str, &str, &str)>
     ensures some { IfSome result (λ w. words.now ≡ w.0.now ∷ w.1.now ∷ w.2.now ∷ []) }
     ensures none { IfNone result ((a b c : List ℕ) → words.now ≢ a ∷ b ∷ c ∷ []) }
 {
@@ -139,10 +139,12 @@ fn three(words: &[Text]) -> Option<(&str, &str, &str)>
     }
 }
 
-// The four words and the number behind them, where there are just these.
-fn four_and_number(words: &[Text]) -> Option<(&str, &str, &str, &str, u32)>
-    ensures some { IfSome result (λ w. (words.now ≡ w.0.now ∷ w.1.now ∷ w.2.now ∷ w.3.now ∷ decimal w.4 ∷ []) × (w.4 < 2 ^ 32)) }
-    ensures none { IfNone result ((a b c d : List ℕ) (n : ℕ) → n < 2 ^ 32 → words.now ≢ a ∷ b ∷ c ∷ d ∷ decimal n ∷ []) }
+// The four words and the number after them, where there are just these.
+fn four_words_and_number(words: &[Text]) -> Option<(&str, &str, &str, &str, u32)>
+    ensures some { IfSome result (λ w. (words.now ≡ w.0.now ∷ w.1.now ∷ w.2.now ∷ w.3.now ∷ decimal w.4 ∷ [])
+        × (w.4 < 2 ^ 32)) }
+    ensures none { IfNone result ((a b c d : List ℕ) (n : ℕ) → n < 2 ^ 32
+        → words.now ≢ a ∷ b ∷ c ∷ d ∷ decimal n ∷ []) }
 {
     match words {
         [first, second, third, fourth, last] => {
@@ -161,9 +163,10 @@ fn four_and_number(words: &[Text]) -> Option<(&str, &str, &str, &str, u32)>
 
 // The number of a grid, how many nodes a side it has, and for how many rounds, where the words are just these.
 fn grid_numbers(words: &[Text]) -> Option<(u64, u32, u32)>
-    ensures spelled { IfSome result (λ w. words.now ≡ decimal w.0 ∷ decimal w.1 ∷ decimal w.2 ∷ []) }
+    ensures words { IfSome result (λ w. words.now ≡ decimal w.0 ∷ decimal w.1 ∷ decimal w.2 ∷ []) }
     ensures within { IfSome result (λ w. (w.0 < 2 ^ 64) × IsSide w.1 × AreRounds w.2) }
-    ensures none { IfNone result ((number side rounds : ℕ) → number < 2 ^ 64 → IsSide side → AreRounds rounds → words.now ≢ decimal number ∷ decimal side ∷ decimal rounds ∷ []) }
+    ensures none { IfNone result ((number side rounds : ℕ) → number < 2 ^ 64 → IsSide side → AreRounds rounds
+        → words.now ≢ decimal number ∷ decimal side ∷ decimal rounds ∷ []) }
 {
     match words {
         [number, side, rounds] => {

@@ -1,7 +1,7 @@
 -- The fields of a record.
 use Rattle.std.proofs.Common.{◌≡◌, ◌≢◌, ℕ, List, [], ◌∷◌, length, Some, None, refl, arith}
 use Rattle.csv.specs.Records.{field_at}
-use Rattle.delay_report.specs.Entries.{told_of}
+use Rattle.delay_report.specs.Entries.{node_field_of}
 
 -- seven fields that were read one after another are all of them
 pub seven-fields : (fs : List (List ℕ)) (a b c d e f g : List ℕ) → length fs ≡ 7 → Some a ≡ field_at fs 0 → Some b ≡ field_at fs 1 → Some c ≡ field_at fs 2 → Some d ≡ field_at fs 3 → Some e ≡ field_at fs 4 → Some f ≡ field_at fs 5 → Some g ≡ field_at fs 6 → fs ≡ a ∷ b ∷ c ∷ d ∷ e ∷ f ∷ g ∷ []
@@ -17,7 +17,7 @@ seven-fields (x0 ∷ x1 ∷ x2 ∷ x3 ∷ x4 ∷ x5 ∷ x6 ∷ []) a b c d e f g
 seven-fields (x0 ∷ x1 ∷ x2 ∷ x3 ∷ x4 ∷ x5 ∷ x6 ∷ x7 ∷ more) a b c d e f g seven p0 p1 p2 p3 p4 p5 p6 = absurd (omega arith)
 
 -- a record of another length tells nothing
-pub told-none : (fs : List (List ℕ)) → length fs ≢ 7 → told_of fs ≡ None
+pub told-none : (fs : List (List ℕ)) → length fs ≢ 7 → node_field_of fs ≡ None
 told-none [] other = refl
 told-none (x0 ∷ []) other = refl
 told-none (x0 ∷ x1 ∷ []) other = refl

@@ -12,7 +12,7 @@ use Rattle.intersection_actor.specs.declared.records.PlanRecord.{PlanRecord}
 use Rattle.net_simulator.specs.declared.totals.LinkTotals.{LinkTotals}
 use Rattle.net_numbers.specs.Numbers.{Net}
 use Rattle.runs.specs.Runs.{end_of_run}
-use Rattle.runs.specs.Whole.{IsWhole, rounds_and_nodes}
+use Rattle.runs.specs.Complete.{IsComplete, rounds_and_nodes}
 use Rattle.runs.specs.declared.records.RunRecord.{RunRecord}
 use Rattle.delay_report.specs.Entries.{header}
 use Rattle.delay_report.specs.Reports.{green_record, link_record, no_totals, outcome_records, plan_record, records_text, report_records, report_text, step_record_at, steps_records, total_record}
@@ -33,7 +33,7 @@ front-parts net h nodes o0 o1 o2 is_history start first steps =
     let b = subst (λ l. Adds o1 o2 (map (step_record_at net l) (range_with_len 0 (length l)))) is_history steps in
     (adds-then o0 o1 o2 _ _ first b).adds [] start
 
--- what is behind it
+-- what comes after it
 pub outcome-parts : {Z : Type 0} (net : Net) (run : RunRecord) (text : List ℕ) (plans : List PlanRecord) (lines : List (List Green)) (links : List LinkTotals) (o2 o3 o4 o5 o6 : Writer (Vec ℕ Z))
     → plans ≡ run.plans → lines ≡ run.timelines → links ≡ run.links → HasWritten o2 text
     → Adds o2 o3 (map (plan_record net) plans)
@@ -62,7 +62,7 @@ range-below n k d inside =
     omega (arith, at, below)
 
 -- the nodes of the plans of a whole record are there
-pub nodes-exist : (net : Net) (run : RunRecord) → IsWhole net run → All (λ (p : PlanRecord). p.node < length net.node_names) run.plans
+pub nodes-exist : (net : Net) (run : RunRecord) → IsComplete net run → All (λ (p : PlanRecord). p.node < length net.node_names) run.plans
 nodes-exist net run whole k d inside =
     let nodes : ℕ = length net.node_names in
     let below : All (λ (pair : ℕ × ℕ). pair.1 < nodes) (rounds_and_nodes net.run.rounds nodes) =

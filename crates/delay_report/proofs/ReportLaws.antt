@@ -18,7 +18,7 @@ use Rattle.histories.specs.declared.steps.BoardStep.TheVariants.{Read, Publish}
 use Rattle.net_numbers.specs.Numbers.{Net, AreDistinct, number_of}
 use Rattle.net_numbers.specs.Outline.{node_name_at}
 use Rattle.road_net.specs.Network.{IsNetwork}
-use Rattle.runs.specs.Kept.{last_line}
+use Rattle.runs.specs.Promises.{last_line}
 use Rattle.runs.specs.Runs.{end_of_run}
 use Rattle.runs.specs.declared.records.RunRecord.{RunRecord}
 use Rattle.schedule_meaning.specs.declared.planners.Answer.{Answer}

@@ -15,7 +15,7 @@ use Rattle.histories.proofs.HowFar.{come-over}
 use Rattle.histories.proofs.Rounds.{all-done, next}
 use Rattle.delay_report.specs.declared.faults.HistoryFault.{HistoryFault}
 use Rattle.delay_report.specs.declared.faults.HistoryFault.TheVariants.{NoMemory, Header, Row, Node, Extra, Turn, Short}
-use Rattle.delay_report.specs.Entries.{header, steps_by, steps_of, told_of}
+use Rattle.delay_report.specs.Entries.{header, steps_by, steps_of, node_field_of}
 use Rattle.delay_report.specs.Faults.{AreFaulty, IsAtExtra, IsAtNode, IsAtRow, IsAtTurn, IsFirst, IsRecordFault, Refuses, TellUnderWay}
 use Rattle.record_text.specs.Faults.{HasAfterHeader}
 use Rattle.record_text.proofs.FaultLaws.{first-here, one-after}
@@ -108,13 +108,13 @@ module _ (net : Net) (all behind : List (List (List ℕ))) (history : List ℕ) 
   }
 
 -- a record that tells nothing, or names no node, has no steps
-none-told : (net : Net) (fields : List (List ℕ)) (more : List ℕ) → told_of fields ≡ None → steps_of net fields ≡ Some more → ⊥
+none-told : (net : Net) (fields : List (List ℕ)) (more : List ℕ) → node_field_of fields ≡ None → steps_of net fields ≡ Some more → ⊥
 unfolding steps_of
-none-told net fields more none some = let (name, is, rest) = bind-some (told_of fields) (steps_by net) more some in none-some name (sym none ∙ is)
+none-told net fields more none some = let (name, is, rest) = bind-some (node_field_of fields) (steps_by net) more some in none-some name (sym none ∙ is)
 
 none-named : (net : Net) (fields : List (List ℕ)) (more : List ℕ) → IsAtNode net fields → steps_of net fields ≡ Some more → ⊥
 unfolding steps_of
-none-named net fields more at some = let (name, is, rest) = bind-some (told_of fields) (steps_by net) more some in by name (rw is at at) rest
+none-named net fields more at some = let (name, is, rest) = bind-some (node_field_of fields) (steps_by net) more some in by name (rw is at at) rest
   where
     by : (name : Option (List ℕ)) → IsSomeAnd name (λ n. number_of net.node_names n ≡ None) → steps_by net name ≡ Some more → ⊥
     by None at rest = absurd at

@@ -25,7 +25,7 @@ use Rattle.histories.proofs.StepLaws.{steps-beyond}
 use Rattle.histories.proofs.Versions.{version-more}
 use Rattle.intersection_actor.specs.declared.records.Used.{Used}
 use Rattle.delay_report.specs.Reports.{step_record, step_record_at}
-use Rattle.delay_report.specs.Walks.{StandsAt, link_of}
+use Rattle.delay_report.specs.Walks.{HasWalkedTo, link_of}
 use Rattle.delay_report.specs.declared.steps.Walk.{Walk}
 
 -- the links at a side of a node are there
@@ -84,7 +84,7 @@ module _ (net : Net) (network : IsNetwork net) (h : List ℕ) (lawful : IsLawful
   ]
 
 -- what the walk's parts are at a place
-module _ (net : Net) (h : List ℕ) (lawful : IsLawful net h) (i : ℕ) (inside : i < length h) (walk : Walk) (stands : StandsAt net h i walk) where
+module _ (net : Net) (h : List ℕ) (lawful : IsLawful net h) (i : ℕ) (inside : i < length h) (walk : Walk) (stands : HasWalkedTo net h i walk) where
   pub below : get_or h i 0 < length net.node_names
   below = node-below net stands.network h lawful i inside
 
@@ -149,7 +149,7 @@ module _ (net : Net) (h : List ℕ) (lawful : IsLawful net h) (i : ℕ) (inside 
 
   -- past a reading, and past a publishing
   module _ (taken : Vec ℕ Global) (counted : taken.items ≡ set walk.taken.items (get_or h i 0) (count (get_or h i 0) (take i h) + 1)) where
-    pub stands-read : (link : ℕ) → step_at (board_steps net) h i ≡ Read link → StandsAt net h (i + 1) (record { steps = walk.steps; taken = taken; made = walk.made })
+    pub stands-read : (link : ℕ) → step_at (board_steps net) h i ≡ Read link → HasWalkedTo net h (i + 1) (record { steps = walk.steps; taken = taken; made = walk.made })
     stands-read link is = record {
       network = stands.network;
       steps = stands.steps;
@@ -160,7 +160,7 @@ module _ (net : Net) (h : List ℕ) (lawful : IsLawful net h) (i : ℕ) (inside 
     }
 
     pub stands-published : (link : ℕ) (made : Vec ℕ Global) → link < length net.link_names → step_at (board_steps net) h i ≡ Publish link → made.items ≡ set walk.made.items link (version_at (board_steps net) h link i + 1)
-        → StandsAt net h (i + 1) (record { steps = walk.steps; taken = taken; made = made })
+        → HasWalkedTo net h (i + 1) (record { steps = walk.steps; taken = taken; made = made })
     stands-published link made exists is grown = record {
       network = stands.network;
       steps = stands.steps;

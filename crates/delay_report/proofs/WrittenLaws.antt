@@ -15,7 +15,7 @@ use Rattle.csv.specs.declared.writer.WriterBuilder.{WriterBuilder}
 use Rattle.delay_report.specs.Reports.{records_text}
 use Rattle.delay_report.specs.Written.{Adds, HasWritten}
 
--- nothing, and records behind records
+-- nothing, and records after records
 pub adds-none : {Z : Type 0} (out : Writer (Vec ℕ Z)) → Adds out out []
 adds-none out = record { adds = λ text h. subst (HasWritten out) (sym (append-nil text)) h }
 

@@ -17,13 +17,13 @@ is_passed_over kind = bytes_eq kind (codes "plan") || (bytes_eq kind (codes "gre
 
 -- The name in a record of one of the five kinds: that of the node, where it is a step; none in the others, which are passed
 -- over unread.
-abbrev pub told : List ℕ → List ℕ → Option (Option (List ℕ))
-told kind node = if is_step kind then Some (Some node) else (if is_passed_over kind then Some None else None)
+abbrev pub node_field : List ℕ → List ℕ → Option (Option (List ℕ))
+node_field kind node = if is_step kind then Some (Some node) else (if is_passed_over kind then Some None else None)
 
 -- a record has seven fields
-abbrev pub told_of : List (List ℕ) → Option (Option (List ℕ))
-told_of (kind ∷ round ∷ node ∷ x ∷ y ∷ z ∷ w ∷ []) = told kind node
-told_of _ = None
+abbrev pub node_field_of : List (List ℕ) → Option (Option (List ℕ))
+node_field_of (kind ∷ round ∷ node ∷ x ∷ y ∷ z ∷ w ∷ []) = node_field kind node
+node_field_of _ = None
 
 -- the steps of a record: one of the node with this name, where the network has it; or none
 abbrev pub steps_by : Net → Option (List ℕ) → Option (List ℕ)
@@ -34,5 +34,5 @@ steps_by net (Some name) = do
 
 unfoldable pub steps_of : Net → List (List ℕ) → Option (List ℕ)
 steps_of net fields = do
-  name ← told_of fields
+  name ← node_field_of fields
   steps_by net name

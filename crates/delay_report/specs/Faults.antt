@@ -10,9 +10,9 @@ use Rattle.record_text.specs.Faults.{HasAfterHeader, IsFirstFault}
 use Rattle.record_text.specs.Records.{records_of}
 use Rattle.delay_report.specs.declared.faults.HistoryFault.{HistoryFault}
 use Rattle.delay_report.specs.declared.faults.HistoryFault.TheVariants.{NoMemory, Header, Row, Node, Extra, Turn, Short}
-use Rattle.delay_report.specs.Entries.{header, steps_of, told_of}
+use Rattle.delay_report.specs.Entries.{header, steps_of, node_field_of}
 
--- the steps that records tell are this history, which is under way: so many rounds are done
+-- the steps that records tell are this history, which is under way: `done` rounds are done
 pub record AreUnderWay (net : Net) (records : List (List (List ℕ))) (history : List ℕ) (done : ℕ) : Type 0 where
   pub steps : List (List ℕ)
   pub reads : each (steps_of net) records ≡ Some steps
@@ -36,13 +36,13 @@ pub record EndEarly (net : Net) (all : List (List (List ℕ))) : Type 0 where
   pub under_way : AreUnderWay net all history done
   pub early : done < net.run.rounds
 
--- a record that tells nothing; a step of a name that no node has; and a step of a node, behind a history all of whose rounds
+-- a record that tells nothing; a step of a name that no node has; and a step of a node, after a history all of whose rounds
 -- are done, or in whose round the node has done all its steps
 abbrev pub IsAtRow : List (List ℕ) → Type 0
-IsAtRow fields = told_of fields ≡ None
+IsAtRow fields = node_field_of fields ≡ None
 
 abbrev pub IsAtNode : Net → List (List ℕ) → Type 0
-IsAtNode net fields = IsSomeAnd (told_of fields) (λ name. IsSomeAnd name (λ n. number_of net.node_names n ≡ None))
+IsAtNode net fields = IsSomeAnd (node_field_of fields) (λ name. IsSomeAnd name (λ n. number_of net.node_names n ≡ None))
 
 abbrev pub IsAtExtra : Net → List ℕ → List (List ℕ) → Type 0
 IsAtExtra net history fields = (node : ℕ) × (steps_of net fields ≡ Some (node ∷ [])) × IsLawful net history
@@ -50,7 +50,7 @@ IsAtExtra net history fields = (node : ℕ) × (steps_of net fields ≡ Some (no
 abbrev pub IsAtTurn : Net → List ℕ → List (List ℕ) → Type 0
 IsAtTurn net history fields = (node : ℕ) × (steps_of net fields ≡ Some (node ∷ [])) × IsDoneInRound net history node
 
--- why the records behind the header are no history
+-- why the records after the header are no history
 abbrev pub IsRecordFault : Net → List (List (List ℕ)) → HistoryFault → Type 0
 IsRecordFault net records (Row n) = IsFirst net records n (λ history fields. IsAtRow fields)
 IsRecordFault net records (Node n) = IsFirst net records n (λ history fields. IsAtNode net fields)
@@ -70,7 +70,7 @@ AreFaulty net all fault = HasAfterHeader header all (λ records. IsRecordFault n
 abbrev pub IsTextFault : Net → List ℕ → HistoryFault → Type 0
 IsTextFault net bytes fault = AreFaulty net (records_of bytes) fault
 
--- the fact holds, unless the fault is want of memory
+-- the fact holds, unless memory ran out
 abbrev pub Refuses : HistoryFault → Type 0 → Type 0
 Refuses NoMemory fact = Unit {0}
 Refuses _ fact = fact

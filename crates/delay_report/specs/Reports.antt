@@ -14,15 +14,15 @@ use Rattle.net_numbers.specs.Numbers.{Net}
 use Rattle.net_numbers.specs.Outline.{link_name_at, node_name_at}
 use Rattle.net_simulator.specs.declared.totals.LinkTotals.{LinkTotals}
 use Rattle.net_simulator.specs.declared.totals.Totals.{Totals}
-use Rattle.runs.specs.Kept.{last_line}
+use Rattle.runs.specs.Promises.{last_line}
 use Rattle.runs.specs.Runs.{end_of_run}
 use Rattle.runs.specs.declared.records.RunRecord.{RunRecord}
 use Rattle.schedule_meaning.specs.declared.planners.Answer.{Answer}
 use Rattle.schedule_meaning.specs.declared.planners.Answer.TheVariants.{Plan, NoPlan}
 use Rattle.delay_report.specs.Entries.{header}
 
--- The record of a board step of a node in a round: the link, and the version that is read, or else made, where so many forecasts
--- were published on each link before it.
+-- The record of a board step of a node in a round: the link, and the version that is read, or else made, where `versions` counts
+-- the forecasts that were published on each link before it.
 abbrev pub step_record : Net → ℕ → ℕ → (ℕ → ℕ) → BoardStep → List (List ℕ)
 step_record net round node versions (Read link) = codes "step" ∷ decimal round ∷ node_name_at net node ∷ codes "read" ∷ link_name_at net link ∷ decimal (versions link) ∷ [] ∷ []
 step_record net round node versions (Publish link) = codes "step" ∷ decimal round ∷ node_name_at net node ∷ codes "publish" ∷ link_name_at net link ∷ decimal (versions link + 1) ∷ [] ∷ []
@@ -73,7 +73,7 @@ total_record totals = codes "total" ∷ [] ∷ [] ∷ decimal totals.entered ∷
 abbrev pub steps_records : Net → List ℕ → List (List (List ℕ))
 steps_records net history = header ∷ map (step_record_at net history) (range_with_len 0 (length history))
 
--- those of what a run came to: the plans by round and node; the greens by node and time; the links; and all totals
+-- those of the outcome of a run: the plans by round and node; the greens by node and time; the links; and all totals
 abbrev pub outcome_records : Net → RunRecord → List (List (List ℕ))
 outcome_records net run =
     map (plan_record net) run.plans
@@ -81,7 +81,7 @@ outcome_records net run =
     ++ (map (link_record_of net run) (range_with_len 0 (length net.link_names))
     ++ total_record run.totals ∷ []))
 
--- the records of a report: the steps of the history, and behind them what the run came to
+-- the records of a report: the steps of the history, and after them the outcome of the run
 unfoldable pub report_records : Net → RunRecord → List ℕ → List (List (List ℕ))
 report_records net run history = steps_records net history ++ outcome_records net run
 

@@ -1,4 +1,4 @@
--- What the steps of the code answer. No public clause names these words.
+-- What the steps of the code answer. No public clause names these definitions.
 use Rattle.std.specs.Prelude.{◌≡◌, ℕ, List, [], ◌∷◌, ◌++◌, Option, Some, None}
 use Rattle.std.specs.List.{concat}
 use Rattle.foundation.specs.Options.{each}
@@ -14,7 +14,7 @@ abbrev pub steps_if : Option ℕ → List ℕ
 steps_if None = []
 steps_if (Some node) = node ∷ []
 
--- why the record with this number is at fault behind a history
+-- why the record with this number is at fault after a history
 abbrev pub IsEntryFault : Net → List ℕ → List (List ℕ) → ℕ → HistoryFault → Type 0
 IsEntryFault net history fields number NoMemory = Unit {0}
 IsEntryFault net history fields number (Row n) = (n ≡ number) × IsAtRow fields
@@ -23,7 +23,7 @@ IsEntryFault net history fields number (Extra n) = (n ≡ number) × IsAtExtra n
 IsEntryFault net history fields number (Turn n) = (n ≡ number) × IsAtTurn net history fields
 IsEntryFault net history fields number _ = ⊥
 
--- the steps of a record were taken behind a history
+-- the steps of a record were taken after a history
 pub record AreTaken (net : Net) (fields : List (List ℕ)) (old new : List ℕ) (p : Course) : Type 0 where
   pub more : List ℕ
   pub told : steps_of net fields ≡ Some more

@@ -1,4 +1,4 @@
--- How far nodes and links have come along a history. No public clause names these words.
+-- How far nodes and links have come along a history. No public clause names these definitions.
 use Rattle.std.specs.Prelude.{◌≡◌, ℕ, ◌<◌, List, length, map, slice_index, take}
 use Rattle.std.specs.List.{range_with_len}
 use Rattle.histories.specs.Histories.{count, version_at}
@@ -16,7 +16,7 @@ link_of (Publish link) = link
 
 -- at a place of a history: the steps of each node in a round, how many it has taken, and how many forecasts were published on
 -- each link
-pub record StandsAt (net : Net) (history : List ℕ) (place : ℕ) (walk : Walk) : Type 0 where
+pub record HasWalkedTo (net : Net) (history : List ℕ) (place : ℕ) (walk : Walk) : Type 0 where
   pub network : IsNetwork net
   pub steps : map (λ own. own.items) walk.steps.items ≡ map (board_steps net) (range_with_len 0 (length net.node_names))
   pub nodes : length walk.taken.items ≡ length net.node_names

@@ -1,4 +1,4 @@
--- What has been written. No public clause names these words.
+-- What has been written. No public clause names these definitions.
 use Rattle.std.specs.Prelude.{◌≡◌, ℕ, false, List, ◌++◌, Some, Vec}
 use Rattle.csv.specs.Writing.{default_writer, fields_written, has_written, text_written, writer_setup}
 use Rattle.csv.specs.declared.writer.Writer.{Writer}

@@ -3,7 +3,7 @@ ghost use Rattle.std.specs.Prelude.{◌≡◌, ◌≢◌, ◌↔◌, [], ◌∷�
 ghost use Rattle.csv.specs.Records.{fields_of};
 ghost use Rattle.road_net.specs.Network.{IsNetwork};
 ghost use Rattle.delay_report.specs.Entries as entries;
-ghost use Rattle.delay_report.specs.Entries.{header, steps_of, told, told_of};
+ghost use Rattle.delay_report.specs.Entries.{header, steps_of, node_field, node_field_of};
 ghost use Rattle.delay_report.specs.Taken.{steps_if, IsEntryFault};
 
 use crate::faults::HistoryFault;
@@ -15,7 +15,7 @@ use road_net::Network;
 pub(crate) fn is_header(row: &ByteRecord) -> bool
     ensures { IsTrue result ↔ (fields_of row.now ≡ header) }
 {
-    match seven(row) {
+    match seven_fields(row) {
         Some((kind, round, node, x, y, z, w)) => are_first(kind, round, node)
             && are_last(x, y, z, w),
         None => false,
@@ -37,7 +37,7 @@ fn are_last(x: &[u8], y: &[u8], z: &[u8], w: &[u8]) -> bool
 }
 
 /// The fields of a record that has seven.
-fn seven(row: &ByteRecord) -> Option<(&[u8], &[u8], &[u8], &[u8], &[u8], &[u8], &[u8])>
+fn seven_fields(row: &ByteRecord) -> Option<(&[u8], &[u8], &[u8], &[u8], &[u8], &[u8], &[u8])>
     ensures { MatchOption result (length (fields_of row.now) ≢ 7)
         (λ f. fields_of row.now ≡ f.0.now ∷ f.1.now ∷ f.2.now ∷ f.3.now ∷ f.4.now ∷ f.5.now ∷ f.6.now ∷ []) }
 {
@@ -64,9 +64,10 @@ pub(crate) fn read_step(
 ) -> Result<Option<u32>, HistoryFault>
     requires { IsNetwork net.now }
     ensures ok { IfOk result (λ node. steps_of net.now (fields_of row.now) ≡ Some (steps_if node)) }
-    ensures first { IfErr result (λ fault. (history : List ℕ) → IsEntryFault net.now history (fields_of row.now) number fault) }
+    ensures first { IfErr result (λ fault. (history : List ℕ)
+        → IsEntryFault net.now history (fields_of row.now) number fault) }
 {
-    let Some((kind, _, node, _, _, _, _)) = seven(row) else {
+    let Some((kind, _, node, _, _, _, _)) = seven_fields(row) else {
         return Err(HistoryFault::Row(number));
     };
     if is_passed_over(kind) {

@@ -7,7 +7,7 @@ ghost use Rattle.delay_report.specs.Reports as report;
 ghost use Rattle.delay_report.specs.Reports.{plan_record};
 ghost use Rattle.delay_report.specs.Written.{Adds};
 
-use crate::records::{number, write_record};
+use crate::records::{digits_of, write_record};
 use csv::Writer;
 use intersection_actor::{PlanRecord, Used};
 use number_text::push_number;
@@ -43,7 +43,7 @@ fn write_plan(
     requires used { map (λ u. u.link) plan.now.used ≡ heard_links net.now plan.now.node }
     ensures { OnOk result (Adds out.old out.new (plan_record net.now plan.now ∷ [])) }
 {
-    let round = number(u64::from(plan.round));
+    let round = digits_of(u64::from(plan.round));
     let node = net.node_name(plan.node).as_bytes();
     let used = used_text(alloc, net, plan.used.as_slice())?;
     match &plan.answer {
@@ -52,8 +52,8 @@ fn write_plan(
             &[b"plan", round.as_bytes(), node, &used, b"none", b"", b""],
         ),
         Answer::Plan { sequence, delay } => {
-            let delay = number(*delay);
-            let phases = digits(alloc, sequence.as_slice())?;
+            let delay = digits_of(*delay);
+            let phases = phase_digits(alloc, sequence.as_slice())?;
             write_record(
                 out,
                 &[
@@ -83,7 +83,7 @@ fn used_text(alloc: Global, net: &Network, used: &[Used]) -> Result<Vec<u8>, All
     Ok(text)
 }
 
-/// Writes a semicolon behind a text, unless nothing stands before this place.
+/// Appends a semicolon to a text, unless the place is the first.
 fn push_semicolon(place: usize, text: &mut Vec<u8>) -> Result<(), AllocError>
     ensures { OnOk result (text.new.items ≡ text.old.items ++ (if place == 0 then [] else 59 ∷ [])) }
 {
@@ -94,7 +94,7 @@ fn push_semicolon(place: usize, text: &mut Vec<u8>) -> Result<(), AllocError>
     Ok(())
 }
 
-/// Writes a version behind a text.
+/// Appends a version to a text.
 fn push_version(net: &Network, used: Used, text: &mut Vec<u8>) -> Result<(), AllocError>
     requires { used.link < length net.now.link_names }
     ensures { OnOk result (text.new.items ≡ text.old.items ++ report.used_text net.now used) }
@@ -105,7 +105,7 @@ fn push_version(net: &Network, used: Used, text: &mut Vec<u8>) -> Result<(), All
 }
 
 /// Phases one after another.
-fn digits(alloc: Global, phases: &[u8]) -> Result<Vec<u8>, AllocError>
+fn phase_digits(alloc: Global, phases: &[u8]) -> Result<Vec<u8>, AllocError>
     ensures { IfOk result (λ text. text.items ≡ flat_map decimal phases.now) }
 {
     let mut text = Vec::new(alloc);

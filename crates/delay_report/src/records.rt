@@ -7,7 +7,7 @@ use csv::Writer;
 use number_text::Line;
 use std::alloc::{AllocError, Global};
 
-/// A writer behind this text.
+/// A writer that appends to this text.
 pub(crate) fn start(text: Vec<u8>) -> Writer<Vec<u8>>
     ensures { HasWritten result text.items }
 {
@@ -29,7 +29,7 @@ pub(crate) fn write_record(out: &mut Writer<Vec<u8>>, fields: &[&[u8]]) -> Resul
 }
 
 /// The digits of a number.
-pub(crate) fn number(n: u64) -> Line
+pub(crate) fn digits_of(n: u64) -> Line
     ensures { result ≡ decimal n }
 {
     let mut line = Line::new();

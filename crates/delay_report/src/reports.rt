@@ -1,7 +1,7 @@
 //! The report of a run.
 ghost use Rattle.std.specs.Prelude.{◌≡◌, ℕ, List, [], ◌∷◌, ◌++◌, IfOk, OnOk};
 ghost use Rattle.histories.specs.Histories.{IsLawful};
-ghost use Rattle.runs.specs.Whole.{IsWhole};
+ghost use Rattle.runs.specs.Complete.{IsComplete};
 ghost use Rattle.runs.specs.declared.records.RunRecord.{RunRecord};
 ghost use Rattle.delay_report.specs.Entries.{header};
 ghost use Rattle.delay_report.specs.Reports.{outcome_records, records_text, report_text, steps_records};
@@ -19,14 +19,14 @@ use road_net::Network;
 use runs::RunRecord;
 use std::alloc::{AllocError, Global};
 
-// Bytes to set aside for a step of a report, so that the text seldom has to move as it grows: the record takes some 28, and what stands
-// behind the steps a third as much again.
+// The capacity for a step of a report, in bytes, so that the text seldom has to move as it grows: the record takes some 28, and what
+// follows the steps a third as much again.
 const ROOM_FOR_A_STEP: usize = 40;
 
-// Bytes to set aside for a plan: its record takes some 60, and the greens and links behind the plans few more for each.
+// The capacity for a plan, in bytes: its record takes some 60, and the greens and links after the plans few more for each.
 const ROOM_FOR_A_PLAN: usize = 80;
 
-/// The report of a run of a history, from which `read_history` reads the history again. An `Err` comes only where memory runs out.
+/// The report of a run of a history, from which `read_history` reads the history again. `Err`: out of memory.
 ///
 /// docs/FORMATS.md, "Report".
 pub fn render(
@@ -36,7 +36,7 @@ pub fn render(
     h: &History,
 ) -> Result<Vec<u8>, AllocError>
     requires lawful { IsLawful net.now h.now }
-    requires whole { IsWhole net.now run.now }
+    requires whole { IsComplete net.now run.now }
     ensures text { IfOk result (λ text. text.items ≡ report_text net.now run.now h.now) }
     ensures history { IfOk result (λ text. IsHistoryText net.now text.items h.now) }
 {
@@ -44,7 +44,7 @@ pub fn render(
     render_outcome(alloc, net, run, steps)
 }
 
-/// The front of the report of a history: the header, and the steps in their order. An `Err` comes only where memory runs out.
+/// The front of the report of a history: the header, and the steps in their order. `Err`: out of memory.
 ///
 /// docs/FORMATS.md, "Report".
 pub fn render_steps(alloc: Global, net: &Network, h: &History) -> Result<Vec<u8>, AllocError>
@@ -59,7 +59,7 @@ pub fn render_steps(alloc: Global, net: &Network, h: &History) -> Result<Vec<u8>
     finish(out)
 }
 
-/// Puts behind a text what a run came to: the plans, the greens, the links and all totals. An `Err` comes only where memory runs out.
+/// Appends to a text the outcome of a run: the plans, the greens, the links and all totals. `Err`: out of memory.
 ///
 /// docs/FORMATS.md, "Report".
 pub fn render_outcome(
@@ -68,7 +68,7 @@ pub fn render_outcome(
     run: &RunRecord,
     mut text: Vec<u8>,
 ) -> Result<Vec<u8>, AllocError>
-    requires { IsWhole net.now run.now }
+    requires { IsComplete net.now run.now }
     ensures { IfOk result (λ all. all.items ≡ text.items ++ records_text (outcome_records net.now run.now)) }
 {
     text.reserve(run.plans.len().saturating_mul(ROOM_FOR_A_PLAN))?;
@@ -80,12 +80,13 @@ pub fn render_outcome(
     finish(out)
 }
 
-/// The report of a run of a history: its front, and behind it what the run came to. An `Err` comes only where memory runs out.
+/// The report of a run of a history: its front, and after it the outcome of the run. `Err`: out of memory.
 ///
 /// docs/FORMATS.md, "Report".
 pub fn join_report(net: &Network, steps: Vec<u8>, outcome: &[u8]) -> Result<Vec<u8>, AllocError>
     ensures text { (run : RunRecord) (history : List ℕ) → steps.items ≡ records_text (steps_records net.now history)
-        → outcome.now ≡ records_text (outcome_records net.now run) → IfOk result (λ text. text.items ≡ report_text net.now run history) }
+        → outcome.now ≡ records_text (outcome_records net.now run)
+        → IfOk result (λ text. text.items ≡ report_text net.now run history) }
 {
     let _nodes = net.nodes();
     let mut text = steps;
@@ -104,8 +105,10 @@ fn write_header(out: &mut Writer<Vec<u8>>) -> Result<(), AllocError>
 ///
 /// docs/FORMATS.md, "Report".
 pub fn law_of_reports(net: &Network)
-    ensures reads_back { (run : RunRecord) (history : List ℕ) → IsLawful net.now history → IsHistoryText net.now (report_text net.now run history) history }
-    ensures one { (bytes one other : List ℕ) → IsHistoryText net.now bytes one → IsHistoryText net.now bytes other → one ≡ other }
+    ensures reads_back { (run : RunRecord) (history : List ℕ) → IsLawful net.now history
+        → IsHistoryText net.now (report_text net.now run history) history }
+    ensures one { (bytes one other : List ℕ) → IsHistoryText net.now bytes one → IsHistoryText net.now bytes other
+        → one ≡ other }
 {
     let _nodes = net.nodes();
 }

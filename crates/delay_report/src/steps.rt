@@ -7,10 +7,10 @@ ghost use Rattle.histories.specs.Steps.{board_steps};
 ghost use Rattle.net_numbers.specs.Outline.{link_name_at, node_name_at};
 ghost use Rattle.road_net.specs.Network.{IsNetwork};
 ghost use Rattle.delay_report.specs.Reports.{step_record_at};
-ghost use Rattle.delay_report.specs.Walks.{StandsAt, link_of};
+ghost use Rattle.delay_report.specs.Walks.{HasWalkedTo, link_of};
 ghost use Rattle.delay_report.specs.Written.{Adds};
 
-use crate::records::{number, write_record};
+use crate::records::{digits_of, write_record};
 use csv::Writer;
 use histories::{BoardStep, node_steps};
 use road_net::Network;
@@ -35,7 +35,8 @@ pub(crate) fn write_steps(
     out: &mut Writer<Vec<u8>>,
 ) -> Result<(), AllocError>
     requires { IsLawful net.now nodes.now }
-    ensures records { OnOk result (Adds out.old out.new (map (step_record_at net.now nodes.now) (range_with_len 0 (length nodes.now)))) }
+    ensures records { OnOk result (Adds out.old out.new
+        (map (step_record_at net.now nodes.now) (range_with_len 0 (length nodes.now)))) }
     ensures network { OnOk result (IsNetwork net.now) }
 {
     let mut walk = begin(alloc, net, nodes)?;
@@ -47,7 +48,7 @@ pub(crate) fn write_steps(
 
 /// Where all stand before the first step.
 fn begin(alloc: Global, net: &Network, nodes: &[u32]) -> Result<Walk, AllocError>
-    ensures { IfOk result (λ walk. StandsAt net.now nodes.now 0 walk) }
+    ensures { IfOk result (λ walk. HasWalkedTo net.now nodes.now 0 walk) }
 {
     let steps = all_steps(alloc, net)?;
     let taken = vec![in alloc; 0; net.nodes() as usize]?;
@@ -57,7 +58,8 @@ fn begin(alloc: Global, net: &Network, nodes: &[u32]) -> Result<Walk, AllocError
 
 /// The board steps of each node in a round.
 fn all_steps(alloc: Global, net: &Network) -> Result<Vec<Vec<BoardStep>>, AllocError>
-    ensures { IfOk result (λ steps. map (λ own. own.items) steps.items ≡ map (board_steps net.now) (range_with_len 0 (length net.now.node_names))) }
+    ensures { IfOk result (λ steps. map (λ own. own.items) steps.items
+        ≡ map (board_steps net.now) (range_with_len 0 (length net.now.node_names))) }
 {
     let mut steps = Vec::new(alloc);
     for node in 0..net.nodes() {
@@ -76,12 +78,12 @@ fn write_step(
 ) -> Result<(), AllocError>
     requires lawful { IsLawful net.now nodes.now }
     requires inside { place < length nodes.now }
-    requires stands { StandsAt net.now nodes.now place walk.old }
+    requires stands { HasWalkedTo net.now nodes.now place walk.old }
     ensures record { OnOk result (Adds out.old out.new (step_record_at net.now nodes.now place ∷ [])) }
-    ensures stands { OnOk result (StandsAt net.now nodes.now (place + 1) walk.new) }
+    ensures stands { OnOk result (HasWalkedTo net.now nodes.now (place + 1) walk.new) }
 {
     let node = nodes[place];
-    let (round, step) = next_of(net, nodes, place, walk);
+    let (round, step) = next_step(net, nodes, place, walk);
     walk.taken[node as usize] += 1;
     match step {
         BoardStep::Read(link) => {
@@ -104,10 +106,10 @@ fn write_step(
 }
 
 /// The round of the step at a place, and the step.
-fn next_of(net: &Network, nodes: &[u32], place: usize, walk: &Walk) -> (usize, BoardStep)
+fn next_step(net: &Network, nodes: &[u32], place: usize, walk: &Walk) -> (usize, BoardStep)
     requires lawful { IsLawful net.now nodes.now }
     requires inside { place < length nodes.now }
-    requires stands { StandsAt net.now nodes.now place walk.now }
+    requires stands { HasWalkedTo net.now nodes.now place walk.now }
     ensures round { result.0 ≡ round_at (board_steps net.now) nodes.now place }
     ensures step { result.1 ≡ step_at (board_steps net.now) nodes.now place }
     ensures link { link_of result.1 < length net.now.link_names }
@@ -130,10 +132,12 @@ fn write_fields(
 ) -> Result<(), AllocError>
     requires node { node < length net.now.node_names }
     requires link { link < length net.now.link_names }
-    ensures { OnOk result (Adds out.old out.new ((codes "step" ∷ decimal round ∷ node_name_at net.now node ∷ kind.now ∷ link_name_at net.now link ∷ decimal version ∷ [] ∷ []) ∷ [])) }
+    ensures { OnOk result (Adds out.old out.new
+        ((codes "step" ∷ decimal round ∷ node_name_at net.now node ∷ kind.now ∷ link_name_at net.now link
+        ∷ decimal version ∷ [] ∷ []) ∷ [])) }
 {
-    let round = number(round as u64);
-    let version = number(version);
+    let round = digits_of(round as u64);
+    let version = digits_of(version);
     write_record(
         out,
         &[

@@ -21,7 +21,7 @@ use std::alloc::Global;
 /// The history of a file, whose nodes stand by their names in the network. It is lawful. A report is such a file. The file
 /// has fewer than 2^32 bytes.
 ///
-/// The fault is want of memory; or `Header`, where the file does not begin with the header; or that of the first row at
+/// The fault is `NoMemory`; or `Header`, where the file does not begin with the header; or that of the first row at
 /// fault, within a row in the order `Row`, `Node`, `Extra`, `Turn`; or else `Short`, where the file ends before all rounds
 /// are done.
 ///
@@ -49,7 +49,8 @@ fn read_records(
     requires few { length (left_of reader.old) ≤ 2 ^ 32 }
     ensures ok { IfOk result (AreHistoryRecords net.now (left_of reader.old)) }
     ensures lawful { IfOk result (IsLawful net.now) }
-    ensures refused { IfErr result (λ fault. Refuses fault ((h : List ℕ) → ¬ AreHistoryRecords net.now (left_of reader.old) h)) }
+    ensures refused { IfErr result (λ fault.
+        Refuses fault ((h : List ℕ) → ¬ AreHistoryRecords net.now (left_of reader.old) h)) }
     ensures first { IfErr result (AreFaulty net.now (left_of reader.old)) }
 {
     if !next_record(reader, row)? {
@@ -67,7 +68,7 @@ fn read_records(
     Ok(History::new(steps))
 }
 
-/// Takes the steps that the records tell which are left behind the header.
+/// Takes the steps that the records after the header tell.
 fn take_steps(
     net: &Network,
     reader: &mut Reader<&[u8]>,
@@ -91,7 +92,7 @@ fn take_steps(
     Ok(())
 }
 
-/// Takes the step that the record with this number tells, if it tells one, behind the steps so far.
+/// Appends the step that the record with this number tells, if it tells one, to the steps so far.
 fn take_step(
     net: &Network,
     row: &ByteRecord,

@@ -5,7 +5,7 @@ ghost use Rattle.runs.specs.Runs.{end_of_run};
 ghost use Rattle.delay_report.specs.Reports.{green_record, link_record, no_totals, total_record};
 ghost use Rattle.delay_report.specs.Written.{Adds};
 
-use crate::records::{number, write_record};
+use crate::records::{digits_of, write_record};
 use control_flow::greens::{Green, Timeline};
 use csv::Writer;
 use net_simulator::{LinkTotals, Totals};
@@ -19,7 +19,10 @@ pub(crate) fn write_greens(
     out: &mut Writer<Vec<u8>>,
 ) -> Result<(), AllocError>
     requires { length lines.now ≡ length net.now.node_names }
-    ensures { OnOk result (Adds out.old out.new (flat_map (λ node. map (green_record net.now node) (filter (λ green. nat_lt green.from (end_of_run net.now)) (slice_index_or lines.now node []))) (range_with_len 0 (length net.now.node_names)))) }
+    ensures { OnOk result (Adds out.old out.new
+        (flat_map (λ node. map (green_record net.now node)
+        (filter (λ green. nat_lt green.from (end_of_run net.now)) (slice_index_or lines.now node [])))
+        (range_with_len 0 (length net.now.node_names)))) }
 {
     let end = net.run().rounds * net.run().step;
     for node in 0..net.nodes() {
@@ -37,7 +40,8 @@ fn write_greens_of(
     out: &mut Writer<Vec<u8>>,
 ) -> Result<(), AllocError>
     requires { node < length net.now.node_names }
-    ensures { OnOk result (Adds out.old out.new (map (green_record net.now node) (filter (λ green. nat_lt green.from end) greens.now))) }
+    ensures { OnOk result (Adds out.old out.new
+        (map (green_record net.now node) (filter (λ green. nat_lt green.from end) greens.now))) }
 {
     for green in greens {
         write_green(net, node, *green, end, out)?;
@@ -54,14 +58,15 @@ fn write_green(
     out: &mut Writer<Vec<u8>>,
 ) -> Result<(), AllocError>
     requires { node < length net.now.node_names }
-    ensures { OnOk result (Adds out.old out.new (if nat_lt green.from end then green_record net.now node green ∷ [] else [])) }
+    ensures { OnOk result (Adds out.old out.new
+        (if nat_lt green.from end then green_record net.now node green ∷ [] else [])) }
 {
     if green.from >= end {
         return Ok(());
     }
-    let phase = number(u64::from(green.phase));
-    let from = number(u64::from(green.from));
-    let to = number(u64::from(green.to));
+    let phase = digits_of(u64::from(green.phase));
+    let from = digits_of(u64::from(green.from));
+    let to = digits_of(u64::from(green.to));
     let name = net.node_name(node).as_bytes();
     write_record(
         out,
@@ -84,7 +89,9 @@ pub(crate) fn write_links(
     out: &mut Writer<Vec<u8>>,
 ) -> Result<(), AllocError>
     requires { length totals.now ≡ length net.now.link_names }
-    ensures { OnOk result (Adds out.old out.new (map (λ link. link_record net.now link (slice_index_or totals.now link no_totals)) (range_with_len 0 (length net.now.link_names)))) }
+    ensures { OnOk result (Adds out.old out.new
+        (map (λ link. link_record net.now link (slice_index_or totals.now link no_totals))
+        (range_with_len 0 (length net.now.link_names)))) }
 {
     for link in 0..net.links() {
         write_link(net, link, totals[link as usize], out)?;
@@ -102,9 +109,9 @@ fn write_link(
     requires { link < length net.now.link_names }
     ensures { OnOk result (Adds out.old out.new (link_record net.now link totals ∷ [])) }
 {
-    let entered = number(totals.entered);
-    let left = number(totals.left);
-    let delay = number(totals.delay);
+    let entered = digits_of(totals.entered);
+    let left = digits_of(totals.left);
+    let delay = digits_of(totals.delay);
     let name = net.link_name(link).as_bytes();
     write_record(
         out,
@@ -124,10 +131,10 @@ fn write_link(
 pub(crate) fn write_totals(totals: Totals, out: &mut Writer<Vec<u8>>) -> Result<(), AllocError>
     ensures { OnOk result (Adds out.old out.new (total_record totals ∷ [])) }
 {
-    let entered = number(totals.entered);
-    let left = number(totals.left);
-    let on = number(totals.on);
-    let delay = number(totals.delay);
+    let entered = digits_of(totals.entered);
+    let left = digits_of(totals.left);
+    let on = digits_of(totals.on);
+    let delay = digits_of(totals.delay);
     write_record(
         out,
         &[

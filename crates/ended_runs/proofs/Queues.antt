@@ -45,7 +45,7 @@ module _ {A : Type 0} where
   drop-one (suc n) [] = sym (drop-nil (suc n + 1))
   drop-one (suc n) (x ∷ xs) = drop-one n xs ∙ ap (λ k. drop k (x ∷ xs)) (let e : suc (n + 1) ≡ suc n + 1 = omega arith in e)
 
-  -- the lists behind one round more
+  -- the lists after one round more
   pub without-more : (lists : List (List A)) (rounds : ℕ) → without_first (map (drop rounds) lists) ≡ map (drop (rounds + 1)) lists
   without-more [] rounds = refl
   without-more (xs ∷ lists) rounds = ap (λ l. l ∷ without_first (map (drop rounds) lists)) (drop-one rounds xs) ∙ ap (λ l. drop (rounds + 1) xs ∷ l) (without-more lists rounds)
@@ -66,9 +66,9 @@ module _ {A : Type 0} where
       let many : suc rounds * length lists ≡ rounds * length lists + length lists = omega arith in
       omega (arith, e, few, many, rounds-few lists rounds)
 
-  -- one round more has room
-  pub rounds-room : (start plans : List A) (lists : List (List A)) (round rounds room : ℕ) → plans ≡ start ++ round_by_round round lists → round < rounds → length start + rounds * length lists ≤ room → length plans + length lists ≤ room
-  rounds-room start plans lists round rounds room is less all =
+  -- there is capacity for one round more
+  pub rounds-capacity : (start plans : List A) (lists : List (List A)) (round rounds capacity : ℕ) → plans ≡ start ++ round_by_round round lists → round < rounds → length start + rounds * length lists ≤ capacity → length plans + length lists ≤ capacity
+  rounds-capacity start plans lists round rounds capacity is less all =
       let long : length plans ≡ length start + length (round_by_round round lists) = ap length is ∙ length-append start (round_by_round round lists) in
       let most : suc round * length lists ≤ rounds * length lists = mul-le-mul_right {m = suc round} {n = rounds} (length lists) (omega arith) in
       let one : suc round * length lists ≡ round * length lists + length lists = omega arith in
@@ -91,7 +91,7 @@ module _ {A : Type 0} where
       ap (λ l. l ++ first_of_each (map (drop round) (map (λ k. map (table k) (range_with_len 0 rounds)) rows))) (entry (table k) 0 round rounds less ∙ ap (λ r. table k r ∷ []) (let e : 0 + round ≡ round = omega arith in e))
       ∙ ap (λ l. table k round ∷ l) (column table round rounds less rows)
 
-  -- the rows of a table, so many of each, are its columns one after another
+  -- the rows of a table, as many of each, are its columns one after another
   pub columns : (table : ℕ → ℕ → A) (rounds : ℕ) (rows : List ℕ) → round_by_round rounds (map (λ k. map (table k) (range_with_len 0 rounds)) rows) ≡ flat_map (λ round. map (λ k. table k round) rows) (range_with_len 0 rounds)
   columns table rounds rows = flat-range-same (λ round. first_of_each (map (drop round) (map (λ k. map (table k) (range_with_len 0 rounds)) rows))) (λ round. map (λ k. table k round) rows) 0 rounds (λ round least most. column table round rounds (omega arith) rows)
 
@@ -131,9 +131,9 @@ module _ {A : Type 0} where
           is_now ∙ ap (λ l. l ++ take 1 (f old)) was ∙ append_assoc start (first_of_each (map f (take many initial))) (take 1 (f old))
           ∙ ap (λ l. start ++ l) (ap (λ l. first_of_each (map f (take many initial)) ++ l) (sym (append-nil (take 1 (f old)))) ∙ sym (flat_map-append (take 1) (map f (take many initial)) (f old ∷ [])) ∙ ap first_of_each (sym front-more))
 
-    -- one queue more has room
-    pub firsts-room : (start plans : List A) (many room : ℕ) → plans ≡ start ++ first_of_each (map f (take many initial)) → many < length initial → length start + length initial ≤ room → length plans < room
-    firsts-room start plans many room is inside all =
+    -- there is capacity for one queue more
+    pub firsts-capacity : (start plans : List A) (many capacity : ℕ) → plans ≡ start ++ first_of_each (map f (take many initial)) → many < length initial → length start + length initial ≤ capacity → length plans < capacity
+    firsts-capacity start plans many capacity is inside all =
         let long : length plans ≡ length start + length (first_of_each (map f (take many initial))) = ap length is ∙ length-append start (first_of_each (map f (take many initial))) in
         let few : length (first_of_each (map f (take many initial))) ≤ many = omega (arith, first-few (map f (take many initial)), length-map (take many initial) f, length-take many initial) in
         omega (arith, long, few, inside, all)

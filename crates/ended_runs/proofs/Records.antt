@@ -1,4 +1,4 @@
--- The record of what actors and a world hold behind the last round is that of their commits.
+-- The record of what actors and a world hold after the last round is that of their commits.
 use Rattle.std.proofs.Common.{◌≡◌, ℕ, ◌+◌, ◌*◌, ◌<◌, List, length, map, get_or, ap, ◌∙◌, arith}
 use Rattle.std.specs.List.{range_with_len}
 use Rattle.arrivals.specs.Amounts.{Amounts}

@@ -8,18 +8,18 @@ use Rattle.net_numbers.specs.Numbers.{Net}
 use Rattle.net_simulator.specs.Counts.{counts_at}
 use Rattle.net_simulator.specs.Worlds.{WorldState}
 use Rattle.runs.specs.declared.records.RunRecord.{RunRecord}
-use Rattle.ended_runs.specs.declared.Room.{Room}
+use Rattle.ended_runs.specs.declared.run_records.EmptyRecord.{EmptyRecord}
 
--- empty lists, with room for all that the record of a run has
-pub record HasRoom (net : Net) (room : Room) : Type 0 where
-  pub no_plans : room.plans.items ≡ []
-  pub no_queues : room.queues.items ≡ []
-  pub no_timelines : room.timelines.items ≡ []
-  pub no_links : room.links.items ≡ []
-  pub plans : net.run.rounds * length net.node_names ≤ vec_capacity room.plans
-  pub queues : length net.node_names ≤ vec_capacity room.queues
-  pub timelines : length net.node_names ≤ vec_capacity room.timelines
-  pub links : length net.link_names ≤ vec_capacity room.links
+-- empty lists, with capacity for all that the record of a run has
+pub record HasCapacity (net : Net) (empty : EmptyRecord) : Type 0 where
+  pub no_plans : empty.plans.items ≡ []
+  pub no_queues : empty.queues.items ≡ []
+  pub no_timelines : empty.timelines.items ≡ []
+  pub no_links : empty.links.items ≡ []
+  pub plans : net.run.rounds * length net.node_names ≤ vec_capacity empty.plans
+  pub queues : length net.node_names ≤ vec_capacity empty.queues
+  pub timelines : length net.node_names ≤ vec_capacity empty.timelines
+  pub links : length net.link_names ≤ vec_capacity empty.links
 
 -- the plan records of actors, and their lines
 abbrev pub records_in : List Acting → List (List PlanRecord)
@@ -36,7 +36,7 @@ module _ {A : Type 0} where
   abbrev pub without_first : List (List A) → List (List A)
   without_first lists = map (drop 1) lists
 
-  -- the elements of the lists, so many of each: the first of each list, then the second of each, and so on
+  -- the first `rounds` elements of each list: the first of each, then the second of each, and so on
   abbrev pub round_by_round : ℕ → List (List A) → List A
   round_by_round rounds lists = flat_map (λ round. first_of_each (map (drop round) lists)) (range_with_len 0 rounds)
 

@@ -6,7 +6,7 @@ use Rattle.histories.specs.Histories.{count, IsRound, HasRounds, IsUnderWay}
 use Rattle.histories.proofs.Counts.{count-append, count-here, count-else, count-one, no-count, Goes, cuts}
 
 module _ (steps : ℕ → List BoardStep) where
-  -- each node stands in so many rounds as often as it has steps in them
+  -- each node stands in some rounds as often as it has steps in them
   pub rounds-count : (rounds : ℕ) (h : List ℕ) → HasRounds steps rounds h → (n : ℕ) → count n h ≡ rounds * length (steps n)
   rounds-count zero h none n = ap (count n) none ∙ (let z : 0 ≡ 0 * length (steps n) = omega arith in z)
   rounds-count (suc rounds) h (early, block, e, round, before) n = ap (count n) e ∙ count-append n early block ∙ more rounds (length (steps n)) (count n early) (count n block) (rounds-count rounds early before n) (round n)
@@ -35,7 +35,7 @@ module _ (steps : ℕ → List BoardStep) where
       nothing : (b c zs : List ℕ) → IsRound steps b → IsRound steps c → c ≡ b ++ zs → zs ≡ []
       nothing b c zs b-round c-round e = no-count zs (λ n. let p : count n c ≡ count n b + count n zs = ap (count n) e ∙ count-append n b zs in omega (arith, p, b-round n, c-round n))
 
-  -- what is left behind some rounds
+  -- what is left after some rounds
   cut-rounds : (w : ℕ) → 0 < length (steps w) → (done rounds : ℕ) (early more : List ℕ) → HasRounds steps done early → HasRounds steps rounds (early ++ more) → (left : ℕ) × (rounds ≡ done + left) × HasRounds steps left more
   cut-rounds w some zero rounds early more none all = (rounds, (omega arith), subst (HasRounds steps rounds) (ap (λ l. l ++ more) none) all)
   cut-rounds w some (suc done) zero early more before none = absurd (

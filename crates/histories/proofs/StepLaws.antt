@@ -11,6 +11,9 @@ use Rattle.road_net.specs.Joins.{is_node, node_at, links_from}
 use Rattle.std.proofs.lemmas.List.Elements.{All-tail}
 use Rattle.road_net.specs.Network.{IsNetwork, AreApart, entry_links, exit_links, heard_links, told_links}
 use Rattle.histories.specs.declared.steps.BoardStep.TheVariants.{Read, Publish}
+use Rattle.histories.specs.declared.steps.BoardStep.{BoardStep}
+use Rattle.histories.specs.declared.steps.Side.TheVariants.{Begin, End}
+use Rattle.histories.specs.Sides.{has_node, step_across}
 use Rattle.histories.specs.Steps.{board_steps}
 
 -- rising numbers of links are few
@@ -27,6 +30,15 @@ steps-few net node network apart = let few = network.outline.link_count.1 in ome
 -- the counts of the two sides
 pub count-both : (net : Net) (node heard told : ℕ) (entry exit : List ℕ) → entry ≡ entry_links net node → exit ≡ exit_links net node → heard ≡ length (filter (λ l. is_some (link_at net l).from) entry) → told ≡ length (filter (λ l. is_some (link_at net l).to) exit) → heard + told ≡ length (board_steps net node)
 count-both net node heard told entry exit e x h t = omega (arith, h, t, step-count net node, ap (λ l. length (filter (λ k. is_some (link_at net k).from) l)) e, ap (λ l. length (filter (λ k. is_some (link_at net k).to) l)) x)
+
+-- the steps on the links of the two sides
+pub steps-both : (net : Net) (node : ℕ) (none first all : List BoardStep) (entry exit : List ℕ) → none ≡ [] → entry ≡ entry_links net node → exit ≡ exit_links net node
+    → first ≡ none ++ map (step_across Begin) (filter (has_node net Begin) entry) → all ≡ first ++ map (step_across End) (filter (has_node net End) exit) → all ≡ board_steps net node
+steps-both net node none first all entry exit n e x f a =
+    a
+    ∙ ap (λ steps. steps ++ map (step_across End) (filter (has_node net End) exit)) (f ∙ ap (λ steps. steps ++ map (step_across Begin) (filter (has_node net Begin) entry)) n)
+    ∙ ap (λ links. map (step_across Begin) (filter (has_node net Begin) links) ++ map (step_across End) (filter (has_node net End) exit)) e
+    ∙ ap (λ links. map Read (heard_links net node) ++ map (step_across End) (filter (has_node net End) links)) x
 
 no-one : (xs : List ℕ) → All (λ x. ⊥) xs → xs ≡ []
 no-one [] none = refl

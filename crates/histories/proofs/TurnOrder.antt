@@ -40,7 +40,7 @@ module _ (steps : ℕ → List BoardStep) (nodes : ℕ) (beyond : (n : ℕ) → 
       subst (λ r. HasRounds steps r (xs ++ ys)) (let z : suc (first + second) ≡ first + suc second = omega arith in z)
       (xs ++ early, block, (ap (λ l. xs ++ l) e ∙ sym (append_assoc xs early block)), round, rounds-append first second xs early a before)
 
-  -- so many rounds, and of the next one a part, which may be all of it
+  -- some rounds, and of the next one a part, which may be all of it
   pub record IsBegun (rounds done : ℕ) (h : List ℕ) : Type 0 where
     pub early : List ℕ
     pub part : List ℕ

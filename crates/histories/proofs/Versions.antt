@@ -90,7 +90,7 @@ module _ (steps : ℕ → List BoardStep) (link f : ℕ) (others : (n : ℕ) →
   abbrev pub test : ℕ → Bool
   test j = is_publish_of link (get_or (steps f) (j % length (steps f)) (Read 0))
 
-  -- how many Publishes of the link are among so many steps of its publisher
+  -- how many Publishes of the link are among the first steps of its publisher, by their count
   abbrev pub made : ℕ → ℕ
   made c = passing test 0 c
 

@@ -14,7 +14,7 @@ count node history = count_by (λ n. n == node) history
 abbrev pub earlier : List ℕ → ℕ → ℕ
 earlier history place = count (slice_index history place) (take place history)
 
--- the entry of a node behind so many earlier ones stands at this place
+-- the entry of a node with `before` earlier ones stands at this place
 pub record IsEntry (history : List ℕ) (node before place : ℕ) : Type 0 where
   pub inside : place < length history
   pub node_there : slice_index history place ≡ node
@@ -30,12 +30,12 @@ module _ (steps : ℕ → List BoardStep) where
   abbrev pub IsRound : List ℕ → Type 0
   IsRound block = (node : ℕ) → count node block ≡ length (steps node)
 
-  -- so many rounds, one after another
+  -- `rounds` rounds, one after another
   abbrev pub HasRounds : ℕ → List ℕ → Type 0
   HasRounds zero history = history ≡ []
   HasRounds (suc rounds) history = (early block : List ℕ) × (history ≡ early ++ block) × IsRound block × HasRounds rounds early
 
-  -- A history under way: so many rounds are done, and of the next one a part, in which no node has more steps than a round
+  -- A history under way: `done` rounds are done, and of the next one a part, in which no node has more steps than a round
   -- has, and some node has fewer. Once all rounds are done, nothing more.
   pub record IsUnderWay (rounds done : ℕ) (history : List ℕ) : Type 0 where
     pub early : List ℕ
@@ -47,7 +47,7 @@ module _ (steps : ℕ → List BoardStep) where
     pub most : done ≤ rounds
     pub over : done ≡ rounds → part ≡ []
 
-  -- A history can go on to one with so many rounds.
+  -- A history can go on to one with `rounds` rounds.
   abbrev pub CanGoOn : ℕ → List ℕ → Type 0
   CanGoOn rounds history = (rest : List ℕ) × HasRounds rounds (history ++ rest)
 

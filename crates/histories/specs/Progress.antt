@@ -6,7 +6,7 @@ use Rattle.histories.specs.declared.progress.Stop.TheVariants.{Over, NotItsTurn}
 use Rattle.histories.specs.Histories.{count, IsLawful, IsUnderWay}
 use Rattle.histories.specs.Steps.{board_steps}
 
--- so many of so many rounds are done; a round has these steps of each node, and these are left of the one under way
+-- how many rounds there are and are done, the steps of each node in a round, and those left in the round under way
 pub record Course : Type 0 where
   pub rounds : ℕ
   pub done : ℕ
@@ -27,7 +27,7 @@ pub record IsDoneInRound (net : Net) (history : List ℕ) (node : ℕ) : Type 0 
   pub goes_on : done < net.run.rounds
   pub all : count node way.part ≡ length (board_steps net node)
 
--- why a node has no step behind a history: all rounds are done, or it has done all its steps in this one
+-- why a node has no step after a history: all rounds are done, or it has done all its steps in this one
 abbrev pub IsStop : Net → List ℕ → ℕ → Stop → Type 0
 IsStop net history node Over = IsLawful net history
 IsStop net history node NotItsTurn = IsDoneInRound net history node

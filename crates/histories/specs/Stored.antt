@@ -1,4 +1,4 @@
--- What the fields of the code stand for. No public clause names these words.
+-- What the fields of the code stand for. No public clause names these definitions.
 use Rattle.std.specs.Prelude.{◌≡◌, ℕ, ◌≤◌, List, length, sum_by}
 
 -- the steps of a round and those that are left of it, with their sums

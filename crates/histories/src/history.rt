@@ -1,4 +1,4 @@
-// Histories, and which are lawful.
+//! Histories, and which are lawful.
 ghost use Rattle.std.specs.Prelude.{◌≡◌, ◌≤◌, ◌<◌, ◌↔◌, ◌++◌, ℕ, List, IfOk, IsSome, IsTrue, OnOk, [], length, replicate, take};
 ghost use Rattle.histories.specs.Steps.{board_steps};
 ghost use Rattle.histories.specs.Histories as histories;
@@ -75,8 +75,7 @@ fn are_lawful(net: &Network, nodes: &[u32]) -> bool
     progress.is_over()
 }
 
-/// The turn order: round by round, the nodes do all their board steps in number order. It is lawful. An `Err` comes only
-/// where memory runs out.
+/// The turn order: round by round, the nodes do all their board steps in number order. It is lawful. `Err`: out of memory.
 ///
 /// docs/RULES.md, "Histories".
 pub fn turn_order(alloc: Global, net: &Network) -> Result<History, AllocError>
@@ -92,7 +91,7 @@ pub fn turn_order(alloc: Global, net: &Network) -> Result<History, AllocError>
     Ok(History::new(steps))
 }
 
-/// Puts the turns of all nodes behind a list that is empty.
+/// Appends the turns of all nodes to a list that is empty.
 fn push_turns(net: &Network, round: &mut Vec<u32>) -> Result<(), AllocError>
     requires { round.old.items ≡ [] }
     ensures { OnOk result (round.new.items ≡ turns (board_steps net.now) (length net.now.node_names)) }
@@ -103,7 +102,7 @@ fn push_turns(net: &Network, round: &mut Vec<u32>) -> Result<(), AllocError>
     Ok(())
 }
 
-/// Puts a node behind a list so many times.
+/// Appends a node to a list `count` times.
 fn push_turn(node: u32, count: u32, round: &mut Vec<u32>) -> Result<(), AllocError>
     ensures { OnOk result (round.new.items ≡ round.old.items ++ replicate count node) }
 {
@@ -118,9 +117,12 @@ fn push_turn(node: u32, count: u32, round: &mut Vec<u32>) -> Result<(), AllocErr
 ///
 /// docs/RULES.md, "Histories".
 pub fn law_of_histories(net: &Network)
-    ensures goes_on { (done : ℕ) (h : List ℕ) → IsUnderWay (board_steps net.now) net.now.run.rounds done h → CanGoOn (board_steps net.now) net.now.run.rounds h }
-    ensures begins { (h : List ℕ) (place : ℕ) → IsLawful net.now h → place ≤ length h → (done : ℕ) × IsUnderWay (board_steps net.now) net.now.run.rounds done (take place h) }
-    ensures over { (done : ℕ) (h : List ℕ) → IsUnderWay (board_steps net.now) net.now.run.rounds done h → IsLawful net.now h ↔ (done ≡ net.now.run.rounds) }
+    ensures goes_on { (done : ℕ) (h : List ℕ) → IsUnderWay (board_steps net.now) net.now.run.rounds done h
+        → CanGoOn (board_steps net.now) net.now.run.rounds h }
+    ensures begins { (h : List ℕ) (place : ℕ) → IsLawful net.now h → place ≤ length h
+        → (done : ℕ) × IsUnderWay (board_steps net.now) net.now.run.rounds done (take place h) }
+    ensures over { (done : ℕ) (h : List ℕ) → IsUnderWay (board_steps net.now) net.now.run.rounds done h
+        → IsLawful net.now h ↔ (done ≡ net.now.run.rounds) }
 {
     let _nodes = net.nodes();
 }
@@ -130,8 +132,10 @@ pub fn law_of_histories(net: &Network)
 ///
 /// docs/RULES.md, "Histories".
 pub fn law_of_versions(net: &Network)
-    ensures rise { (h : List ℕ) (link early late : ℕ) → early ≤ late → version_at (board_steps net.now) h link early ≤ version_at (board_steps net.now) h link late }
-    ensures round { (h : List ℕ) (link place : ℕ) → IsLawful net.now h → place < length h → IsSome (link_at net.now link).from → IsSome (link_at net.now link).to
+    ensures rise { (h : List ℕ) (link early late : ℕ) → early ≤ late
+        → version_at (board_steps net.now) h link early ≤ version_at (board_steps net.now) h link late }
+    ensures round { (h : List ℕ) (link place : ℕ) → IsLawful net.now h → place < length h
+        → IsSome (link_at net.now link).from → IsSome (link_at net.now link).to
         → IsOfRound (board_steps net.now) h link place }
 {
     let _nodes = net.nodes();

@@ -1,4 +1,4 @@
-// The history that logs tell.
+//! The history that logs tell.
 ghost use Rattle.std.specs.Prelude.{◌≡◌, ◌<◌, ◌++◌, [], IfOk, IsPermutation, OnOk, length, map};
 ghost use Rattle.histories.specs.Merges.{IsMerge, all_events, stamp_and_node};
 
@@ -7,7 +7,7 @@ use board_model::BoardLog;
 use std::alloc::{AllocError, Global};
 
 /// The history of the logs of boards: the nodes of all their events, in the order of stamps, and of nodes where stamps are
-/// equal. An `Err` comes only where memory runs out.
+/// equal. `Err`: out of memory.
 ///
 /// docs/RULES.md, "Histories".
 pub fn merge(alloc: Global, logs: &[BoardLog]) -> Result<History, AllocError>
@@ -23,7 +23,7 @@ pub fn merge(alloc: Global, logs: &[BoardLog]) -> Result<History, AllocError>
 }
 
 /// Puts the pairs in the places of their stamps, as far as there are such places. Threads draw stamps one after another, so the sort
-/// behind it finds them in order.
+/// that follows finds them in order.
 fn place_by_stamps(drawn: &mut Vec<(u64, u32)>)
     ensures { IsPermutation drawn.old.items drawn.new.items }
 {
@@ -60,7 +60,7 @@ fn nodes_of(alloc: Global, drawn: &[(u64, u32)]) -> Result<History, AllocError>
     Ok(History::new(nodes))
 }
 
-/// Puts the stamp and the node of each event of a log behind a list.
+/// Appends the stamp and the node of each event of a log to a list.
 fn push_drawn(log: &BoardLog, drawn: &mut Vec<(u64, u32)>) -> Result<(), AllocError>
     ensures { OnOk result (drawn.new.items ≡ drawn.old.items ++ map stamp_and_node log.now.events) }
 {

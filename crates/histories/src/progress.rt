@@ -1,4 +1,4 @@
-// How far a history has come, step by step.
+//! How far a history has come, step by step.
 ghost use Rattle.std.specs.Prelude.{◌≡◌, ◌≤◌, ◌==◌, ℕ, All, if◌then◌else◌, length, slice_index_or, sum_by};
 ghost use Rattle.histories.specs.Steps.{board_steps};
 
@@ -68,7 +68,7 @@ impl Progress {
         let steps = step_counts(net);
         let whole = total(&steps);
         let rounds = net.run().rounds;
-        let done = done_at_once(whole, rounds);
+        let done = rounds_without_steps(whole, rounds);
         Progress {
             rounds,
             done,
@@ -79,13 +79,16 @@ impl Progress {
         }
     }
 
-    /// Takes the next step of a node, where it has one; else it says why not, and nothing changes.
+    /// Takes the next step of a node, where it has one. `Err`: why it has none, and nothing changes. It takes no memory.
     ///
     /// docs/RULES.md, "Histories".
     pub fn take(&mut self, node: u32) -> Result<(), Stop>
-        ensures ok { OnOk result ((net : Net) (history : List ℕ) → HasCome net history self.old → HasCome net (history ++ node ∷ []) self.new) }
-        ensures first { IfErr result (λ stop. (net : Net) (history : List ℕ) → HasCome net history self.old → IsStop net history node stop) }
-        ensures stuck { OnErr result ((net : Net) (history : List ℕ) → HasCome net history self.old → IsStuck net history node) }
+        ensures ok { OnOk result ((net : Net) (history : List ℕ) → HasCome net history self.old
+            → HasCome net (history ++ node ∷ []) self.new) }
+        ensures first { IfErr result (λ stop. (net : Net) (history : List ℕ) → HasCome net history self.old
+            → IsStop net history node stop) }
+        ensures stuck { OnErr result ((net : Net) (history : List ℕ) → HasCome net history self.old
+            → IsStuck net history node) }
         ensures unchanged { OnErr result (self.new ≡ self.old) }
     {
         if self.done == self.rounds {
@@ -116,7 +119,7 @@ impl Progress {
 }
 
 /// How many rounds are done before the first step: all, where no node has a step.
-fn done_at_once(whole: u32, rounds: u32) -> u32
+fn rounds_without_steps(whole: u32, rounds: u32) -> u32
     ensures { result ≡ (if whole == 0 then rounds else 0) }
 {
     if whole == 0 { rounds } else { 0 }

@@ -1,7 +1,6 @@
-// The board steps of a node in a round.
-ghost use Rattle.std.specs.Prelude.{◌≡◌, ◌<◌, ◌≤◌, ◌++◌, All, IfOk, OnOk, filter, is_some, length, map, vec_len};
-ghost use Rattle.net_numbers.specs.Outline.{link_at};
-ghost use Rattle.histories.specs.declared.steps.BoardStep.TheVariants.{Read, Publish};
+//! The board steps of a node in a round.
+ghost use Rattle.std.specs.Prelude.{◌≡◌, ◌<◌, ◌≤◌, ◌++◌, All, IfOk, OnOk, filter, length, map, vec_len};
+ghost use Rattle.histories.specs.Sides as sides;
 ghost use Rattle.histories.specs.Steps.{board_steps, AreSteps};
 
 use foundation::threads::CrossesThreads;
@@ -29,10 +28,11 @@ pub fn step_count(net: &Network, node: u32) -> u32
     ensures value { result ≡ length (board_steps net.now node) }
     ensures few { result ≤ 320 }
 {
-    heard_count(net, net.entry_links(node)) + told_count(net, net.exit_links(node))
+    joined_count(net, Side::Begin, net.entry_links(node))
+        + joined_count(net, Side::End, net.exit_links(node))
 }
 
-/// The board steps of a node in a round, in their order, at most 320. An `Err` comes only where memory runs out.
+/// The board steps of a node in a round, in their order, at most 320. `Err`: out of memory.
 ///
 /// docs/RULES.md, "Rounds".
 pub fn node_steps(alloc: Global, net: &Network, node: u32) -> Result<Vec<BoardStep>, AllocError>
@@ -41,66 +41,68 @@ pub fn node_steps(alloc: Global, net: &Network, node: u32) -> Result<Vec<BoardSt
     ensures few { IfOk result (λ steps. vec_len steps ≤ 320) }
 {
     let mut steps = Vec::new(alloc);
-    push_reads(net, net.entry_links(node), &mut steps)?;
-    push_publishes(net, net.exit_links(node), &mut steps)?;
+    push_steps(net, Side::Begin, net.entry_links(node), &mut steps)?;
+    push_steps(net, Side::End, net.exit_links(node), &mut steps)?;
     Ok(steps)
 }
 
-/// How many of these links come from a node.
-fn heard_count(net: &Network, links: &[u32]) -> u32
+/// A side of a link: the node at its begin publishes on it, and the node at its end reads it.
+#[derive(Clone, Copy)]
+enum Side {
+    Begin,
+    End,
+}
+
+/// Whether a link has a node at a side.
+fn has_node(net: &Network, side: Side, link: u32) -> bool
+    requires { link < length net.now.link_names }
+    ensures { result ≡ sides.has_node net.now side link }
+{
+    match side {
+        Side::Begin => net.link(link).from.is_some(),
+        Side::End => net.link(link).to.is_some(),
+    }
+}
+
+/// How many of these links have a node at a side.
+fn joined_count(net: &Network, side: Side, links: &[u32]) -> u32
     requires exist { All (λ l. l < length net.now.link_names) links.now }
     requires few { length links.now ≤ 320 }
-    ensures { result ≡ length (filter (λ l. is_some (link_at net.now l).from) links.now) }
+    ensures { result ≡ length (filter (sides.has_node net.now side) links.now) }
 {
     let mut count = 0;
     for link in links {
-        if net.link(*link).from.is_some() {
+        if has_node(net, side, *link) {
             count += 1;
         }
     }
     count
 }
 
-/// How many of these links end at a node.
-fn told_count(net: &Network, links: &[u32]) -> u32
-    requires exist { All (λ l. l < length net.now.link_names) links.now }
-    requires few { length links.now ≤ 320 }
-    ensures { result ≡ length (filter (λ l. is_some (link_at net.now l).to) links.now) }
+/// The step on a link whose other side this is: a reading where a node is at its begin, and a publishing where one is at its end.
+fn step_across(side: Side, link: u32) -> BoardStep
+    ensures { result ≡ sides.step_across side link }
 {
-    let mut count = 0;
-    for link in links {
-        if net.link(*link).to.is_some() {
-            count += 1;
-        }
+    match side {
+        Side::Begin => BoardStep::Read(link),
+        Side::End => BoardStep::Publish(link),
     }
-    count
 }
 
-/// Puts a reading of each of these links that comes from a node behind the steps.
-fn push_reads(net: &Network, links: &[u32], steps: &mut Vec<BoardStep>) -> Result<(), AllocError>
-    requires { All (λ l. l < length net.now.link_names) links.now }
-    ensures { OnOk result (steps.new.items ≡ steps.old.items ++ map Read (filter (λ l. is_some (link_at net.now l).from) links.now)) }
-{
-    for link in links {
-        if net.link(*link).from.is_some() {
-            steps.push(BoardStep::Read(*link))?;
-        }
-    }
-    Ok(())
-}
-
-/// Puts a publishing on each of these links that ends at a node behind the steps.
-fn push_publishes(
+/// Appends the step on each of these links that has a node at the other side.
+fn push_steps(
     net: &Network,
+    side: Side,
     links: &[u32],
     steps: &mut Vec<BoardStep>,
 ) -> Result<(), AllocError>
     requires { All (λ l. l < length net.now.link_names) links.now }
-    ensures { OnOk result (steps.new.items ≡ steps.old.items ++ map Publish (filter (λ l. is_some (link_at net.now l).to) links.now)) }
+    ensures { OnOk result (steps.new.items
+        ≡ steps.old.items ++ map (sides.step_across side) (filter (sides.has_node net.now side) links.now)) }
 {
     for link in links {
-        if net.link(*link).to.is_some() {
-            steps.push(BoardStep::Publish(*link))?;
+        if has_node(net, side, *link) {
+            steps.push(step_across(side, *link))?;
         }
     }
     Ok(())

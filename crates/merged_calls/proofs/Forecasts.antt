@@ -10,7 +10,7 @@ use Rattle.board_model.specs.Calls.{calls_at, event_of, events_by, AreLogsOf}
 use Rattle.board_model.specs.declared.calls.Call.{Call}
 use Rattle.histories.specs.declared.steps.BoardStep.{BoardStep}
 use Rattle.histories.specs.Steps.{is_publish_of}
-use Rattle.merged_calls.specs.Calls.{step_of, AreRounds}
+use Rattle.merged_calls.specs.Calls.{step_of, AreStepRounds}
 use Rattle.merged_calls.specs.Places.{sent}
 use Rattle.merged_calls.proofs.EventKinds.{is_publish, is-publish}
 use Rattle.merged_calls.proofs.Marks.{publish-of}
@@ -84,7 +84,7 @@ none-repeated : (l r : ℕ) (s : List BoardStep) → filter (is_publish_of l) s 
 none-repeated l zero s none = refl
 none-repeated l (suc r) s none = filter-append (is_publish_of l) (repeated r s) s ∙ ap (λ x. x ++ filter (is_publish_of l) s) (none-repeated l r s none) ∙ none
 
-module _ (steps : ℕ → List BoardStep) (rounds : ℕ) (calls : ℕ → List Call) (turns : AreRounds steps rounds calls) (from : ℕ → ℕ) (is-from : IsFrom from steps) (logs : ℕ → List BoardEvent) (tied : AreLogsOf calls logs) where
+module _ (steps : ℕ → List BoardStep) (rounds : ℕ) (calls : ℕ → List Call) (turns : AreStepRounds steps rounds calls) (from : ℕ → ℕ) (is-from : IsFrom from steps) (logs : ℕ → List BoardEvent) (tied : AreLogsOf calls logs) where
   by-node : (l n : ℕ) → events_by n (publishing (logs l)) ≡ map (event_of n) (filter (λ c. is_publish_of l (step_of c)) (calls n))
   by-node l n = filter-comm (λ (e : BoardEvent). eqb e.node n) (λ (e : BoardEvent). is_publish e.kind) (logs l) ∙ ap publishing ((tied l).tied n) ∙ publishing-calls n l (calls n)
 

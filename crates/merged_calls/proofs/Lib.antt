@@ -3,7 +3,7 @@ pub mod EventKinds
 pub mod Marks
 pub mod Nodes
 pub mod Places
-pub mod Rounds
+pub mod CallRounds
 pub mod Sorted
 pub mod Theorem
-pub mod Versions
+pub mod CallVersions

@@ -7,15 +7,15 @@ use Rattle.std.proofs.lemmas.List.Elements.{filter-append}
 use Rattle.histories.specs.declared.steps.BoardStep.TheVariants.{Read, Publish}
 use Rattle.board_model.specs.declared.calls.Call.{Call}
 use Rattle.histories.specs.declared.steps.BoardStep.{BoardStep}
-use Rattle.merged_calls.specs.Calls.{step_of, AreRounds}
+use Rattle.merged_calls.specs.Calls.{step_of, AreStepRounds}
 use Rattle.histories.specs.Histories.{count, step_at}
 use Rattle.merged_calls.proofs.EventKinds.{is-publish}
 use Rattle.merged_calls.proofs.Marks.{Marked, of_node, step_in}
 use Rattle.histories.proofs.Lists.{filter-yes}
 use Rattle.merged_calls.proofs.Nodes.{mark}
-use Rattle.merged_calls.proofs.Rounds.{nodes, count-is, has}
+use Rattle.merged_calls.proofs.CallRounds.{nodes, count-is, has}
 
--- a list so many times, end to end
+-- a list some number of times, end to end
 abbrev pub repeated : ℕ → List BoardStep → List BoardStep
 repeated zero steps = []
 repeated (suc rounds) steps = repeated rounds steps ++ steps
@@ -41,7 +41,7 @@ get-repeated (suc r) s c d inside = elim (cases_lt c (length (repeated r s))) [
 ]
 
 -- the calls of a node are its steps again and again
-pub steps-are : (steps : ℕ → List BoardStep) (rounds : ℕ) (calls : ℕ → List Call) → AreRounds steps rounds calls → (n : ℕ) → map step_of (calls n) ≡ repeated rounds (steps n)
+pub steps-are : (steps : ℕ → List BoardStep) (rounds : ℕ) (calls : ℕ → List Call) → AreStepRounds steps rounds calls → (n : ℕ) → map step_of (calls n) ≡ repeated rounds (steps n)
 steps-are steps zero calls none n = ap (map step_of) (none n)
 steps-are steps (suc rounds) calls (early, last, at, round, before) n = ap (map step_of) (round.split n) ∙ map-append step_of (early n) (last n) ∙ ap (λ l. l ++ map step_of (last n)) (steps-are steps rounds early before n) ∙ ap (λ l. repeated rounds (steps n) ++ l) (round.all n)
 
@@ -62,7 +62,7 @@ node-at before m after = ap (λ l. get_or l (length before) 0) (map-append (λ (
 pub count-at : (before : List Marked) (m : Marked) (after : List Marked) (n : ℕ) → count n (take (length before) (nodes (before ++ m ∷ after))) ≡ length (of_node n before)
 count-at before m after n = ap (λ l. count n (take (length before) l)) (map-append (λ (m : Marked). m.event.node) before (m ∷ after)) ∙ ap (count n) (take_at (nodes before) (nodes (m ∷ after)) (length before) (length-map before (λ (m : Marked). m.event.node))) ∙ count-is n before
 
-module _ (steps : ℕ → List BoardStep) (rounds : ℕ) (calls : ℕ → List Call) (turns : AreRounds steps rounds calls) where
+module _ (steps : ℕ → List BoardStep) (rounds : ℕ) (calls : ℕ → List Call) (turns : AreStepRounds steps rounds calls) where
   pub step-is : (before : List Marked) (m : Marked) (after : List Marked) → has calls (before ++ m ∷ after) → step_at steps (nodes (before ++ m ∷ after)) (length before) ≡ step_in m
   step-is before m after own =
       let all : List Marked = before ++ m ∷ after in

@@ -12,7 +12,7 @@ use Rattle.board_model.specs.Boards.{IsReadOf}
 use Rattle.board_model.specs.Calls.{calls_at, log_at, Agrees, AreLogsOf, Agree}
 use Rattle.board_model.specs.declared.calls.Call.{Call}
 use Rattle.histories.specs.declared.steps.BoardStep.{BoardStep}
-use Rattle.merged_calls.specs.Calls.{IsRising, AreRounds, AreCalls}
+use Rattle.merged_calls.specs.Calls.{IsRising, AreStepRounds, AreCalls}
 use Rattle.board_model.specs.Boards.{Log}
 use Rattle.net_numbers.specs.Numbers.{Net}
 use Rattle.net_numbers.specs.Outline.{link_at}
@@ -28,9 +28,9 @@ use Rattle.merged_calls.proofs.Marks.{Marked, AreMarked, IsMarkedMerge, of_node,
 use Rattle.histories.proofs.Entries.{entry}
 use Rattle.histories.proofs.Lists.{filter-yes, filter-no}
 use Rattle.merged_calls.proofs.Nodes.{mark, of-node, one-merge}
-use Rattle.merged_calls.proofs.Rounds.{nodes, has, lawful, count-is}
+use Rattle.merged_calls.proofs.CallRounds.{nodes, has, lawful, count-is}
 use Rattle.merged_calls.proofs.Places.{step-is, step-in-mark, own-cut, node-at, count-at}
-use Rattle.merged_calls.proofs.Versions.{version-is}
+use Rattle.merged_calls.proofs.CallVersions.{version-is}
 use Rattle.merged_calls.proofs.Forecasts.{published-is, IsFrom}
 
 -- a list cut at a place
@@ -39,7 +39,7 @@ cut-at [] i inside = absurd (omega arith)
 cut-at (m ∷ ms) zero inside = ([], m, ms, refl, refl)
 cut-at (m ∷ ms) (suc i) inside = let (before, x, after, e, there) = cut-at ms i (omega arith) in (m ∷ before, x, after, ap (λ l. m ∷ l) e, ap suc there)
 
--- the call behind a marked one
+-- the call after a marked one
 call-of : (n : ℕ) (cs : List Call) (front : List Marked) (m : Marked) (rest : List Marked) → map (mark n) cs ≡ front ++ m ∷ rest → (call : Call) × (slice_get cs (length front) ≡ Some call) × (mark n call ≡ m)
 call-of n [] [] m rest e = absurd (let f : [] ≡ m ∷ rest = e in cc)
 call-of n [] (x ∷ front) m rest e = absurd (let f : [] ≡ x ∷ (front ++ m ∷ rest) = e in cc)
@@ -62,7 +62,7 @@ at-get P cs k c all e = subst P (get_or_from_slice_get cs k c c e) (all k c (sli
 some-call : (a b : Call) → Some a ≡ Some b → a ≡ b
 some-call a b e = cc
 
-module _ (steps : ℕ → List BoardStep) (rounds : ℕ) (calls : ℕ → List Call) (turns : AreRounds steps rounds calls) (rising : (n : ℕ) → IsRising (calls n)) (logs : ℕ → List BoardEvent) (tied : AreLogsOf calls logs) where
+module _ (steps : ℕ → List BoardStep) (rounds : ℕ) (calls : ℕ → List Call) (turns : AreStepRounds steps rounds calls) (rising : (n : ℕ) → IsRising (calls n)) (logs : ℕ → List BoardEvent) (tied : AreLogsOf calls logs) where
   -- the merge of the logs of the calls is lawful
   pub merge-lawful : (history : List ℕ) → IsMarkedMerge logs history → HasRounds steps rounds history
   merge-lawful history (all, merged, e) = subst (HasRounds steps rounds) (sym e) (lawful steps rounds calls all turns merged.ordered (λ n. of-node calls logs all tied merged n (rising n)))

@@ -23,11 +23,11 @@ module _ (steps : ℕ → List BoardStep) where
     pub above : (node : ℕ) → All (λ call. mark ≤ call.stamp) (last node)
 
   -- the calls of the nodes are their steps, round by round, and the stamps of a round are below those of the next
-  abbrev pub AreRounds : ℕ → (ℕ → List Call) → Type 0
-  AreRounds zero calls = (node : ℕ) → calls node ≡ []
-  AreRounds (suc rounds) calls = (early last : ℕ → List Call) × (mark : ℕ) × IsLastRound mark calls early last × AreRounds rounds early
+  abbrev pub AreStepRounds : ℕ → (ℕ → List Call) → Type 0
+  AreStepRounds zero calls = (node : ℕ) → calls node ≡ []
+  AreStepRounds (suc rounds) calls = (early last : ℕ → List Call) × (mark : ℕ) × IsLastRound mark calls early last × AreStepRounds rounds early
 
-  -- the calls of so many rounds, each node's in the order of its stamps
+  -- the calls of `rounds` rounds, each node's in the order of its stamps
   pub record AreCalls (rounds : ℕ) (calls : ℕ → List Call) : Type 0 where
-    pub rounds_made : AreRounds rounds calls
+    pub rounds_made : AreStepRounds rounds calls
     pub rising : (node : ℕ) → IsRising (calls node)

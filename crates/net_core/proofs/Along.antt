@@ -19,7 +19,7 @@ use Rattle.net_core.specs.Cores.{Course, IsStepFault, IsWanted, wanted_step}
 use Rattle.net_core.specs.declared.faults.StepFault.{StepFault}
 use Rattle.net_core.specs.declared.faults.StepFault.TheVariants.{UnknownNode, Spent, Over, NotItsTurn, NoMemory}
 
--- a core that has done so many steps of a history
+-- a core that has done the first steps of a history
 abbrev pub gone : Net → Amounts → List ℕ → ℕ → Course
 gone net arrivals h place = record { net = net; arrivals = arrivals; steps = take place h; spent = false }
 
@@ -55,7 +55,7 @@ module _ (net : Net) (arrivals : Amounts) (h : List ℕ) where
         ∙ ap (λ b. cond b Done (wanted_step (slice_get (board_steps net node) (count node w.way.part)))) (ne_eqb w.done net.run.rounds (λ e. omega arith))
         ∙ ap wanted_step (slice_get-get_or (board_steps net node) (count node w.way.part) (steps.Read 0) fewer))
 
-    -- only for want of memory is its next step not done
+    -- its next step is not done only where memory runs out
     pub no-fault : (done : ℕ) → IsUnderWay (board_steps net) net.run.rounds done (take place h) → (old : Course) → old ≡ gone net arrivals h place → (fault : StepFault) → IsStepFault old (get_or h place 0) fault → fault ≡ NoMemory
     unfolding node
     no-fault done way old is fault why = by fault (subst (λ (c : Course). IsStepFault c (get_or h place 0) fault) is why)

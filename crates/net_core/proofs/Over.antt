@@ -9,11 +9,11 @@ use Rattle.road_net.specs.Network.{IsNetwork}
 use Rattle.round_calls.proofs.Resting.{no_acting}
 use Rattle.runs.specs.Runs.{IsRun}
 use Rattle.runs.specs.declared.records.RunRecord.{RunRecord}
-use Rattle.net_core.specs.Going.{AreGoing, Between}
+use Rattle.net_core.specs.States.{AreGoing, Between}
 use Rattle.net_core.specs.declared.parts.Parts.{Parts}
 use Rattle.net_core.proofs.Wanting.{going-last}
 
--- A core that is over rests behind the last round.
+-- A core that is over rests after the last round.
 over-between : (net : Net) (arrivals : Amounts) (parts : Parts) → AreGoing net arrivals parts → parts.round ≡ net.run.rounds → Between net arrivals parts.history.items net.run.rounds parts.actors.all.items parts.boards.items parts.world
 over-between net arrivals parts going last = elim going [
   | inl both ↦ absurd (let less = both.0.below in omega arith)

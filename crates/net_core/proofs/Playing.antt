@@ -25,7 +25,7 @@ use Rattle.runs.proofs.Heard.{have-at, rise-at}
 use Rattle.runs.proofs.PlanLaws.{used-links}
 use Rattle.round_calls.specs.Resting.{Rests, records_of}
 use Rattle.round_calls.proofs.Resting.{records-same}
-use Rattle.net_core.specs.Going.{Listens, Plays, Tells, telling_first}
+use Rattle.net_core.specs.States.{Listens, Plays, Tells, telling_first}
 use Rattle.net_core.proofs.Put.{put, put-here, put-round}
 
 -- the first of some links from a number on
@@ -177,7 +177,7 @@ told-ends net n k inside =
     by link None e goes at = absurd (let f : false ≡ true = goes in cc)
     by link (Some t) e goes at = record { hearer = t; exists = at.0; from = at.1; to = e }
 
--- the next link behind one that is told
+-- the next link after one that is told
 pub next-told : (net : Net) (n k : ℕ) → k < length (told_links net n) → tells_from net n (get_or (told_links net n) k 0 + 1) ≡ telling_first (drop (k + 1) (told_links net n))
 next-told net n k inside =
     let links : List ℕ = told_links net n in

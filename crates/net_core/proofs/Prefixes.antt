@@ -72,7 +72,7 @@ module _ (steps : ℕ → List BoardStep) (p : List ℕ) (n : ℕ) where
 pub beyond-of : (net : Net) → IsNetwork net → (n : ℕ) → length net.node_names ≤ n → board_steps net n ≡ []
 beyond-of net network n past = steps-beyond net network n past
 
--- the history of a network has so many rounds, and of the next one a part
+-- the history of a network has some rounds, and of the next one a part
 abbrev pub Begun : (net : Net) → IsNetwork net → ℕ → List ℕ → Type 0
 Begun net network round p = IsBegun (board_steps net) (length net.node_names) (beyond-of net network) net.run.rounds round p
 

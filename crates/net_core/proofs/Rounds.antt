@@ -18,7 +18,7 @@ use Rattle.runs.proofs.Agree.{SameBefore}
 use Rattle.round_calls.specs.Resting.{Rests}
 use Rattle.round_calls.proofs.Resting.{before-stands, sense-is}
 use Rattle.net_core.specs.Acts.{Settles}
-use Rattle.net_core.specs.Going.{Begins, Between, InRound, Listens, Plays}
+use Rattle.net_core.specs.States.{Begins, Between, InRound, Listens, Plays}
 use Rattle.net_core.specs.declared.parts.Board.{Board}
 use Rattle.net_core.proofs.Playing.{commits-on, listens-on, plays-moved, rests-moved}
 use Rattle.net_core.proofs.Prefixes.{Begun}

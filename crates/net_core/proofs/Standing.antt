@@ -26,7 +26,7 @@ use Rattle.runs.proofs.Heard.{heard-ends}
 use Rattle.round_calls.specs.Resting.{Rests, lines_of}
 use Rattle.round_calls.proofs.Resting.{no_acting}
 use Rattle.net_core.specs.Acts.{Settles}
-use Rattle.net_core.specs.Going.{AllDone, AreBeginning, AreInRound, Begins, Between, InRound, Plays, Wants, telling_first}
+use Rattle.net_core.specs.States.{AllDone, AreBeginning, AreInRound, Begins, Between, InRound, Plays, Wants, telling_first}
 use Rattle.net_core.specs.declared.parts.Board.{Board}
 use Rattle.net_core.specs.declared.parts.Parts.{Parts}
 use Rattle.net_core.proofs.Playing.{told-ends}

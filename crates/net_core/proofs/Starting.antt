@@ -15,7 +15,7 @@ use Rattle.road_net.specs.Network.{IsNetwork}
 use Rattle.runs.specs.Runs.{forecast_at, shown_by}
 use Rattle.round_calls.specs.Resting.{AreNew}
 use Rattle.round_calls.proofs.Resting.{new-rest, no_commitment, zero-times}
-use Rattle.net_core.specs.Going.{AreBlank, Between}
+use Rattle.net_core.specs.States.{AreBlank, Between}
 use Rattle.net_core.specs.declared.parts.Board.{Board}
 
 -- a link that ends at a node exists

@@ -32,7 +32,7 @@ use Rattle.runs.proofs.Places.{first-small}
 use Rattle.round_calls.specs.Resting.{lines_of}
 use Rattle.round_calls.proofs.Resting.{before-shows, stands-same}
 use Rattle.net_core.specs.Acts.{Settles}
-use Rattle.net_core.specs.Going.{AllDone, Between, Hears, InRound, IsRunning, Listens, Plays, Tells, telling_first}
+use Rattle.net_core.specs.States.{AllDone, Between, Hears, InRound, IsRunning, Listens, Plays, Tells, telling_first}
 use Rattle.net_core.specs.declared.parts.Board.{Board}
 use Rattle.net_core.proofs.Playing.{commits-on, listens-on, plays-moved, tells-on, told-ends, took}
 use Rattle.net_core.proofs.Prefixes.{Begun}
@@ -75,7 +75,7 @@ telling-next L c inside = ap telling_first (drop_more L c 0 inside)
 pub telling-none : (L : List ℕ) (c : ℕ) → length L ≤ c → telling_first (drop c L) ≡ Done
 telling-none L c past = ap telling_first (drop_all c L past)
 
--- the steps behind the readings publish
+-- the steps after the readings publish
 pub told-step : (net : Net) (n c : ℕ) → length (heard_links net n) ≤ c → c - length (heard_links net n) < length (told_links net n) → get_or (board_steps net n) c (steps.Read 0) ≡ steps.Publish (get_or (told_links net n) (c - length (heard_links net n)) 0)
 told-step net n c past inside =
     let reads : length (map steps.Read (heard_links net n)) ≡ length (heard_links net n) = length-map (heard_links net n) steps.Read in

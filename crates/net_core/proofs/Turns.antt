@@ -9,7 +9,7 @@ use Rattle.road_net.specs.Network.{IsNetwork}
 use Rattle.histories.specs.Histories.{IsLawful}
 use Rattle.round_calls.proofs.Resting.{no_acting}
 use Rattle.net_core.specs.Cores.{Course, HasNoTurn, IsOver, IsWanted, MayStep}
-use Rattle.net_core.specs.Going.{AreGoing, AreInRound, IsSound, WantsMore}
+use Rattle.net_core.specs.States.{AreGoing, AreInRound, IsSound, WantsMore}
 use Rattle.net_core.specs.declared.parts.Parts.{Parts}
 use Rattle.net_core.proofs.Standing.{at-any}
 use Rattle.net_core.proofs.Wanting.{going-in, going-last, going-over, going-there, is-wanted, its-turn}

@@ -1,4 +1,5 @@
--- What one node does: it begins a round, reads, and publishes; and it commits as soon as it has read all.
+-- What one node does: it begins a round, reads, and publishes; and it commits as soon as it has read all. No public clause names
+-- this.
 use Rattle.std.specs.Prelude.{◌≡◌}
 use Rattle.intersection_actor.specs.Acting.{Acting}
 use Rattle.intersection_actor.specs.Rounds.{IsCommitted, KeepsPast}

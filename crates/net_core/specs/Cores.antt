@@ -66,7 +66,7 @@ IsStepFault core node Over = IsOver core node
 IsStepFault core node NotItsTurn = HasNoTurn core node
 IsStepFault core node NoMemory = MayStep core node
 
--- what a core is behind a step that was not done: as it was, and spent where memory ran out
+-- what a core is after a step that was not done: as it was, and spent where memory ran out
 abbrev pub Stays : Course → Course → StepFault → Type 0
 Stays old new UnknownNode = new ≡ old
 Stays old new Spent = new ≡ old

@@ -1,3 +1,3 @@
 pub mod Acts
 pub mod Cores
-pub mod Going
+pub mod States

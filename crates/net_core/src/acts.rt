@@ -54,8 +54,12 @@ pub(crate) fn begin<P: Planner>(
     requires second { world.now.second ≡ round * net.now.run.step }
     requires ahead { world.now.second < end_of actor.old.line }
     requires world { IsWorldOf net.now world.now }
-    ensures begun { (arriving : ℕ → ℕ → ℕ) (lines : ℕ → List Green) → Stands net.now arriving (standing_by lines) world.now
-        → OnOk result (Settles net.now (reading (heard_links net.now actor.old.node)) (begun net.now round (sense net.now (past_of net.now arriving (standing_by lines) world.now.second) world.now.second node) actor.old) actor.new) }
+    ensures begun { (arriving : ℕ → ℕ → ℕ) (lines : ℕ → List Green)
+        → Stands net.now arriving (standing_by lines) world.now
+        → OnOk result (Settles net.now (reading (heard_links net.now actor.old.node))
+            (begun net.now round
+                (sense net.now (past_of net.now arriving (standing_by lines) world.now.second) world.now.second node) actor.old)
+            actor.new) }
     ensures of { IsOf net.now actor.new }
 {
     let sensed = world.sense(alloc, net, node)?;
@@ -74,7 +78,9 @@ pub(crate) fn read<P: Planner>(
 ) -> Result<(), AllocError>
     requires of { IsOf net.now actor.old }
     requires want { actor.old.want ≡ Want.Read link }
-    ensures read { let mid = with_heard (record { link = link; version = board.now.version; forecast = board.now.forecast }) actor.old in OnOk result (Settles net.now mid.want mid actor.new) }
+    ensures read {
+        let mid = with_heard (record { link = link; version = board.now.version; forecast = board.now.forecast }) actor.old in
+        OnOk result (Settles net.now mid.want mid actor.new) }
     ensures of { IsOf net.now actor.new }
 {
     let forecast = board.forecast.copy(alloc)?;
@@ -96,10 +102,12 @@ pub(crate) fn tell(
 ) -> Result<(), AllocError>
     requires of { IsOf net.now actor.old }
     requires want { actor.old.want ≡ Want.Publish link }
-    requires room { board.old.version < 1000 }
+    requires below { board.old.version < 1000 }
     ensures told { OnOk result (actor.new ≡ wanting (tells_from net.now actor.old.node (link + 1)) actor.old) }
     ensures version { OnOk result (board.new.version ≡ board.old.version + 1) }
-    ensures forecast { OnOk result (board.new.forecast ≡ told_forecast net.now link actor.old.sensed.now (departures actor.old.window.lists (counts_of actor.old.window.lists) actor.old.phases actor.old.served)) }
+    ensures forecast { OnOk result (board.new.forecast
+        ≡ told_forecast net.now link actor.old.sensed.now
+        (departures actor.old.window.lists (counts_of actor.old.window.lists) actor.old.phases actor.old.served)) }
     ensures of { IsOf net.now actor.new }
 {
     let forecast = actor.outgoing(alloc, net)?;

@@ -1,10 +1,10 @@
 //! A run under way.
 use crate::faults::StepFault;
-use crate::loops::{begin_round, go_on, is_done, play};
-use crate::making::parts_of;
+use crate::stepping::{begin_round, go_on, is_done, play};
+use crate::first_parts::parts_of;
 use crate::parts::Parts;
 use arrivals::Arrivals;
-use ended_runs::{Room, record_of, room_of};
+use ended_runs::{EmptyRecord, record_of, empty_record};
 use foundation::threads::CrossesThreads;
 use intersection_actor::Want;
 use road_net::Network;
@@ -23,8 +23,8 @@ pub struct Core<'a> {
     net: &'a Network,
     arrivals: &'a Arrivals,
     parts: Parts,
-    /// Room for the record of the run.
-    room: Room,
+    /// The lists for the record of the run.
+    empty: EmptyRecord,
     /// Whether an earlier step ran out of memory.
     spent: bool,
 }
@@ -34,11 +34,16 @@ impl<'a> Model for Core<'a> {
 
     ghost Value = { Course };
 
-    ghost use Rattle.net_core.specs.Going.{IsReady};
+    ghost use Rattle.net_core.specs.States.{IsReady};
 
-    ghost view = { λ core. record { net = core.net.now; arrivals = core.arrivals.now; steps = core.parts.history.items; spent = core.spent } };
+    ghost view = { λ core. record {
+      net = core.net.now;
+      arrivals = core.arrivals.now;
+      steps = core.parts.history.items;
+      spent = core.spent;
+    } };
 
-    ghost invariant = { λ core. IsReady core.net.now core.arrivals.now core.parts core.spent core.room };
+    ghost invariant = { λ core. IsReady core.net.now core.arrivals.now core.parts core.spent core.empty };
 }
 
 impl<'a> CrossesThreads for Core<'a> {}
@@ -48,12 +53,12 @@ impl<'a> Core<'a> {
     ghost use Rattle.arrivals.specs.Amounts.{AreArrivals};
     ghost use Rattle.histories.specs.Histories.{IsLawful};
     ghost use Rattle.net_core.specs.Cores.{IsStepFault, IsWanted, MayStep, Stays};
-    ghost use Rattle.runs.specs.Kept.{IsKeptRun};
+    ghost use Rattle.runs.specs.Promises.{IsKeptRun};
 
     /// Begins a run: the nodes begin the first round, and rounds in which no node has a board step run at once. The arrivals are
     /// those of the network.
     ///
-    /// An `Err` comes only where memory runs out.
+    /// `Err`: out of memory.
     ///
     /// docs/RULES.md, "Core".
     pub fn start<P: Planner>(
@@ -63,9 +68,10 @@ impl<'a> Core<'a> {
         planner: &mut P,
     ) -> Result<Core<'a>, AllocError>
         requires { AreArrivals net.now arrivals.now }
-        ensures { IfOk result (λ core. core ≡ record { net = net.now; arrivals = arrivals.now; steps = []; spent = false }) }
+        ensures { IfOk result (λ core.
+            core ≡ record { net = net.now; arrivals = arrivals.now; steps = []; spent = false }) }
     {
-        let room = room_of(alloc, net)?;
+        let empty = empty_record(alloc, net)?;
         let mut parts = parts_of(alloc, net)?;
         begin_round(alloc, net, arrivals, &mut parts, planner)?;
         go_on(alloc, net, arrivals, &mut parts, planner)?;
@@ -73,7 +79,7 @@ impl<'a> Core<'a> {
             net,
             arrivals,
             parts,
-            room,
+            empty,
             spent: false,
         })
     }
@@ -99,11 +105,11 @@ impl<'a> Core<'a> {
         if self.spent {
             return Want::Done;
         }
-        self.wanted(node)
+        self.next_want(node)
     }
 
     /// What a node wants, where the core is not spent.
-    fn wanted(&self, node: u32) -> Want
+    fn next_want(&self, node: u32) -> Want
         requires node { node < length self.now.net.node_names }
         requires spent { self.now.spent ≡ false }
         ensures { IsWanted self.now.net self.now.steps node result }
@@ -122,7 +128,7 @@ impl<'a> Core<'a> {
         !self.spent && self.parts.round == rounds
     }
 
-    /// A node does its next board step, with its own work behind it: once it has read all, it plans. Rounds that are over then end,
+    /// A node does its next board step, and its own work after it: once it has read all, it plans. Rounds that are over then end,
     /// and the next ones begin.
     ///
     /// The first of `UnknownNode`, `Spent`, `Over` and `NotItsTurn` that holds is answered, takes no memory and leaves the core as it
@@ -167,6 +173,7 @@ impl<'a> Core<'a> {
             }
         }
     }
+
     /// The record of the run, all of whose rounds are done: it is over. It takes no memory.
     ///
     /// docs/RULES.md, "Core".
@@ -175,17 +182,17 @@ impl<'a> Core<'a> {
         requires lawful { IsLawful self.net self.steps }
         ensures { IsKeptRun self.entry.net self.entry.arrivals self.entry.steps result }
     {
-        // What it says of the network is wanted here, and not the count.
+        // Called for its clause `network`.
         let _ = self.net.nodes();
         law_of_runs(self.net);
         let Core {
             net,
             parts,
-            room,
+            empty,
             ..
         } = self;
         let Parts { actors, world, .. } = parts;
         let Actors { all } = actors;
-        record_of(net, all, &world, room)
+        record_of(net, all, &world, empty)
     }
 }

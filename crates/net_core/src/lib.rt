@@ -4,13 +4,13 @@
 mod acts;
 mod cores;
 mod faults;
-mod loops;
-mod making;
+mod stepping;
+mod first_parts;
 mod parts;
-mod whole_run;
+mod history_run;
 
 pub use cores::Core;
 pub use faults::StepFault;
 pub use histories::{History, lawful, merge, turn_order};
 pub use runs::RunRecord;
-pub use whole_run::run;
+pub use history_run::run;

@@ -1,5 +1,4 @@
 //! What a core is made of.
-
 use board_model::Forecast;
 use net_simulator::World;
 use round_calls::Actors;

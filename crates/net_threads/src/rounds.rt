@@ -2,14 +2,14 @@
 ghost use Rattle.std.specs.Prelude.{◌≡◌, ℕ, ◌+◌, ◌<◌, [], All, IfOk, OnOk, length};
 ghost use Rattle.arrivals.specs.Amounts.{AreArrivals};
 ghost use Rattle.board_rule.specs.Passes.{AreAllPasses, calls_in};
-ghost use Rattle.net_threads.specs.Calls.{AreStepsOf, HaveCallsLeft, IsRunOfCalls, MergeToLawful};
+ghost use Rattle.round_calls.specs.Calls.{AreStepsOf, HaveCallsLeft, IsRunOfCalls, MergeToLawful};
 ghost use Rattle.round_calls.specs.Rounds.{AreSamePasses, Between};
 
 use crate::joined::{play_all, threads_of};
 use crate::stages::{Stage, stage_of};
 use arrivals::Arrivals;
 use board_model::Gate;
-use ended_runs::{record_of, room_of};
+use ended_runs::{record_of, empty_record};
 use merged_calls::law_of_merged_calls;
 use plan_boards::{Boards, Pass};
 use road_net::Network;
@@ -131,7 +131,7 @@ pub fn run_rounds<P: Planner + Send + Drop, R: Threads + Wait + Sync, G: Gate + 
     law_of_merged_calls(net);
     law_of_runs(net);
     let mut planners = planners;
-    let room = room_of(alloc, net)?;
+    let room = empty_record(alloc, net)?;
     let mut stage = stage_of(alloc, net)?;
     play_rounds(
         rt,

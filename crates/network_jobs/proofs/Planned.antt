@@ -18,9 +18,9 @@ use Rattle.intersection_actor.specs.declared.records.PlanRecord.{PlanRecord}
 use Rattle.net_numbers.specs.Numbers.{Net, number_of}
 use Rattle.phase_plan.specs.Phases.{IsPhase, no_phase}
 use Rattle.phase_plan.specs.declared.Phase.{Phase}
-use Rattle.runs.specs.Kept.{IsKeptRun}
+use Rattle.runs.specs.Promises.{IsKeptRun}
 use Rattle.runs.specs.Runs.{IsRun}
-use Rattle.runs.specs.Whole.{IsWhole, rounds_and_nodes}
+use Rattle.runs.specs.Complete.{IsComplete, rounds_and_nodes}
 use Rattle.runs.specs.declared.records.RunRecord.{RunRecord}
 use Rattle.scenario_gen.specs.Grids.{IsGrid}
 use Rattle.schedule_meaning.specs.Best.{IsLeast}
@@ -108,12 +108,12 @@ all_planned text_of net arrivals history number round run plan (Ok x) runs among
 all_planned text_of net arrivals history number round run plan (Err e) runs among of_node of_round lawful is = tt
 
 -- every run that is kept is whole
-pub all_whole : {E : Type 0} (net : Net) (arrivals : Amounts) (history : List ℕ) (result : Result RunRecord E) → ((run : RunRecord) → IsRun net arrivals history run → IsWhole net run)
-    → IfOk result (IsKeptRun net arrivals history) → IfOk result (IsWhole net)
+pub all_whole : {E : Type 0} (net : Net) (arrivals : Amounts) (history : List ℕ) (result : Result RunRecord E) → ((run : RunRecord) → IsRun net arrivals history run → IsComplete net run)
+    → IfOk result (IsKeptRun net arrivals history) → IfOk result (IsComplete net)
 all_whole net arrivals history (Ok run) whole kept = whole run kept.run
 all_whole net arrivals history (Err e) whole kept = tt
 
--- a network has so many rounds and nodes that a run of it has few plans
+-- a run of a network has few plans, since the network has few rounds and nodes
 few_pairs : (rounds nodes : ℕ) → length (rounds_and_nodes rounds nodes) ≤ rounds * nodes
 few_pairs rounds nodes =
     let row : ℕ → List (ℕ × ℕ) = λ round. map (λ node. (round, node)) (range_with_len 0 nodes) in
@@ -122,13 +122,13 @@ few_pairs rounds nodes =
     = omega (arith, length-flat_map row (range_with_len 0 rounds), sum_by-le (λ round. length (row round)) nodes (range_with_len 0 rounds) (λ i d inside. omega (arith, each (get_or (range_with_len 0 rounds) i d)))) in
     subst (λ n. length (rounds_and_nodes rounds nodes) ≤ n * nodes) (length-range_with_len 0 rounds) listed
 
-few_plans : (net : Net) (run : RunRecord) → IsNetwork net → IsWhole net run → length run.plans ≤ 38400
+few_plans : (net : Net) (run : RunRecord) → IsNetwork net → IsComplete net run → length run.plans ≤ 38400
 few_plans net run network whole =
     let pairs = few_pairs net.run.rounds (length net.node_names) in
     let most : net.run.rounds * length net.node_names ≤ 600 * 64 = mul-le net.run.rounds (length net.node_names) 600 64 network.outline.run.rounds.1 network.outline.node_count.1 in
     omega (arith, length-map {B = ℕ × ℕ} run.plans (λ (p : PlanRecord). (p.round, p.node)), ap length whole.plans, pairs, most)
 
-pub all_few : {E : Type 0} (net : Net) (result : Result RunRecord E) → IsNetwork net → IfOk result (IsWhole net) → IfOk result (λ run. length run.plans ≤ 38400)
+pub all_few : {E : Type 0} (net : Net) (result : Result RunRecord E) → IsNetwork net → IfOk result (IsComplete net) → IfOk result (λ run. length run.plans ≤ 38400)
 all_few net (Ok run) network whole = few_plans net run network whole
 all_few net (Err e) network whole = tt
 

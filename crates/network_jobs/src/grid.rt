@@ -10,7 +10,7 @@ ghost use Rattle.commands.specs.Ending.{Makes};
 ghost use Rattle.commands.specs.Headline.{IsGridSummary, IsRunOf};
 ghost use Rattle.commands.specs.Outcome.{Outcome};
 
-use super::runs_kept::kept_run;
+use super::history_runs::kept_run;
 use super::summary::summary;
 use arrivals::Arrivals;
 use command_texts::{Refusal, Status};
@@ -33,7 +33,7 @@ fn run_of_turns(alloc: Global, net: &Network, arrivals: &Arrivals) -> Result<Run
 }
 
 // The summary of the run of the turn order on the grid of a number.
-fn summed_up(alloc: Global, number: u64, side: u32, rounds: u32) -> Result<Vec<u8>, AllocError>
+fn summary_of_grid(alloc: Global, number: u64, side: u32, rounds: u32) -> Result<Vec<u8>, AllocError>
     requires side { IsSide side }
     requires rounds { AreRounds rounds }
     ensures { IfOk result (λ text. IsGridSummary number side rounds text.items) }
@@ -43,13 +43,13 @@ fn summed_up(alloc: Global, number: u64, side: u32, rounds: u32) -> Result<Vec<u
     summary(alloc, number, side, rounds, &run)
 }
 
-// The same, as what the command makes of no text, whatever the shelf is.
-fn made(alloc: Global, number: u64, side: u32, rounds: u32) -> Result<Made, Refusal>
+// Wraps `summary_of_grid` as a command's result; reads no file.
+fn make_summary(alloc: Global, number: u64, side: u32, rounds: u32) -> Result<Made, Refusal>
     requires side { IsSide side }
     requires rounds { AreRounds rounds }
     ensures { (shelf : ShelfState) → Makes (Grid number side rounds) shelf shelf result }
 {
-    let text = summed_up(alloc, number, side, rounds)?;
+    let text = summary_of_grid(alloc, number, side, rounds)?;
     Ok(Made::Done(text))
 }
 
@@ -73,5 +73,5 @@ pub fn grid_job<O: Sink, E: Sink>(
         (record { shelf = shelf; out = O.state out.old; err = E.state err.old })
         (record { shelf = shelf; out = O.state out.new; err = E.state err.new }) result }
 {
-    end(alloc, made(alloc, number, side, rounds), out, err)
+    end(alloc, make_summary(alloc, number, side, rounds), out, err)
 }

@@ -3,21 +3,38 @@ ghost use Rattle.std.specs.Prelude.{◌≡◌, ℕ, ◌<◌, List, IfErr, IfOk, 
 ghost use Rattle.arrivals.specs.Amounts.{AreArrivals, entering};
 ghost use Rattle.histories.specs.Histories.{IsLawful};
 ghost use Rattle.net_numbers.specs.Numbers.{number_of};
-ghost use Rattle.commands.specs.Commands.{Instance};
 ghost use Rattle.commands.specs.Ending.{Makes};
 ghost use Rattle.commands.specs.Headline.{IsPlannedText};
 ghost use Rattle.commands.specs.Outcome.{Outcome};
+ghost use Rattle.network_jobs.specs.Args.{call_with};
 ghost use Rattle.network_jobs.specs.Missing.{Misses};
 
-use super::runs_kept::kept_run;
+use super::history_runs::kept_run;
 use arrivals::Arrivals;
-use command_texts::{Named, Place, Refusal, Status, fetch_history, fetch_scene};
+use command_texts::{HistoryScene, Named, Refusal, Status, fetch_history_scene};
 use commands::{Made, end};
 use histories::History;
 use outside_world::{Shelf, Sink};
 use road_net::Network;
 use schedule_meaning::write_instance;
 use std::alloc::{AllocError, Global};
+
+/// The arguments of `instance`.
+///
+/// docs/FORMATS.md, "Words".
+#[derive(Clone, Copy)]
+pub struct InstanceArgs<'a> {
+    /// The file of the network.
+    pub net: &'a str,
+    /// The file of the arrivals at it.
+    pub arr: &'a str,
+    /// The file of a history of it.
+    pub hist: &'a str,
+    /// The name of the node that planned.
+    pub node: &'a str,
+    /// The round in which it did, from 0.
+    pub round: u32,
+}
 
 // The number of a node, in a network that has this round too.
 fn node_in_round(net: &Network, node: &str, round: u32) -> Result<u32, Refusal>
@@ -49,14 +66,15 @@ fn planned_text(
     requires lawful { IsLawful net.now h.now }
     requires number { number < length net.now.node_names }
     requires round { round < net.now.run.rounds }
-    ensures { IfOk result (λ text. (node : List ℕ) → number_of net.now.node_names node ≡ Some number → IsPlannedText net.now (entering arrivals.now) h.now node round text.items) }
+    ensures { IfOk result (λ text. (node : List ℕ) → number_of net.now.node_names node ≡ Some number
+        → IsPlannedText net.now (entering arrivals.now) h.now node round text.items) }
 {
     let run = kept_run(alloc, net, arrivals, h)?;
     write_instance(alloc, &run.plan(net, round, number).instance)
 }
 
 // The text of the instance that a node planned in a round of the run of a history.
-fn planned_by(
+fn find_planned_text(
     alloc: Global,
     net: &Network,
     arrivals: &Arrivals,
@@ -66,7 +84,8 @@ fn planned_by(
 ) -> Result<Vec<u8>, Refusal>
     requires arrivals { AreArrivals net.now arrivals.now }
     requires lawful { IsLawful net.now h.now }
-    ensures planned { IfOk result (λ text. IsPlannedText net.now (entering arrivals.now) h.now node.now round text.items) }
+    ensures planned { IfOk result (λ text. IsPlannedText net.now
+        (entering arrivals.now) h.now node.now round text.items) }
     ensures exists { OnOk result (IsSome (number_of net.now.node_names node.now) × (round < net.now.run.rounds)) }
     ensures refused { IfErr result (Misses net.now node.now round) }
 {
@@ -75,54 +94,46 @@ fn planned_by(
     Ok(text)
 }
 
-// The text of the instance that a node planned in a round of the run of the history that the third file's text spells, with the
-// network and the arrivals of the first two.
-fn planned<S: Shelf>(
+// The text of the instance that a node planned in a round of the run of the history in the third file, with the network and the
+// arrivals in the first two.
+fn make_instance<S: Shelf>(
     alloc: Global,
     shelf: &mut S,
-    net: &str,
-    arr: &str,
-    hist: &str,
-    node: &str,
-    round: u32,
+    args: &InstanceArgs<'_>,
 ) -> Result<Made, Refusal>
-    ensures { Makes (Instance net.now arr.now hist.now node.now round) (S.state shelf.old) (S.state shelf.new) result }
+    ensures { Makes (call_with args.now) (S.state shelf.old) (S.state shelf.new) result }
 {
-    let scene = fetch_scene(alloc, shelf, net, arr)?;
-    let history = fetch_history(alloc, shelf, Place::Third, hist, &scene.network)?;
-    let text = planned_by(
+    let HistoryScene { scene, history } =
+        fetch_history_scene(alloc, shelf, args.net, args.arr, args.hist)?;
+    let text = find_planned_text(
         alloc,
         &scene.network,
         &scene.arrivals,
         &history,
-        node,
-        round,
+        args.node,
+        args.round,
     )?;
     Ok(Made::Done(text))
 }
 
 /// The command `instance NET ARR HIST NODE ROUND`: writes the instance that a node planned in a round of the run of the history
-/// that the third file's text spells, with the network and the arrivals that the first two spell. The answer of each certificate
-/// of it agrees with the plan.
+/// in the third file, with the network and the arrivals in the first two. The answer of each certificate of it agrees with the
+/// plan.
 ///
 /// Each status has its cause, and each refusal writes its line to `err`, as `signal` says.
 ///
 /// docs/FORMATS.md, "Words".
 pub fn instance_job<S: Shelf, O: Sink, E: Sink>(
     alloc: Global,
-    net: &str,
-    arr: &str,
-    hist: &str,
-    node: &str,
-    round: u32,
+    args: &InstanceArgs<'_>,
     shelf: &mut S,
     out: &mut O,
     err: &mut E,
 ) -> Status
-    ensures { Outcome (Instance net.now arr.now hist.now node.now round)
+    ensures { Outcome (call_with args.now)
         (record { shelf = S.state shelf.old; out = O.state out.old; err = E.state err.old })
         (record { shelf = S.state shelf.new; out = O.state out.new; err = E.state err.new }) result }
 {
-    let made = planned(alloc, shelf, net, arr, hist, node, round);
+    let made = make_instance(alloc, shelf, args);
     end(alloc, made, out, err)
 }

@@ -11,10 +11,14 @@ ghost use Rattle.commands.specs.Headline.{AgreesWith};
 ///
 /// docs/RULES.md, "Run".
 pub fn law_of_instances()
-    ensures whole { (net arr hist node file : List ℕ) (round : ℕ) (said : AllSaid (texts_of (Instance net arr hist node round))) (bytes certificate : List ℕ) (p : Problem)
-        → (text : IsTextOf (Instance net arr hist node round) said bytes) → Reads InstanceText bytes p → IsTextOf (Certify file) (p, tt) certificate
+    ensures whole { (net arr hist node file : List ℕ) (round : ℕ)
+        (said : AllSaid (texts_of (Instance net arr hist node round))) (bytes certificate : List ℕ) (p : Problem)
+        → (text : IsTextOf (Instance net arr hist node round) said bytes) → Reads InstanceText bytes p
+        → IsTextOf (Certify file) (p, tt) certificate
         → (c : Claim) × IsAcceptedText certificate c × AgreesWith c.answer text.plan.answer }
-    ensures bounded { (net arr hist node file : List ℕ) (round : ℕ) (said : AllSaid (texts_of (Instance net arr hist node round))) (bytes certificate : List ℕ) (p : Problem)
-        → (text : IsTextOf (Instance net arr hist node round) said bytes) → Reads InstanceText bytes p → IsTextOf (CertifyBound file) (p, tt) certificate
+    ensures bounded { (net arr hist node file : List ℕ) (round : ℕ)
+        (said : AllSaid (texts_of (Instance net arr hist node round))) (bytes certificate : List ℕ) (p : Problem)
+        → (text : IsTextOf (Instance net arr hist node round) said bytes) → Reads InstanceText bytes p
+        → IsTextOf (CertifyBound file) (p, tt) certificate
         → (c : Claim) × IsAcceptedText certificate c × AgreesWith c.answer text.plan.answer }
 {}

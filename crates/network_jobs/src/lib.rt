@@ -6,12 +6,12 @@ mod grid;
 mod instance;
 mod laws;
 mod replay;
-mod runs_kept;
+mod history_runs;
 mod summary;
 mod turns;
 
 pub use grid::grid_job;
-pub use instance::instance_job;
+pub use instance::{InstanceArgs, instance_job};
 pub use laws::law_of_instances;
 pub use replay::replay_job;
 pub use turns::turns_job;

@@ -3,14 +3,14 @@ ghost use Rattle.commands.specs.Commands.{Replay};
 ghost use Rattle.commands.specs.Ending.{Makes};
 ghost use Rattle.commands.specs.Outcome.{Outcome};
 
-use super::runs_kept::report;
-use command_texts::{Place, Refusal, Status, fetch_history, fetch_scene};
+use super::history_runs::report;
+use command_texts::{HistoryScene, Refusal, Status, fetch_history_scene};
 use commands::{Made, end};
 use outside_world::{Shelf, Sink};
 use std::alloc::Global;
 
-// The report of the run of the history that the third file's text spells, with the network and the arrivals of the first two.
-fn reported<S: Shelf>(
+// The report of the run of the history in the third file, with the network and the arrivals in the first two.
+fn make_report<S: Shelf>(
     alloc: Global,
     shelf: &mut S,
     net: &str,
@@ -19,15 +19,13 @@ fn reported<S: Shelf>(
 ) -> Result<Made, Refusal>
     ensures { Makes (Replay net.now arr.now hist.now) (S.state shelf.old) (S.state shelf.new) result }
 {
-    let scene = fetch_scene(alloc, shelf, net, arr)?;
-    let history = fetch_history(alloc, shelf, Place::Third, hist, &scene.network)?;
+    let HistoryScene { scene, history } = fetch_history_scene(alloc, shelf, net, arr, hist)?;
     let text = report(alloc, &scene.network, &scene.arrivals, &history)?;
     Ok(Made::Done(text))
 }
 
-/// The command `replay NET ARR HIST`: writes the report of the run of the history that the third file's text spells, with the
-/// network and the arrivals that the other two spell. In it all is kept that is promised of runs, whatever the order of the
-/// history's board steps.
+/// The command `replay NET ARR HIST`: writes the report of the run of the history in the third file, with the network and the
+/// arrivals in the other two. In it all is kept that is promised of runs, whatever the order of the history's board steps.
 ///
 /// Each status has its cause, and each refusal writes its line to `err`, as `signal` says.
 ///
@@ -45,5 +43,5 @@ pub fn replay_job<S: Shelf, O: Sink, E: Sink>(
         (record { shelf = S.state shelf.old; out = O.state out.old; err = E.state err.old })
         (record { shelf = S.state shelf.new; out = O.state out.new; err = E.state err.new }) result }
 {
-    end(alloc, reported(alloc, shelf, net, arr, hist), out, err)
+    end(alloc, make_report(alloc, shelf, net, arr, hist), out, err)
 }

@@ -1,8 +1,9 @@
 //! The summary of a run.
 ghost use Rattle.std.specs.Prelude.{◌≡◌, ◌≤◌, All, IfOk, length};
 ghost use Rattle.commands.specs.Summary as summary;
-ghost use Rattle.commands.specs.Summary.{is_no_plan, planned_delay, plans_none, planned_delays, summary_text};
+ghost use Rattle.commands.specs.Summary.{is_no_plan, planned_delay, none_count, planned_delays, summary_text};
 ghost use Rattle.schedule_meaning.specs.Best.{IsLeast};
+ghost use Rattle.switch_rules.specs.Bounds.{greatest_delay};
 
 use intersection_actor::PlanRecord;
 use number_text::push_line;
@@ -10,7 +11,7 @@ use runs::RunRecord;
 use schedule_meaning::Answer;
 use std::alloc::{AllocError, Global};
 
-/// The summary of a run on the grid of a number, with so many nodes a side and for so many rounds.
+/// The summary of a run on the grid of a number, with `side` nodes a side and for `rounds` rounds. `Err`: out of memory.
 pub fn summary(
     alloc: Global,
     number: u64,
@@ -31,7 +32,7 @@ pub fn summary(
         &[number, u64::from(side), u64::from(rounds)],
     )?;
     push_line(&mut text, b"plans", &[plans.len() as u64])?;
-    push_line(&mut text, b"none", &[plans_none(plans)])?;
+    push_line(&mut text, b"none", &[none_count(plans)])?;
     push_line(&mut text, b"delay", &[planned_delays(plans)])?;
     push_line(
         &mut text,
@@ -42,8 +43,8 @@ pub fn summary(
 }
 
 // How many of these plans are none.
-fn plans_none(plans: &[PlanRecord]) -> u64
-    ensures { result ≡ summary.plans_none plans.now }
+fn none_count(plans: &[PlanRecord]) -> u64
+    ensures { result ≡ summary.none_count plans.now }
 {
     plans.iter().filter(|plan| is_no_plan(&plan.answer)).count() as u64
 }
@@ -75,7 +76,7 @@ fn planned_delays(plans: &[PlanRecord]) -> u64
 fn planned_delay(plan: &PlanRecord) -> u64
     requires { IsLeast plan.now.instance plan.now.answer }
     ensures value { result ≡ planned_delay plan.now.answer }
-    ensures bound { result ≤ 2880000000000 }
+    ensures bound { result ≤ greatest_delay }
 {
     let _plan = plan.instance.plan();
     match &plan.answer {

@@ -7,7 +7,7 @@ ghost use Rattle.commands.specs.Ending.{Makes};
 ghost use Rattle.commands.specs.Headline.{Headline};
 ghost use Rattle.commands.specs.Outcome.{Outcome};
 
-use super::runs_kept::report;
+use super::history_runs::report;
 use arrivals::Arrivals;
 use command_texts::{Refusal, Status, fetch_scene};
 use commands::{Made, end};
@@ -25,8 +25,8 @@ fn report_of_turns(alloc: Global, net: &Network, arrivals: &Arrivals) -> Result<
     report(alloc, net, arrivals, &history)
 }
 
-// The report of the run of the turn order, with the network and the arrivals that the files' texts spell.
-fn reported<S: Shelf>(alloc: Global, shelf: &mut S, net: &str, arr: &str) -> Result<Made, Refusal>
+// The report of the run of the turn order, with the network and the arrivals in the files.
+fn make_report<S: Shelf>(alloc: Global, shelf: &mut S, net: &str, arr: &str) -> Result<Made, Refusal>
     ensures { Makes (Turns net.now arr.now) (S.state shelf.old) (S.state shelf.new) result }
 {
     let scene = fetch_scene(alloc, shelf, net, arr)?;
@@ -34,8 +34,8 @@ fn reported<S: Shelf>(alloc: Global, shelf: &mut S, net: &str, arr: &str) -> Res
     Ok(Made::Done(text))
 }
 
-/// The command `turns NET ARR`: writes the report of the run of the turn order, with the network and the arrivals that the files'
-/// texts spell. In it all is kept that is promised of runs.
+/// The command `turns NET ARR`: writes the report of the run of the turn order, with the network and the arrivals in the files. In
+/// it all is kept that is promised of runs.
 ///
 /// Each status has its cause, and each refusal writes its line to `err`, as `signal` says.
 ///
@@ -52,5 +52,5 @@ pub fn turns_job<S: Shelf, O: Sink, E: Sink>(
         (record { shelf = S.state shelf.old; out = O.state out.old; err = E.state err.old })
         (record { shelf = S.state shelf.new; out = O.state out.new; err = E.state err.new }) result }
 {
-    end(alloc, reported(alloc, shelf, net, arr), out, err)
+    end(alloc, make_report(alloc, shelf, net, arr), out, err)
 }

@@ -19,8 +19,9 @@ Rose before now = one_more before ≤ now
 abbrev pub Gains : SinkState → SinkState → List ℕ → Type 0
 Gains old new piece = new ≡ record { written = append_known old.written piece; faults = old.faults }
 
--- some front of these bytes was written, and the count of faults has risen
+-- Some front of these bytes was written, and just one put failed. Each put may fail, and a second failure would be counted, so no
+-- put came after the one that failed.
 pub record Breaks (old new : SinkState) (piece : List ℕ) : Type 0 where
-  pub rose : Rose old.faults new.faults
+  pub faults : new.faults ≡ one_more old.faults
   pub count : ℕ
   pub front : new.written ≡ append_known old.written (take count piece)

@@ -14,8 +14,8 @@ pub trait Sink {
 
     /// Appends the piece. It takes no memory.
     ///
-    /// `Failed` comes only where the count of faults rose in this call, or stands at the last value of u64. A front of
-    /// the piece was then appended.
+    /// `Failed` comes only where the count of faults rose by one in this call, or stands at the last value of u64. A
+    /// front of the piece was then appended.
     fn put(&mut self, piece: &[u8]) -> Result<(), Failed>
         ensures ok { OnOk result (Gains (state self.old) (state self.new) piece.now) }
         ensures breaks { OnErr result (Breaks (state self.old) (state self.new) piece.now) }

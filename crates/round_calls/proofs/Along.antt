@@ -21,7 +21,7 @@ use Rattle.runs.proofs.Places.{once, read-first, step-of}
 use Rattle.round_calls.specs.Rounds.{AreCallsIn}
 use Rattle.round_calls.proofs.Told.{call-heard, read-is, sent-all}
 
--- the forecast of a version, among those that were told in so many rounds
+-- the forecast of a version, among those that were told in the first rounds
 version-told : (net : Net) (made : ℕ → ℕ → Commitment) (link rounds version : ℕ) → version ≤ rounds
     → slice_index_or ([] ∷ map (λ round. told_in net round link (made round (publisher net link))) (range_with_len 0 rounds)) version [] ≡ forecast_at net made link version
 version-told net made link rounds zero most = refl

@@ -15,7 +15,7 @@ use Rattle.histories.specs.declared.steps.BoardStep.{BoardStep}
 use Rattle.histories.specs.declared.steps.BoardStep.TheVariants.{Read, Publish}
 use Rattle.histories.proofs.Lists.{filter-map}
 use Rattle.intersection_actor.specs.Commits.{Commitment}
-use Rattle.merged_calls.specs.Calls.{AreRounds, step_of}
+use Rattle.merged_calls.specs.Calls.{AreStepRounds, step_of}
 use Rattle.merged_calls.specs.Places.{sent}
 use Rattle.net_numbers.specs.Numbers.{Net}
 use Rattle.round_calls.specs.Told.{AreCallsOf, heard_of, repeated}
@@ -36,31 +36,26 @@ pub at-get : {X : Type 0} (P : X → Type 0) (xs : List X) (k : ℕ) (x : X) →
 at-get P xs k x all e = subst P (get_or_from_slice_get xs k x x e) (all k x (slice_get_within xs k x e))
 
 -- which step a call is
-by-publish : (b : Bool) (l link : ℕ) → cond b (Publish l) (Read l) ≡ Publish link → (b ≡ true) × (l ≡ link)
-by-publish true l link e = (refl, link-is e)
-  where
-    link-is : Publish l ≡ Publish link → l ≡ link
-    link-is e = cc
-by-publish false l link e = absurd (never e)
-  where
-    never : Read l ≡ Publish link → ⊥
-    never e = cc
+publish-link : (l link : ℕ) → Publish l ≡ Publish link → l ≡ link
+publish-link l link e = cc
 
-by-read : (b : Bool) (l link : ℕ) → cond b (Publish l) (Read l) ≡ Read link → (b ≡ false) × (l ≡ link)
-by-read false l link e = (refl, link-is e)
-  where
-    link-is : Read l ≡ Read link → l ≡ link
-    link-is e = cc
-by-read true l link e = absurd (never e)
-  where
-    never : Publish l ≡ Read link → ⊥
-    never e = cc
+read-link : (l link : ℕ) → Read l ≡ Read link → l ≡ link
+read-link l link e = cc
+
+never-both : (l link : ℕ) → Publish l ≡ Read link → ⊥
+never-both l link e = cc
+
+step-is : (b c : Bool) (l link : ℕ) → cond b (Publish l) (Read l) ≡ cond c (Publish link) (Read link) → (b ≡ c) × (l ≡ link)
+step-is true true l link e = (refl, publish-link l link e)
+step-is true false l link e = absurd (never-both l link e)
+step-is false true l link e = absurd (never-both link l (sym e))
+step-is false false l link e = (refl, read-link l link e)
 
 pub publish-is : (c : Call) (link : ℕ) → step_of c ≡ Publish link → (c.publishes ≡ true) × (c.link ≡ link)
-publish-is c link e = by-publish c.publishes c.link link e
+publish-is c link e = step-is c.publishes true c.link link e
 
 pub read-is : (c : Call) (link : ℕ) → step_of c ≡ Read link → (c.publishes ≡ false) × (c.link ≡ link)
-read-is c link e = by-read c.publishes c.link link e
+read-is c link e = step-is c.publishes false c.link link e
 
 -- a list of one
 one-of : (cs : List Call) (s : BoardStep) → map step_of cs ≡ s ∷ [] → (c : Call) × (cs ≡ c ∷ []) × (step_of c ≡ s)
@@ -115,7 +110,7 @@ in-moved net heard seen made other (suc rounds) calls h m (early, last, mark, is
 
 module _ (net : Net) (heard : ℕ → ℕ → List Heard) (made : ℕ → ℕ → Commitment) where
   -- they are the steps, round by round
-  pub rounds-made : (rounds : ℕ) (calls : ℕ → List Call) → AreCallsIn net heard made rounds calls → AreRounds (board_steps net) rounds calls
+  pub rounds-made : (rounds : ℕ) (calls : ℕ → List Call) → AreCallsIn net heard made rounds calls → AreStepRounds (board_steps net) rounds calls
   rounds-made zero calls are = are
   rounds-made (suc rounds) calls (early, last, mark, is, before) = (
     early,

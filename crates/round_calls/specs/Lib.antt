@@ -1,3 +1,4 @@
+pub mod Calls
 pub mod Nodes
 pub mod Resting
 pub mod Rounds

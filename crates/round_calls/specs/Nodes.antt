@@ -101,8 +101,8 @@ pub record NodeRound : Type 0 where
   pub made : Commitment
   pub calls : List Call
 
--- a node rests behind a round in which it has heard this and made this commit
-pub record RestsBehind (net : Net) (round : ℕ) (heard : List Heard) (made : Commitment) (a b : Acting) : Type 0 where
+-- a node rests after a round in which it has heard this and made this commit
+pub record RestsAfter (net : Net) (round : ℕ) (heard : List Heard) (made : Commitment) (a b : Acting) : Type 0 where
   pub node : b.node ≡ a.node
   pub of : IsOf net b
   pub want : b.want ≡ Done
@@ -116,7 +116,7 @@ pub record IsRoundOf (net : Net) (round : ℕ) (world : WorldState) (a b : Actin
   pub sensed : IsSeen net world a.node did.sensed
   pub heard : IsHeardOf net a.node did.heard
   pub commit : IsCommit net a.node round a.line did.sensed did.heard did.made
-  pub rests : RestsBehind net round did.heard did.made a b
+  pub rests : RestsAfter net round did.heard did.made a b
   pub calls : AreCallsOf net round a.node did.heard did.made did.calls
   pub made : HasMade p q did.calls
   pub order : AreInOrder q.known q.calls

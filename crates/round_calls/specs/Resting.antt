@@ -16,7 +16,7 @@ use Rattle.runs.specs.Runs.{line_before}
 abbrev pub lines_of : List Acting → ℕ → List Green
 lines_of actors node = slice_index_or (map (λ (a : Acting). a.line) actors) node []
 
--- new actors of the first nodes, so many
+-- the first `nodes` nodes have new actors
 pub record AreNew (net : Net) (nodes : ℕ) (actors : List Acting) : Type 0 where
   pub all : length actors ≡ nodes
   pub new : (node : ℕ) (a : Acting) → node < nodes → IsNew net node (slice_index_or actors node a)
@@ -24,7 +24,7 @@ pub record AreNew (net : Net) (nodes : ℕ) (actors : List Acting) : Type 0 wher
 
 -- Below, `heard round node` is what a node has heard in a round, and `made round node` its commit.
 
--- the plan records of a node in so many rounds
+-- the plan records of a node in the first `rounds` rounds
 abbrev pub records_of : (ℕ → ℕ → List Heard) → (ℕ → ℕ → Commitment) → ℕ → ℕ → List PlanRecord
 records_of heard made node rounds = map (λ round. record_of node round (heard round node) (made round node)) (range_with_len 0 rounds)
 

@@ -1,4 +1,4 @@
--- No public clause names these: how far the nodes are between the rounds.
+-- How far the nodes are between the rounds, and what a round of all nodes is.
 use Rattle.std.specs.Prelude.{◌≡◌, ℕ, zero, suc, ◌-◌, ◌*◌, ◌<◌, ◌≤◌, List, [], ◌++◌, All, length, map, slice_index_or}
 use Rattle.arrivals.specs.Amounts.{Amounts}
 use Rattle.atomic_table.specs.Seated.{TableId}
@@ -48,12 +48,12 @@ module _ (net : Net) (heard : ℕ → ℕ → List Heard) (made : ℕ → ℕ �
     pub below : (node : ℕ) → All (λ call. call.stamp < mark) (early node)
     pub above : (node : ℕ) → All (λ call. mark ≤ call.stamp) (last node)
 
-  -- the calls of so many rounds
+  -- the calls of `rounds` rounds
   abbrev pub AreCallsIn : ℕ → (ℕ → List Call) → Type 0
   AreCallsIn zero calls = (node : ℕ) → calls node ≡ []
   AreCallsIn (suc rounds) calls = (early last : ℕ → List Call) × (mark : ℕ) × AreRoundOf rounds mark calls early last × AreCallsIn rounds early
 
--- The passes of all nodes, each with so many of so many rounds left: they are all passes of the boards, and no stamp that they may
+-- The passes of all nodes, each with calls left for the rounds from `round` on: they are all passes of the boards, and no stamp that they may
 -- draw next is below a mark.
 pub record HaveLeft (net : Net) (boards : BoardsView) (round mark : ℕ) (passes : List PassView) : Type 0 where
   pub all : length passes ≡ length net.node_names
@@ -61,7 +61,7 @@ pub record HaveLeft (net : Net) (boards : BoardsView) (round mark : ℕ) (passes
   pub left : (node : ℕ) (p : PassView) → node < length net.node_names → (net.run.rounds - round) * length (board_steps net node) ≤ (slice_index_or passes node p).left
   pub known : (node : ℕ) (p : PassView) → node < length net.node_names → mark ≤ (slice_index_or passes node p).known
 
--- Between two rounds: so many are done, each node rests, the world is at the begin of the next round, and the calls of the passes
+-- Between two rounds: `round` are done, each node rests, the world is at the begin of the next round, and the calls of the passes
 -- are those of the rounds that are done.
 pub record Between (net : Net) (arrivals : Amounts) (boards : BoardsView) (round : ℕ) (passes : List PassView) (actors : List Acting) (world : WorldState) : Type 0 where
   pub heard : ℕ → ℕ → List Heard

@@ -20,7 +20,7 @@ pub record AreCallsOf (net : Net) (round node : ℕ) (heard : List Heard) (made 
   pub hears : All (λ call. call.publishes ≡ false → Contains heard (heard_of call)) calls
   pub tells : All (λ call. call.publishes ≡ true → call.forecast ≡ told_in net round call.link made) calls
 
--- the steps of so many rounds, where each round has these
+-- the steps of `rounds` rounds, where each round has these
 abbrev pub repeated : ℕ → List BoardStep → List BoardStep
 repeated zero steps = []
 repeated (suc rounds) steps = repeated rounds steps ++ steps

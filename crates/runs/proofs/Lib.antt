@@ -4,10 +4,10 @@ pub mod Expected
 pub mod Gathered
 pub mod Heard
 pub mod Keep
-pub mod KeptLaws
+pub mod PromiseLaws
 pub mod Lines
 pub mod One
 pub mod Past
 pub mod Places
 pub mod PlanLaws
-pub mod WholeLaws
+pub mod CompleteLaws

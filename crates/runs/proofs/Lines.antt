@@ -19,9 +19,9 @@ use Rattle.phase_plan.specs.declared.Phase.{Phase}
 use Rattle.phase_plan.proofs.RingLaws.{phase-bounds}
 use Rattle.road_net.specs.Joins.{IsConflict}
 use Rattle.road_net.specs.Network.{IsNetwork}
-use Rattle.runs.specs.Kept.{last_line}
+use Rattle.runs.specs.Promises.{last_line}
 use Rattle.runs.specs.Runs.{IsRunBy, line_before, shown_by}
-use Rattle.runs.specs.Safe.{AreSafe, BeginsBehind, IsGreenOf, IsSafe, times_of}
+use Rattle.runs.specs.Safe.{AreSafe, BeginsAfter, IsGreenOf, IsSafe, times_of}
 use Rattle.runs.specs.declared.records.RunRecord.{RunRecord}
 
 -- what a commit keeps of its node's line
@@ -29,7 +29,7 @@ pub record KeepsLine (net : Net) (made : ℕ → ℕ → Commitment) (round node
   pub lawful : IsLawful (plan_at net node) (made round node).line
   pub past : (second : ℕ) → second < round * net.run.step → standing (made round node).line second ≡ standing (line_before net made round node) second
 
--- each commit of so many rounds does
+-- each commit of the first rounds does
 abbrev pub AllKeep : Net → (ℕ → ℕ → Commitment) → ℕ → Type 0
 AllKeep net made rounds = (round node : ℕ) → round < rounds → node < length net.node_names → KeepsLine net made round node
 
@@ -84,7 +84,7 @@ module _ (net : Net) (network : IsNetwork net) (lines : ℕ → List Green) (law
     pub safe-never : (x y : Green) (time : ℕ) → IsGreenOf net lines a x → IsGreenOf net lines b y → IsTrue (covers x time) → IsTrue (covers y time) → ⊥
     safe-never x y time one other p q = never-both (plan_at net node) (lines node) (plan-is net network node below) (lawful node below) x y (of-node a node x first one) (of-node b node y second other) (differ x y one other) time p q
 
-    pub safe-behind : BeginsBehind net lines a b
+    pub safe-behind : BeginsAfter net lines a b
     safe-behind x y one other order =
         let z = begins-behind (plan_at net node) (lines node) (plan-is net network node below) (lawful node below) x y (of-node a node x first one) (of-node b node y second other) (differ x y one other) order in
         let t : times_of net a ≡ phase_at (plan_at net node) x.phase = times-at a node first ∙ ap (phase_at (plan_at net node)) (sym one.phase) in
@@ -127,7 +127,7 @@ module _ (net : Net) (network : IsNetwork net) (made : ℕ → ℕ → Commitmen
   lawful-after zero some most node below = absurd (omega arith)
   lawful-after (suc r) some most node below = (keep r node (omega arith) below).lawful
 
--- the last line of a node is that behind the last round
+-- the last line of a node is that after the last round
 pub last-is : (net : Net) (arrivals : Amounts) (heard : ℕ → ℕ → List Heard) (made : ℕ → ℕ → Commitment) (run : RunRecord) → IsRunBy net arrivals heard made run → (node : ℕ) → node < length net.node_names
     → last_line run node ≡ line_before net made net.run.rounds node
 last-is net arrivals heard made run by node below =

@@ -1,5 +1,5 @@
-pub mod Kept
+pub mod Promises
 pub mod Plans
 pub mod Runs
 pub mod Safe
-pub mod Whole
+pub mod Complete

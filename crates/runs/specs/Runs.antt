@@ -64,18 +64,18 @@ pub record Commits (net : Net) (arrivals : Amounts) (heard : ℕ → ℕ → Lis
   pub links : IsHeardOf net node (heard round node)
   pub commit : IsCommit net node round (line_before net made round node) (sensed_in net arrivals made round node) (heard round node) (made round node)
 
--- each node of the network commits in each of so many rounds
+-- each node of the network commits in each of the first `rounds` rounds
 abbrev pub AllCommit : Net → Amounts → (ℕ → ℕ → List Heard) → (ℕ → ℕ → Commitment) → ℕ → Type 0
 AllCommit net arrivals heard made rounds = (round node : ℕ) → round < rounds → node < length net.node_names → Commits net arrivals heard made round node
 
--- the plan records of a round by node, and those of so many rounds, one after another
+-- the plan records of a round by node, and those of the first `rounds` rounds, one after another
 abbrev pub plans_in : Net → (ℕ → ℕ → List Heard) → (ℕ → ℕ → Commitment) → ℕ → List PlanRecord
 plans_in net heard made round = map (λ node. record_of node round (heard round node) (made round node)) (range_with_len 0 (length net.node_names))
 
 abbrev pub plans_of : Net → (ℕ → ℕ → List Heard) → (ℕ → ℕ → Commitment) → ℕ → List PlanRecord
 plans_of net heard made rounds = flat_map (plans_in net heard made) (range_with_len 0 rounds)
 
--- the second behind the last round
+-- the second after the last round
 abbrev pub end_of_run : Net → ℕ
 end_of_run net = net.run.rounds * net.run.step
 

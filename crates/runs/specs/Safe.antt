@@ -16,18 +16,18 @@ pub record IsGreenOf (net : Net) (lines : ℕ → List Green) (link : ℕ) (row 
 abbrev pub times_of : Net → ℕ → Phase
 times_of net link = phase_at (plan_at net (unwrap_or (link_at net link).to 0)) (link_at net link).phase
 
--- of the greens of two links one that does not begin before a green of the other begins behind that one's end, and behind the
+-- of the greens of two links one that does not begin before a green of the other begins after that one's end, and after the
 -- yellow and all-red of that other link's phase
-abbrev pub BeginsBehind : Net → (ℕ → List Green) → ℕ → ℕ → Type 0
-BeginsBehind net lines a b = (early late : Green) → IsGreenOf net lines a early → IsGreenOf net lines b late → early.from ≤ late.from
+abbrev pub BeginsAfter : Net → (ℕ → List Green) → ℕ → ℕ → Type 0
+BeginsAfter net lines a b = (early late : Green) → IsGreenOf net lines a early → IsGreenOf net lines b late → early.from ≤ late.from
     → early.to + (times_of net a).yellow + (times_of net a).clear ≤ late.from
 
--- Two links are safe from each other: in no second are both green, and each begins a green only behind yellow and all-red of every
+-- Two links are safe from each other: in no second are both green, and each begins a green only after yellow and all-red of every
 -- earlier green of the other.
 pub record AreSafe (net : Net) (lines : ℕ → List Green) (pair : ℕ × ℕ) : Type 0 where
   pub never : (one other : Green) (second : ℕ) → IsGreenOf net lines pair.0 one → IsGreenOf net lines pair.1 other → IsTrue (covers one second) → IsTrue (covers other second) → ⊥
-  pub first : BeginsBehind net lines pair.0 pair.1
-  pub second : BeginsBehind net lines pair.1 pair.0
+  pub first : BeginsAfter net lines pair.0 pair.1
+  pub second : BeginsAfter net lines pair.1 pair.0
 
 -- the network is safe: the links of each conflict are
 abbrev pub IsSafe : Net → (ℕ → List Green) → Type 0

@@ -2,9 +2,9 @@
 ghost use Rattle.std.specs.Prelude.{◌≡◌, ℕ, List};
 ghost use Rattle.arrivals.specs.Amounts.{Amounts};
 ghost use Rattle.histories.specs.Histories.{IsLawful};
-ghost use Rattle.runs.specs.Kept.{Kept};
+ghost use Rattle.runs.specs.Promises.{KeepsPromises};
 ghost use Rattle.runs.specs.Runs.{IsRun};
-ghost use Rattle.runs.specs.Whole.{IsWhole};
+ghost use Rattle.runs.specs.Complete.{IsComplete};
 ghost use Rattle.runs.specs.declared.records.RunRecord.{RunRecord};
 
 use road_net::Network;
@@ -16,8 +16,11 @@ use road_net::Network;
 ///
 /// docs/RULES.md, "Run".
 pub fn law_of_runs(net: &Network)
-    ensures kept { (arrivals : Amounts) (history : List ℕ) (record_of_run : RunRecord) → IsLawful net.now history → (run : IsRun net.now arrivals history record_of_run) → Kept net.now arrivals history run.made record_of_run }
-    ensures whole { (arrivals : Amounts) (history : List ℕ) (record_of_run : RunRecord) → IsLawful net.now history → IsRun net.now arrivals history record_of_run → IsWhole net.now record_of_run }
+    ensures kept { (arrivals : Amounts) (history : List ℕ) (record_of_run : RunRecord) → IsLawful net.now history
+        → (run : IsRun net.now arrivals history record_of_run)
+        → KeepsPromises net.now arrivals history run.made record_of_run }
+    ensures whole { (arrivals : Amounts) (history : List ℕ) (record_of_run : RunRecord) → IsLawful net.now history
+        → IsRun net.now arrivals history record_of_run → IsComplete net.now record_of_run }
 {
     let _nodes = net.nodes();
 }
@@ -26,7 +29,8 @@ pub fn law_of_runs(net: &Network)
 ///
 /// docs/RULES.md, "Run".
 pub fn law_of_one_run(net: &Network)
-    ensures { (arrivals : Amounts) (history : List ℕ) (one other : RunRecord) → IsLawful net.now history → IsRun net.now arrivals history one → IsRun net.now arrivals history other → one ≡ other }
+    ensures { (arrivals : Amounts) (history : List ℕ) (one other : RunRecord) → IsLawful net.now history
+        → IsRun net.now arrivals history one → IsRun net.now arrivals history other → one ≡ other }
 {
     let _nodes = net.nodes();
 }

@@ -1,6 +1,6 @@
 //! The record of a run.
 ghost use Rattle.std.specs.Prelude.{◌≡◌, ◌<◌, Contains, length};
-ghost use Rattle.runs.specs.Whole.{IsWhole};
+ghost use Rattle.runs.specs.Complete.{IsComplete};
 
 use control_flow::greens::Timeline;
 use foundation::items::Items;
@@ -16,7 +16,7 @@ use road_net::Network;
 pub struct RunRecord {
     /// The plans, by round and node.
     pub plans: Items<PlanRecord>,
-    /// The timeline of each node behind the last round.
+    /// The timeline of each node after the last round.
     pub timelines: Items<Timeline>,
     /// What was counted of each link.
     pub links: Items<LinkTotals>,
@@ -29,7 +29,7 @@ impl RunRecord {
     ///
     /// docs/RULES.md, "Run".
     pub fn plan(&self, net: &Network, round: u32, node: u32) -> &PlanRecord
-        requires whole { IsWhole net.now self.now }
+        requires whole { IsComplete net.now self.now }
         requires round { round < net.now.run.rounds }
         requires node { node < length net.now.node_names }
         ensures among { Contains self.now.plans result.now }

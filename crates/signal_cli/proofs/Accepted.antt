@@ -22,7 +22,7 @@ pub accepted : (bytes : List ℕ) (c : Claim) (places : ℕ)
     → IsCertificate c → cert.IsCertificateText bytes c → Proves c → IsAcceptedText bytes c
 accepted bytes c places one short few small lawful spells proves = record {
   short = few-bytes (length bytes) (length c.entries) places short few small;
-  spells = (lawful, spells);
+  is_text = (lawful, spells);
   only = λ other spelled. one other c spelled.1.0 spells.0 (sym spelled.1.1 ∙ spells.1);
   proves = proves;
 }

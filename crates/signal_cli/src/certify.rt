@@ -12,7 +12,7 @@ ghost use Rattle.commands.specs.Outcome.{Outcome};
 
 use crate::delivery::deliver;
 use certificate_form::{law_of_certificate_text, law_of_certificates};
-use command_texts::{Place, Refusal, Status, fetch_instance};
+use command_texts::{TextPlace, Refusal, Status, fetch_instance};
 use dp_certificate::Certificate;
 use foundation::steps::Steps;
 use outside_world::{Shelf, Sink};
@@ -82,7 +82,7 @@ fn certificate_of_file<S: Shelf>(
     ensures bounded { table ≡ Table.Bounded
         → MakesCertificate (CertifyBound file.now) (S.state shelf.old) (S.state shelf.new) result }
 {
-    let instance = fetch_instance(alloc, shelf, Place::First, file)?;
+    let instance = fetch_instance(alloc, shelf, TextPlace::First, file)?;
     let certificate = certificate_of(alloc, table, &instance)?;
     // Called for its clauses `lawful`, `spells` and `short`.
     law_of_certificate_text(&certificate);

@@ -4,7 +4,7 @@ ghost use Rattle.commands.specs.Ending.{Makes};
 ghost use Rattle.commands.specs.Outcome.{Outcome};
 
 use super::answers::answer_text;
-use command_texts::{Place, Refusal, Status, fetch_instance};
+use command_texts::{TextPlace, Refusal, Status, fetch_instance};
 use commands::{Made, end};
 use forward_dp::LayerPlanner;
 use outside_world::{Shelf, Sink};
@@ -15,7 +15,7 @@ use std::alloc::Global;
 fn plan_of_file<S: Shelf>(alloc: Global, shelf: &mut S, file: &str) -> Result<Made, Refusal>
     ensures { Makes (Plan file.now) (S.state shelf.old) (S.state shelf.new) result }
 {
-    let instance = fetch_instance(alloc, shelf, Place::First, file)?;
+    let instance = fetch_instance(alloc, shelf, TextPlace::First, file)?;
     let answer = best_answer(alloc, &mut LayerPlanner, &instance)?;
     let text = answer_text(alloc, &answer)?;
     Ok(Made::Done(text))

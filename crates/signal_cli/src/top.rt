@@ -1,6 +1,6 @@
 //! The top call: the arguments of the command line, and what is done.
 ghost use Rattle.std.specs.Prelude.{◌≡◌, ◌≢◌, ◌↔◌};
-ghost use Rattle.commands.specs.Commands.{Call, IsCall, IsWithin, seen};
+ghost use Rattle.commands.specs.Commands.{Call, IsCall, IsWithin, call_of};
 ghost use Rattle.commands.specs.Outcome.{Outcome};
 ghost use Rattle.command_texts.specs.Refusals.{Says};
 ghost use Rattle.command_texts.specs.declared.refusals.Refusal.TheVariants as refusal;
@@ -9,10 +9,10 @@ use super::certify::{Table, certify_job};
 use super::check::check_job;
 use super::plan::plan_job;
 use board_model::Gate;
-use command_texts::{Refusal, Status, refuse};
+use command_texts::{Refusal, SceneFiles, Status, refuse};
 use commands::{Command, command_of};
 use foundation::text::Text;
-use network_jobs::{grid_job, instance_job, replay_job, turns_job};
+use network_jobs::{InstanceArgs, grid_job, instance_job, replay_job, turns_job};
 use outside_world::{Shelf, Sink};
 use std::alloc::Global;
 use std::sync::Wait;
@@ -60,8 +60,8 @@ fn run<R: Threads + Wait + Sync, S: Shelf, O: Sink, E: Sink, G: Gate + Sync>(
     err: &mut E,
     gate: &G,
 ) -> Status
-    requires { IsWithin (seen command) }
-    ensures { Outcome (seen command.entry)
+    requires { IsWithin (call_of command) }
+    ensures { Outcome (call_of command.entry)
         (record { shelf = S.state shelf.old; out = O.state out.old; err = E.state err.old })
         (record { shelf = S.state shelf.new; out = O.state out.new; err = E.state err.new }) result }
 {
@@ -74,14 +74,25 @@ fn run<R: Threads + Wait + Sync, S: Shelf, O: Sink, E: Sink, G: Gate + Sync>(
         Command::Check { file } => check_job(alloc, file, shelf, out, err),
         Command::Turns { net, arr } => turns_job(alloc, net, arr, shelf, out, err),
         Command::Replay { net, arr, hist } => replay_job(alloc, net, arr, hist, shelf, out, err),
-        Command::Net { net, arr } => net_job(rt, alloc, net, arr, shelf, out, err, gate),
+        Command::Net { net, arr } => {
+            net_job(rt, alloc, &SceneFiles { net, arr }, shelf, out, err, gate)
+        }
         Command::Instance {
             net,
             arr,
             hist,
             node,
             round,
-        } => instance_job(alloc, net, arr, hist, node, round, shelf, out, err),
+        } => {
+            let args = InstanceArgs {
+                net,
+                arr,
+                hist,
+                node,
+                round,
+            };
+            instance_job(alloc, &args, shelf, out, err)
+        }
         Command::Grid {
             number,
             side,

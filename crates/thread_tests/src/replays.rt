@@ -5,7 +5,7 @@ ghost use Rattle.std.specs.Prelude.{IfOk};
 ghost use Rattle.arrivals.specs.Amounts.{AreArrivals};
 ghost use Rattle.histories.specs.Histories.{IsLawful};
 ghost use Rattle.histories.specs.Merges.{IsMerge};
-ghost use Rattle.runs.specs.Whole.{IsWhole};
+ghost use Rattle.runs.specs.Complete.{IsComplete};
 ghost use Rattle.thread_tests.specs.Told.{IsToldBy};
 
 use crate::played::play;

@@ -4,7 +4,7 @@ use Rattle.arrivals.specs.Amounts.{Amounts, entering}
 use Rattle.board_model.specs.Boards.{Log}
 use Rattle.board_rule.specs.Passes.{PassView, AreLogsOfPasses, calls_in}
 use Rattle.net_numbers.specs.Numbers.{Net}
-use Rattle.net_threads.specs.Calls.{IsRunOfCalls, MergeToLawful}
+use Rattle.round_calls.specs.Calls.{IsRunOfCalls, MergeToLawful}
 use Rattle.runs.specs.declared.records.RunRecord.{RunRecord}
 use Rattle.delay_report.specs.Reports.{records_text, report_text, steps_records}
 use Rattle.threaded_jobs.specs.Merged.{IsRunOfMerge, IsTextOfMerge}

@@ -1,4 +1,4 @@
--- What logs tell by their merge. No public clause names these words.
+-- What logs tell by their merge. No public clause names these definitions.
 use Rattle.std.specs.Prelude.{◌≡◌, ℕ, List}
 use Rattle.board_model.specs.Boards.{Log}
 use Rattle.histories.specs.Histories.{IsLawful}

@@ -1,12 +1,11 @@
 //! A run in threads, and the history that its boards tell.
-ghost use Rattle.std.specs.Prelude.{◌≡◌, ◌*◌, ◌≤◌, ℕ, IfOk, length};
+ghost use Rattle.std.specs.Prelude.{◌≡◌, All, IfOk, [], length};
 ghost use Rattle.arrivals.specs.Amounts.{AreArrivals, entering};
-ghost use Rattle.board_rule.specs.Passes.{AreAllPasses, AreLogsOfPasses, calls_in, fresh_passes};
+ghost use Rattle.board_rule.specs.Passes.{AreAllPasses, AreLogsOfPasses, calls_in};
 ghost use Rattle.delay_report.specs.Reports.{outcome_records, records_text, report_text, steps_records};
 ghost use Rattle.histories.specs.Histories.{IsLawful};
-ghost use Rattle.histories.specs.Steps.{board_steps};
-ghost use Rattle.runs.specs.Whole.{IsWhole};
-ghost use Rattle.net_threads.specs.Calls.{IsRunOfCalls, MergeToLawful};
+ghost use Rattle.runs.specs.Complete.{IsComplete};
+ghost use Rattle.round_calls.specs.Calls.{HaveCallsLeft, IsRunOfCalls, MergeToLawful};
 ghost use Rattle.commands.specs.Headline.{ToldHeadline};
 ghost use Rattle.threaded_jobs.specs.Merged.{HaveLawfulMerge, IsRunOfMerge, IsTextOfMerge};
 
@@ -26,27 +25,40 @@ use std::thread::{Threads, join};
 
 /// A run, and the logs of the boards that tell its history.
 #[derive(Drop)]
-struct Told {
+struct LoggedRun {
     run: RunRecord,
     logs: Vec<BoardLog>,
 }
 
-/// The run of a network in threads, by new passes with this many calls, one for each node, and the passes after it.
-fn run_by<R: Threads + Wait + Sync, G: Gate + Sync>(
+/// New boards for the links of a network, and new passes at them, one for each node, with calls for all rounds.
+fn open_boards(alloc: Global, net: &Network) -> Result<(Boards, Vec<Pass>), AllocError>
+    ensures links { IfOk result (λ r. r.0.links ≡ length net.now.link_names) }
+    ensures all { IfOk result (λ r. AreAllPasses r.0 r.1.items) }
+    ensures nodes { IfOk result (λ r. length r.1.items ≡ length net.now.node_names) }
+    ensures fresh { IfOk result (λ r. All (λ p. p.calls ≡ []) r.1.items) }
+    ensures left { IfOk result (λ r. HaveCallsLeft net.now r.1.items) }
+{
+    let calls = calls_for_pass(net);
+    let (boards, passes) = Boards::new(alloc, net.links(), net.nodes(), calls)?;
+    Ok((boards, passes))
+}
+
+/// The run of a network in threads, by new passes, one for each node, and the passes after it.
+fn run_with_passes<R: Threads + Wait + Sync, G: Gate + Sync>(
     rt: &R,
     alloc: Global,
     net: &Network,
     arrivals: &Arrivals,
     boards: &Boards,
     passes: Vec<Pass>,
-    calls: u32,
     gate: &G,
 ) -> Result<(RunRecord, Vec<Pass>), AllocError>
     requires arrivals { AreArrivals net.now arrivals.now }
     requires links { boards.now.links ≡ length net.now.link_names }
     requires all { AreAllPasses boards.now passes.items }
-    requires passes { passes.items ≡ fresh_passes boards.now.id calls 0 (length net.now.node_names) }
-    requires enough { (node : ℕ) → net.now.run.rounds * length (board_steps net.now node) ≤ calls }
+    requires nodes { length passes.items ≡ length net.now.node_names }
+    requires fresh { All (λ p. p.calls ≡ []) passes.items }
+    requires left { HaveCallsLeft net.now passes.items }
     ensures passes { IfOk result (λ r. AreAllPasses boards.now r.1.items) }
     ensures lawful { IfOk result (λ r. MergeToLawful net.now (calls_in r.1.items)) }
     ensures run { IfOk result (λ r. IsRunOfCalls net.now arrivals.now (calls_in r.1.items) r.0) }
@@ -58,7 +70,7 @@ fn run_by<R: Threads + Wait + Sync, G: Gate + Sync>(
 }
 
 /// The logs of the boards.
-fn closed(alloc: Global, boards: Boards, passes: Vec<Pass>) -> Result<Vec<BoardLog>, AllocError>
+fn close_boards(alloc: Global, boards: Boards, passes: Vec<Pass>) -> Result<Vec<BoardLog>, AllocError>
     requires { AreAllPasses boards passes.items }
     ensures { IfOk result (λ logs. AreLogsOfPasses boards.links passes.items logs.items) }
 {
@@ -72,26 +84,25 @@ fn play<R: Threads + Wait + Sync, G: Gate + Sync>(
     net: &Network,
     arrivals: &Arrivals,
     gate: &G,
-) -> Result<Told, AllocError>
+) -> Result<LoggedRun, AllocError>
     requires { AreArrivals net.now arrivals.now }
-    ensures { IfOk result (λ told. IsRunOfMerge net.now (entering arrivals.now) told.logs.items told.run) }
+    ensures { IfOk result (λ logged. IsRunOfMerge net.now (entering arrivals.now) logged.logs.items logged.run) }
 {
-    let calls = calls_for_pass(net);
-    let (boards, passes) = Boards::new(alloc, net.links(), net.nodes(), calls)?;
-    let (run, passes) = run_by(rt, alloc, net, arrivals, &boards, passes, calls, gate)?;
-    let logs = closed(alloc, boards, passes)?;
-    Ok(Told { run, logs })
+    let (boards, passes) = open_boards(alloc, net)?;
+    let (run, passes) = run_with_passes(rt, alloc, net, arrivals, &boards, passes, gate)?;
+    let logs = close_boards(alloc, boards, passes)?;
+    Ok(LoggedRun { run, logs })
 }
 
-/// What a run came to, written out. The run is let go here: of so many parts, that takes as long.
+/// The outcome of a run, written out. The run is dropped here: it has many parts, and dropping them takes as long.
 fn outcome_of(alloc: Global, net: &Network, run: RunRecord) -> Result<Vec<u8>, AllocError>
-    requires { IsWhole net.now run }
+    requires { IsComplete net.now run }
     ensures { IfOk result (λ text. text.items ≡ records_text (outcome_records net.now run)) }
 {
     render_outcome(alloc, net, &run, Vec::new(alloc))
 }
 
-/// The steps of the history that logs tell, written out while another thread lets the logs go.
+/// The steps of the history that logs tell, written out while another thread drops the logs.
 fn steps_of<R: Threads>(
     rt: &R,
     alloc: Global,
@@ -99,7 +110,8 @@ fn steps_of<R: Threads>(
     logs: Vec<BoardLog>,
 ) -> Result<Vec<u8>, AllocError>
     requires { HaveLawfulMerge net.now logs.items }
-    ensures { IfOk result (λ text. IsTextOfMerge logs.items (λ history. records_text (steps_records net.now history)) text.items) }
+    ensures { IfOk result (λ text. IsTextOfMerge logs.items
+        (λ history. records_text (steps_records net.now history)) text.items) }
 {
     let history = merge(alloc, &logs)?;
     let history = &history;
@@ -116,28 +128,29 @@ fn steps_of<R: Threads>(
     steps
 }
 
-/// The report of what was told. The logs are merged and the steps written out while another thread writes out what the run came to, and
-/// what is no more wanted is let go beside.
-fn told_report<R: Threads>(
+/// The report of a run with its logs. The logs are merged and the steps written out while another thread writes out the outcome of the
+/// run, and what is no longer needed is dropped beside.
+fn write_report<R: Threads>(
     rt: &R,
     alloc: Global,
     net: &Network,
-    told: Told,
+    logged: LoggedRun,
 ) -> Result<Vec<u8>, AllocError>
-    requires lawful { HaveLawfulMerge net.now told.logs.items }
-    requires whole { IsWhole net.now told.run }
-    ensures { IfOk result (λ text. IsTextOfMerge told.logs.items (report_text net.now told.run) text.items) }
+    requires lawful { HaveLawfulMerge net.now logged.logs.items }
+    requires whole { IsComplete net.now logged.run }
+    ensures { IfOk result (λ text. IsTextOfMerge logged.logs.items (report_text net.now logged.run) text.items) }
 {
-    let Told { run, logs } = told;
+    let LoggedRun { run, logs } = logged;
     let (outcome, steps) = join(
         rt,
         move || -> Result<Vec<u8>, AllocError>
-            requires { IsWhole net.now run }
+            requires { IsComplete net.now run }
             ensures { IfOk result (λ text. text.items ≡ records_text (outcome_records net.entry.now run)) }
         { outcome_of(alloc, net, run) },
         move || -> Result<Vec<u8>, AllocError>
             requires { HaveLawfulMerge net.now logs.items }
-            ensures { IfOk result (λ text. IsTextOfMerge logs.items (λ history. records_text (steps_records net.entry.now history)) text.items) }
+            ensures { IfOk result (λ text. IsTextOfMerge logs.items
+                (λ history. records_text (steps_records net.entry.now history)) text.items) }
         { steps_of(rt, alloc, net, logs) },
     );
     let outcome = outcome?;
@@ -156,8 +169,8 @@ pub(crate) fn report<R: Threads + Wait + Sync, G: Gate + Sync>(
     requires { AreArrivals net.now arrivals.now }
     ensures { IfOk result (λ text. ToldHeadline net.now (entering arrivals.now) text.items) }
 {
-    let told = play(rt, alloc, net, arrivals, gate)?;
+    let logged = play(rt, alloc, net, arrivals, gate)?;
     law_of_runs(net);
     law_of_reports(net);
-    told_report(rt, alloc, net, told)
+    write_report(rt, alloc, net, logged)
 }

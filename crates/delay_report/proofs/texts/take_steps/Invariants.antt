@@ -4,7 +4,7 @@ use Rattle.delay_report.specs.Entries.{header}
 use Rattle.delay_report.proofs.TextLaws.{IsUnder}
 use Rattle.delay_report.proofs.texts.take_steps.Given as goal
 
--- the reader stands behind the records that were read, which tell the steps so far
+-- the reader stands after the records that were read, which tell the steps so far
 abbrev pub invariant-loop-number : goal.invariant-loop-number
 invariant-loop-number l = record {
   reading : IsReading l.reader;

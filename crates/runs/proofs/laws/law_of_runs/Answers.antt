@@ -1,7 +1,7 @@
 use Rattle.std.proofs.Common.{arith}
 use Rattle.runs.proofs.Keep.{all-keep}
-use Rattle.runs.proofs.KeptLaws.{kept}
-use Rattle.runs.proofs.WholeLaws.{whole}
+use Rattle.runs.proofs.PromiseLaws.{kept}
+use Rattle.runs.proofs.CompleteLaws.{whole}
 use Rattle.runs.proofs.laws.law_of_runs.Goals as goal
 
 pub returns-clause-kept : goal.returns-clause-kept

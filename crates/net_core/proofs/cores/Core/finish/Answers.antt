@@ -1,6 +1,6 @@
 use Rattle.std.proofs.Common.{◌≡◌, false, sym, ap, ◌∙◌, subst}
 use Rattle.histories.specs.Histories.{IsLawful}
-use Rattle.runs.specs.Kept.{IsKeptRun}
+use Rattle.runs.specs.Promises.{IsKeptRun}
 use Rattle.net_core.specs.Cores.{Course}
 use Rattle.net_core.proofs.Over.{over-run}
 use Rattle.net_core.proofs.cores.Core.finish.Goals as goal

@@ -1,4 +1,4 @@
-use Rattle.runs.proofs.WholeLaws.{found, place-inside}
+use Rattle.runs.proofs.CompleteLaws.{found, place-inside}
 use Rattle.runs.proofs.records.RunRecord.plan.Goals as goal
 
 pub bounds-as_slice-place : goal.bounds-as_slice-place

@@ -1,6 +1,0 @@
-use Rattle.std.proofs.Common.{length, ap, arith}
-use Rattle.number_text.proofs.LineLaws.{digits-long}
-use Rattle.delay_report.proofs.records.number.Goals as goal
-
-pub put_number-requires : goal.put_number-requires
-put_number-requires c = omega (arith, digits-long c.args.n (omega arith), ap length c.new-line.ensures)

@@ -1,6 +1,0 @@
-use Rattle.std.proofs.Common.{◌≡◌}
-use Rattle.net_core.proofs.Along.{gone}
-use Rattle.net_core.proofs.whole_run.run.Given as goal
-
-abbrev pub invariant-loop-node : goal.invariant-loop-node
-invariant-loop-node g l = l.core ≡ gone l.net l.arrivals l.steps l.node-index

@@ -1,0 +1,38 @@
+-- What every run keeps.
+use Rattle.std.specs.Prelude.{◌≡◌, ℕ, ◌<◌, List, [], All, length, slice_index_or}
+use Rattle.arrivals.specs.Amounts.{Amounts}
+use Rattle.control_flow.specs.Greens.{IsLawful, standing}
+use Rattle.control_flow.specs.declared.greens.Green.{Green}
+use Rattle.intersection_actor.specs.Commits.{Commitment}
+use Rattle.net_numbers.specs.Numbers.{Net}
+use Rattle.net_numbers.specs.Outline.{plan_at}
+use Rattle.schedule_meaning.specs.Best.{IsLeast}
+use Rattle.runs.specs.Plans.{IsPlannedFrom, NamesVersions, NeverOlder}
+use Rattle.runs.specs.Runs.{IsRun, end_of_run, shown_by}
+use Rattle.runs.specs.Safe.{IsSafe}
+use Rattle.runs.specs.declared.records.RunRecord.{RunRecord}
+
+-- the last line of a node
+abbrev pub last_line : RunRecord → ℕ → List Green
+last_line run node = slice_index_or run.timelines node []
+
+-- What a run keeps, where `made round node` is the commit of a node in a round:
+-- every plan names the versions of its neighbours' forecasts that it used;
+-- none is older than one that the node had seen;
+-- its instance is made from just those versions and from what its node sensed;
+-- no sequence of that instance has less delay, and there is no plan only where no sequence is feasible;
+-- the last lines are lawful, no two links in conflict are ever green together, and in each second of the run the last lines show
+-- the greens, with the same begin, by which the world moved.
+pub record KeepsPromises (net : Net) (arrivals : Amounts) (history : List ℕ) (made : ℕ → ℕ → Commitment) (run : RunRecord) : Type 0 where
+  pub named : All (NamesVersions net history) run.plans
+  pub newer : NeverOlder run.plans
+  pub planned : All (IsPlannedFrom net arrivals made) run.plans
+  pub least : All (λ plan. IsLeast plan.instance plan.answer) run.plans
+  pub lawful : (node : ℕ) → node < length net.node_names → IsLawful (plan_at net node) (last_line run node)
+  pub safe : IsSafe net (last_line run)
+  pub greens : (second node : ℕ) → second < end_of_run net → node < length net.node_names → standing (last_line run node) second ≡ shown_by net made second node
+
+-- the run of a history, with all that it keeps
+pub record IsKeptRun (net : Net) (arrivals : Amounts) (history : List ℕ) (record_of_run : RunRecord) : Type 0 where
+  pub run : IsRun net arrivals history record_of_run
+  pub kept : KeepsPromises net arrivals history run.made record_of_run
