@@ -5,18 +5,18 @@ use Rattle.std.specs.Fmt.{decimal}
 use Rattle.std.specs.List.{flat_map, join_with_byte, AllByRecursion}
 use Rattle.std.specs.Option.{ok_or, option_map_or}
 use Rattle.std.proofs.lemmas.List.Elements.{All-from_recursion, recursion_from_All, All-nil, All-append, All-cons}
-use Rattle.line_text.specs.Fields.{literal_at, field_at}
-use Rattle.line_text.proofs.Units.{literal_takes, literal_again, field_takes, field_again}
+use Rattle.text_lines.specs.Fields.{literal_at, field_at}
+use Rattle.text_lines.proofs.Units.{literal_takes, literal_again, field_takes, field_again}
 use Rattle.instance_form.specs.InstanceText.{line}
 use Rattle.instance_form.specs.Reading.{◌>>=◌}
 use Rattle.foundation.proofs.ResultLaws.{same_Ok, some_from_ok, then_ok}
 use Rattle.schedule_meaning.specs.declared.planners.Answer.{Answer}
 use Rattle.schedule_meaning.specs.declared.planners.Answer.TheVariants.{Plan, NoPlan}
 use Rattle.certificate_form.specs.CertificateText.{answer_line, IsWritableAnswer}
-use Rattle.line_text.specs.Many.{many_at}
+use Rattle.text_lines.specs.Many.{many_at}
 use Rattle.certificate_form.specs.Reading.{sequence_at, plan_at, answer_at}
 use Rattle.certificate_form.proofs.Apart.{space, line_feed, literal_apart, field_apart, first_digit}
-use Rattle.line_text.proofs.ManyLaws.{many_take, many_again, few_texts}
+use Rattle.text_lines.proofs.ManyLaws.{many_take, many_again, few_texts}
 
 -- ---- numbers with a space after each, and a last one
 

@@ -5,9 +5,9 @@ use Rattle.std.specs.Fmt.{decimal}
 use Rattle.std.specs.Str.Parse.{AllDigits}
 use Rattle.std.proofs.lemmas.Fmt.{decimal_is_IsNumeral}
 use Rattle.std.proofs.lemmas.Str.Parse.{digit_from_value}
-use Rattle.line_text.specs.Fields.{literal_at, field_at}
-use Rattle.line_text.proofs.Units.{literal_takes, field_takes}
-use Rattle.line_text.proofs.Digits.{digits, goes_on}
+use Rattle.text_lines.specs.Fields.{literal_at, field_at}
+use Rattle.text_lines.proofs.Units.{literal_takes, field_takes}
+use Rattle.text_lines.proofs.Digits.{digits, goes_on}
 
 -- the separators are no digits
 pub space : ¬ IsAsciiDigit 32

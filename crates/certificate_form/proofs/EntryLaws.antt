@@ -11,8 +11,8 @@ use Rattle.std.specs.Fmt.{decimal}
 use Rattle.std.proofs.lemmas.Bool.{le-ltb, ltb-false}
 use Rattle.std.proofs.lemmas.List.Elements.{All-from_recursion, recursion_from_All}
 use Rattle.std.proofs.lemmas.Option.{same_Some}
-use Rattle.line_text.specs.Fields.{literal_at, field_at}
-use Rattle.line_text.proofs.Units.{literal_takes, literal_again, field_takes, field_again}
+use Rattle.text_lines.specs.Fields.{literal_at, field_at}
+use Rattle.text_lines.proofs.Units.{literal_takes, literal_again, field_takes, field_again}
 use Rattle.instance_form.proofs.LineLaws.{then_some}
 use Rattle.certificate_form.specs.CertificateText.{entry_line, IsWritableEntry}
 use Rattle.certificate_form.specs.Lines.{IsFrontText, entry_after_at, count_at, entry_line_at, front_at}

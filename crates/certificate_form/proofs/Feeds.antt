@@ -4,8 +4,8 @@ use Rattle.std.specs.Prelude.{codes}
 use Rattle.std.specs.Fmt.{decimal}
 use Rattle.std.specs.List.{flat_map, join_with_byte, AllByRecursion}
 use Rattle.std.proofs.lemmas.List.Elements.{All-weaker, All-take, All-append, All-from_recursion, recursion_from_All}
-use Rattle.line_text.specs.Lines.{line_feeds}
-use Rattle.line_text.proofs.Feeds.{IsTextLine, feeds_in_numbers, feeds_in_lines}
+use Rattle.text_lines.specs.Lines.{line_feeds}
+use Rattle.text_lines.proofs.Feeds.{IsTextLine, feeds_in_numbers, feeds_in_lines}
 use Rattle.schedule_meaning.specs.declared.planners.Answer.{Answer}
 use Rattle.schedule_meaning.specs.declared.planners.Answer.TheVariants.{Plan, NoPlan}
 use Rattle.certificate_form.specs.CertificateText.{answer_line, entry_line, IsWritableAnswer, IsWritableEntry}

@@ -4,18 +4,18 @@ use Rattle.std.specs.Prelude.{codes}
 use Rattle.std.specs.List.{flat_map, concat, AllByRecursion}
 use Rattle.std.proofs.lemmas.List.{append-nil, append_cancel_left}
 use Rattle.std.proofs.lemmas.List.Elements.{All-from_recursion, recursion_from_All, All-nil}
-use Rattle.line_text.specs.Fields.{literal_at}
-use Rattle.line_text.proofs.Units.{literal_again}
+use Rattle.text_lines.specs.Fields.{literal_at}
+use Rattle.text_lines.proofs.Units.{literal_again}
 use Rattle.phase_plan.specs.declared.Phase.{Phase}
 use Rattle.switch_rules.specs.declared.Head.{Head}
 use Rattle.switch_rules.specs.declared.Cluster.{Cluster}
-use Rattle.line_text.specs.Lines.{line_feeds}
+use Rattle.text_lines.specs.Lines.{line_feeds}
 use Rattle.instance_form.specs.Faults.{BeginsText, BeginsFront}
 use Rattle.instance_form.specs.Faults as form_fault
 use Rattle.instance_form.specs.InstanceText.{instance_text, line_count, IsWritable, IsWritableCluster}
 use Rattle.instance_form.specs.InstanceText as form
-use Rattle.line_text.proofs.Feeds.{line_feeds-nil, line_feeds-append, line_feeds_once, fronts, next_line}
-use Rattle.line_text.proofs.FirstLine.{NextLine, faulty-here}
+use Rattle.text_lines.proofs.Feeds.{line_feeds-nil, line_feeds-append, line_feeds_once, fronts, next_line}
+use Rattle.text_lines.proofs.FirstLine.{NextLine, faulty-here}
 use Rattle.instance_form.proofs.FaultLaws.{last_is_line}
 use Rattle.instance_form.proofs.FirstFault.{feeds_in_text}
 use Rattle.instance_form.proofs.FormLaws.{text_once}

@@ -17,7 +17,7 @@ use Rattle.dp_certificate.specs.Certificates.{Claim, IsCertificate, IsEntry}
 use Rattle.dp_certificate.specs.Numbers.{sequence_of}
 use Rattle.dp_certificate.specs.declared.Entry.{Entry}
 use Rattle.certificate_form.specs.CertificateText.{HasText, IsWritableAnswer, after_space, answer_line, certificate_text, entry_line}
-use Rattle.number_text.proofs.LineLaws.{digits-byte, digits-long, written_line}
+use Rattle.text_lines.proofs.LineLaws.{digits-byte, digits-long, written_line}
 use Rattle.certificate_form.proofs.WritingLaws.{entry_is, text_parts}
 
 -- numbers after a space

@@ -7,20 +7,20 @@ use Rattle.std.proofs.lemmas.Bool.{eqb-true}
 use Rattle.std.proofs.lemmas.List.{append_cancel_left}
 use Rattle.std.proofs.lemmas.List.Elements.{All-from_recursion, recursion_from_All}
 use Rattle.std.proofs.lemmas.Option.{same_Some}
-use Rattle.line_text.specs.Fields.{literal_at, field_at}
-use Rattle.line_text.proofs.Units.{literal_takes, literal_again}
+use Rattle.text_lines.specs.Fields.{literal_at, field_at}
+use Rattle.text_lines.proofs.Units.{literal_takes, literal_again}
 use Rattle.instance_form.specs.Reading.{◌>>=◌}
 use Rattle.foundation.proofs.ResultLaws.{same_Ok, same_Err, no_Err, none_from_err, on_err, some_from_ok, then_ok}
 use Rattle.schedule_meaning.specs.declared.planners.Answer.{Answer}
 use Rattle.schedule_meaning.specs.declared.planners.Answer.TheVariants.{Plan, NoPlan}
 use Rattle.certificate_form.specs.CertificateText.{answer_line, entry_line, IsWritableAnswer, IsWritableEntry}
 use Rattle.certificate_form.specs.Lines.{entry_line_at}
-use Rattle.line_text.specs.Many.{many_at}
+use Rattle.text_lines.specs.Many.{many_at}
 use Rattle.certificate_form.specs.Reading.{sequence_at, plan_at, answer_at, end_at, tail_at}
 use Rattle.dp_certificate.specs.declared.Entry.{Entry}
 use Rattle.certificate_form.proofs.AnswerLaws.{answer_takes, answer_again}
 use Rattle.certificate_form.proofs.EntryLaws.{entry_takes, entry_again, entry_end}
-use Rattle.line_text.proofs.ManyLaws.{many_take, many_again, many_rest, few_texts}
+use Rattle.text_lines.proofs.ManyLaws.{many_take, many_again, many_rest, few_texts}
 
 -- the answer, the entries, and the last line
 abbrev pub tail_text : ℕ → Answer → List Entry → List ℕ

@@ -16,7 +16,7 @@ use Rattle.dp_certificate.specs.Certificates.{Claim}
 use Rattle.certificate_form.specs.Reading.{tail_at}
 use Rattle.certificate_form.specs.TextFaults.{IsLineFault}
 use Rattle.dp_certificate.specs.declared.Entry.{Entry}
-use Rattle.line_text.proofs.Feeds.{line_feeds-le}
+use Rattle.text_lines.proofs.Feeds.{line_feeds-le}
 use Rattle.instance_form.proofs.FirstFault.{feeds_in_text}
 use Rattle.certificate_form.proofs.FirstFault.{problem_text, HasProblemText, front_text, front-append, certificate_is, behind, instance_fault, tail_fault}
 use Rattle.certificate_form.proofs.TailLaws.{tail_text, tail_takes, tail_again}

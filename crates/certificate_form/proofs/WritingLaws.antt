@@ -12,7 +12,7 @@ use Rattle.instance_form.specs.InstanceText as form
 use Rattle.switch_rules.specs.declared.Cluster.{Cluster}
 use Rattle.schedule_meaning.specs.Instances.{Problem, IsInstance, counts_of, list_at}
 use Rattle.dp_certificate.specs.Certificates.{Claim, IsCertificate, IsEntry}
-use Rattle.number_text.proofs.LineLaws.{written_line}
+use Rattle.text_lines.proofs.LineLaws.{written_line}
 use Rattle.certificate_form.proofs.FirstFault.{certificate_is, problem_text}
 use Rattle.certificate_form.proofs.TailLaws.{tail_text}
 use Rattle.dp_certificate.specs.declared.Entry.{Entry}

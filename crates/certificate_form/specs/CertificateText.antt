@@ -2,7 +2,7 @@
 use Rattle.std.specs.Prelude.{◌≡◌, ℕ, ◌^◌, ◌<◌, ◌≤◌, List, [], ◌∷◌, ◌++◌, length, map, take, slice_index, All, codes}
 use Rattle.std.specs.List.{flat_map, concat}
 use Rattle.std.specs.Fmt.{decimal}
-pub use Rattle.number_text.specs.Numbers.{after_space}
+pub use Rattle.text_lines.specs.Numbers.{after_space}
 use Rattle.instance_form.specs.InstanceText.{line, instance_text}
 use Rattle.instance_form.specs.InstanceText as form
 use Rattle.schedule_meaning.specs.declared.planners.Answer.{Answer}

@@ -1,6 +1,6 @@
 -- No public clause names these: reading an entry from the front of the bytes.
 use Rattle.std.specs.Prelude.{◌≡◌, ℕ, ◌^◌, Bool, nat_lt, if◌then◌else◌, List, [], ◌∷◌, ◌++◌, Option, Some, codes}
-use Rattle.line_text.specs.Fields.{literal_at, field_at}
+use Rattle.text_lines.specs.Fields.{literal_at, field_at}
 use Rattle.foundation.specs.Options.{◌>>=◌}
 use Rattle.dp_certificate.specs.declared.Entry.{Entry}
 use Rattle.certificate_form.specs.declared.lines.Front.{Front}

@@ -1,12 +1,12 @@
 -- No public clause names these: reading what follows the instance, with the number of the first line that has not the form of its place.
 use Rattle.std.specs.Prelude.{ℕ, ◌+◌, ◌^◌, ◌==◌, if◌then◌else◌, List, [], ◌∷◌, ◌++◌, length, Result, Ok, Err, codes}
 use Rattle.std.specs.Option.{ok_or, option_map_or}
-use Rattle.line_text.specs.Fields.{literal_at, field_at}
+use Rattle.text_lines.specs.Fields.{literal_at, field_at}
 use Rattle.instance_form.specs.Reading.{◌>>=◌}
 use Rattle.schedule_meaning.specs.declared.planners.Answer.{Answer}
 use Rattle.schedule_meaning.specs.declared.planners.Answer.TheVariants.{Plan, NoPlan}
 use Rattle.certificate_form.specs.Lines.{entry_line_at}
-use Rattle.line_text.specs.Many.{many_at}
+use Rattle.text_lines.specs.Many.{many_at}
 use Rattle.dp_certificate.specs.declared.Entry.{Entry}
 
 -- one number at least, up to the end of its line

@@ -1,6 +1,6 @@
 -- Why bytes are no certificate's text: the first fault, in a fixed order.
 use Rattle.std.specs.Prelude.{◌≡◌, ℕ, List, ◌++◌}
-use Rattle.line_text.specs.Lines.{IsFirstFaultyLine}
+use Rattle.text_lines.specs.Lines.{IsFirstFaultyLine}
 use Rattle.instance_form.specs.declared.form.FormFault.{FormFault}
 use Rattle.instance_form.specs.declared.form.FormFault.TheVariants as form
 use Rattle.certificate_form.specs.CertificateText.{HasText, certificate_text}

@@ -2,13 +2,13 @@
 
 ghost use Rattle.std.specs.Prelude.{◌≡◌, ◌+◌, ◌^◌, ◌<◌, ◌≤◌, length, take, drop, IfOk, IfSome, None};
 ghost use Rattle.std.specs.Option.{option_map};
-ghost use Rattle.line_text.specs.Fields.{field_at};
+ghost use Rattle.text_lines.specs.Fields.{field_at};
 ghost use Rattle.instance_form.specs.Lines.{seen};
 ghost use Rattle.certificate_form.specs.Lines.{IsFrontText, entry_after_at, count_at, entry_line_at, front_at};
-ghost use Rattle.line_text.specs.Many.{many_at};
+ghost use Rattle.text_lines.specs.Many.{many_at};
 
 use dp_certificate::Entry;
-use line_text::{field_u8, field_u32, field_u64, literal};
+use text_lines::{field_u8, field_u32, field_u64, literal};
 use std::alloc::{AllocError, Global};
 
 /// A count, where there is one, and else 0; and the bytes after it.

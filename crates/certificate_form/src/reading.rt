@@ -15,7 +15,7 @@ use crate::lines::{entry_lines, spaced_numbers};
 use dp_certificate::{CertFault, Certificate, Entry};
 use foundation::items::Items;
 use instance_form::{Form, FormFault, read_front};
-use line_text::{field_u8, field_u64, literal};
+use text_lines::{field_u8, field_u64, literal};
 use phase_plan::{PhasePlan, PlanFault};
 use schedule_meaning::{Answer, Instance, InstanceFault};
 use std::alloc::Global;

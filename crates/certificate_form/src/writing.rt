@@ -11,7 +11,7 @@ ghost use Rattle.outside_world.specs.Sink.{Breaks, Gains};
 ghost use Rattle.certificate_form.specs.CertificateText.{HasText, IsWritableAnswer, after_space, answer_line, certificate_text, entry_back, entry_front, entry_line};
 
 use dp_certificate::{Certificate, Entry};
-use number_text::{Line, push_number, push_numbers};
+use text_lines::{Line, push_number, push_numbers};
 use outside_world::{Failed, Sink};
 use schedule_meaning::{Answer, Instance, write_instance};
 use std::alloc::{AllocError, Global};

@@ -8,18 +8,18 @@ use Rattle.dp_certificate.specs.Certificates.{Claim}
 use Rattle.certificate_form.specs.CertificateText.{certificate_text}
 use Rattle.commands.specs.declared.ending.Made.{Made}
 use Rattle.commands.specs.declared.ending.Made.TheVariants as made
-use Rattle.command_texts.specs.declared.refusals.TextPlace.{TextPlace}
-use Rattle.command_texts.specs.declared.refusals.Refusal.{Refusal}
-use Rattle.command_texts.specs.declared.refusals.Refusal.TheVariants as refusal
-use Rattle.command_texts.specs.declared.status.Status.{Status}
-use Rattle.command_texts.specs.declared.status.Status.TheVariants.{Done, Rejected, BadInput, ReadFault, WriteFault, NoMemory}
+use Rattle.commands.specs.declared.refusals.TextPlace.{TextPlace}
+use Rattle.commands.specs.declared.refusals.Refusal.{Refusal}
+use Rattle.commands.specs.declared.refusals.Refusal.TheVariants as refusal
+use Rattle.commands.specs.declared.status.Status.{Status}
+use Rattle.commands.specs.declared.status.Status.TheVariants.{Done, Rejected, BadInput, ReadFault, WriteFault, NoMemory}
 use Rattle.commands.specs.Commands.{Call, IsAgainst, IsMissing, IsRejectionOf, IsTextOf, MissesNothing, texts_of}
 use Rattle.commands.specs.Ending.{Ends, EndsCertificate, Explains, Makes, MakesCertificate}
 use Rattle.commands.specs.Outcome.{IsBadInput, IsUnread, Outcome, Outside, Read}
-use Rattle.command_texts.specs.Refusals.{Says}
-use Rattle.command_texts.specs.Stops.{StopsIn}
-use Rattle.command_texts.specs.Texts.{AllSaid, AreIn, Tells, TellsBad}
-use Rattle.command_texts.proofs.TextLaws.{as_told, none_bad, none_gains, none_told_bad}
+use Rattle.commands.specs.Refusals.{Says}
+use Rattle.commands.specs.Stops.{StopsIn}
+use Rattle.commands.specs.Texts.{AllSaid, AreIn, Tells, TellsBad}
+use Rattle.commands.proofs.TextLaws.{as_told, none_bad, none_gains, none_told_bad}
 
 -- a count with one fault more has risen
 risen : {before now : ℕ} → now ≡ one_more before → Rose before now

@@ -16,13 +16,13 @@ use Rattle.scenario_gen.specs.Grids.{AreRounds}
 use Rattle.scenario_gen.specs.Layout.{IsSide}
 use Rattle.commands.specs.Answers.{answer_text}
 use Rattle.commands.specs.Headline.{Headline, IsGridSummary, IsPlannedText, ToldHeadline}
-use Rattle.command_texts.specs.Limits.{most_bytes}
-use Rattle.command_texts.specs.Texts.{AllSaid, CertificateText, InstanceText, Next, NoMore, IsTextFor, Texts, history_texts, network_texts}
+use Rattle.commands.specs.Limits.{most_bytes}
+use Rattle.commands.specs.Texts.{AllSaid, CertificateText, InstanceText, Next, NoMore, IsTextFor, Texts, history_texts, network_texts}
 use Rattle.commands.specs.Verdicts.{accepted_line, rejected_line}
 use Rattle.commands.specs.declared.words.Command.{Command}
 use Rattle.commands.specs.declared.words.Command.TheVariants as command
-use Rattle.command_texts.specs.declared.refusals.Named.{Named}
-use Rattle.command_texts.specs.declared.refusals.Named.TheVariants.{Node, Round}
+use Rattle.commands.specs.declared.refusals.Named.{Named}
+use Rattle.commands.specs.declared.refusals.Named.TheVariants.{Node, Round}
 
 -- a command with its further words
 pub data Call : Type 0 where

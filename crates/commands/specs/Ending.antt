@@ -6,15 +6,15 @@ use Rattle.dp_certificate.specs.Certificates.{Claim}
 use Rattle.certificate_form.specs.CertificateText.{certificate_text}
 use Rattle.commands.specs.Commands.{Call, IsAgainst, IsRejectionOf, IsTextOf, MissesNothing, texts_of}
 use Rattle.commands.specs.Outcome.{IsBadInput, Read}
-use Rattle.command_texts.specs.Refusals.{Refuses, Says}
-use Rattle.command_texts.specs.Stops.{StopsIn}
-use Rattle.command_texts.specs.Texts.{AllSaid}
+use Rattle.commands.specs.Refusals.{Refuses, Says}
+use Rattle.commands.specs.Stops.{StopsIn}
+use Rattle.commands.specs.Texts.{AllSaid}
 use Rattle.commands.specs.declared.ending.Made.{Made}
 use Rattle.commands.specs.declared.ending.Made.TheVariants as made
-use Rattle.command_texts.specs.declared.refusals.Refusal.{Refusal}
-use Rattle.command_texts.specs.declared.refusals.Refusal.TheVariants as refusal
-use Rattle.command_texts.specs.declared.status.Status.{Status}
-use Rattle.command_texts.specs.declared.status.Status.TheVariants.{Done, Rejected, WriteFault}
+use Rattle.commands.specs.declared.refusals.Refusal.{Refusal}
+use Rattle.commands.specs.declared.refusals.Refusal.TheVariants as refusal
+use Rattle.commands.specs.declared.status.Status.{Status}
+use Rattle.commands.specs.declared.status.Status.TheVariants.{Done, Rejected, WriteFault}
 
 -- why a command made nothing: its texts could not be had, or its words name what is not in them
 abbrev pub Explains : Call → ShelfState → ShelfState → Refusal → Type 0

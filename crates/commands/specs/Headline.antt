@@ -13,7 +13,7 @@ use Rattle.schedule_meaning.specs.Best.{IsBest}
 use Rattle.schedule_meaning.specs.Instances.{Problem}
 use Rattle.schedule_meaning.specs.declared.planners.Answer.{Answer}
 use Rattle.schedule_meaning.specs.declared.planners.Answer.TheVariants.{Plan, NoPlan}
-use Rattle.command_texts.specs.Texts.{HistoryText, InstanceText, Reads, IsTextFor}
+use Rattle.commands.specs.Texts.{HistoryText, InstanceText, Reads, IsTextFor}
 use Rattle.commands.specs.Summary.{summary_text}
 
 -- The run of a lawful history, with arrivals that bring this. Whatever order the intersections' board steps take in it: every

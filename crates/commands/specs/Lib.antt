@@ -1,7 +1,12 @@
 pub mod Answers
+pub mod Codes
 pub mod Commands
 pub mod Ending
 pub mod Headline
+pub mod Limits
 pub mod Outcome
+pub mod Refusals
+pub mod Stops
 pub mod Summary
+pub mod Texts
 pub mod Verdicts

@@ -3,14 +3,14 @@ use Rattle.std.specs.Prelude.{◌≡◌, ◌≢◌, ℕ, List, ◌⊎◌}
 use Rattle.outside_world.specs.Shelf.{Files, GainsLast, ShelfState}
 use Rattle.outside_world.specs.Sink.{Breaks, Gains, Rose, SinkState}
 use Rattle.commands.specs.Commands.{Call, IsAgainst, IsMissing, IsRejectionOf, IsTextOf, MissesNothing, texts_of}
-use Rattle.command_texts.specs.Refusals.{Says}
-use Rattle.command_texts.specs.Texts.{AllSaid, AreIn, At, IsBad, Tells, TellsBad}
-use Rattle.command_texts.specs.declared.refusals.Named.{Named}
-use Rattle.command_texts.specs.declared.refusals.TextPlace.{TextPlace}
-use Rattle.command_texts.specs.declared.refusals.Refusal.{Refusal}
-use Rattle.command_texts.specs.declared.refusals.Refusal.TheVariants as refusal
-use Rattle.command_texts.specs.declared.status.Status.{Status}
-use Rattle.command_texts.specs.declared.status.Status.TheVariants.{Done, Rejected, Usage, BadInput, ReadFault, WriteFault, NoMemory}
+use Rattle.commands.specs.Refusals.{Says}
+use Rattle.commands.specs.Texts.{AllSaid, AreIn, At, IsBad, Tells, TellsBad}
+use Rattle.commands.specs.declared.refusals.Named.{Named}
+use Rattle.commands.specs.declared.refusals.TextPlace.{TextPlace}
+use Rattle.commands.specs.declared.refusals.Refusal.{Refusal}
+use Rattle.commands.specs.declared.refusals.Refusal.TheVariants as refusal
+use Rattle.commands.specs.declared.status.Status.{Status}
+use Rattle.commands.specs.declared.status.Status.TheVariants.{Done, Rejected, Usage, BadInput, ReadFault, WriteFault, NoMemory}
 
 -- the shelf and the two sinks at a moment
 pub record Outside : Type 0 where

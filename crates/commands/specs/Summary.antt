@@ -2,7 +2,7 @@
 use Rattle.std.specs.Prelude.{ℕ, Bool, true, false, List, [], ◌∷◌, ◌++◌, codes, count_by, length, map, sum_by}
 use Rattle.std.specs.Fmt.{decimal}
 use Rattle.intersection_actor.specs.declared.records.PlanRecord.{PlanRecord}
-use Rattle.line_text.specs.Lines.{line}
+use Rattle.text_lines.specs.Lines.{line}
 use Rattle.runs.specs.declared.records.RunRecord.{RunRecord}
 use Rattle.schedule_meaning.specs.declared.planners.Answer.{Answer}
 use Rattle.schedule_meaning.specs.declared.planners.Answer.TheVariants.{Plan, NoPlan}

@@ -1,7 +1,7 @@
 //! How what a command made, or why it made nothing, is answered.
 ghost use Rattle.commands.specs.Ending.{Ends};
 
-use command_texts::{Refusal, Status, refuse};
+use crate::{Refusal, Status, refuse};
 use outside_world::Sink;
 use std::alloc::Global;
 

@@ -1,9 +1,22 @@
-//! The commands: their words, the texts that they read, what they write, and how they end.
+//! The commands: their words; the texts that they read, fetched from a shelf; what is wrong with one; what they write, and how they
+//! end; and the refusals, each with its line and its status.
 #![tactic(auto)]
 
+mod bad_texts;
 mod ending;
 mod numbers;
+mod pieces;
+mod refusals;
+mod scenes;
+mod status;
+mod texts;
 mod words;
 
+pub use bad_texts::BadText;
+pub use pieces::{push_one, push_two};
+pub use refusals::{Named, Refusal, TextPlace, refuse};
+pub use scenes::{HistoryScene, Scene, SceneFiles, fetch_history_scene, fetch_scene};
+pub use status::Status;
+pub use texts::{fetch_arrivals, fetch_certificate, fetch_history, fetch_instance, fetch_network};
 pub use ending::{Made, end};
 pub use words::{Command, command_of};

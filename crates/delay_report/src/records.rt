@@ -4,7 +4,7 @@ ghost use Rattle.std.specs.Fmt.{decimal};
 ghost use Rattle.delay_report.specs.Written.{Adds, HasWritten};
 
 use csv::Writer;
-use number_text::Line;
+use text_lines::Line;
 use std::alloc::{AllocError, Global};
 
 /// A writer that appends to this text.

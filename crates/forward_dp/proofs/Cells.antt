@@ -6,9 +6,9 @@ use Rattle.std.proofs.lemmas.List.{get_or-drop, get_or-take, get_or_default, len
 use Rattle.switch_rules.specs.declared.Cluster.{Cluster}
 use Rattle.schedule_meaning.specs.Instances.{Problem, IsInstance, list_at}
 use Rattle.dp_certificate.specs.Proves.{stage_of_entry}
-use Rattle.flat_table.specs.Groups.{IsSource, no_row, row_at}
-use Rattle.flat_table.specs.Rows.{time_of}
-use Rattle.flat_table.specs.declared.rows.Row.{Row}
+use Rattle.forward_dp.specs.Groups.{IsSource, no_row, row_at}
+use Rattle.forward_dp.specs.Rows.{time_of}
+use Rattle.forward_dp.specs.declared.rows.Row.{Row}
 use Rattle.forward_dp.specs.Numbers.{counts_number}
 use Rattle.forward_dp.specs.Tables.{AreRows, IsFrom, IsReached, counts_number_at, row_number}
 use Rattle.forward_dp.proofs.Rows.{IsLed, counts-same, reached-entry, reached-led}

@@ -15,7 +15,7 @@ use Rattle.dp_certificate.specs.Limits.{HasKeysWithin, IsWithin}
 use Rattle.dp_certificate.specs.Prefixes.{Key, Stage, first_stage, key_of, stage_of}
 use Rattle.dp_certificate.specs.Proves.{stage_of_entry}
 use Rattle.dp_certificate.proofs.Stages.{split-start}
-use Rattle.flat_table.specs.declared.rows.Row.{Row}
+use Rattle.forward_dp.specs.declared.rows.Row.{Row}
 use Rattle.forward_dp.specs.Numbers.{counts_number}
 use Rattle.forward_dp.specs.Tables.{AreRows, AreWithin, row_number}
 use Rattle.forward_dp.proofs.Beginnings.{prefix-among}

@@ -11,10 +11,10 @@ use Rattle.schedule_meaning.specs.Instances.{Problem, IsInstance, list_at}
 use Rattle.dp_certificate.specs.Numbers.{AreLengths}
 use Rattle.dp_certificate.proofs.NextLaws.{few-listed}
 use Rattle.dp_certificate.proofs.Stages.{none-counted}
-use Rattle.flat_table.specs.Groups.{AreJoined, AreReachedBy, IsSource, no_row}
-use Rattle.flat_table.specs.declared.groups.Reached.{Reached}
-use Rattle.flat_table.specs.declared.rows.Row.{Row}
-use Rattle.flat_table.proofs.Reaching.{joined-made}
+use Rattle.forward_dp.specs.Groups.{AreJoined, AreReachedBy, IsSource, no_row}
+use Rattle.forward_dp.specs.declared.groups.Reached.{Reached}
+use Rattle.forward_dp.specs.declared.rows.Row.{Row}
+use Rattle.forward_dp.proofs.Reaching.{joined-made}
 use Rattle.forward_dp.specs.Numbers.{counts_number}
 use Rattle.forward_dp.specs.Tables.{AreBelow, AreEnds, CanFill, CanFillCell, IsCellFilled, IsFilled, IsFrom, IsNextCounts, IsTable, counts_number_at, unit_of}
 use Rattle.forward_dp.proofs.Cells.{IsCell, cell-is, cell-source, counts-rise, slice-is}

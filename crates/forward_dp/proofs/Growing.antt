@@ -14,10 +14,10 @@ use Rattle.dp_certificate.proofs.LimitLaws.{first-within, step-within, within-le
 use Rattle.dp_certificate.proofs.RestLaws.{step-stale}
 use Rattle.dp_certificate.proofs.Stages.{more-other, more-same, none-counted, some-same, stage-alike, stage-push}
 use Rattle.switch_rules.proofs.Counting.{count-le-sum}
-use Rattle.flat_table.specs.Groups.{AreMade, IsArrival, IsSource, no_row, row_at}
-use Rattle.flat_table.specs.Rows.{IsNoWorse, time_of}
-use Rattle.flat_table.specs.declared.rows.Row.{Row}
-use Rattle.flat_table.proofs.Reaching.{arrival-of, arrival-phase}
+use Rattle.forward_dp.specs.Groups.{AreMade, IsArrival, IsSource, no_row, row_at}
+use Rattle.forward_dp.specs.Rows.{IsNoWorse, time_of}
+use Rattle.forward_dp.specs.declared.rows.Row.{Row}
+use Rattle.forward_dp.proofs.Reaching.{arrival-of, arrival-phase}
 use Rattle.forward_dp.specs.Numbers.{counts_number, order_number}
 use Rattle.forward_dp.specs.Tables.{AreWithin, HasRowFor, IsReached, IsTable, IsWholeTable, row_group, row_number, stage_group}
 use Rattle.forward_dp.proofs.Cells.{IsCell, time-small}

@@ -4,7 +4,7 @@ use Rattle.std.proofs.lemmas.Bool.{cases_eq, cases_lt}
 use Rattle.schedule_meaning.specs.Instances.{Problem}
 use Rattle.dp_certificate.specs.Certificates.{IsBefore, digits_of}
 use Rattle.dp_certificate.specs.Proves.{stage_of_entry}
-use Rattle.flat_table.specs.declared.rows.Row.{Row}
+use Rattle.forward_dp.specs.declared.rows.Row.{Row}
 use Rattle.forward_dp.specs.Tables.{row_number}
 use Rattle.forward_dp.proofs.Rows.{IsLed, four}
 

@@ -1,12 +1,18 @@
 mod Beginnings
-pub mod Bounds
 mod Cells
 mod Digits
+mod Draining
 mod Few
 mod Filling
 mod Growing
 mod KeyOrder
+mod Meeting
+mod Merging
 mod Orders
 mod Parting
 mod Rows
 mod Wholes
+pub mod Bounds
+pub mod Keeping
+pub mod Reaching
+pub mod Shapes

@@ -8,9 +8,9 @@ use Rattle.switch_rules.specs.declared.Cluster.{Cluster}
 use Rattle.schedule_meaning.specs.Instances.{Problem, IsInstance, list_at}
 use Rattle.dp_certificate.specs.Limits.{IsSomeDelay}
 use Rattle.dp_certificate.specs.Numbers.{AreLengths}
-use Rattle.flat_table.specs.Groups.{AreJoined, AreReachedBy, no_row}
-use Rattle.flat_table.specs.declared.groups.Reached.{Reached}
-use Rattle.flat_table.specs.declared.rows.Row.{Row}
+use Rattle.forward_dp.specs.Groups.{AreJoined, AreReachedBy, no_row}
+use Rattle.forward_dp.specs.declared.groups.Reached.{Reached}
+use Rattle.forward_dp.specs.declared.rows.Row.{Row}
 use Rattle.forward_dp.specs.Numbers.{counts_number}
 use Rattle.forward_dp.specs.Tables.{AreBetween, AreEnds, AreStanding, CanFill, IsCellMade, IsCellReady, IsEntered, IsFrom, IsGroupFilled, IsGroupReady, IsLastCounts, IsLeft, IsNextCounts, IsTable, IsTableMade, all_rows, base_of, counts_number_at, row_group, source_of, unit_of}
 use Rattle.forward_dp.specs.declared.live_rows.Rows.{Rows}

@@ -14,8 +14,8 @@ use Rattle.dp_certificate.specs.Proves.{key_of_entry, stage_of_entry}
 use Rattle.dp_certificate.specs.declared.Entry.{Entry}
 use Rattle.dp_certificate.proofs.NextLaws.{few-listed}
 use Rattle.dp_certificate.proofs.Stages.{last-of, more-other, more-same, some-same, stage-phases, stage-push, step-begins}
-use Rattle.flat_table.proofs.Shapes.{serving-shapes}
-use Rattle.flat_table.specs.declared.rows.Row.{Row}
+use Rattle.forward_dp.proofs.Shapes.{serving-shapes}
+use Rattle.forward_dp.specs.declared.rows.Row.{Row}
 use Rattle.forward_dp.specs.Numbers.{counts_number, order_number}
 use Rattle.forward_dp.specs.Tables.{IsReached, unit_of}
 use Rattle.forward_dp.proofs.Bounds.{IsStage, stage-bounds, stage-few}

@@ -22,10 +22,10 @@ use Rattle.dp_certificate.specs.Whole.{IsOfPrefix, IsWhole}
 use Rattle.dp_certificate.specs.declared.Entry.{Entry}
 use Rattle.dp_certificate.proofs.LimitLaws.{first-within, served-within}
 use Rattle.dp_certificate.proofs.Stages.{delay-of-stage, stage-of-delay, stage-push}
-use Rattle.flat_table.specs.Groups.{no_row, row_at}
-use Rattle.flat_table.specs.Rows.{IsNoWorse}
-use Rattle.flat_table.specs.declared.rows.Row.{Row}
-use Rattle.flat_table.proofs.Keeping.{no-worse-trans}
+use Rattle.forward_dp.specs.Groups.{no_row, row_at}
+use Rattle.forward_dp.specs.Rows.{IsNoWorse}
+use Rattle.forward_dp.specs.declared.rows.Row.{Row}
+use Rattle.forward_dp.proofs.Keeping.{no-worse-trans}
 use Rattle.forward_dp.specs.Numbers.{counts_number, order_number}
 use Rattle.forward_dp.specs.Tables.{HasAnswers, IsFrom, IsReached, IsTableMade, IsWholeTable, all_rows}
 use Rattle.forward_dp.proofs.Bounds.{IsStage, stage-bounds, stage-few, sum-le}

@@ -1,4 +1,8 @@
+pub mod Greens
+pub mod Groups
+pub mod Halves
 pub mod Numbers
+pub mod Rows
 pub mod Tables
 pub use Rattle.schedule_meaning.specs.Best
 pub use Rattle.schedule_meaning.specs.Instances

@@ -5,9 +5,9 @@ use Rattle.dp_certificate.specs.Limits.{IsSomeDelay, IsWithin}
 use Rattle.dp_certificate.specs.Numbers.{AreLengths}
 use Rattle.dp_certificate.specs.Prefixes.{Stage, key_of, stage_of}
 use Rattle.dp_certificate.specs.Proves.{key_of_entry, stage_of_entry}
-use Rattle.flat_table.specs.Groups.{row_at}
-use Rattle.flat_table.specs.Rows.{IsNoWorse, time_of}
-use Rattle.flat_table.specs.declared.rows.Row.{Row}
+use Rattle.forward_dp.specs.Groups.{row_at}
+use Rattle.forward_dp.specs.Rows.{IsNoWorse, time_of}
+use Rattle.forward_dp.specs.declared.rows.Row.{Row}
 use Rattle.forward_dp.specs.Numbers.{counts_number, order_number}
 use Rattle.forward_dp.specs.declared.live_rows.DroppedRows.{DroppedRows}
 use Rattle.forward_dp.specs.declared.live_rows.Rows.{Rows}

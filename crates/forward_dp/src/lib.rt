@@ -1,5 +1,7 @@
-//! The best answer of an instance by a table that grows forward: one row is kept for each key that fit prefixes
-//! reach. The whole table can be had as a certificate of that answer.
+//! The best answer of an instance by a table that grows forward: one row is kept for each key that fit prefixes reach. The
+//! whole table can be had as a certificate of that answer.
+//!
+//! The rows of one group, with the same counts and the same green phase, follow from the rows before them (`groups`, `rows`, `greens`).
 #![tactic(auto)]
 
 ghost use Rattle.std.specs.Prelude.{◌≡◌, ◌⊎◌, ◌+◌, ◌*◌, ◌≤◌, ◌<◌, [], All, Contains, List, length, sum, slice_index, IfNone, IfOk, IfSome};
@@ -8,19 +10,26 @@ ghost use Rattle.schedule_meaning.specs.Instances.{IsInstance, counts_of};
 ghost use Rattle.dp_certificate.specs.Numbers.{AreLengths};
 ghost use Rattle.dp_certificate.specs.Limits.{HasKeysWithin, IsSomeDelay};
 ghost use Rattle.dp_certificate.specs.Prefixes.{HasAllKeys, Key};
-ghost use Rattle.flat_table.specs.Rows.{IsNoWorse};
+ghost use Rattle.forward_dp.specs.Rows.{IsNoWorse};
 ghost use Rattle.forward_dp.specs.Tables.{HasAnswers};
 
 mod answers;
 mod certifying;
+mod greens;
+mod groups;
 mod lists;
 mod live_rows;
+mod orders;
+mod rows;
 mod table;
 
 use answers::sequence_of;
+pub use groups::Reached;
+pub use orders::Order;
+pub use rows::{Row, better_of};
 pub use certifying::{certify, certify_within};
 use dp_certificate::list_lengths;
-use flat_table::{Row, better_of};
+use crate::{Row, better_of};
 use foundation::items::Items;
 use foundation::steps::Steps;
 use foundation::threads::CrossesThreads;

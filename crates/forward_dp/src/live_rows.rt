@@ -1,11 +1,11 @@
 //! The rows of a table that can still be served on.
 
 ghost use Rattle.std.specs.Prelude.{◌≡◌, ◌+◌, ◌^◌, ◌<◌, ◌++◌, List, [], length, map, slice_index, OnOk};
-ghost use Rattle.flat_table.specs.declared.rows.Row.{Row};
+ghost use Rattle.forward_dp.specs.declared.rows.Row.{Row};
 ghost use Rattle.forward_dp.specs.Tables.{HasEntries, HasNone, IsEntered, IsLeft, base_of, source_of};
 
 use dp_certificate::Entry;
-use flat_table::Row;
+use crate::Row;
 use foundation::threads::CrossesThreads;
 use std::alloc::{AllocError, Global};
 use std::mem::swap;

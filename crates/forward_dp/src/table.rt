@@ -4,14 +4,14 @@ ghost use Rattle.std.specs.Prelude.{◌≡◌, ◌↔◌, ℕ, ◌+◌, ◌*◌,
 ghost use Rattle.schedule_meaning.specs.Instances.{IsInstance};
 ghost use Rattle.dp_certificate.specs.Limits.{HasKeysWithin, IsSomeDelay};
 ghost use Rattle.dp_certificate.specs.Prefixes.{Key};
-ghost use Rattle.flat_table.specs.Groups.{IsEmpty};
+ghost use Rattle.forward_dp.specs.Groups.{IsEmpty};
 ghost use Rattle.forward_dp.specs.Numbers.{counts_number};
 ghost use Rattle.forward_dp.specs.Tables.{HasEntries, IsCellMade, IsCellReady, IsFrom, IsGroupFilled, IsGroupReady, IsLastCounts, IsNextCounts, HasNone, IsTableMade, all_rows};
-ghost use Rattle.flat_table.specs.declared.rows.Row.{Row};
+ghost use Rattle.forward_dp.specs.declared.rows.Row.{Row};
 
 use crate::live_rows::{DroppedRows, Rows};
 use dp_certificate::{Entry, list_lengths};
-use flat_table::{Order, Reached, Row};
+use crate::{Order, Reached, Row};
 use foundation::steps::Steps;
 use schedule_meaning::Instance;
 use std::alloc::AllocError;

@@ -4,7 +4,7 @@ use histories::{
     History, law_of_histories, law_of_steps, law_of_versions, lawful, node_steps, step_count,
     turn_order,
 };
-use merged_calls::law_of_merged_calls;
+use histories::law_of_merged_calls;
 use road_net::Network;
 use std::alloc::{AllocError, Global};
 use std::test::Fail;

@@ -4,9 +4,9 @@ use Rattle.std.specs.Prelude.{codes, sum_by}
 use Rattle.std.specs.Fmt.{decimal}
 use Rattle.std.specs.List.{flat_map, AllByRecursion}
 use Rattle.std.proofs.lemmas.List.Sums.{sum_by-cons}
-use Rattle.line_text.specs.Lines.{line_feeds}
-use Rattle.line_text.proofs.Feeds.{IsTextLine, line_is, line_feeds-nil, line_feeds-append, feeds_in_number, feeds_in_lines}
-use Rattle.line_text.proofs.FirstLine.{NextLine, faulty-here}
+use Rattle.text_lines.specs.Lines.{line_feeds}
+use Rattle.text_lines.proofs.Feeds.{IsTextLine, line_is, line_feeds-nil, line_feeds-append, feeds_in_number, feeds_in_lines}
+use Rattle.text_lines.proofs.FirstLine.{NextLine, faulty-here}
 use Rattle.phase_plan.specs.declared.Phase.{Phase}
 use Rattle.switch_rules.specs.declared.Head.{Head}
 use Rattle.switch_rules.specs.declared.Cluster.{Cluster}

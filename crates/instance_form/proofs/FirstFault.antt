@@ -10,13 +10,13 @@ use Rattle.std.proofs.lemmas.List.Elements.{All-from_recursion, recursion_from_A
 use Rattle.std.proofs.lemmas.Option.{same_Some}
 use Rattle.foundation.proofs.OptionLaws.{none-and-some}
 use Rattle.foundation.proofs.ResultLaws.{on_err, none_from_err, same_Ok, no_Err, some_from_ok}
-use Rattle.line_text.specs.Lines.{line_feeds}
-use Rattle.line_text.specs.Many.{many_at}
-use Rattle.line_text.proofs.Feeds.{spread, next_line, line_feeds-nil, line_feeds-append, line_feeds_once}
-use Rattle.line_text.proofs.ManyLaws.{many_rest}
-use Rattle.line_text.proofs.FirstLine.{faulty-number}
-use Rattle.line_text.proofs.Units.{literal_takes, literal_again}
-use Rattle.line_text.specs.Fields.{literal_at}
+use Rattle.text_lines.specs.Lines.{line_feeds}
+use Rattle.text_lines.specs.Many.{many_at}
+use Rattle.text_lines.proofs.Feeds.{spread, next_line, line_feeds-nil, line_feeds-append, line_feeds_once}
+use Rattle.text_lines.proofs.ManyLaws.{many_rest}
+use Rattle.text_lines.proofs.FirstLine.{faulty-number}
+use Rattle.text_lines.proofs.Units.{literal_takes, literal_again}
+use Rattle.text_lines.specs.Fields.{literal_at}
 use Rattle.phase_plan.specs.declared.Phase.{Phase}
 use Rattle.switch_rules.specs.declared.Head.{Head}
 use Rattle.switch_rules.specs.declared.Cluster.{Cluster}

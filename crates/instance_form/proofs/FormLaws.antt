@@ -7,10 +7,10 @@ use Rattle.std.proofs.lemmas.List.Elements.{All-from_recursion, recursion_from_A
 use Rattle.std.specs.Option.{ok_or}
 use Rattle.std.proofs.lemmas.List.{append-nil, length-append}
 use Rattle.foundation.proofs.ResultLaws.{then_ok, same_Ok, no_Err, some_from_ok}
-use Rattle.line_text.specs.Many.{many_at}
-use Rattle.line_text.proofs.ManyLaws.{TakesMany, many_take, many_again, few_texts}
-use Rattle.line_text.proofs.Units.{literal_takes, literal_again}
-use Rattle.line_text.specs.Fields.{literal_at}
+use Rattle.text_lines.specs.Many.{many_at}
+use Rattle.text_lines.proofs.ManyLaws.{TakesMany, many_take, many_again, few_texts}
+use Rattle.text_lines.proofs.Units.{literal_takes, literal_again}
+use Rattle.text_lines.specs.Fields.{literal_at}
 use Rattle.phase_plan.specs.declared.Phase.{Phase}
 use Rattle.switch_rules.specs.declared.Head.{Head}
 use Rattle.switch_rules.specs.declared.Cluster.{Cluster}

@@ -6,8 +6,8 @@ use Rattle.std.specs.Fmt.{decimal}
 use Rattle.std.specs.Option.{option_or, option_map}
 use Rattle.std.proofs.lemmas.Bool.{and_parts, leb-true, le-leb, eqb-true, eq-eqb, ne_eqb}
 use Rattle.std.proofs.lemmas.Option.{cond_some, same_Some}
-use Rattle.line_text.specs.Fields.{literal_at, field_at}
-use Rattle.line_text.proofs.Units.{literal_takes, literal_again, field_takes, field_again}
+use Rattle.text_lines.specs.Fields.{literal_at, field_at}
+use Rattle.text_lines.proofs.Units.{literal_takes, literal_again, field_takes, field_again}
 use Rattle.phase_plan.specs.declared.Phase.{Phase}
 use Rattle.switch_rules.specs.declared.Head.{Head}
 use Rattle.switch_rules.specs.declared.Cluster.{Cluster}

@@ -2,8 +2,8 @@
 use Rattle.std.proofs.Common.{◌≡◌, ℕ, suc, ◌+◌, ◌-◌, ◌<◌, ◌≤◌, List, [], ◌∷◌, ◌++◌, length, Option, Some, None, Result, Ok, Err, refl, sym, ap, ◌∙◌, append_assoc, arith}
 use Rattle.std.specs.Option.{ok_or}
 use Rattle.std.proofs.lemmas.List.{append-nil}
-use Rattle.line_text.specs.Many.{many_at}
-use Rattle.line_text.proofs.ManyLaws.{after, regroup}
+use Rattle.text_lines.specs.Many.{many_at}
+use Rattle.text_lines.proofs.ManyLaws.{after, regroup}
 use Rattle.phase_plan.specs.declared.Phase.{Phase}
 use Rattle.switch_rules.specs.declared.Cluster.{Cluster}
 use Rattle.instance_form.specs.declared.form.FormFault.{FormFault}

@@ -1,7 +1,7 @@
 -- Which line of bytes is the first that has not the form of its place.
 use Rattle.std.specs.Prelude.{◌≡◌, ℕ, List, ◌++◌}
-use Rattle.line_text.specs.Lines.{IsFirstFaultyLine}
-pub use Rattle.line_text.specs.Lines.{line_feeds}
+use Rattle.text_lines.specs.Lines.{IsFirstFaultyLine}
+pub use Rattle.text_lines.specs.Lines.{line_feeds}
 use Rattle.phase_plan.specs.declared.Phase.{Phase}
 use Rattle.switch_rules.specs.declared.Head.{Head}
 use Rattle.switch_rules.specs.declared.Cluster.{Cluster}

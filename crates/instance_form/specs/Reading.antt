@@ -2,8 +2,8 @@
 use Rattle.std.specs.Prelude.{◌≡◌, ℕ, zero, suc, ◌+◌, List, [], ◌∷◌, length, sum_by, Result, Ok, Err, codes}
 use Rattle.std.specs.Option.{ok_or}
 pub use Rattle.foundation.specs.Results.{◌>>=◌}
-use Rattle.line_text.specs.Many.{many_at}
-use Rattle.line_text.specs.Fields.{literal_at}
+use Rattle.text_lines.specs.Many.{many_at}
+use Rattle.text_lines.specs.Fields.{literal_at}
 use Rattle.phase_plan.specs.declared.Phase.{Phase}
 use Rattle.switch_rules.specs.declared.Head.{Head}
 use Rattle.switch_rules.specs.declared.Cluster.{Cluster}

@@ -1,7 +1,7 @@
 //! Reading the lines of phases and of clusters.
 
 ghost use Rattle.std.specs.Prelude.{◌≡◌, ◌+◌, ◌^◌, ◌<◌, ◌≤◌, length, sum_by, IfOk};
-ghost use Rattle.line_text.specs.Many.{many_at};
+ghost use Rattle.text_lines.specs.Many.{many_at};
 ghost use Rattle.instance_form.specs.Lines.{cluster_line_at};
 ghost use Rattle.instance_form.specs.Reading.{Gives, phases_at, lists_at};
 

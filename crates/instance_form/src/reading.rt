@@ -9,13 +9,13 @@ ghost use Rattle.instance_form.specs.Faults.{BeginsText, BeginsFront, IsFaultOf}
 ghost use Rattle.instance_form.specs.InstanceText.{HasText, instance_text, line_count};
 ghost use Rattle.instance_form.specs.Reading.{Gives, parts_of, opening_at, form_at};
 ghost use Rattle.instance_form.specs.Lines.{seen, head_line_at};
-ghost use Rattle.line_text.specs.Fields.{literal_at};
+ghost use Rattle.text_lines.specs.Fields.{literal_at};
 ghost use Rattle.std.specs.Option.{ok_or};
 
 use crate::form::{Form, FormFault};
 use crate::lines::{count_line, head_line};
 use crate::lists::{lists, phases};
-use line_text::literal;
+use text_lines::literal;
 use std::alloc::Global;
 use switch_rules::Head;
 

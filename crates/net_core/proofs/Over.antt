@@ -1,12 +1,12 @@
 -- The record of a run that is over.
 use Rattle.std.proofs.Common.{◌≡◌, subst, inl, inr, arith}
 use Rattle.arrivals.specs.Amounts.{Amounts}
-use Rattle.ended_runs.specs.Ending.{IsRecordOf}
-use Rattle.ended_runs.proofs.Records.{run-by}
+use Rattle.runs.specs.Ending.{IsRecordOf}
+use Rattle.runs.proofs.Records.{run-by}
 use Rattle.histories.specs.Histories.{IsLawful}
 use Rattle.net_numbers.specs.Numbers.{Net}
 use Rattle.road_net.specs.Network.{IsNetwork}
-use Rattle.round_calls.proofs.Resting.{no_acting}
+use Rattle.runs.proofs.Resting.{no_acting}
 use Rattle.runs.specs.Runs.{IsRun}
 use Rattle.runs.specs.declared.records.RunRecord.{RunRecord}
 use Rattle.net_core.specs.States.{AreGoing, Between}

@@ -23,8 +23,8 @@ use Rattle.runs.specs.Runs.{Commits, line_before, sensed_in}
 use Rattle.runs.proofs.Agree.{SameBefore, commit-moved, commits-moved, lines-same, sensed-same}
 use Rattle.runs.proofs.Heard.{have-at, rise-at}
 use Rattle.runs.proofs.PlanLaws.{used-links}
-use Rattle.round_calls.specs.Resting.{Rests, records_of}
-use Rattle.round_calls.proofs.Resting.{records-same}
+use Rattle.runs.specs.Resting.{Rests, records_of}
+use Rattle.runs.proofs.Resting.{records-same}
 use Rattle.net_core.specs.States.{Listens, Plays, Tells, telling_first}
 use Rattle.net_core.proofs.Put.{put, put-here, put-round}
 

@@ -15,8 +15,8 @@ use Rattle.net_simulator.specs.Worlds.{IsWorldOf, WorldState, Stands, standing_b
 use Rattle.road_net.specs.Network.{IsNetwork, heard_links}
 use Rattle.runs.specs.Runs.{line_before}
 use Rattle.runs.proofs.Agree.{SameBefore}
-use Rattle.round_calls.specs.Resting.{Rests}
-use Rattle.round_calls.proofs.Resting.{before-stands, sense-is}
+use Rattle.runs.specs.Resting.{Rests}
+use Rattle.runs.proofs.Resting.{before-stands, sense-is}
 use Rattle.net_core.specs.Acts.{Settles}
 use Rattle.net_core.specs.States.{Begins, Between, InRound, Listens, Plays}
 use Rattle.net_core.specs.declared.parts.Board.{Board}

@@ -23,7 +23,7 @@ use Rattle.road_net.specs.Network.{IsNetwork, heard_links}
 use Rattle.runs.specs.Runs.{HearAlong, forecast_at, hearing, shown_by, told_in}
 use Rattle.runs.proofs.Agree.{SameBefore, commits-moved}
 use Rattle.runs.proofs.Places.{first-small, read-step}
-use Rattle.round_calls.proofs.Resting.{stands-same}
+use Rattle.runs.proofs.Resting.{stands-same}
 use Rattle.net_core.specs.States.{IsRunning}
 use Rattle.net_core.specs.declared.parts.Board.{Board}
 use Rattle.net_core.proofs.Prefixes.{Begun, ends-at, last-node, last-version, not-yet, now-published, own-round, own-step, round-front, step-front, version-front}

@@ -23,8 +23,8 @@ use Rattle.outflow.specs.Outflow.{departures, told_forecast}
 use Rattle.road_net.specs.Network.{IsNetwork, heard_links, told_links}
 use Rattle.runs.specs.Runs.{line_before}
 use Rattle.runs.proofs.Heard.{heard-ends}
-use Rattle.round_calls.specs.Resting.{Rests, lines_of}
-use Rattle.round_calls.proofs.Resting.{no_acting}
+use Rattle.runs.specs.Resting.{Rests, lines_of}
+use Rattle.runs.proofs.Resting.{no_acting}
 use Rattle.net_core.specs.Acts.{Settles}
 use Rattle.net_core.specs.States.{AllDone, AreBeginning, AreInRound, Begins, Between, InRound, Plays, Wants, telling_first}
 use Rattle.net_core.specs.declared.parts.Board.{Board}

@@ -13,8 +13,8 @@ use Rattle.net_simulator.specs.Arriving.{arriving_of}
 use Rattle.net_simulator.specs.Worlds.{WorldState, Stands}
 use Rattle.road_net.specs.Network.{IsNetwork}
 use Rattle.runs.specs.Runs.{forecast_at, shown_by}
-use Rattle.round_calls.specs.Resting.{AreNew}
-use Rattle.round_calls.proofs.Resting.{new-rest, no_commitment, zero-times}
+use Rattle.runs.specs.Resting.{AreNew}
+use Rattle.runs.proofs.Resting.{new-rest, no_commitment, zero-times}
 use Rattle.net_core.specs.States.{AreBlank, Between}
 use Rattle.net_core.specs.declared.parts.Board.{Board}
 

@@ -29,8 +29,8 @@ use Rattle.runs.specs.Runs.{AllCommit, Commits, forecast_at, hearing, line_befor
 use Rattle.runs.proofs.Agree.{SameBefore}
 use Rattle.runs.proofs.Heard.{heard-ends}
 use Rattle.runs.proofs.Places.{first-small}
-use Rattle.round_calls.specs.Resting.{lines_of}
-use Rattle.round_calls.proofs.Resting.{before-shows, stands-same}
+use Rattle.runs.specs.Resting.{lines_of}
+use Rattle.runs.proofs.Resting.{before-shows, stands-same}
 use Rattle.net_core.specs.Acts.{Settles}
 use Rattle.net_core.specs.States.{AllDone, Between, Hears, InRound, IsRunning, Listens, Plays, Tells, telling_first}
 use Rattle.net_core.specs.declared.parts.Board.{Board}

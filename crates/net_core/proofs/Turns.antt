@@ -7,7 +7,7 @@ use Rattle.intersection_actor.specs.declared.records.Want.TheVariants.{Done}
 use Rattle.net_numbers.specs.Numbers.{Net}
 use Rattle.road_net.specs.Network.{IsNetwork}
 use Rattle.histories.specs.Histories.{IsLawful}
-use Rattle.round_calls.proofs.Resting.{no_acting}
+use Rattle.runs.proofs.Resting.{no_acting}
 use Rattle.net_core.specs.Cores.{Course, HasNoTurn, IsOver, IsWanted, MayStep}
 use Rattle.net_core.specs.States.{AreGoing, AreInRound, IsSound, WantsMore}
 use Rattle.net_core.specs.declared.parts.Parts.{Parts}

@@ -16,9 +16,9 @@ use Rattle.net_simulator.specs.Arriving.{arriving_of}
 use Rattle.net_simulator.specs.Worlds.{WorldState, Stands}
 use Rattle.road_net.specs.Network.{heard_links, told_links}
 use Rattle.runs.specs.Runs.{AllCommit, Commits, HearAlong, forecast_at, line_before, sensed_in, shown_by}
-use Rattle.ended_runs.specs.Ending.{HasCapacity}
-use Rattle.ended_runs.specs.declared.run_records.EmptyRecord.{EmptyRecord}
-use Rattle.round_calls.specs.Resting.{Rests, records_of}
+use Rattle.runs.specs.Ending.{HasCapacity}
+use Rattle.runs.specs.declared.run_records.EmptyRecord.{EmptyRecord}
+use Rattle.runs.specs.Resting.{Rests, records_of}
 use Rattle.net_core.specs.declared.parts.Board.{Board}
 use Rattle.net_core.specs.declared.parts.Parts.{Parts}
 

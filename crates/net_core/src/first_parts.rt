@@ -7,7 +7,7 @@ use crate::parts::{Board, Parts};
 use board_model::Forecast;
 use net_simulator::World;
 use road_net::Network;
-use round_calls::actors_of;
+use runs::actors_of;
 use std::alloc::{AllocError, Global};
 
 /// The parts of a core before the first round.

@@ -1,7 +1,7 @@
 //! What a core is made of.
 use board_model::Forecast;
 use net_simulator::World;
-use round_calls::Actors;
+use runs::Actors;
 
 /// The board of a link: its newest version, and the forecast of that version.
 #[derive(Drop)]

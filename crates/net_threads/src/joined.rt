@@ -1,7 +1,7 @@
 //! All nodes play a round, each in a branch of its own, carried by no fewer threads than there are processors.
 ghost use Rattle.std.specs.Prelude.{◌≡◌, ◌<◌, ◌≤◌, OnOk, length};
 ghost use denote.Param.Send.{IsSend, IsSync};
-ghost use Rattle.round_calls.specs.Rounds.{AreSamePasses, CanAllPlay, HaveAllPlayed};
+ghost use Rattle.node_rounds.specs.Rounds.{AreSamePasses, CanAllPlay, HaveAllPlayed};
 
 use board_model::Gate;
 use intersection_actor::Actor;

@@ -2,18 +2,18 @@
 ghost use Rattle.std.specs.Prelude.{◌≡◌, ℕ, ◌+◌, ◌<◌, [], All, IfOk, OnOk, length};
 ghost use Rattle.arrivals.specs.Amounts.{AreArrivals};
 ghost use Rattle.board_rule.specs.Passes.{AreAllPasses, calls_in};
-ghost use Rattle.round_calls.specs.Calls.{AreStepsOf, HaveCallsLeft, IsRunOfCalls, MergeToLawful};
-ghost use Rattle.round_calls.specs.Rounds.{AreSamePasses, Between};
+ghost use Rattle.node_rounds.specs.Calls.{AreStepsOf, HaveCallsLeft, IsRunOfCalls, MergeToLawful};
+ghost use Rattle.node_rounds.specs.Rounds.{AreSamePasses, Between};
 
 use crate::joined::{play_all, threads_of};
 use crate::stages::{Stage, stage_of};
 use arrivals::Arrivals;
 use board_model::Gate;
-use ended_runs::{record_of, empty_record};
-use merged_calls::law_of_merged_calls;
+use runs::{record_of, empty_record};
+use histories::law_of_merged_calls;
 use plan_boards::{Boards, Pass};
 use road_net::Network;
-use round_calls::Actors;
+use runs::Actors;
 use runs::{RunRecord, law_of_runs};
 use schedule_meaning::Planner;
 use std::alloc::{AllocError, Global};

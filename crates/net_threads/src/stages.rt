@@ -1,11 +1,11 @@
 //! The nodes of a network and its world, before the rounds.
 ghost use Rattle.std.specs.Prelude.{◌≡◌, ℕ, Option, IfOk, length};
 ghost use Rattle.net_simulator.specs.Worlds.{Stands};
-ghost use Rattle.round_calls.specs.Resting.{AreNew};
+ghost use Rattle.runs.specs.Resting.{AreNew};
 
 use net_simulator::World;
 use road_net::Network;
-use round_calls::{Actors, actors_of};
+use runs::{Actors, actors_of};
 use std::alloc::{AllocError, Global};
 
 /// The nodes of a network and its world.

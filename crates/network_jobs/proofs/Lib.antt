@@ -1,3 +1,4 @@
 pub mod Delays
 pub mod Missed
 pub mod Planned
+pub mod Telling

@@ -2,10 +2,10 @@
 use Rattle.std.proofs.Common.{◌≡◌, ℕ, ◌<◌, List, Option, Some, None, IsSome, arith}
 use Rattle.outside_world.specs.Shelf.{ShelfState}
 use Rattle.net_numbers.specs.Numbers.{Net, number_of}
-use Rattle.command_texts.specs.Texts.{ArrivalsText, HistoryText, IsIn, NetworkText}
-use Rattle.command_texts.specs.declared.refusals.Named.TheVariants.{Node, Round}
-use Rattle.command_texts.specs.declared.refusals.Refusal.{Refusal}
-use Rattle.command_texts.specs.declared.refusals.Refusal.TheVariants as refusal
+use Rattle.commands.specs.Texts.{ArrivalsText, HistoryText, IsIn, NetworkText}
+use Rattle.commands.specs.declared.refusals.Named.TheVariants.{Node, Round}
+use Rattle.commands.specs.declared.refusals.Refusal.{Refusal}
+use Rattle.commands.specs.declared.refusals.Refusal.TheVariants as refusal
 use Rattle.commands.specs.Commands.{Instance, MissesNothing}
 use Rattle.commands.specs.Ending.{Explains}
 use Rattle.network_jobs.specs.Missing.{Misses}

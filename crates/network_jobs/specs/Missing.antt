@@ -1,9 +1,9 @@
 -- What a node and a round name in a network. No public clause names anything here.
 use Rattle.std.specs.Prelude.{◌≡◌, ℕ, ◌≤◌, List, None, IsSome}
 use Rattle.net_numbers.specs.Numbers.{Net, number_of}
-use Rattle.command_texts.specs.declared.refusals.Named.TheVariants.{Node, Round}
-use Rattle.command_texts.specs.declared.refusals.Refusal.{Refusal}
-use Rattle.command_texts.specs.declared.refusals.Refusal.TheVariants as refusal
+use Rattle.commands.specs.declared.refusals.Named.TheVariants.{Node, Round}
+use Rattle.commands.specs.declared.refusals.Refusal.{Refusal}
+use Rattle.commands.specs.declared.refusals.Refusal.TheVariants as refusal
 
 -- why nothing was planned by this node in this round: there is no such node, or it is there, and there is no such round; or memory
 -- ran out

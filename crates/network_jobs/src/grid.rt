@@ -13,7 +13,7 @@ ghost use Rattle.commands.specs.Outcome.{Outcome};
 use super::history_runs::kept_run;
 use super::summary::summary;
 use arrivals::Arrivals;
-use command_texts::{Refusal, Status};
+use commands::{Refusal, Status};
 use commands::{Made, end};
 use histories::turn_order;
 use outside_world::Sink;

@@ -11,7 +11,7 @@ ghost use Rattle.network_jobs.specs.Missing.{Misses};
 
 use super::history_runs::kept_run;
 use arrivals::Arrivals;
-use command_texts::{HistoryScene, Named, Refusal, Status, fetch_history_scene};
+use commands::{HistoryScene, Named, Refusal, Status, fetch_history_scene};
 use commands::{Made, end};
 use histories::History;
 use outside_world::{Shelf, Sink};

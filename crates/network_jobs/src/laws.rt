@@ -2,7 +2,7 @@
 ghost use Rattle.std.specs.Prelude.{ℕ, List};
 ghost use Rattle.dp_certificate.specs.Certificates.{Claim};
 ghost use Rattle.schedule_meaning.specs.Instances.{Problem};
-ghost use Rattle.command_texts.specs.Texts.{AllSaid, InstanceText, Reads};
+ghost use Rattle.commands.specs.Texts.{AllSaid, InstanceText, Reads};
 ghost use Rattle.commands.specs.Commands.{Certify, CertifyBound, Instance, IsAcceptedText, IsTextOf, texts_of};
 ghost use Rattle.commands.specs.Headline.{AgreesWith};
 

@@ -1,15 +1,19 @@
-//! The commands over a network: the report of the turn order's run, that of a history's run, the instance that a node planned in
-//! one, and the summary of a run on a grid.
+//! The commands over a network: the report of the turn order's run, that of a history's run, that of a run in threads, the instance
+//! that a node planned in one, and the summary of a run on a grid.
 #![tactic(auto)]
 
+mod calls;
 mod grid;
+mod history_runs;
 mod instance;
 mod laws;
+mod net;
 mod replay;
-mod history_runs;
+mod rounds;
 mod summary;
 mod turns;
 
+pub use net::net_job;
 pub use grid::grid_job;
 pub use instance::{InstanceArgs, instance_job};
 pub use laws::law_of_instances;

@@ -4,7 +4,7 @@ ghost use Rattle.commands.specs.Ending.{Makes};
 ghost use Rattle.commands.specs.Outcome.{Outcome};
 
 use super::history_runs::report;
-use command_texts::{HistoryScene, Refusal, Status, fetch_history_scene};
+use commands::{HistoryScene, Refusal, Status, fetch_history_scene};
 use commands::{Made, end};
 use outside_world::{Shelf, Sink};
 use std::alloc::Global;

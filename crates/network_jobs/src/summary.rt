@@ -6,7 +6,7 @@ ghost use Rattle.schedule_meaning.specs.Best.{IsLeast};
 ghost use Rattle.switch_rules.specs.Bounds.{greatest_delay};
 
 use intersection_actor::PlanRecord;
-use number_text::push_line;
+use text_lines::push_line;
 use runs::RunRecord;
 use schedule_meaning::Answer;
 use std::alloc::{AllocError, Global};

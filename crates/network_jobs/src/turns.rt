@@ -9,7 +9,7 @@ ghost use Rattle.commands.specs.Outcome.{Outcome};
 
 use super::history_runs::report;
 use arrivals::Arrivals;
-use command_texts::{Refusal, Status, fetch_scene};
+use commands::{Refusal, Status, fetch_scene};
 use commands::{Made, end};
 use histories::turn_order;
 use outside_world::{Shelf, Sink};

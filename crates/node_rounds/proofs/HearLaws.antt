@@ -11,8 +11,8 @@ use Rattle.intersection_actor.specs.Acting.{Acting, reading}
 use Rattle.intersection_actor.specs.declared.records.Want.TheVariants.{Read, Commit}
 use Rattle.net_numbers.specs.Numbers.{Net}
 use Rattle.road_net.specs.Network.{IsNetwork, heard_links}
-use Rattle.round_calls.specs.Nodes.{HasHeard, HasRead}
-use Rattle.round_calls.specs.Told.{heard_of}
+use Rattle.node_rounds.specs.Nodes.{HasHeard, HasRead}
+use Rattle.node_rounds.specs.Told.{heard_of}
 use Rattle.runs.proofs.Heard.{heard-ends}
 use Rattle.node_rounds.proofs.Made.{all-push, made-more, made-none}
 

@@ -6,8 +6,8 @@ use Rattle.board_rule.specs.Passes.{PassView}
 use Rattle.intersection_actor.specs.Acting.{Acting}
 use Rattle.net_numbers.specs.Numbers.{Net}
 use Rattle.net_simulator.specs.Worlds.{WorldState}
-use Rattle.round_calls.specs.Nodes.{HasPlayed}
-use Rattle.round_calls.specs.Rounds.{HaveAllPlayed}
+use Rattle.node_rounds.specs.Nodes.{HasPlayed}
+use Rattle.node_rounds.specs.Rounds.{HaveAllPlayed}
 
 pub ok-both : {X E : Type 0} (r : Result X E) (A B C : Type 0) → (A → B → C) → OnOk r A → OnOk r B → OnOk r C
 ok-both (Ok x) A B C f a b = f a b

@@ -1,5 +1,12 @@
+pub mod Along
+pub mod FreshPasses
 pub mod HearLaws
 pub mod Joining
 pub mod Made
+pub mod Passes
 pub mod PlayLaws
+pub mod Rounding
+pub mod Starting
 pub mod TellLaws
+pub mod ThreadRuns
+pub mod Told

@@ -4,7 +4,7 @@ use Rattle.std.proofs.lemmas.List.{length_push}
 use Rattle.std.proofs.lemmas.List.Elements.{All-append, All-cons, All-nil, All-weaker}
 use Rattle.board_model.specs.declared.calls.Call.{Call}
 use Rattle.board_rule.specs.Passes.{PassView, after_call}
-use Rattle.round_calls.specs.Nodes.{HasMade}
+use Rattle.node_rounds.specs.Nodes.{HasMade}
 
 -- what holds of all holds with one more
 pub all-push : {X : Type 0} (P : X → Type 0) (xs : List X) (x : X) → All P xs → P x → All P (xs ++ x ∷ [])

@@ -17,15 +17,15 @@ use Rattle.intersection_actor.specs.Commits.{Commitment, IsCommit, phases_of, re
 use Rattle.intersection_actor.specs.Rounds.{IsCommitted, IsOf, KeepsPast}
 use Rattle.intersection_actor.specs.declared.records.PlanRecord.{PlanRecord}
 use Rattle.intersection_actor.specs.declared.records.Want.TheVariants.{Done}
-use Rattle.merged_calls.specs.Calls.{step_of}
+use Rattle.histories.specs.Calls.{step_of}
 use Rattle.net_numbers.specs.Numbers.{Net}
 use Rattle.net_simulator.specs.Worlds.{WorldState}
 use Rattle.outflow.specs.Outflow.{departures, told_forecast}
 use Rattle.road_net.specs.Network.{heard_links, told_links}
 use Rattle.road_net.specs.declared.senses.Sensed.{Sensed}
 use Rattle.runs.specs.Runs.{told_in}
-use Rattle.round_calls.specs.Nodes.{HasHeard, HasPlayed, HasTold, IsSeen, outgoing}
-use Rattle.round_calls.specs.Told.{AreCallsOf, heard_of}
+use Rattle.node_rounds.specs.Nodes.{HasHeard, HasPlayed, HasTold, IsSeen, outgoing}
+use Rattle.node_rounds.specs.Told.{AreCallsOf, heard_of}
 use Rattle.node_rounds.proofs.Made.{made-both}
 
 -- the steps of readings

@@ -15,12 +15,12 @@ use Rattle.histories.proofs.Lists.{filter-no, filter-yes}
 use Rattle.intersection_actor.specs.Acting.{Acting, telling, tells_from, told_at, wanting}
 use Rattle.intersection_actor.specs.declared.records.Want.{Want}
 use Rattle.intersection_actor.specs.declared.records.Want.TheVariants.{Publish}
-use Rattle.merged_calls.specs.Calls.{step_of}
+use Rattle.histories.specs.Calls.{step_of}
 use Rattle.net_numbers.specs.Numbers.{Net}
 use Rattle.net_numbers.specs.Outline.{link_at}
 use Rattle.net_numbers.specs.declared.roads.Link.{Link}
 use Rattle.road_net.specs.Network.{exit_links, told_links}
-use Rattle.round_calls.specs.Nodes.{HasSent, HasTold, outgoing}
+use Rattle.node_rounds.specs.Nodes.{HasSent, HasTold, outgoing}
 use Rattle.node_rounds.proofs.Made.{all-push, made-more, made-none}
 
 -- the step of a publishing

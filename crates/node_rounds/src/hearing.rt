@@ -5,7 +5,7 @@ ghost use Rattle.intersection_actor.specs.Acting.{reading};
 ghost use Rattle.intersection_actor.specs.Rounds.{IsOf};
 ghost use Rattle.net_numbers.specs.Numbers.{Net};
 ghost use Rattle.road_net.specs.Network.{heard_links};
-ghost use Rattle.round_calls.specs.Nodes.{HasHeard, HasRead, IsSamePass};
+ghost use Rattle.node_rounds.specs.Nodes.{HasHeard, HasRead, IsSamePass};
 
 use board_model::{Gate, Heard};
 use intersection_actor::{Actor, Want};

@@ -1,10 +1,15 @@
-//! A node's round at boards that other nodes read and publish on at once: it makes its board steps by calls of its own pass.
+//! A node's round at boards that other nodes read and publish on at once: it makes its board steps by calls of its own pass; and what
+//! the calls of all passes tell of the rounds of a network, however the threads ran.
 #![tactic(auto)]
 
 mod hearing;
+mod laws;
 mod playing;
+mod round_laws;
 mod telling;
 mod turns;
 
+pub use laws::law_of_round_calls;
+pub use round_laws::{};
 pub use playing::play;
 pub use turns::play_in_turn;

@@ -5,7 +5,7 @@ ghost use Rattle.intersection_actor.specs.Acting.{begun};
 ghost use Rattle.intersection_actor.specs.Rounds.{IsOf};
 ghost use Rattle.net_simulator.specs.Worlds.{IsWorldOf};
 ghost use Rattle.road_net.specs.declared.senses.Sensed.{Sensed};
-ghost use Rattle.round_calls.specs.Nodes.{CanPlay, HasPlayed, IsSamePass, IsSeen};
+ghost use Rattle.node_rounds.specs.Nodes.{CanPlay, HasPlayed, IsSamePass, IsSeen};
 
 use crate::hearing::hear;
 use crate::telling::tell;

@@ -4,7 +4,7 @@ ghost use Rattle.board_rule.specs.Passes as board;
 ghost use Rattle.intersection_actor.specs.Acting.{told_at};
 ghost use Rattle.intersection_actor.specs.Rounds.{IsOf};
 ghost use Rattle.road_net.specs.Network.{told_links};
-ghost use Rattle.round_calls.specs.Nodes.{HasSent, HasTold, IsSamePass};
+ghost use Rattle.node_rounds.specs.Nodes.{HasSent, HasTold, IsSamePass};
 
 use board_model::{Forecast, Gate, Sent};
 use intersection_actor::{Actor, Want};

@@ -1,6 +1,6 @@
 //! Some of the nodes play a round, one behind the other.
 ghost use Rattle.std.specs.Prelude.{◌≡◌, OnOk, length};
-ghost use Rattle.round_calls.specs.Rounds.{AreSamePasses, CanAllPlay, HaveAllPlayed};
+ghost use Rattle.node_rounds.specs.Rounds.{AreSamePasses, CanAllPlay, HaveAllPlayed};
 
 use crate::playing::play;
 use board_model::Gate;

@@ -5,7 +5,7 @@ ghost use Rattle.std.specs.Prelude.{◌≡◌, ◌<◌, length};
 use super::texts::TWO_PHASES;
 use foundation::items::Items;
 use foundation::steps::Steps;
-use line_text::field_u64;
+use text_lines::field_u64;
 use phase_plan::{Phase, PhasePlan, PlanFault};
 use schedule_meaning::{
     Instance, InstanceFault, SeqFault, ServingsFault, Timed, read_instance, replay, servings,

@@ -1,5 +1,7 @@
-pub mod Promises
+pub mod Complete
+pub mod Ending
 pub mod Plans
+pub mod Promises
+pub mod Resting
 pub mod Runs
 pub mod Safe
-pub mod Complete

@@ -1,9 +1,15 @@
 //! The run of a history: what the nodes of a network plan, round by round, whatever order their board steps take, and what every
-//! run keeps.
+//! run keeps; the actors of a network between two rounds; and the record of a run that is over.
 #![tactic(auto)]
 
+mod ended_run;
 mod laws;
+mod new_actors;
 mod records;
+mod run_records;
 
+pub use ended_run::{};
+pub use run_records::{EmptyRecord, empty_record, record_of};
+pub use new_actors::{Actors, actors_of};
 pub use laws::{law_of_one_run, law_of_runs};
 pub use records::RunRecord;

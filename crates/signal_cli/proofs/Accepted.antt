@@ -9,7 +9,7 @@ use Rattle.dp_certificate.specs.Proves.{Proves}
 use Rattle.certificate_form.specs.Answers as cert
 use Rattle.certificate_form.specs.CertificateText.{HasText, certificate_text}
 use Rattle.commands.specs.Commands.{IsAcceptedText}
-use Rattle.command_texts.specs.Limits.{most_bytes}
+use Rattle.commands.specs.Limits.{most_bytes}
 
 -- this many entries and places make a text within the limit
 few-bytes : (bytes entries places : ℕ) → bytes ≤ 48 * entries + 4 * places + 3000 → entries ≤ most_entries → places ≤ most_clusters → bytes ≤ most_bytes

@@ -2,7 +2,7 @@
 ghost use Rattle.std.specs.Prelude.{◌≡◌, IfOk};
 ghost use Rattle.commands.specs.Answers.{answer_text};
 
-use number_text::{push_number, push_numbers};
+use text_lines::{push_number, push_numbers};
 use schedule_meaning::Answer;
 use std::alloc::{AllocError, Global};
 

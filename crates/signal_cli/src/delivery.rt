@@ -2,7 +2,7 @@
 ghost use Rattle.commands.specs.Ending.{EndsCertificate};
 
 use certificate_form::{PutFault, put_certificate};
-use command_texts::{Refusal, Status, refuse};
+use commands::{Refusal, Status, refuse};
 use dp_certificate::Certificate;
 use outside_world::Sink;
 use std::alloc::Global;

@@ -2,14 +2,14 @@
 ghost use Rattle.std.specs.Prelude.{◌≡◌, ◌≢◌, ◌↔◌};
 ghost use Rattle.commands.specs.Commands.{Call, IsCall, IsWithin, call_of};
 ghost use Rattle.commands.specs.Outcome.{Outcome};
-ghost use Rattle.command_texts.specs.Refusals.{Says};
-ghost use Rattle.command_texts.specs.declared.refusals.Refusal.TheVariants as refusal;
+ghost use Rattle.commands.specs.Refusals.{Says};
+ghost use Rattle.commands.specs.declared.refusals.Refusal.TheVariants as refusal;
 
 use super::certify::{Table, certify_job};
 use super::check::check_job;
 use super::plan::plan_job;
 use board_model::Gate;
-use command_texts::{Refusal, SceneFiles, Status, refuse};
+use commands::{Refusal, SceneFiles, Status, refuse};
 use commands::{Command, command_of};
 use foundation::text::Text;
 use network_jobs::{InstanceArgs, grid_job, instance_job, replay_job, turns_job};
@@ -17,7 +17,7 @@ use outside_world::{Shelf, Sink};
 use std::alloc::Global;
 use std::sync::Wait;
 use std::thread::Threads;
-use threaded_jobs::net_job;
+use network_jobs::net_job;
 
 /// The program: does what its arguments say over the shelf and the sinks, and answers how it ended.
 ///

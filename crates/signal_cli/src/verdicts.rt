@@ -3,7 +3,7 @@ ghost use Rattle.std.specs.Prelude.{◌≡◌, ◌∷◌, ◌++◌, IfOk, OnOk};
 ghost use Rattle.commands.specs.Verdicts.{rejected_line, sequence_text, unfit_name, why_text};
 
 use cert_checker::Why;
-use command_texts::{push_one, push_two};
+use commands::{push_one, push_two};
 use schedule_meaning::SeqFault;
 use std::alloc::{AllocError, Global};
 use switch_rules::Unfit;

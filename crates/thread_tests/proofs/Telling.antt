@@ -6,7 +6,7 @@ use Rattle.arrivals.specs.Amounts.{Amounts}
 use Rattle.board_model.specs.Boards.{Log}
 use Rattle.board_rule.specs.Passes.{PassView, AreLogsOfPasses, calls_in}
 use Rattle.net_numbers.specs.Numbers.{Net}
-use Rattle.round_calls.specs.Calls.{IsRunOfCalls, MergeToLawful}
+use Rattle.node_rounds.specs.Calls.{IsRunOfCalls, MergeToLawful}
 use Rattle.runs.specs.declared.records.RunRecord.{RunRecord}
 use Rattle.thread_tests.specs.Told.{IsToldBy}
 

@@ -3,7 +3,7 @@ ghost use Rattle.std.specs.Prelude.{◌≡◌, ◌*◌, ◌≤◌, IfOk, IfSome,
 ghost use Rattle.arrivals.specs.Amounts.{AreArrivals};
 ghost use Rattle.board_rule.specs.Passes.{AreAllPasses, AreLogsOfPasses, calls_in, fresh_passes};
 ghost use Rattle.histories.specs.Histories.{IsLawful};
-ghost use Rattle.round_calls.specs.Calls.{IsRunOfCalls, MergeToLawful};
+ghost use Rattle.node_rounds.specs.Calls.{IsRunOfCalls, MergeToLawful};
 ghost use Rattle.thread_tests.specs.Told.{IsToldBy};
 
 use arrivals::Arrivals;

@@ -1,9 +1,9 @@
 use Rattle.std.proofs.Common.{All, Contains, take, inl, inr, subst, sym, ◌∙◌, arith}
 use Rattle.std.proofs.lemmas.List.{take_all}
 use Rattle.std.proofs.lemmas.List.Elements.{All-more, All-weaker, Contains-get_or}
-use Rattle.flat_table.specs.Rows.{IsNoWorse}
-use Rattle.flat_table.specs.declared.rows.Row.{Row}
-use Rattle.flat_table.proofs.Keeping.{no-worse-trans}
+use Rattle.forward_dp.specs.Rows.{IsNoWorse}
+use Rattle.forward_dp.specs.declared.rows.Row.{Row}
+use Rattle.forward_dp.proofs.Keeping.{no-worse-trans}
 use Rattle.forward_dp.proofs.best_of.Goals as goal
 
 pub loop-row-preserved : goal.loop-row-preserved

@@ -1,5 +1,5 @@
 use Rattle.std.proofs.Common.{All, Contains, take}
-use Rattle.flat_table.specs.Rows.{IsNoWorse}
+use Rattle.forward_dp.specs.Rows.{IsNoWorse}
 use Rattle.forward_dp.proofs.best_of.Given as goal
 
 -- one of the rows, and no worse than those so far

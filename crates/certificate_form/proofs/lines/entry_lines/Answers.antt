@@ -1,9 +1,9 @@
 use Rattle.std.proofs.Common.{◌≡◌, ◌<◌, ◌++◌, ◌∷◌, [], length, Some, None, ap, arith}
 use Rattle.std.proofs.lemmas.List.{length_push, length-drop}
 use Rattle.certificate_form.specs.Lines.{entry_line_at}
-use Rattle.line_text.specs.Many.{many_at}
+use Rattle.text_lines.specs.Many.{many_at}
 use Rattle.certificate_form.proofs.EntryLaws.{line_none, line_read, rest_from}
-use Rattle.line_text.proofs.ManyLaws.{many_go_on, many_end}
+use Rattle.text_lines.proofs.ManyLaws.{many_go_on, many_end}
 use Rattle.certificate_form.proofs.lines.entry_lines.Goals as goal
 use Rattle.certificate_form.proofs.lines.entry_lines.Goals.{in-Some+in_default-entry_after_front, in_default}
 

@@ -1,7 +1,7 @@
 use Rattle.std.proofs.Common.{◌≡◌, ◌+◌, ◌-◌, ◌≤◌, length, IfSome}
 use Rattle.certificate_form.specs.Lines.{IsFrontText, entry_line_at}
-use Rattle.line_text.specs.Many.{many_at}
-use Rattle.line_text.proofs.ManyLaws.{after}
+use Rattle.text_lines.specs.Many.{many_at}
+use Rattle.text_lines.proofs.ManyLaws.{after}
 use Rattle.certificate_form.proofs.lines.entry_lines.Given as goal
 
 abbrev pub invariant-loop-front : goal.invariant-loop-front

@@ -1,8 +1,8 @@
 use Rattle.std.proofs.Common.{◌≡◌, ◌^◌, ◌++◌, ◌∷◌, [], length, sym, arith}
 use Rattle.std.proofs.lemmas.List.{length_push}
-use Rattle.line_text.specs.Fields.{field_at}
-use Rattle.line_text.specs.Many.{many_at}
-use Rattle.line_text.proofs.ManyLaws.{many_go_on, many_end}
+use Rattle.text_lines.specs.Fields.{field_at}
+use Rattle.text_lines.specs.Many.{many_at}
+use Rattle.text_lines.proofs.ManyLaws.{many_go_on, many_end}
 use Rattle.certificate_form.proofs.lines.spaced_numbers.Goals as goal
 
 pub loop-number-preserved : goal.loop-number-preserved

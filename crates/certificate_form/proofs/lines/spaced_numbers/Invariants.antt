@@ -1,7 +1,7 @@
 use Rattle.std.proofs.Common.{◌≡◌, ◌+◌, ◌-◌, ◌^◌, ◌≤◌, length}
-use Rattle.line_text.specs.Fields.{field_at}
-use Rattle.line_text.specs.Many.{many_at}
-use Rattle.line_text.proofs.ManyLaws.{after}
+use Rattle.text_lines.specs.Fields.{field_at}
+use Rattle.text_lines.specs.Many.{many_at}
+use Rattle.text_lines.proofs.ManyLaws.{after}
 use Rattle.certificate_form.proofs.lines.spaced_numbers.Given as goal
 
 abbrev pub invariant-loop-number : goal.invariant-loop-number

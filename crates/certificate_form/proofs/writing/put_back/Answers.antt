@@ -1,5 +1,5 @@
 use Rattle.std.proofs.Common.{ℕ, List, ◌∷◌, length, ap, ◌∙◌, arith}
-use Rattle.number_text.proofs.LineLaws.{digits-long, spaced-length}
+use Rattle.text_lines.proofs.LineLaws.{digits-long, spaced-length}
 use Rattle.certificate_form.proofs.WritingLaws.{back_filled}
 use Rattle.certificate_form.proofs.writing.put_back.Goals as goal
 

@@ -2,7 +2,7 @@ use Rattle.std.proofs.Common.{◌≡◌, ◌+◌, ◌-◌, ◌<◌, ◌≤◌, �
 use Rattle.std.specs.Fmt.{decimal}
 use Rattle.std.specs.List.{flat_map}
 use Rattle.certificate_form.specs.CertificateText.{after_space}
-use Rattle.number_text.proofs.LineLaws.{digits-byte, numbers-more, spaced-length}
+use Rattle.text_lines.proofs.LineLaws.{digits-byte, numbers-more, spaced-length}
 use Rattle.certificate_form.proofs.writing.put_counts.Goals as goal
 
 pub put_spaced-requires : goal.put_spaced-requires

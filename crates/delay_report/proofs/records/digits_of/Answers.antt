@@ -1,5 +1,5 @@
 use Rattle.std.proofs.Common.{length, ap, arith}
-use Rattle.number_text.proofs.LineLaws.{digits-long}
+use Rattle.text_lines.proofs.LineLaws.{digits-long}
 use Rattle.delay_report.proofs.records.digits_of.Goals as goal
 
 pub put_number-requires : goal.put_number-requires

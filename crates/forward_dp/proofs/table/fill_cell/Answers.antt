@@ -1,5 +1,5 @@
 use Rattle.std.proofs.Common.{◌≡◌, ◌+◌, ◌<◌, ◌≤◌, length, sum, get_or, set, refl, ap, sym, subst, ◌∙◌, arith}
-use Rattle.flat_table.specs.Groups.{IsEmpty}
+use Rattle.forward_dp.specs.Groups.{IsEmpty}
 use Rattle.phase_plan.specs.declared.Phase.{Phase}
 use Rattle.forward_dp.specs.Numbers.{counts_number}
 use Rattle.forward_dp.specs.Tables.{HasEntries, all_rows}

@@ -1,6 +1,6 @@
 use Rattle.std.proofs.Common.{◌≡◌, ◌+◌, ◌≤◌, List, sum}
-use Rattle.flat_table.specs.Groups.{IsEmpty}
-use Rattle.flat_table.specs.declared.rows.Row.{Row}
+use Rattle.forward_dp.specs.Groups.{IsEmpty}
+use Rattle.forward_dp.specs.declared.rows.Row.{Row}
 use Rattle.forward_dp.specs.Tables.{HasEntries, IsCellReady}
 use Rattle.forward_dp.proofs.Parting.{HasCome}
 use Rattle.forward_dp.proofs.table.fill_cell.Given as goal

@@ -1,5 +1,5 @@
 use Rattle.std.proofs.Common.{◌+◌, refl, arith}
-use Rattle.flat_table.proofs.Reaching.{reached-rising}
+use Rattle.forward_dp.proofs.Reaching.{reached-rising}
 use Rattle.forward_dp.specs.Tables.{HasEntries}
 use Rattle.forward_dp.proofs.Parting.{has-left, ready-few, ready-filled, ready-found, ready-gone, ready-long, ready-within}
 use Rattle.forward_dp.proofs.table.fill_group.Goals as goal

@@ -1,7 +1,7 @@
 use Rattle.std.proofs.Common.{◌≡◌, ◌++◌, ◌∷◌, [], length, sym, arith}
 use Rattle.std.proofs.lemmas.List.{length_push}
-use Rattle.line_text.specs.Many.{many_at}
-use Rattle.line_text.proofs.ManyLaws.{many_go_on, many_end}
+use Rattle.text_lines.specs.Many.{many_at}
+use Rattle.text_lines.proofs.ManyLaws.{many_go_on, many_end}
 use Rattle.instance_form.specs.Lines.{cluster_line_at}
 use Rattle.instance_form.proofs.lists.clusters.Goals as goal
 

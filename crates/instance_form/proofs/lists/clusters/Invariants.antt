@@ -1,6 +1,6 @@
 use Rattle.std.proofs.Common.{◌≡◌, ◌+◌, ◌-◌, ◌≤◌, length}
-use Rattle.line_text.specs.Many.{many_at}
-use Rattle.line_text.proofs.ManyLaws.{after}
+use Rattle.text_lines.specs.Many.{many_at}
+use Rattle.text_lines.proofs.ManyLaws.{after}
 use Rattle.instance_form.specs.Lines.{cluster_line_at}
 use Rattle.instance_form.proofs.lists.clusters.Given as goal
 

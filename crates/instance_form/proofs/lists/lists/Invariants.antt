@@ -1,6 +1,6 @@
 use Rattle.std.proofs.Common.{◌≡◌, ◌+◌, ◌-◌, ◌≤◌, length, sum_by}
 use Rattle.instance_form.specs.Reading.{lists_at}
-use Rattle.line_text.proofs.ManyLaws.{after}
+use Rattle.text_lines.proofs.ManyLaws.{after}
 use Rattle.instance_form.proofs.lists.lists.Given as goal
 
 -- what was read and what is still read is the whole

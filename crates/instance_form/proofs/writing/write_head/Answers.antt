@@ -1,5 +1,5 @@
 use Rattle.std.proofs.Common.{length, ap, length-append, arith}
-use Rattle.number_text.proofs.LineLaws.{digits-long, spaced-length}
+use Rattle.text_lines.proofs.LineLaws.{digits-long, spaced-length}
 use Rattle.instance_form.proofs.writing.write_head.Goals as goal
 
 -- how long the line is by now

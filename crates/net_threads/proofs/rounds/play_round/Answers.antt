@@ -4,10 +4,10 @@ use Rattle.intersection_actor.specs.Acting.{Acting}
 use Rattle.net_draft.specs.declared.drafts.Run.{Run}
 use Rattle.net_simulator.specs.Arriving.{arriving_of}
 use Rattle.net_simulator.specs.Worlds.{Stands, standing_by}
-use Rattle.round_calls.specs.Resting.{lines_of}
-use Rattle.round_calls.specs.Rounds.{Between, CanAllPlay, HaveAllPlayed, names}
-use Rattle.round_calls.proofs.Passes.{all-boards, own-same, raised-names}
-use Rattle.round_calls.proofs.Rounding.{can-play, over-before, round-over}
+use Rattle.runs.specs.Resting.{lines_of}
+use Rattle.node_rounds.specs.Rounds.{Between, CanAllPlay, HaveAllPlayed, names}
+use Rattle.node_rounds.proofs.Passes.{all-boards, own-same, raised-names}
+use Rattle.node_rounds.proofs.Rounding.{can-play, over-before, round-over}
 use Rattle.node_rounds.proofs.Joining.{put-back}
 use Rattle.net_threads.proofs.rounds.play_round.Goals as goal
 

@@ -1,5 +1,5 @@
 use Rattle.std.proofs.Common.{◌≡◌, length}
-use Rattle.round_calls.specs.Rounds.{AreSamePasses, Between}
+use Rattle.node_rounds.specs.Rounds.{AreSamePasses, Between}
 use Rattle.net_threads.proofs.rounds.play_rounds.Given as goal
 
 abbrev pub invariant-loop-round : goal.invariant-loop-round

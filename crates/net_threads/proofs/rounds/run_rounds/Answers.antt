@@ -1,7 +1,7 @@
-use Rattle.round_calls.proofs.Passes.{own-same}
-use Rattle.round_calls.proofs.Starting.{at-first}
-use Rattle.round_calls.proofs.FreshPasses.{left-at}
-use Rattle.round_calls.proofs.ThreadRuns.{are-steps, is-run-of, merge-lawful}
+use Rattle.node_rounds.proofs.Passes.{own-same}
+use Rattle.node_rounds.proofs.Starting.{at-first}
+use Rattle.node_rounds.proofs.FreshPasses.{left-at}
+use Rattle.node_rounds.proofs.ThreadRuns.{are-steps, is-run-of, merge-lawful}
 use Rattle.net_threads.proofs.rounds.run_rounds.Goals as goal
 
 pub play_rounds-requires-clause-between : goal.play_rounds-requires-clause-between

@@ -1,5 +1,5 @@
 use Rattle.arrivals.specs.Amounts.{entering}
-use Rattle.command_texts.specs.Texts.{NoMore}
+use Rattle.commands.specs.Texts.{NoMore}
 use Rattle.commands.specs.Commands.{Turns}
 use Rattle.commands.proofs.Outcomes.{failed}
 use Rattle.network_jobs.proofs.turns.make_report.Goals as goal

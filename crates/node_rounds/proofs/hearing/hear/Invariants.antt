@@ -1,6 +1,6 @@
 use Rattle.std.proofs.Common.{length}
 use Rattle.intersection_actor.specs.Rounds.{IsOf}
-use Rattle.round_calls.specs.Nodes.{HasHeard, IsSamePass}
+use Rattle.node_rounds.specs.Nodes.{HasHeard, IsSamePass}
 use Rattle.node_rounds.proofs.hearing.hear.Given as goal
 
 abbrev pub invariant-loop-link : goal.invariant-loop-link

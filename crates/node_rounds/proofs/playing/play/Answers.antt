@@ -1,5 +1,5 @@
 use Rattle.std.proofs.Common.{◌≡◌, subst, ◌∙◌}
-use Rattle.round_calls.specs.Nodes.{IsSeen}
+use Rattle.node_rounds.specs.Nodes.{IsSeen}
 use Rattle.node_rounds.proofs.PlayLaws.{is-done, played}
 use Rattle.node_rounds.proofs.playing.play.Goals as goal
 

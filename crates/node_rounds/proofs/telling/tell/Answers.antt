@@ -1,5 +1,5 @@
 use Rattle.std.proofs.Common.{subst, sym, ◌∙◌}
-use Rattle.round_calls.specs.Nodes.{HasTold}
+use Rattle.node_rounds.specs.Nodes.{HasTold}
 use Rattle.node_rounds.proofs.TellLaws.{among-more, call-left, goes-by, told-more, wants-link}
 use Rattle.node_rounds.proofs.telling.tell.Goals as goal
 

@@ -1,5 +1,5 @@
 use Rattle.intersection_actor.specs.Rounds.{IsOf}
-use Rattle.round_calls.specs.Nodes.{HasTold, IsSamePass}
+use Rattle.node_rounds.specs.Nodes.{HasTold, IsSamePass}
 use Rattle.node_rounds.proofs.TellLaws.{told_among}
 use Rattle.node_rounds.proofs.telling.tell.Given as goal
 

@@ -3,8 +3,8 @@ use Rattle.std.specs.Prelude.{All}
 use Rattle.std.proofs.Math.Nat.{mul-le-mul_left}
 use Rattle.std.proofs.lemmas.List.FromFn.{length-map-range_with_len}
 use Rattle.board_rule.specs.Passes.{PassView, fresh_pass}
-use Rattle.round_calls.specs.Calls.{HaveCallsLeft}
-use Rattle.round_calls.proofs.FreshPasses.{fresh-left, fresh-none}
+use Rattle.node_rounds.specs.Calls.{HaveCallsLeft}
+use Rattle.node_rounds.proofs.FreshPasses.{fresh-left, fresh-none}
 use Rattle.thread_tests.proofs.played.ran.Goals as goal
 
 pub run_rounds-requires-clause-nodes : goal.run_rounds-requires-clause-nodes

@@ -1,4 +1,0 @@
-pub mod Fetching
-pub mod NoReading
-pub mod Stopping
-pub mod TextLaws

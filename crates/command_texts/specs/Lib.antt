@@ -1,5 +1,0 @@
-pub mod Codes
-pub mod Limits
-pub mod Refusals
-pub mod Stops
-pub mod Texts

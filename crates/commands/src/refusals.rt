@@ -1,0 +1,132 @@
+//! Why a command is refused, and the line that says so.
+ghost use Rattle.std.specs.Prelude.{◌≡◌, IfOk};
+ghost use Rattle.commands.specs.Refusals.{Refuses};
+ghost use Rattle.commands.specs.Refusals.{Writes, line_of, missing_line, number_of, unread_line};
+ghost use Rattle.commands.specs.declared.refusals.Refusal.TheVariants as refusal;
+
+use super::bad_texts::{BadText, push_code};
+use super::pieces::push_one;
+use super::status::Status;
+use outside_world::Sink;
+use std::alloc::{AllocError, Global};
+
+/// Which of a command's texts, in the order of its words.
+#[derive(Debug, Clone, Copy, PartialEq, Eq)]
+pub enum TextPlace {
+    /// The first, with number 1 in a line of refusal.
+    First,
+    /// The second, with number 2.
+    Second,
+    /// The third, with number 3.
+    Third,
+}
+
+/// What a word can name in the texts.
+#[derive(Debug, Clone, Copy, PartialEq, Eq)]
+pub enum Named {
+    /// A node of the network, by its name.
+    Node,
+    /// A round of the run, from 0.
+    Round,
+}
+
+/// Why a command is refused.
+///
+/// docs/FORMATS.md, "Exit statuses and lines of refusal".
+#[derive(Debug, Clone, Copy, PartialEq, Eq)]
+pub enum Refusal {
+    /// The words are no command.
+    Usage,
+    /// The text at this place is refused.
+    Bad { text: TextPlace, why: BadText },
+    /// All texts are read, and a word names what is not in them.
+    Missing { what: Named },
+    /// The text at this place can't be read.
+    Unread { text: TextPlace },
+    /// What was made can't be written.
+    Unwritten,
+    /// Memory ran out.
+    NoMemory,
+}
+
+impl From<AllocError> for Refusal {
+    ghost use Rattle.std.specs.Prelude.{◌≡◌};
+    ghost use Rattle.commands.specs.declared.refusals.Refusal.TheVariants.{NoMemory};
+
+    ghost from_gives = { λ fault e. e ≡ NoMemory };
+
+    fn from(_: AllocError) -> Refusal {
+        Refusal::NoMemory
+    }
+}
+
+/// Writes the line of a refusal, or that of `NoMemory` where there is no memory for the line, and answers the status that
+/// goes with it. Where the sink fails, a front of the line is written, and the status stays.
+pub fn refuse<E: Sink>(alloc: Global, why: Refusal, err: &mut E) -> Status
+    ensures { Refuses why (E.state err.old) (E.state err.new) result }
+{
+    match why {
+        Refusal::Usage => say(b"signal: usage\n", Status::Usage, err),
+        Refusal::Missing { what } => say(missing_line(what), Status::BadInput, err),
+        Refusal::Unread { text } => say(unread_line(text), Status::ReadFault, err),
+        Refusal::Unwritten => say(b"signal: cannot write\n", Status::WriteFault, err),
+        Refusal::NoMemory => say(b"signal: no memory\n", Status::NoMemory, err),
+        Refusal::Bad { text, why } => match bad_line(alloc, text, why) {
+            Ok(line) => say(&line, Status::BadInput, err),
+            Err(AllocError) => say(b"signal: no memory\n", Status::NoMemory, err),
+        },
+    }
+}
+
+// Writes a line, or a front of it where the sink fails, and answers the status.
+fn say<E: Sink>(line: &[u8], status: Status, err: &mut E) -> Status
+    ensures status { result ≡ status }
+    ensures line { Writes line.now (E.state err.old) (E.state err.new) }
+{
+    let _ = err.put(line);
+    status
+}
+
+// The line for a text that can't be read. It takes no memory.
+fn unread_line(text: TextPlace) -> &'static [u8]
+    ensures { result.now ≡ unread_line text }
+{
+    match text {
+        TextPlace::First => b"signal: cannot read 1\n",
+        TextPlace::Second => b"signal: cannot read 2\n",
+        TextPlace::Third => b"signal: cannot read 3\n",
+    }
+}
+
+// The line for a word that names nothing.
+fn missing_line(what: Named) -> &'static [u8]
+    ensures { result.now ≡ missing_line what }
+{
+    match what {
+        Named::Node => b"signal: bad node\n",
+        Named::Round => b"signal: bad round\n",
+    }
+}
+
+// The line for a text that is refused.
+fn bad_line(alloc: Global, text: TextPlace, why: BadText) -> Result<Vec<u8>, AllocError>
+    ensures { IfOk result (λ line. line.items ≡ line_of (refusal.Bad text why)) }
+{
+    let mut line = Vec::new(alloc);
+    push_one(&mut line, b"signal: bad ", number_of(text))?;
+    line.extend_from_slice(b" ")?;
+    push_code(&mut line, why)?;
+    line.extend_from_slice(b"\n")?;
+    Ok(line)
+}
+
+// The number of a text, from 1.
+fn number_of(text: TextPlace) -> u64
+    ensures { result ≡ number_of text }
+{
+    match text {
+        TextPlace::First => 1,
+        TextPlace::Second => 2,
+        TextPlace::Third => 3,
+    }
+}

@@ -1,0 +1,86 @@
+//! The texts that the network commands begin with.
+ghost use Rattle.std.specs.Prelude.{◌≡◌, IfErr, IfOk, OnOk};
+ghost use Rattle.arrivals.specs.Amounts.{AreArrivals, entering};
+ghost use Rattle.net_numbers.specs.Numbers.{Net};
+ghost use Rattle.commands.specs.Stops.{StopsIn};
+ghost use Rattle.histories.specs.Histories.{IsLawful};
+ghost use Rattle.commands.specs.Texts.{AreIn, ArrivalsText, IsIn, NetworkText, Texts, history_texts, network_texts};
+
+use super::refusals::{Refusal, TextPlace};
+use super::texts::{fetch_arrivals, fetch_history, fetch_network};
+use arrivals::Arrivals;
+use histories::History;
+use outside_world::Shelf;
+use road_net::Network;
+use std::alloc::Global;
+
+/// The files of a network and of arrivals at it.
+#[derive(Clone, Copy)]
+pub struct SceneFiles<'a> {
+    /// The file of the network.
+    pub net: &'a str,
+    /// The file of the arrivals.
+    pub arr: &'a str,
+}
+
+/// A network, and arrivals at it.
+#[derive(Drop)]
+pub struct Scene {
+    /// The network.
+    pub network: Network,
+    /// What enters it.
+    pub arrivals: Arrivals,
+}
+
+/// The network of a command's first text, and the arrivals at it of its second.
+///
+/// `Err`: that of the first text that can't be had, as `fetch_network` and its like say.
+pub fn fetch_scene<S: Shelf>(
+    alloc: Global,
+    shelf: &mut S,
+    net: &str,
+    arr: &str,
+) -> Result<Scene, Refusal>
+    ensures network { IfOk result (λ scene. IsIn (S.state shelf.old).files net.now NetworkText scene.network) }
+    ensures arrivals { IfOk result (λ scene.
+        IsIn (S.state shelf.old).files arr.now (ArrivalsText scene.network) (entering scene.arrivals)) }
+    ensures lawful { IfOk result (λ scene. AreArrivals scene.network scene.arrivals) }
+    ensures ok { OnOk result (S.state shelf.new ≡ S.state shelf.old) }
+    ensures refused { IfErr result (λ why. (rest : Net → Texts)
+        → StopsIn (network_texts net.now arr.now rest) (S.state shelf.old) (S.state shelf.new) why) }
+{
+    let network = fetch_network(alloc, shelf, TextPlace::First, net)?;
+    let arrivals = fetch_arrivals(alloc, shelf, TextPlace::Second, arr, &network)?;
+    Ok(Scene { network, arrivals })
+}
+
+/// A network, arrivals at it, and a history of it.
+#[derive(Drop)]
+pub struct HistoryScene {
+    /// The network and the arrivals.
+    pub scene: Scene,
+    /// Who does which board step.
+    pub history: History,
+}
+
+/// The network of a command's first text, the arrivals at it of its second, and the history of it of its third.
+///
+/// `Err`: that of the first text that can't be had, as `fetch_network` and its like say.
+pub fn fetch_history_scene<S: Shelf>(
+    alloc: Global,
+    shelf: &mut S,
+    net: &str,
+    arr: &str,
+    hist: &str,
+) -> Result<HistoryScene, Refusal>
+    ensures texts { IfOk result (λ all. AreIn (S.state shelf.old).files (history_texts net.now arr.now hist.now)
+        (all.scene.network, (entering all.scene.arrivals, (all.history, tt)))) }
+    ensures entered { IfOk result (λ all. AreArrivals all.scene.network all.scene.arrivals) }
+    ensures lawful { IfOk result (λ all. IsLawful all.scene.network all.history) }
+    ensures ok { OnOk result (S.state shelf.new ≡ S.state shelf.old) }
+    ensures refused { IfErr result (StopsIn (history_texts net.now arr.now hist.now) (S.state shelf.old) (S.state shelf.new)) }
+{
+    let scene = fetch_scene(alloc, shelf, net, arr)?;
+    let history = fetch_history(alloc, shelf, TextPlace::Third, hist, &scene.network)?;
+    Ok(HistoryScene { scene, history })
+}

@@ -1,0 +1,179 @@
+//! The texts of a command, fetched from the shelf and read.
+ghost use Rattle.std.specs.Prelude.{◌≡◌, ◌≤◌, IfOk, IfErr, OnOk, IsSome, Some, length};
+ghost use Rattle.arrivals.specs.Amounts.{AreArrivals, entering};
+ghost use Rattle.histories.specs.Histories.{IsLawful};
+ghost use Rattle.commands.specs.Stops.{StopsAt};
+ghost use Rattle.commands.specs.Limits.{most_bytes};
+ghost use Rattle.commands.specs.Texts.{ArrivalsText, CertificateText, HistoryText, InstanceText, IsIn, Kind, NetworkText, text_of};
+
+use super::bad_texts::BadText;
+use super::refusals::{TextPlace, Refusal};
+use arrivals::{Arrivals, RowFault, read_arrivals};
+use certificate_form::{CertText, read_certificate};
+use delay_report::{HistoryFault, read_history};
+use dp_certificate::Certificate;
+use histories::History;
+use net_draft::NetFault;
+use outside_world::{Shelf, ShelfFault};
+use road_net::{Network, read_network};
+use schedule_meaning::{Instance, TextFault, read_instance};
+use std::alloc::Global;
+
+/// The greatest length of a text, in bytes.
+///
+/// docs/FORMATS.md, "Numbers and lines".
+const MOST_BYTES: usize = 100_663_296;
+
+// The text of a file, where it is within the limit. `place` is its place among the texts of the command.
+fn fetch_text<S: Shelf>(
+    alloc: Global,
+    shelf: &mut S,
+    place: TextPlace,
+    file: &str,
+) -> Result<Vec<u8>, Refusal>
+    ensures limit { IfOk result (λ text. length text.items ≤ most_bytes) }
+    ensures text { IfOk result (λ text. IsSome (S.state shelf.old).files
+        → text_of (S.state shelf.old).files file.now ≡ Some text.items) }
+    ensures ok { OnOk result (S.state shelf.new ≡ S.state shelf.old) }
+    ensures refused { IfErr result (λ why. (kind : Kind)
+        → StopsAt why place kind file.now (S.state shelf.old) (S.state shelf.new)) }
+{
+    match shelf.fetch(alloc, file, MOST_BYTES + 1) {
+        Ok(text) if text.len() > MOST_BYTES => Err(Refusal::Bad {
+            text: place,
+            why: BadText::Long,
+        }),
+        Ok(text) => Ok(text),
+        Err(ShelfFault::Failed) => Err(Refusal::Unread { text: place }),
+        Err(ShelfFault::NoMemory) => Err(Refusal::NoMemory),
+    }
+}
+
+/// The instance of the text at this place.
+///
+/// `Err`: `Unread` where the shelf fails, `Bad` where the text is too long or is none of its kind, `NoMemory` where memory runs out.
+pub fn fetch_instance<S: Shelf>(
+    alloc: Global,
+    shelf: &mut S,
+    place: TextPlace,
+    file: &str,
+) -> Result<Instance, Refusal>
+    ensures text { IfOk result (IsIn (S.state shelf.old).files file.now InstanceText) }
+    ensures ok { OnOk result (S.state shelf.new ≡ S.state shelf.old) }
+    ensures refused { IfErr result (λ why. StopsAt why place InstanceText file.now (S.state shelf.old)
+        (S.state shelf.new)) }
+{
+    let text = fetch_text(alloc, shelf, place, file)?;
+    match read_instance(alloc, &text) {
+        Ok(instance) => Ok(instance),
+        Err(TextFault::NoMemory) => Err(Refusal::NoMemory),
+        Err(fault) => Err(Refusal::Bad {
+            text: place,
+            why: BadText::Fault(fault),
+        }),
+    }
+}
+
+/// The certificate of the text at this place.
+///
+/// `Err`: `Unread` where the shelf fails, `Bad` where the text is too long or is none of its kind, `NoMemory` where memory runs out.
+pub fn fetch_certificate<S: Shelf>(
+    alloc: Global,
+    shelf: &mut S,
+    place: TextPlace,
+    file: &str,
+) -> Result<Certificate, Refusal>
+    ensures text { IfOk result (IsIn (S.state shelf.old).files file.now CertificateText) }
+    ensures ok { OnOk result (S.state shelf.new ≡ S.state shelf.old) }
+    ensures refused { IfErr result (λ why. StopsAt why place CertificateText file.now (S.state shelf.old)
+        (S.state shelf.new)) }
+{
+    let text = fetch_text(alloc, shelf, place, file)?;
+    match read_certificate(alloc, &text) {
+        Ok(certificate) => Ok(certificate),
+        Err(CertText::NoMemory) => Err(Refusal::NoMemory),
+        Err(fault) => Err(Refusal::Bad {
+            text: place,
+            why: BadText::Certificate(fault),
+        }),
+    }
+}
+
+/// The network of the text at this place.
+///
+/// `Err`: `Unread` where the shelf fails, `Bad` where the text is too long or is none of its kind, `NoMemory` where memory runs out.
+pub fn fetch_network<S: Shelf>(
+    alloc: Global,
+    shelf: &mut S,
+    place: TextPlace,
+    file: &str,
+) -> Result<Network, Refusal>
+    ensures text { IfOk result (IsIn (S.state shelf.old).files file.now NetworkText) }
+    ensures ok { OnOk result (S.state shelf.new ≡ S.state shelf.old) }
+    ensures refused { IfErr result (λ why. StopsAt why place NetworkText file.now (S.state shelf.old)
+        (S.state shelf.new)) }
+{
+    let text = fetch_text(alloc, shelf, place, file)?;
+    match read_network(alloc, &text) {
+        Ok(network) => Ok(network),
+        Err(NetFault::NoMemory) => Err(Refusal::NoMemory),
+        Err(fault) => Err(Refusal::Bad {
+            text: place,
+            why: BadText::Network(fault),
+        }),
+    }
+}
+
+/// The arrivals at a network, of the text at this place.
+///
+/// `Err`: `Unread` where the shelf fails, `Bad` where the text is too long or is none of its kind, `NoMemory` where memory runs out.
+pub fn fetch_arrivals<S: Shelf>(
+    alloc: Global,
+    shelf: &mut S,
+    place: TextPlace,
+    file: &str,
+    net: &Network,
+) -> Result<Arrivals, Refusal>
+    ensures text { IfOk result (λ a. IsIn (S.state shelf.old).files file.now (ArrivalsText net.now) (entering a)) }
+    ensures arrivals { IfOk result (AreArrivals net.now) }
+    ensures ok { OnOk result (S.state shelf.new ≡ S.state shelf.old) }
+    ensures refused { IfErr result (λ why. StopsAt why place (ArrivalsText net.now) file.now (S.state shelf.old)
+        (S.state shelf.new)) }
+{
+    let text = fetch_text(alloc, shelf, place, file)?;
+    match read_arrivals(alloc, &text, net) {
+        Ok(arrivals) => Ok(arrivals),
+        Err(RowFault::NoMemory) => Err(Refusal::NoMemory),
+        Err(fault) => Err(Refusal::Bad {
+            text: place,
+            why: BadText::Arrivals(fault),
+        }),
+    }
+}
+
+/// The history of a network, of the text at this place. It is lawful.
+///
+/// `Err`: `Unread` where the shelf fails, `Bad` where the text is too long or is none of its kind, `NoMemory` where memory runs out.
+pub fn fetch_history<S: Shelf>(
+    alloc: Global,
+    shelf: &mut S,
+    place: TextPlace,
+    file: &str,
+    net: &Network,
+) -> Result<History, Refusal>
+    ensures text { IfOk result (IsIn (S.state shelf.old).files file.now (HistoryText net.now)) }
+    ensures lawful { IfOk result (IsLawful net.now) }
+    ensures ok { OnOk result (S.state shelf.new ≡ S.state shelf.old) }
+    ensures refused { IfErr result (λ why. StopsAt why place (HistoryText net.now) file.now (S.state shelf.old)
+        (S.state shelf.new)) }
+{
+    let text = fetch_text(alloc, shelf, place, file)?;
+    match read_history(alloc, &text, net) {
+        Ok(history) => Ok(history),
+        Err(HistoryFault::NoMemory) => Err(Refusal::NoMemory),
+        Err(fault) => Err(Refusal::Bad {
+            text: place,
+            why: BadText::History(fault),
+        }),
+    }
+}

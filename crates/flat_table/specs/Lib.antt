@@ -1,4 +1,0 @@
-pub mod Halves
-pub mod Rows
-pub mod Greens
-pub mod Groups

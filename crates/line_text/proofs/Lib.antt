@@ -1,5 +1,0 @@
-pub mod Digits
-pub mod Feeds
-pub mod FirstLine
-pub mod ManyLaws
-pub mod Units

@@ -1,9 +1,0 @@
-pub mod Forecasts
-pub mod EventKinds
-pub mod Marks
-pub mod Nodes
-pub mod Places
-pub mod CallRounds
-pub mod Sorted
-pub mod Theorem
-pub mod CallVersions

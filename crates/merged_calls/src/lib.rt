@@ -1,7 +1,0 @@
-//! The history that the calls of the nodes tell, however the threads ran: it is lawful, and each call stands in it with the
-//! version of its place.
-#![tactic(auto)]
-
-mod call_laws;
-
-pub use call_laws::law_of_merged_calls;

@@ -1,0 +1,32 @@
+use Rattle.std.proofs.Common.{Vec, Global, ℕ, sym, subst}
+use Rattle.std.proofs.lemmas.Result.{IfOk-weaker}
+use Rattle.arrivals.specs.Amounts.{entering}
+use Rattle.delay_report.specs.Texts.{IsHistoryText}
+use Rattle.histories.proofs.Sorting.{merge-of}
+use Rattle.commands.specs.Headline.{ToldHeadline}
+use Rattle.network_jobs.proofs.rounds.report.Goals as goal
+
+pub write_report-requires-clause-lawful : goal.write_report-requires-clause-lawful
+write_report-requires-clause-lawful g c history merge = (c.in_ok-logged.ensures history merge).lawful
+
+pub write_report-requires-clause-whole : goal.write_report-requires-clause-whole
+write_report-requires-clause-whole g c =
+    let told = c.in_ok-logged in
+    let merged = merge-of told.logged.logs.items in
+    let ran = told.ensures merged.history merged.merge in
+    c.law_of_runs.ensures.whole ran.arrivals merged.history told.logged.run ran.lawful ran.kept.run
+
+pub returns : goal.returns
+returns g c =
+    let run = c.in_ok-logged.logged.run in
+    IfOk-weaker c.write_report.result _ (λ (text : Vec ℕ Global). ToldHeadline c.args.net.now (entering c.args.arrivals.now) text.items)
+    (λ text told.
+    let ran = c.in_ok-logged.ensures told.history told.merge in
+    let spells = subst (λ bytes. IsHistoryText c.args.net.now bytes told.history) (sym told.text_is) (c.law_of_reports.ensures.reads_back run told.history ran.lawful) in
+    record {
+      history = told.history;
+      headline = record { run = run; runs = ran; report = told.text_is };
+      is_text = spells;
+      only = λ other also. c.law_of_reports.ensures.one text.items other told.history also spells;
+    })
+    c.write_report.ensures

@@ -1,5 +1,0 @@
-use Rattle.round_calls.proofs.Along.{along}
-use Rattle.round_calls.proofs.laws.law_of_round_calls.Goals as goal
-
-pub returns : goal.returns
-returns c = λ heard made calls history are lawful told. along c.args.net.now c.nodes-nodes.ensures.network heard made calls history are lawful told

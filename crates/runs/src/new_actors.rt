@@ -1,0 +1,50 @@
+//! The actors of a network before the first round.
+ghost use Rattle.std.specs.Prelude.{IfOk, length};
+ghost use Rattle.runs.specs.Resting.{AreNew};
+
+use control_flow::green_at;
+use control_flow::greens::Green;
+use foundation::threads::CrossesThreads;
+use intersection_actor::Actor;
+use net_simulator::Lights;
+use road_net::Network;
+use std::alloc::{AllocError, Global};
+
+/// The actors of a network, one for each node: their lines are what the world moves by.
+///
+/// docs/RULES.md, "Core".
+#[derive(Drop)]
+pub struct Actors {
+    /// The actors, by node.
+    pub all: Vec<Actor>,
+}
+
+impl CrossesThreads for Actors {}
+
+impl Lights for Actors {
+    ghost use Rattle.runs.specs.Resting.{lines_of};
+
+    ghost lines = { λ actors node. lines_of actors.all.items node };
+
+    fn green(&self, node: u32, second: u32) -> Option<Green> {
+        if node as usize >= self.all.len() {
+            return None;
+        }
+        green_at(self.all[node as usize].timeline(), second)
+    }
+}
+
+/// The new actors of all nodes.
+///
+/// `Err`: out of memory.
+///
+/// docs/RULES.md, "Core".
+pub fn actors_of(alloc: Global, net: &Network) -> Result<Actors, AllocError>
+    ensures { IfOk result (λ actors. AreNew net.now (length net.now.node_names) actors.all.items) }
+{
+    let mut all = Vec::with_capacity(alloc, net.nodes() as usize)?;
+    for node in 0..net.nodes() {
+        all.push(Actor::new(alloc, net, node)?)?;
+    }
+    Ok(Actors { all })
+}

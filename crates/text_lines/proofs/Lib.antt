@@ -1,0 +1,6 @@
+pub mod Digits
+pub mod Feeds
+pub mod FirstLine
+pub mod LineLaws
+pub mod ManyLaws
+pub mod Units

@@ -1,5 +1,0 @@
-use Rattle.commands.proofs.Outcomes.{outcome}
-use Rattle.threaded_jobs.proofs.net.net_job.Goals as goal
-
-pub returns : goal.returns
-returns g c = outcome _ _ _ _ _ c.make_report-made.ensures c.end.ensures
