@@ -3,7 +3,7 @@ use crate::forecasts::Forecast;
 
 /// What a node did at a link, as contracts of the boards see it: of a reading and of a publishing. No value of it is made.
 ///
-/// docs/RULES.md, "Shared boards".
+/// docs/DESIGN.md, "Shared boards".
 pub struct Call {
     /// The number of the link.
     pub link: u32,

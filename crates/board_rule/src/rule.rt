@@ -12,14 +12,14 @@ use std::marker::{Brand, PhantomData};
 
 /// For which log a slot of the table stands. Each form of the boards has its own.
 ///
-/// docs/RULES.md, "Shared boards".
+/// docs/DESIGN.md, "Shared boards".
 pub trait Stands<S> {
     ghost stands: { S → List BoardEvent → Type 0 };
 }
 
 /// The rule of the boards.
 ///
-/// docs/RULES.md, "Shared boards".
+/// docs/DESIGN.md, "Shared boards".
 pub struct BoardRule<Q> {
     of: PhantomData<Q>,
 }
@@ -32,7 +32,7 @@ impl<S, Q: Stands<S>> TableRule<S, View, Terms> for BoardRule<Q> {
 
 /// What a publishing will tell, for the proof alone. A call at `Brand` picks it from its `requires`.
 ///
-/// docs/RULES.md, "Shared boards".
+/// docs/DESIGN.md, "Shared boards".
 pub trait Asked {
     ghost forecast: { List ForecastRow };
 }
@@ -45,7 +45,7 @@ impl Asked for Brand {
 
 /// Takes the turn of a link, if it is free.
 ///
-/// docs/RULES.md, "Shared boards".
+/// docs/DESIGN.md, "Shared boards".
 pub struct TakeTurn<Q> {
     of: PhantomData<Q>,
 }
@@ -56,7 +56,7 @@ impl<S, Q: Stands<S>> Play<S, View> for TakeTurn<Q> {
 
 /// Draws the stamp of a reading.
 ///
-/// docs/RULES.md, "Shared boards".
+/// docs/DESIGN.md, "Shared boards".
 pub struct DrawRead;
 
 impl<S> Play<S, View> for DrawRead {
@@ -65,7 +65,7 @@ impl<S> Play<S, View> for DrawRead {
 
 /// Draws the stamp of a publishing.
 ///
-/// docs/RULES.md, "Shared boards".
+/// docs/DESIGN.md, "Shared boards".
 pub struct DrawPublish<W> {
     asked: PhantomData<W>,
 }
@@ -76,7 +76,7 @@ impl<S, W: Asked> Play<S, View> for DrawPublish<W> {
 
 /// Gives the turn back.
 ///
-/// docs/RULES.md, "Shared boards".
+/// docs/DESIGN.md, "Shared boards".
 pub struct GiveTurn;
 
 impl<S> Play<S, View> for GiveTurn {
@@ -85,7 +85,7 @@ impl<S> Play<S, View> for GiveTurn {
 
 /// Makes a pass.
 ///
-/// docs/RULES.md, "Shared boards".
+/// docs/DESIGN.md, "Shared boards".
 pub struct DealPass;
 
 impl Split<View> for DealPass {
@@ -96,7 +96,7 @@ impl Split<View> for DealPass {
 
 /// Sends a courier.
 ///
-/// docs/RULES.md, "Shared boards".
+/// docs/DESIGN.md, "Shared boards".
 pub struct SendCourier;
 
 impl Split<View> for SendCourier {
@@ -107,7 +107,7 @@ impl Split<View> for SendCourier {
 
 /// Hears a courier.
 ///
-/// docs/RULES.md, "Shared boards".
+/// docs/DESIGN.md, "Shared boards".
 pub struct HearCourier;
 
 impl Join<View> for HearCourier {
@@ -118,7 +118,7 @@ impl Join<View> for HearCourier {
 
 /// Takes in an ended pass.
 ///
-/// docs/RULES.md, "Shared boards".
+/// docs/DESIGN.md, "Shared boards".
 pub struct EndPass;
 
 impl Join<View> for EndPass {

@@ -4,7 +4,7 @@ use std::collections::LinkedList;
 
 /// The calls of the pass with a number. No value of it is made.
 ///
-/// docs/RULES.md, "Shared boards".
+/// docs/DESIGN.md, "Shared boards".
 pub struct Entry {
     /// The number of the pass.
     pub number: u64,
@@ -14,7 +14,7 @@ pub struct Entry {
 
 /// A call in flight. No value of it is made.
 ///
-/// docs/RULES.md, "Shared boards".
+/// docs/DESIGN.md, "Shared boards".
 pub struct Flight {
     /// The link whose turn is taken.
     pub link: u64,
@@ -26,7 +26,7 @@ pub struct Flight {
 
 /// What a seat knows: a pass, a courier between passes, or nothing any more. No value of it is made.
 ///
-/// docs/RULES.md, "Shared boards".
+/// docs/DESIGN.md, "Shared boards".
 pub struct View {
     /// The least stamp that it may draw next.
     pub known: u64,
@@ -46,7 +46,7 @@ pub struct View {
 
 /// What the table is told when it is made.
 ///
-/// docs/RULES.md, "Shared boards".
+/// docs/DESIGN.md, "Shared boards".
 #[derive(Debug, Clone, Copy, PartialEq, Eq)]
 pub struct Terms {
     /// The number of passes.

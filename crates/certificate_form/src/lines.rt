@@ -8,8 +8,8 @@ ghost use Rattle.certificate_form.specs.Lines.{IsFrontText, entry_after_at, coun
 ghost use Rattle.text_lines.specs.Many.{many_at};
 
 use dp_certificate::Entry;
-use text_lines::{field_u8, field_u32, field_u64, literal};
 use std::alloc::{AllocError, Global};
+use text_lines::{field_u8, field_u32, field_u64, literal};
 
 /// A count, where there is one, and else 0; and the bytes after it.
 #[tactic(auto, unfolding(crate::specs::Lines::count_at))]

@@ -15,10 +15,10 @@ use crate::lines::{entry_lines, spaced_numbers};
 use dp_certificate::{CertFault, Certificate, Entry};
 use foundation::items::Items;
 use instance_form::{Form, FormFault, read_front};
-use text_lines::{field_u8, field_u64, literal};
 use phase_plan::{PhasePlan, PlanFault};
 use schedule_meaning::{Answer, Instance, InstanceFault};
 use std::alloc::Global;
+use text_lines::{field_u8, field_u64, literal};
 
 /// Why a text is no certificate's.
 ///

@@ -11,10 +11,10 @@ ghost use Rattle.outside_world.specs.Sink.{Breaks, Gains};
 ghost use Rattle.certificate_form.specs.CertificateText.{HasText, IsWritableAnswer, after_space, answer_line, certificate_text, entry_back, entry_front, entry_line};
 
 use dp_certificate::{Certificate, Entry};
-use text_lines::{Line, push_number, push_numbers};
 use outside_world::{Failed, Sink};
 use schedule_meaning::{Answer, Instance, write_instance};
 use std::alloc::{AllocError, Global};
+use text_lines::{Line, push_number, push_numbers};
 
 /// How many entries a part has at the most.
 const PART: usize = 512;

@@ -2,8 +2,8 @@
 ghost use Rattle.std.specs.Prelude.{◌≡◌, ◌∷◌, ◌++◌, OnOk};
 ghost use Rattle.std.specs.Fmt.{decimal};
 
-use text_lines::push_number;
 use std::alloc::AllocError;
+use text_lines::push_number;
 
 /// Appends a word and a number to a text. `Err`: out of memory.
 pub fn push_one(text: &mut Vec<u8>, word: &[u8], number: u64) -> Result<(), AllocError>

@@ -7,7 +7,7 @@ ghost use Rattle.commands.specs.Limits.{most_bytes};
 ghost use Rattle.commands.specs.Texts.{ArrivalsText, CertificateText, HistoryText, InstanceText, IsIn, Kind, NetworkText, text_of};
 
 use super::bad_texts::BadText;
-use super::refusals::{TextPlace, Refusal};
+use super::refusals::{Refusal, TextPlace};
 use arrivals::{Arrivals, RowFault, read_arrivals};
 use certificate_form::{CertText, read_certificate};
 use delay_report::{HistoryFault, read_history};

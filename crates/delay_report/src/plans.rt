@@ -10,10 +10,10 @@ ghost use Rattle.delay_report.specs.Written.{Adds};
 use crate::records::{digits_of, write_record};
 use csv::Writer;
 use intersection_actor::{PlanRecord, Used};
-use text_lines::push_number;
 use road_net::Network;
 use schedule_meaning::Answer;
 use std::alloc::{AllocError, Global};
+use text_lines::push_number;
 
 /// Writes the records of plans.
 pub(crate) fn write_plans(

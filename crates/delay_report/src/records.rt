@@ -4,8 +4,8 @@ ghost use Rattle.std.specs.Fmt.{decimal};
 ghost use Rattle.delay_report.specs.Written.{Adds, HasWritten};
 
 use csv::Writer;
-use text_lines::Line;
 use std::alloc::{AllocError, Global};
+use text_lines::Line;
 
 /// A writer that appends to this text.
 pub(crate) fn start(text: Vec<u8>) -> Writer<Vec<u8>>

@@ -1,9 +1,9 @@
 //! The lists of a table, which are kept from one planning to the next.
 ghost use Rattle.forward_dp.specs.Groups.{IsEmpty};
 
+use crate::Reached;
 use crate::live_rows::Rows;
 use crate::table::row_capacity;
-use crate::Reached;
 use foundation::threads::CrossesThreads;
 use schedule_meaning::Instance;
 use std::alloc::{AllocError, Global};

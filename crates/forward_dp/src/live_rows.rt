@@ -4,8 +4,8 @@ ghost use Rattle.std.specs.Prelude.{◌≡◌, ◌+◌, ◌^◌, ◌<◌, ◌++�
 ghost use Rattle.forward_dp.specs.declared.rows.Row.{Row};
 ghost use Rattle.forward_dp.specs.Tables.{HasEntries, HasNone, IsEntered, IsLeft, base_of, source_of};
 
-use dp_certificate::Entry;
 use crate::Row;
+use dp_certificate::Entry;
 use foundation::threads::CrossesThreads;
 use std::alloc::{AllocError, Global};
 use std::mem::swap;

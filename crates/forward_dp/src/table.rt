@@ -10,8 +10,8 @@ ghost use Rattle.forward_dp.specs.Tables.{HasEntries, IsCellMade, IsCellReady, I
 ghost use Rattle.forward_dp.specs.declared.rows.Row.{Row};
 
 use crate::live_rows::{DroppedRows, Rows};
-use dp_certificate::{Entry, list_lengths};
 use crate::{Order, Reached, Row};
+use dp_certificate::{Entry, list_lengths};
 use foundation::steps::Steps;
 use schedule_meaning::Instance;
 use std::alloc::AllocError;

@@ -16,7 +16,7 @@ use road_net::Network;
 /// calls, each place of that history has its call, and each call its place; a reading has the version of its place, and the
 /// forecast that was published as that version.
 ///
-/// docs/RULES.md, "Histories of threads".
+/// docs/DESIGN.md, "Histories of threads".
 pub fn law_of_merged_calls(net: &Network)
     ensures lawful { (calls : ℕ → List Call) (logs : List Log) (h : List ℕ)
         → AreCalls (board_steps net.now) net.now.run.rounds calls

@@ -1,10 +1,9 @@
 //! Steps, the turn order, and which histories are lawful.
 use crate::worked::{Asked, worked};
 use histories::{
-    History, law_of_histories, law_of_steps, law_of_versions, lawful, node_steps, step_count,
-    turn_order,
+    History, law_of_histories, law_of_merged_calls, law_of_steps, law_of_versions, lawful,
+    node_steps, step_count, turn_order,
 };
-use histories::law_of_merged_calls;
 use road_net::Network;
 use std::alloc::{AllocError, Global};
 use std::test::Fail;

@@ -4,9 +4,9 @@ ghost use Rattle.std.specs.Prelude.{◌≡◌, ◌<◌, ◌≤◌, length, IfSom
 ghost use Rattle.std.specs.Option.{option_map};
 ghost use Rattle.instance_form.specs.Lines.{seen, count_line_at, phase_line_at, freshness_at, head_line_at, cluster_line_at};
 
-use text_lines::{field_u8, field_u32, literal};
 use phase_plan::Phase;
 use switch_rules::{Cluster, Head};
+use text_lines::{field_u8, field_u32, literal};
 
 /// The number of phases, 2 to 4, and the bytes after its line.
 ///

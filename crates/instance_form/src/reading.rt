@@ -15,9 +15,9 @@ ghost use Rattle.std.specs.Option.{ok_or};
 use crate::form::{Form, FormFault};
 use crate::lines::{count_line, head_line};
 use crate::lists::{lists, phases};
-use text_lines::literal;
 use std::alloc::Global;
 use switch_rules::Head;
+use text_lines::literal;
 
 /// How many phases the first two lines say, 2 to 4, and the bytes after them. The first has this number.
 #[tactic(auto, unfolding(crate::specs::Reading::opening_at))]

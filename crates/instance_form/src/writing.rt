@@ -5,10 +5,10 @@ ghost use Rattle.std.specs.List.{flat_map};
 ghost use Rattle.instance_form.specs.InstanceText.{phase_line, freshness, head_line, cluster_line, cluster_lines, instance_text};
 
 use foundation::items::Items;
-use text_lines::{Line, push_line};
 use phase_plan::Phase;
 use std::alloc::{AllocError, Global};
 use switch_rules::{Cluster, Head};
+use text_lines::{Line, push_line};
 
 /// The text of these phases, this head and the clusters of each phase, whatever their numbers. `Err`: out of memory.
 ///

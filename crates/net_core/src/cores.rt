@@ -1,15 +1,13 @@
 //! A run under way.
 use crate::faults::StepFault;
-use crate::stepping::{begin_round, go_on, is_done, play};
 use crate::first_parts::parts_of;
 use crate::parts::Parts;
+use crate::stepping::{begin_round, go_on, is_done, play};
 use arrivals::Arrivals;
-use runs::{EmptyRecord, record_of, empty_record};
 use foundation::threads::CrossesThreads;
 use intersection_actor::Want;
 use road_net::Network;
-use runs::Actors;
-use runs::{RunRecord, law_of_runs};
+use runs::{Actors, EmptyRecord, RunRecord, empty_record, law_of_runs, record_of};
 use schedule_meaning::Planner;
 use std::alloc::{AllocError, Global};
 use std::marker::Model;
@@ -17,7 +15,7 @@ use std::marker::Model;
 /// A run under way: the nodes of a network do their board steps one after another, in any order, and each plans as soon as it has
 /// read all. Contracts see the network, the arrivals, the nodes that have done steps, and whether the core is spent.
 ///
-/// docs/RULES.md, "Core".
+/// docs/DESIGN.md, "Core".
 #[derive(Drop)]
 pub struct Core<'a> {
     net: &'a Network,
@@ -60,7 +58,7 @@ impl<'a> Core<'a> {
     ///
     /// `Err`: out of memory.
     ///
-    /// docs/RULES.md, "Core".
+    /// docs/DESIGN.md, "Core".
     pub fn start<P: Planner>(
         alloc: Global,
         net: &'a Network,
@@ -86,7 +84,7 @@ impl<'a> Core<'a> {
 
     /// The nodes that have done board steps, one after another.
     ///
-    /// docs/RULES.md, "Core".
+    /// docs/DESIGN.md, "Core".
     pub fn steps(&self) -> &[u32]
         ensures { result.now ≡ self.now.steps }
     {
@@ -96,7 +94,7 @@ impl<'a> Core<'a> {
     /// What a node wants to do next: nothing, where it has done its steps of this round, where all rounds are done, or where the
     /// core is spent.
     ///
-    /// docs/RULES.md, "Core".
+    /// docs/DESIGN.md, "Core".
     pub fn wants(&self, node: u32) -> Want
         requires { node < length self.now.net.node_names }
         ensures spent { self.now.spent ≡ true → result ≡ Want.Done }
@@ -120,7 +118,7 @@ impl<'a> Core<'a> {
 
     /// Whether all rounds are done.
     ///
-    /// docs/RULES.md, "Core".
+    /// docs/DESIGN.md, "Core".
     pub fn is_over(&self) -> bool
         ensures { IsTrue result ↔ ((self.now.spent ≡ false) × IsLawful self.now.net self.now.steps) }
     {
@@ -134,7 +132,7 @@ impl<'a> Core<'a> {
     /// The first of `UnknownNode`, `Spent`, `Over` and `NotItsTurn` that holds is answered, takes no memory and leaves the core as it
     /// was. `NoMemory` comes only where none of them holds, and leaves the core spent, with its steps as they were.
     ///
-    /// docs/RULES.md, "Core".
+    /// docs/DESIGN.md, "Core".
     pub fn step<P: Planner>(
         &mut self,
         alloc: Global,
@@ -176,7 +174,7 @@ impl<'a> Core<'a> {
 
     /// The record of the run, all of whose rounds are done: it is over. It takes no memory.
     ///
-    /// docs/RULES.md, "Core".
+    /// docs/DESIGN.md, "Core".
     pub fn finish(self) -> RunRecord
         requires fresh { self.spent ≡ false }
         requires lawful { IsLawful self.net self.steps }

@@ -3,7 +3,7 @@ use foundation::threads::CrossesThreads;
 
 /// Why a core does not do a step. The first four leave it as it was.
 ///
-/// docs/RULES.md, "Core".
+/// docs/DESIGN.md, "Core".
 #[derive(Debug, Clone, Copy, PartialEq, Eq)]
 pub enum StepFault {
     /// The network has no such node.

@@ -9,12 +9,10 @@ use crate::joined::{play_all, threads_of};
 use crate::stages::{Stage, stage_of};
 use arrivals::Arrivals;
 use board_model::Gate;
-use runs::{record_of, empty_record};
 use histories::law_of_merged_calls;
 use plan_boards::{Boards, Pass};
 use road_net::Network;
-use runs::Actors;
-use runs::{RunRecord, law_of_runs};
+use runs::{Actors, RunRecord, empty_record, law_of_runs, record_of};
 use schedule_meaning::Planner;
 use std::alloc::{AllocError, Global};
 use std::sync::Wait;
@@ -103,7 +101,7 @@ fn play_rounds<P: Planner + Send, R: Threads + Wait + Sync, G: Gate + Sync>(
 /// is the run of that merge. An `Err` comes only where memory runs out. Then too the passes are still all passes of these boards, by
 /// number, with the calls that were made. It waits for the boards.
 ///
-/// docs/RULES.md, "Rounds in threads".
+/// docs/DESIGN.md, "Rounds in threads".
 pub fn run_rounds<P: Planner + Send + Drop, R: Threads + Wait + Sync, G: Gate + Sync>(
     rt: &R,
     alloc: Global,

@@ -13,8 +13,7 @@ ghost use Rattle.commands.specs.Outcome.{Outcome};
 use super::history_runs::kept_run;
 use super::summary::summary;
 use arrivals::Arrivals;
-use commands::{Refusal, Status};
-use commands::{Made, end};
+use commands::{Made, Refusal, Status, end};
 use histories::turn_order;
 use outside_world::Sink;
 use road_net::Network;
@@ -33,7 +32,12 @@ fn run_of_turns(alloc: Global, net: &Network, arrivals: &Arrivals) -> Result<Run
 }
 
 // The summary of the run of the turn order on the grid of a number.
-fn summary_of_grid(alloc: Global, number: u64, side: u32, rounds: u32) -> Result<Vec<u8>, AllocError>
+fn summary_of_grid(
+    alloc: Global,
+    number: u64,
+    side: u32,
+    rounds: u32,
+) -> Result<Vec<u8>, AllocError>
     requires side { IsSide side }
     requires rounds { AreRounds rounds }
     ensures { IfOk result (λ text. IsGridSummary number side rounds text.items) }

@@ -11,8 +11,7 @@ ghost use Rattle.network_jobs.specs.Missing.{Misses};
 
 use super::history_runs::kept_run;
 use arrivals::Arrivals;
-use commands::{HistoryScene, Named, Refusal, Status, fetch_history_scene};
-use commands::{Made, end};
+use commands::{HistoryScene, Made, Named, Refusal, Status, end, fetch_history_scene};
 use histories::History;
 use outside_world::{Shelf, Sink};
 use road_net::Network;
@@ -103,8 +102,9 @@ fn make_instance<S: Shelf>(
 ) -> Result<Made, Refusal>
     ensures { Makes (call_with args.now) (S.state shelf.old) (S.state shelf.new) result }
 {
-    let HistoryScene { scene, history } =
-        fetch_history_scene(alloc, shelf, args.net, args.arr, args.hist)?;
+    let HistoryScene { scene, history } = fetch_history_scene(
+        alloc, shelf, args.net, args.arr, args.hist,
+    )?;
     let text = find_planned_text(
         alloc,
         &scene.network,

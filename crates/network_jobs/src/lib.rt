@@ -13,9 +13,9 @@ mod rounds;
 mod summary;
 mod turns;
 
-pub use net::net_job;
 pub use grid::grid_job;
 pub use instance::{InstanceArgs, instance_job};
 pub use laws::law_of_instances;
+pub use net::net_job;
 pub use replay::replay_job;
 pub use turns::turns_job;

@@ -5,8 +5,7 @@ ghost use Rattle.commands.specs.Outcome.{Outcome};
 
 use super::rounds::report;
 use board_model::Gate;
-use commands::{Refusal, SceneFiles, Status, fetch_scene};
-use commands::{Made, end};
+use commands::{Made, Refusal, SceneFiles, Status, end, fetch_scene};
 use outside_world::{Shelf, Sink};
 use std::alloc::Global;
 use std::sync::Wait;

@@ -4,8 +4,7 @@ ghost use Rattle.commands.specs.Ending.{Makes};
 ghost use Rattle.commands.specs.Outcome.{Outcome};
 
 use super::history_runs::report;
-use commands::{HistoryScene, Refusal, Status, fetch_history_scene};
-use commands::{Made, end};
+use commands::{HistoryScene, Made, Refusal, Status, end, fetch_history_scene};
 use outside_world::{Shelf, Sink};
 use std::alloc::Global;
 

@@ -65,12 +65,25 @@ fn run_with_passes<R: Threads + Wait + Sync, G: Gate + Sync>(
 {
     let planners = BoundPlanner::many(alloc, net.nodes() as usize)?;
     let mut passes = passes;
-    let run = run_rounds(rt, alloc, net, arrivals, planners, boards, passes.as_mut_slice(), gate)?;
+    let run = run_rounds(
+        rt,
+        alloc,
+        net,
+        arrivals,
+        planners,
+        boards,
+        passes.as_mut_slice(),
+        gate,
+    )?;
     Ok((run, passes))
 }
 
 /// The logs of the boards.
-fn close_boards(alloc: Global, boards: Boards, passes: Vec<Pass>) -> Result<Vec<BoardLog>, AllocError>
+fn close_boards(
+    alloc: Global,
+    boards: Boards,
+    passes: Vec<Pass>,
+) -> Result<Vec<BoardLog>, AllocError>
     requires { AreAllPasses boards passes.items }
     ensures { IfOk result (λ logs. AreLogsOfPasses boards.links passes.items logs.items) }
 {

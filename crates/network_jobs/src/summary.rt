@@ -6,10 +6,10 @@ ghost use Rattle.schedule_meaning.specs.Best.{IsLeast};
 ghost use Rattle.switch_rules.specs.Bounds.{greatest_delay};
 
 use intersection_actor::PlanRecord;
-use text_lines::push_line;
 use runs::RunRecord;
 use schedule_meaning::Answer;
 use std::alloc::{AllocError, Global};
+use text_lines::push_line;
 
 /// The summary of a run on the grid of a number, with `side` nodes a side and for `rounds` rounds. `Err`: out of memory.
 pub fn summary(

@@ -9,8 +9,7 @@ ghost use Rattle.commands.specs.Outcome.{Outcome};
 
 use super::history_runs::report;
 use arrivals::Arrivals;
-use commands::{Refusal, Status, fetch_scene};
-use commands::{Made, end};
+use commands::{Made, Refusal, Status, end, fetch_scene};
 use histories::turn_order;
 use outside_world::{Shelf, Sink};
 use road_net::Network;
@@ -26,7 +25,12 @@ fn report_of_turns(alloc: Global, net: &Network, arrivals: &Arrivals) -> Result<
 }
 
 // The report of the run of the turn order, with the network and the arrivals in the files.
-fn make_report<S: Shelf>(alloc: Global, shelf: &mut S, net: &str, arr: &str) -> Result<Made, Refusal>
+fn make_report<S: Shelf>(
+    alloc: Global,
+    shelf: &mut S,
+    net: &str,
+    arr: &str,
+) -> Result<Made, Refusal>
     ensures { Makes (Turns net.now arr.now) (S.state shelf.old) (S.state shelf.new) result }
 {
     let scene = fetch_scene(alloc, shelf, net, arr)?;

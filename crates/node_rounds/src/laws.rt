@@ -14,7 +14,7 @@ use road_net::Network;
 /// Where the calls of the nodes are those of all rounds, and stand in a lawful history with the versions of their places, the nodes
 /// have heard along that history.
 ///
-/// docs/RULES.md, "Rounds in threads".
+/// docs/DESIGN.md, "Rounds in threads".
 pub fn law_of_round_calls(net: &Network)
     ensures { (heard : ℕ → ℕ → List Heard) (made : ℕ → ℕ → Commitment) (calls : ℕ → List Call) (history : List ℕ)
         → AreCallsIn net.now heard made net.now.run.rounds calls

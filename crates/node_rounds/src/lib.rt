@@ -10,6 +10,6 @@ mod telling;
 mod turns;
 
 pub use laws::law_of_round_calls;
-pub use round_laws::{};
 pub use playing::play;
+pub use round_laws::{};
 pub use turns::play_in_turn;

@@ -48,7 +48,7 @@ fn begin(
 ///
 /// An `Err` comes only where memory runs out. The pass keeps the calls that were made.
 ///
-/// docs/RULES.md, "Rounds in threads".
+/// docs/DESIGN.md, "Rounds in threads".
 pub fn play<P: Planner, R: Threads + Wait + Sync, G: Gate>(
     rt: &R,
     alloc: Global,

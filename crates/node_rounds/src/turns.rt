@@ -19,7 +19,7 @@ use std::thread::Threads;
 /// An `Err` comes only where memory runs out; the other nodes still play to their ends. The passes keep their boards and numbers, and
 /// the calls that were made.
 ///
-/// docs/RULES.md, "Rounds in threads".
+/// docs/DESIGN.md, "Rounds in threads".
 #[cycle(halves)]
 pub fn play_in_turn<P: Planner, R: Threads + Wait + Sync, G: Gate>(
     rt: &R,

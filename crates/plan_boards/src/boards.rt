@@ -22,7 +22,7 @@ pub(crate) type Place = Seat<BoardLog, View>;
 /// The boards of all links, which threads share. Contracts see which boards they are, and how many links and passes they
 /// have.
 ///
-/// docs/RULES.md, "Shared boards".
+/// docs/DESIGN.md, "Shared boards".
 #[derive(Drop)]
 pub struct Boards {
     // Word 0 is the next stamp; then comes for each link the turn word and the slot with the log.

@@ -70,7 +70,7 @@ impl Boards {
     ///
     /// An `Err` comes only where memory runs out, and gives the boards and the passes back.
     ///
-    /// docs/RULES.md, "Shared boards".
+    /// docs/DESIGN.md, "Shared boards".
     pub fn close(
         self,
         alloc: Global,

@@ -13,7 +13,7 @@ use std::marker::Model;
 /// What passes that meet have told so far. Contracts see the boards that it is of, and what is known: the least stamp that
 /// a pass which is told of it may draw next.
 ///
-/// docs/RULES.md, "Shared boards".
+/// docs/DESIGN.md, "Shared boards".
 #[derive(Drop)]
 pub struct Meeting {
     pub(crate) seat: Place,
@@ -74,7 +74,7 @@ impl Boards {
     /// Begins a meeting with what a pass knows. A caller that holds its passes in several slices lets the meeting hear each
     /// slice, and then tells each.
     ///
-    /// docs/RULES.md, "Shared boards".
+    /// docs/DESIGN.md, "Shared boards".
     pub fn begin_meeting(&self, pass: &mut Pass) -> Meeting
         requires { pass.old.boards ≡ self.now.id }
         ensures pass { pass.new ≡ pass.old }
@@ -86,7 +86,7 @@ impl Boards {
 
     /// Hears what passes know. They stay as they were.
     ///
-    /// docs/RULES.md, "Shared boards".
+    /// docs/DESIGN.md, "Shared boards".
     pub fn hear_all(&self, meeting: &mut Meeting, passes: &mut [Pass])
         requires meeting { meeting.old.boards ≡ self.now.id }
         requires boards { All (λ p. p.boards ≡ self.now.id) passes.old }
@@ -100,7 +100,7 @@ impl Boards {
 
     /// Tells passes what all that met know. Each keeps its number, its calls and its calls left.
     ///
-    /// docs/RULES.md, "Shared boards".
+    /// docs/DESIGN.md, "Shared boards".
     pub fn tell_all(&self, meeting: &mut Meeting, passes: &mut [Pass])
         requires meeting { meeting.old.boards ≡ self.now.id }
         requires boards { All (λ p. p.boards ≡ self.now.id) passes.old }
@@ -115,7 +115,7 @@ impl Boards {
     /// Lets passes of these boards meet: the next stamp of each is then above every stamp that one of them had drawn
     /// before. Each keeps its number, its calls and its calls left. It takes no memory, so it answers `Ok`.
     ///
-    /// docs/RULES.md, "Shared boards".
+    /// docs/DESIGN.md, "Shared boards".
     pub fn meet(&self, passes: &mut [Pass]) -> Result<(), AllocError>
         requires { All (λ p. p.boards ≡ self.now.id) passes.old }
         ensures ok { IsOk result }

@@ -109,7 +109,7 @@ impl Boards {
     ///
     /// An `Err` comes only where memory runs out.
     ///
-    /// docs/RULES.md, "Shared boards".
+    /// docs/DESIGN.md, "Shared boards".
     pub fn new(
         alloc: Global,
         links: u32,

@@ -6,7 +6,7 @@ use std::marker::Model;
 /// The right of one thread to make calls on the boards. Contracts see the boards that it is of, its number, its calls left,
 /// the least stamp that it may draw next, and its own calls.
 ///
-/// docs/RULES.md, "Shared boards".
+/// docs/DESIGN.md, "Shared boards".
 #[derive(Drop)]
 pub struct Pass {
     pub(crate) seat: Place,
@@ -33,7 +33,7 @@ impl Pass {
 
     /// Its number, from 0.
     ///
-    /// docs/RULES.md, "Shared boards".
+    /// docs/DESIGN.md, "Shared boards".
     pub fn number(&self) -> u32
         ensures value { result ≡ self.now.number }
         ensures order { AreInOrder self.now.known self.now.calls }
@@ -43,7 +43,7 @@ impl Pass {
 
     /// How many calls it may still make.
     ///
-    /// docs/RULES.md, "Shared boards".
+    /// docs/DESIGN.md, "Shared boards".
     pub fn calls_left(&self) -> u32
         ensures value { result ≡ self.now.left }
         ensures order { AreInOrder self.now.known self.now.calls }

@@ -107,7 +107,7 @@ impl Boards {
     ///
     /// An `Err` comes only where memory runs out, leaves the pass as it was, and adds no event to a log.
     ///
-    /// docs/RULES.md, "Shared boards".
+    /// docs/DESIGN.md, "Shared boards".
     pub fn read<R: Threads + Wait + Sync, G: Gate>(
         &self,
         rt: &R,

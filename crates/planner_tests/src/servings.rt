@@ -5,7 +5,6 @@ ghost use Rattle.std.specs.Prelude.{◌≡◌, ◌<◌, length};
 use super::texts::TWO_PHASES;
 use foundation::items::Items;
 use foundation::steps::Steps;
-use text_lines::field_u64;
 use phase_plan::{Phase, PhasePlan, PlanFault};
 use schedule_meaning::{
     Instance, InstanceFault, SeqFault, ServingsFault, Timed, read_instance, replay, servings,
@@ -15,6 +14,7 @@ use std::marker::Brand;
 use std::sync::ledger::{Blank, Ledger};
 use std::test::Fail;
 use switch_rules::{Cluster, Head, LATEST_TIME, Served, Unfit, serve, ways};
+use text_lines::field_u64;
 
 const IMPATIENT: &str = "instance 1\nphases 2\nphase 5 30 3 2 2 20\nphase 5 30 3 2 2 10\n";
 

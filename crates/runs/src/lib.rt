@@ -9,7 +9,7 @@ mod records;
 mod run_records;
 
 pub use ended_run::{};
-pub use run_records::{EmptyRecord, empty_record, record_of};
-pub use new_actors::{Actors, actors_of};
 pub use laws::{law_of_one_run, law_of_runs};
+pub use new_actors::{Actors, actors_of};
 pub use records::RunRecord;
+pub use run_records::{EmptyRecord, empty_record, record_of};

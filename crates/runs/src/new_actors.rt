@@ -12,7 +12,7 @@ use std::alloc::{AllocError, Global};
 
 /// The actors of a network, one for each node: their lines are what the world moves by.
 ///
-/// docs/RULES.md, "Core".
+/// docs/DESIGN.md, "Core".
 #[derive(Drop)]
 pub struct Actors {
     /// The actors, by node.
@@ -38,7 +38,7 @@ impl Lights for Actors {
 ///
 /// `Err`: out of memory.
 ///
-/// docs/RULES.md, "Core".
+/// docs/DESIGN.md, "Core".
 pub fn actors_of(alloc: Global, net: &Network) -> Result<Actors, AllocError>
     ensures { IfOk result (λ actors. AreNew net.now (length net.now.node_names) actors.all.items) }
 {

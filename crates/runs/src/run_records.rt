@@ -5,13 +5,13 @@ ghost use Rattle.std.specs.VecDeque.{deque_items};
 ghost use Rattle.net_simulator.specs.Counts.{counts_at};
 ghost use Rattle.runs.specs.Ending.{HasCapacity, IsRecordOf, lines_in, first_of_each, records_in, round_by_round, without_first};
 
+use crate::RunRecord;
 use control_flow::greens::Timeline;
 use foundation::items::Items;
 use foundation::threads::CrossesThreads;
 use intersection_actor::{Actor, PlanRecord};
 use net_simulator::{LinkTotals, World};
 use road_net::Network;
-use crate::RunRecord;
 use std::alloc::{AllocError, Global};
 use std::collections::VecDeque;
 

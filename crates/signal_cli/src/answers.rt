@@ -2,9 +2,9 @@
 ghost use Rattle.std.specs.Prelude.{◌≡◌, IfOk};
 ghost use Rattle.commands.specs.Answers.{answer_text};
 
-use text_lines::{push_number, push_numbers};
 use schedule_meaning::Answer;
 use std::alloc::{AllocError, Global};
+use text_lines::{push_number, push_numbers};
 
 /// The text that `plan` writes for an answer. `Err`: out of memory.
 ///

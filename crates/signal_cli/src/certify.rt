@@ -12,7 +12,7 @@ ghost use Rattle.commands.specs.Outcome.{Outcome};
 
 use crate::delivery::deliver;
 use certificate_form::{law_of_certificate_text, law_of_certificates};
-use commands::{TextPlace, Refusal, Status, fetch_instance};
+use commands::{Refusal, Status, TextPlace, fetch_instance};
 use dp_certificate::Certificate;
 use foundation::steps::Steps;
 use outside_world::{Shelf, Sink};

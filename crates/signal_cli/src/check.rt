@@ -9,8 +9,7 @@ ghost use Rattle.commands.specs.Outcome.{Outcome};
 
 use super::verdicts::rejected_line;
 use cert_checker::Verdict;
-use commands::{TextPlace, Refusal, Status, fetch_certificate};
-use commands::{Made, end};
+use commands::{Made, Refusal, Status, TextPlace, end, fetch_certificate};
 use dp_certificate::Certificate;
 use foundation::steps::Steps;
 use outside_world::{Shelf, Sink};

@@ -4,8 +4,7 @@ ghost use Rattle.commands.specs.Ending.{Makes};
 ghost use Rattle.commands.specs.Outcome.{Outcome};
 
 use super::answers::answer_text;
-use commands::{TextPlace, Refusal, Status, fetch_instance};
-use commands::{Made, end};
+use commands::{Made, Refusal, Status, TextPlace, end, fetch_instance};
 use forward_dp::LayerPlanner;
 use outside_world::{Shelf, Sink};
 use schedule_meaning::best_answer;

@@ -9,15 +9,13 @@ use super::certify::{Table, certify_job};
 use super::check::check_job;
 use super::plan::plan_job;
 use board_model::Gate;
-use commands::{Refusal, SceneFiles, Status, refuse};
-use commands::{Command, command_of};
+use commands::{Command, Refusal, SceneFiles, Status, command_of, refuse};
 use foundation::text::Text;
-use network_jobs::{InstanceArgs, grid_job, instance_job, replay_job, turns_job};
+use network_jobs::{InstanceArgs, grid_job, instance_job, net_job, replay_job, turns_job};
 use outside_world::{Shelf, Sink};
 use std::alloc::Global;
 use std::sync::Wait;
 use std::thread::Threads;
-use network_jobs::net_job;
 
 /// The program: does what its arguments say over the shelf and the sinks, and answers how it ended.
 ///

@@ -6,5 +6,5 @@ mod fields;
 mod lines;
 
 pub use buffer::Line;
+pub use fields::{field_u8, field_u32, field_u64, law_of_fields, literal};
 pub use lines::{push_line, push_number, push_numbers, put_numbers};
-pub use fields::{field_u32, field_u64, field_u8, law_of_fields, literal};
