@@ -65,7 +65,7 @@ fn entering(rt: HostRuntime) -> Result<(), Fail> {
     let arrivals = read_arrivals(alloc, text.as_bytes(), &net)?;
     for &(second, link, amount) in ENTERING {
         assert_eq!(rt;
-            arrivals.amount_entering(link, second),
+            arrivals.entering(link, second),
             amount,
             "link {link} in second {second}"
         );

@@ -86,7 +86,7 @@ impl Arrivals {
     /// What enters a link in a second, in thousandths of a vehicle: the sum of the rows with both.
     ///
     /// docs/RULES.md, "Arrivals".
-    pub fn amount_entering(&self, link: u32, second: u32) -> u32
+    pub fn entering(&self, link: u32, second: u32) -> u32
         ensures value { result ≡ entering self.now link second }
         ensures few { (n m : ℕ) → total (λ x. total (λ l. entering self.now l x) m) n ≤ most_of_all }
     {

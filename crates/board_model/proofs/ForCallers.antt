@@ -3,7 +3,7 @@ use Rattle.std.proofs.Common.{◌≡◌, ℕ, ◌+◌, ◌<◌, ◌≤◌, List,
 use Rattle.std.specs.Prelude.{slice_index_or}
 use Rattle.std.proofs.lemmas.List.{get_or_append_left, length_push, map-append}
 use Rattle.std.proofs.lemmas.List.Concat.{flat_map-append}
-use Rattle.board_model.specs.declared.forecasts.ForecastRow.{ForecastRow}
+use Rattle.board_model.specs.declared.forecasts.Row.{Row}
 use Rattle.board_model.specs.declared.boards.BoardEvent.{BoardEvent}
 use Rattle.board_model.specs.Forecasts.{IsAboveLast, seconds}
 use Rattle.board_model.specs.Boards.{stamps, published, version_of, forecast_of, newest, after_read, after_publish}
@@ -11,7 +11,7 @@ use Rattle.board_model.proofs.LastOf.{IsAboveLast-more}
 use Rattle.board_model.proofs.LogLaws.{published-read, published-publish, newest-same}
 
 -- after a row may follow what is above it
-pub above-row : (rows : List ForecastRow) (row : ForecastRow) (second : ℕ) → row.second < second → IsAboveLast (seconds (rows ++ row ∷ [])) second
+pub above-row : (rows : List Row) (row : Row) (second : ℕ) → row.second < second → IsAboveLast (seconds (rows ++ row ∷ [])) second
 above-row rows row second below = rw map-append (IsAboveLast-more (seconds rows) row.second second below)
 
 -- after an event may follow what is above it
@@ -23,7 +23,7 @@ pub version_of-read : (events : List BoardEvent) (stamp node : ℕ) → version_
 version_of-read events stamp node = ap length (published-read events stamp node (version_of events))
 
 -- a Publish makes the version after
-pub version_of-publish : (events : List BoardEvent) (stamp node : ℕ) (forecast : List ForecastRow) → version_of (after_publish events stamp node forecast) ≡ version_of events + 1
+pub version_of-publish : (events : List BoardEvent) (stamp node : ℕ) (forecast : List Row) → version_of (after_publish events stamp node forecast) ≡ version_of events + 1
 version_of-publish events stamp node forecast = ap length (published-publish events stamp node forecast) ∙ length_push (published events) forecast
 
 -- a Read leaves the newest forecast
@@ -33,5 +33,5 @@ newest-read events stamp node = newest-same (after_read events stamp node) event
 -- later events leave the forecast of each version that was there
 pub forecast_of-kept : (events later : List BoardEvent) (version : ℕ) → version ≤ version_of events → forecast_of (events ++ later) version ≡ forecast_of events version
 forecast_of-kept events later version there =
-    ap (λ (all : List (List ForecastRow)). slice_index_or ([] ∷ all) version []) (flat_map-append _ events later)
+    ap (λ (all : List (List Row)). slice_index_or ([] ∷ all) version []) (flat_map-append _ events later)
     ∙ get_or_append_left ([] ∷ published events) (published later) [] version (omega arith)

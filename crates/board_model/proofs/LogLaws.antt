@@ -5,7 +5,7 @@ use Rattle.std.proofs.lemmas.Bool.{cases_lt}
 use Rattle.std.proofs.lemmas.List.{append-nil, length_push, map-append, take-append-le, take_at}
 use Rattle.std.proofs.lemmas.List.Concat.{flat_map-append}
 use Rattle.std.proofs.lemmas.Option.{slice_get_past}
-use Rattle.board_model.specs.declared.forecasts.ForecastRow.{ForecastRow}
+use Rattle.board_model.specs.declared.forecasts.Row.{Row}
 use Rattle.board_model.specs.declared.boards.BoardEvent.{BoardEvent}
 use Rattle.board_model.specs.declared.boards.BoardKind.TheVariants.{Read}
 use Rattle.board_model.specs.Forecasts.{IsAboveLast}
@@ -51,7 +51,7 @@ pub published-read : (events : List BoardEvent) (stamp node version : ℕ) → p
 published-read events stamp node version = flat_map-append _ events _ ∙ append-nil (published events)
 
 -- a Publish publishes its forecast, after all others
-pub published-publish : (events : List BoardEvent) (stamp node : ℕ) (forecast : List ForecastRow) → published (after_publish events stamp node forecast) ≡ published events ++ forecast ∷ []
+pub published-publish : (events : List BoardEvent) (stamp node : ℕ) (forecast : List Row) → published (after_publish events stamp node forecast) ≡ published events ++ forecast ∷ []
 published-publish events stamp node forecast = flat_map-append _ events _
 
 -- a Read after the log leaves what is published at a place
@@ -62,23 +62,23 @@ published_at-read (e ∷ es) stamp node version zero = refl
 published_at-read (e ∷ es) stamp node version (suc place) = published_at-read es stamp node version place
 
 -- a Publish after the log is found at its end
-published_at-publish : (events : List BoardEvent) (stamp node : ℕ) (forecast : List ForecastRow) → published_at (after_publish events stamp node forecast) (length events) ≡ forecast
+published_at-publish : (events : List BoardEvent) (stamp node : ℕ) (forecast : List Row) → published_at (after_publish events stamp node forecast) (length events) ≡ forecast
 published_at-publish [] stamp node forecast = refl
 published_at-publish (e ∷ es) stamp node forecast = published_at-publish es stamp node forecast
 
 -- after all others stands the newest
-newest-more : (oldest : List ForecastRow) (all : List (List ForecastRow)) (forecast : List ForecastRow) → slice_index_or (oldest ∷ (all ++ forecast ∷ [])) (length (all ++ forecast ∷ [])) [] ≡ forecast
+newest-more : (oldest : List Row) (all : List (List Row)) (forecast : List Row) → slice_index_or (oldest ∷ (all ++ forecast ∷ [])) (length (all ++ forecast ∷ [])) [] ≡ forecast
 newest-more oldest [] forecast = refl
 newest-more oldest (f ∷ fs) forecast = newest-more f fs forecast
 
 -- logs that publish the same have the same newest forecast
 pub newest-same : (events others : List BoardEvent) → published events ≡ published others → newest events ≡ newest others
-newest-same events others same = ap (λ (all : List (List ForecastRow)). slice_index_or ([] ∷ all) (length all) []) same
+newest-same events others same = ap (λ (all : List (List Row)). slice_index_or ([] ∷ all) (length all) []) same
 
 -- after a Publish its forecast is the newest
-pub newest-publish : (events : List BoardEvent) (stamp node : ℕ) (forecast : List ForecastRow) → newest (after_publish events stamp node forecast) ≡ forecast
+pub newest-publish : (events : List BoardEvent) (stamp node : ℕ) (forecast : List Row) → newest (after_publish events stamp node forecast) ≡ forecast
 newest-publish events stamp node forecast =
-    ap (λ (all : List (List ForecastRow)). slice_index_or ([] ∷ all) (length all) []) (published-publish events stamp node forecast)
+    ap (λ (all : List (List Row)). slice_index_or ([] ∷ all) (length all) []) (published-publish events stamp node forecast)
     ∙ newest-more [] (published events) forecast
 
 -- a stored log stays one after a Read of the version that it keeps
@@ -94,7 +94,7 @@ IsStored-read events version place stamp node stored above =
     }
 
 -- a stored log stays one after a Publish
-pub IsStored-publish : (events : List BoardEvent) (version place end stamp node : ℕ) (forecast : List ForecastRow) → IsStored events version place → version < 64000000 → end ≡ length events → IsAboveLast (stamps events) stamp → IsStored (after_publish events stamp node forecast) (version + 1) end
+pub IsStored-publish : (events : List BoardEvent) (version place end stamp node : ℕ) (forecast : List Row) → IsStored events version place → version < 64000000 → end ≡ length events → IsAboveLast (stamps events) stamp → IsStored (after_publish events stamp node forecast) (version + 1) end
 IsStored-publish events version place end stamp node forecast stored few behind above = record {
   legal = IsLegal-more events _ stored.legal above tt;
   counted = ap (λ (n : ℕ). n + 1) stored.counted ∙ sym (ap length (published-publish events stamp node forecast) ∙ length_push (published events) forecast);

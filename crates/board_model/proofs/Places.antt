@@ -6,7 +6,7 @@ use Rattle.std.proofs.lemmas.Bool.{le-leb, lt-leb}
 use Rattle.std.proofs.lemmas.List.{take-append-drop}
 use Rattle.std.proofs.lemmas.List.Elements.{All-tail}
 use Rattle.std.proofs.lemmas.Option.{none-some}
-use Rattle.board_model.specs.declared.forecasts.ForecastRow.{ForecastRow}
+use Rattle.board_model.specs.declared.forecasts.Row.{Row}
 use Rattle.board_model.specs.declared.boards.BoardEvent.{BoardEvent}
 use Rattle.board_model.specs.declared.boards.BoardKind.{BoardKind}
 use Rattle.board_model.specs.declared.boards.BoardKind.TheVariants.{Read, Publish}
@@ -40,7 +40,7 @@ module _ (events : List BoardEvent) (place : ℕ) (event : BoardEvent) (there : 
       before ∙ sym (next ∙ ap (λ k. version_of (take place events ++ record { stamp = event.stamp; node = event.node; kind = k } ∷ [])) (is ∙ ap Read before) ∙ version_of-read (take place events) event.stamp event.node)
 
   -- the forecast of a Publish is that of the version that it makes
-  publish-tells : (forecast : List ForecastRow) → event.kind ≡ Publish forecast → forecast ≡ forecast_of events (version_at events place)
+  publish-tells : (forecast : List Row) → event.kind ≡ Publish forecast → forecast ≡ forecast_of events (version_at events place)
   publish-tells forecast is =
       let before : List BoardEvent = take place events in
       let made : newest (before ++ event ∷ []) ≡ forecast = ap (λ k. newest (before ++ record { stamp = event.stamp; node = event.node; kind = k } ∷ [])) is ∙ newest-publish before event.stamp event.node forecast in

@@ -2,7 +2,7 @@
 use Rattle.std.specs.Prelude.{◌≡◌, ℕ, ◌+◌, nat_le, filter, List, [], ◌∷◌, ◌++◌, length, map, take, IfSome, ⊤, slice_get, slice_index_or}
 use Rattle.std.specs.List.{flat_map}
 use Rattle.std.specs.List.Sorted.{IsStrictlyIncreasing}
-use Rattle.board_model.specs.declared.forecasts.ForecastRow.{ForecastRow}
+use Rattle.board_model.specs.declared.forecasts.Row.{Row}
 use Rattle.board_model.specs.declared.boards.BoardEvent.{BoardEvent}
 use Rattle.board_model.specs.declared.boards.BoardKind.{BoardKind}
 use Rattle.board_model.specs.declared.boards.BoardKind.TheVariants.{Read, Publish}
@@ -21,12 +21,12 @@ abbrev pub stamps : List BoardEvent → List ℕ
 stamps events = map (λ event. event.stamp) events
 
 -- what an event publishes: a forecast, or nothing
-abbrev pub published_by : BoardKind → List (List ForecastRow)
+abbrev pub published_by : BoardKind → List (List Row)
 published_by (Read version) = []
 published_by (Publish forecast) = forecast ∷ []
 
 -- the forecasts that the events publish, in their order
-abbrev pub published : List BoardEvent → List (List ForecastRow)
+abbrev pub published : List BoardEvent → List (List Row)
 published events = flat_map (λ event. published_by event.kind) events
 
 -- the newest version: how many forecasts were published
@@ -34,11 +34,11 @@ abbrev pub version_of : List BoardEvent → ℕ
 version_of events = length (published events)
 
 -- the forecast of a version: of 0 the empty one, of k the k-th that was published
-abbrev pub forecast_of : List BoardEvent → ℕ → List ForecastRow
+abbrev pub forecast_of : List BoardEvent → ℕ → List Row
 forecast_of events version = slice_index_or ([] ∷ published events) version []
 
 -- the forecast of the newest version
-abbrev pub newest : List BoardEvent → List ForecastRow
+abbrev pub newest : List BoardEvent → List Row
 newest events = forecast_of events (version_of events)
 
 -- where it is a Read, it carries this version
@@ -56,7 +56,7 @@ abbrev pub after_read : List BoardEvent → ℕ → ℕ → List BoardEvent
 after_read events stamp node = events ++ record { stamp = stamp; node = node; kind = Read (version_of events) } ∷ []
 
 -- the events with one more: a node published this forecast
-abbrev pub after_publish : List BoardEvent → ℕ → ℕ → List ForecastRow → List BoardEvent
+abbrev pub after_publish : List BoardEvent → ℕ → ℕ → List Row → List BoardEvent
 after_publish events stamp node forecast = events ++ record { stamp = stamp; node = node; kind = Publish forecast } ∷ []
 
 -- the version that stands once the event at this place has happened: the one that it read, or made

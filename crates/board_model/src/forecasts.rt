@@ -1,7 +1,7 @@
 //! Forecasts: rows of seconds with amounts.
 ghost use Rattle.std.specs.Prelude.{◌≡◌, ◌<◌, ◌≤◌, [], IfOk, length};
 ghost use Rattle.std.specs.List.Sorted.{IsNonDecreasingBy, IsPartitionPoint};
-ghost use Rattle.board_model.specs.declared.forecasts.ForecastRow.{ForecastRow};
+ghost use Rattle.board_model.specs.declared.forecasts.Row.{Row};
 
 use foundation::threads::CrossesThreads;
 use std::alloc::{AllocError, Global};
@@ -11,21 +11,21 @@ use std::marker::Model;
 ///
 /// docs/RULES.md, "Forecast".
 #[derive(Debug, Clone, Copy, PartialEq, Eq)]
-pub struct ForecastRow {
+pub struct Row {
     /// The second, 0 to 100,000.
     pub second: u32,
     /// What comes in it, 1 to 80,000 thousandths of a vehicle.
     pub amount: u32,
 }
 
-impl CrossesThreads for ForecastRow {}
+impl CrossesThreads for Row {}
 
 /// The place of the first row that is not before the second, found by halves.
-fn first_from(rows: &[ForecastRow], second: u32) -> usize
-    requires { IsNonDecreasingBy (λ (row : ForecastRow). row.second) rows.now }
+fn first_from(rows: &[Row], second: u32) -> usize
+    requires { IsNonDecreasingBy (λ (row : Row). row.second) rows.now }
     ensures bound { result ≤ length rows.now }
-    ensures split { IsPartitionPoint (λ (row : ForecastRow). row.second < second)
-        (λ (row : ForecastRow). second ≤ row.second) rows.now result }
+    ensures split { IsPartitionPoint (λ (row : Row). row.second < second)
+        (λ (row : Row). second ≤ row.second) rows.now result }
 {
     rows.partition_point(|row| row.second < second)
 }
@@ -36,14 +36,14 @@ fn first_from(rows: &[ForecastRow], second: u32) -> usize
 /// docs/RULES.md, "Forecast".
 #[derive(Debug, Drop)]
 pub struct Forecast {
-    rows: Vec<ForecastRow>,
+    rows: Vec<Row>,
 }
 
 impl Model for Forecast {
     ghost use Rattle.std.specs.Prelude.{List};
-    ghost use Rattle.board_model.specs.declared.forecasts.ForecastRow.{ForecastRow};
+    ghost use Rattle.board_model.specs.declared.forecasts.Row.{Row};
 
-    ghost Value = { List ForecastRow };
+    ghost Value = { List Row };
 
     ghost use Rattle.board_model.specs.Forecasts.{IsForecast};
 
@@ -107,7 +107,7 @@ impl Forecast {
     /// `Err`: out of memory; the forecast stays as it was.
     ///
     /// docs/RULES.md, "Forecast".
-    pub fn push(&mut self, r: ForecastRow) -> Result<(), AllocError>
+    pub fn push(&mut self, r: Row) -> Result<(), AllocError>
         requires few { length self.old < most_rows }
         requires above { IsAboveLast (seconds self.old) r.second }
         requires row { IsRow r }
@@ -121,7 +121,7 @@ impl Forecast {
     /// The rows, in the order of their seconds.
     ///
     /// docs/RULES.md, "Forecast".
-    pub fn rows(&self) -> &[ForecastRow]
+    pub fn rows(&self) -> &[Row]
         ensures value { result.now ≡ self.now }
         ensures forecast { IsForecast self.now }
     {

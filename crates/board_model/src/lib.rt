@@ -9,5 +9,5 @@ mod gates;
 
 pub use boards::{BoardEvent, BoardKind, BoardLog, Heard, Seen, Sent};
 pub use calls::Call;
-pub use forecasts::{Forecast, ForecastRow};
+pub use forecasts::{Forecast, Row};
 pub use gates::{Gate, OpenGate};

@@ -10,7 +10,7 @@ use native.Mathlib.Decide.{ℕ_discrete, dec_le}
 use lib.ListN.{get_elem?}
 use Rattle.atomic_table.specs.Table.{State, step, keeps, Allows}
 use Rattle.atomic_table.proofs.Lists.{set_here, set_else}
-use Rattle.board_model.specs.declared.forecasts.ForecastRow.{ForecastRow}
+use Rattle.board_model.specs.declared.forecasts.Row.{Row}
 use Rattle.board_model.specs.declared.boards.BoardEvent.{BoardEvent}
 use Rattle.board_model.specs.declared.calls.Call.{Call}
 use Rattle.board_model.specs.Forecasts.{IsAboveLast}
@@ -201,7 +201,7 @@ module _ {S : Type 0} (stands : S → List BoardEvent → Type 0) where
         )
 
     -- kind 2, a publishing
-    pub draws-publish : (f : List ForecastRow) → Allows (Holds stands terms) slots id me 0 (λ n. (n + 1) % 2 ^ 64) (draws_publish f (step slots 0 1 0 none) me)
+    pub draws-publish : (f : List Row) → Allows (Holds stands terms) slots id me 0 (λ n. (n + 1) % 2 ^ 64) (draws_publish f (step slots 0 1 0 none) me)
     draws-publish f s h long here small = let n : ℕ = get_or s.words 0 0 in let v : View = me.0 in
         let call : Call = publish_call (link_in v.flight) n (events_in v.flight) f in
         let after : List BoardEvent = after_publish (events_in v.flight) n (number_of v.entries) f in

@@ -5,7 +5,7 @@ use Rattle.atomic_table.specs.Seated.{TableId}
 use Rattle.board_model.specs.declared.boards.Seen.{Seen}
 use Rattle.board_model.specs.declared.boards.Sent.{Sent}
 use Rattle.board_model.specs.declared.calls.Call.{Call}
-use Rattle.board_model.specs.declared.forecasts.ForecastRow.{ForecastRow}
+use Rattle.board_model.specs.declared.forecasts.Row.{Row}
 use Rattle.board_model.specs.Boards.{Log}
 use Rattle.board_model.specs.Calls.{calls_at, log_at, AreLogsOf, Agree}
 
@@ -46,7 +46,7 @@ after_call p call = record { boards = p.boards; number = p.number; left = p.left
 abbrev pub call_of_read : ℕ → Seen → Call
 call_of_read link seen = record { link = link; stamp = seen.stamp; publishes = false; version = seen.version; forecast = seen.forecast }
 
-abbrev pub call_of_publish : ℕ → Sent → List ForecastRow → Call
+abbrev pub call_of_publish : ℕ → Sent → List Row → Call
 call_of_publish link sent f = record { link = link; stamp = sent.stamp; publishes = true; version = sent.version; forecast = f }
 
 -- what a reading tells: the stamp is above all that the pass knew, and the call is added. The version is no older than
@@ -59,7 +59,7 @@ pub record HasRead (old new : PassView) (link : ℕ) (seen : Seen) : Type 0 wher
 
 -- what a publishing tells: the same of the stamp and the call. The version is newer than those in the pass's own calls at
 -- the link
-pub record HasSent (old new : PassView) (link : ℕ) (f : List ForecastRow) (sent : Sent) : Type 0 where
+pub record HasSent (old new : PassView) (link : ℕ) (f : List Row) (sent : Sent) : Type 0 where
   pub stamp : old.known ≤ sent.stamp
   pub pass : new ≡ after_call old (call_of_publish link sent f)
   pub newer : All (λ call. call.version < sent.version) (calls_at link old.calls)

@@ -1,7 +1,7 @@
 -- What each step on a word tells its caller.
 use Rattle.std.specs.Prelude.{◌≡◌, ℕ, ◌-◌, ◌<◌, ◌≤◌, ◌==◌, Bool, true, false, Some, None, List, ◌∷◌, All}
 use Rattle.atomic_table.specs.Table.{Me, Step, rest}
-use Rattle.board_model.specs.declared.forecasts.ForecastRow.{ForecastRow}
+use Rattle.board_model.specs.declared.forecasts.Row.{Row}
 use Rattle.board_model.specs.declared.boards.BoardEvent.{BoardEvent}
 use Rattle.board_model.specs.declared.calls.Call.{Call}
 use Rattle.board_model.specs.Forecasts.{IsAboveLast}
@@ -31,7 +31,7 @@ module _ {S : Type 0} where
   abbrev pub draws_read : Step S → Hand S → ℕ → Hand S → Type 0
   draws_read s m found n = HasDrawn m.0 found × (n ≡ (drew_read m.0 found, m.1))
 
-  abbrev pub draws_publish : List ForecastRow → Step S → Hand S → ℕ → Hand S → Type 0
+  abbrev pub draws_publish : List Row → Step S → Hand S → ℕ → Hand S → Type 0
   draws_publish forecast s m found n = HasDrawn m.0 found × (n ≡ (drew_publish forecast m.0 found, m.1))
 
   -- no call is in flight any more, and the slot goes home

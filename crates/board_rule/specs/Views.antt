@@ -1,7 +1,7 @@
 -- What a seat knows, and what each step makes of it.
 use Rattle.std.specs.Prelude.{ℕ, ◌+◌, ◌-◌, max, Bool, true, false, Option, Some, None, List, [], ◌∷◌, ◌++◌}
 use Rattle.std.specs.Option.{option_map_or}
-use Rattle.board_model.specs.declared.forecasts.ForecastRow.{ForecastRow}
+use Rattle.board_model.specs.declared.forecasts.Row.{Row}
 use Rattle.board_model.specs.declared.boards.BoardEvent.{BoardEvent}
 use Rattle.board_model.specs.declared.calls.Call.{Call}
 use Rattle.board_model.specs.Boards.{version_of, newest, after_read, after_publish}
@@ -62,14 +62,14 @@ drew v stamp call after = record {
 abbrev pub read_call : ℕ → ℕ → List BoardEvent → Call
 read_call link stamp events = record { link = link; stamp = stamp; publishes = false; version = version_of events; forecast = newest events }
 
-abbrev pub publish_call : ℕ → ℕ → List BoardEvent → List ForecastRow → Call
+abbrev pub publish_call : ℕ → ℕ → List BoardEvent → List Row → Call
 publish_call link stamp events forecast = record { link = link; stamp = stamp; publishes = true; version = version_of events + 1; forecast = forecast }
 
 -- the view after the draw of a reading, and of a publishing
 abbrev pub drew_read : View → ℕ → View
 drew_read v stamp = drew v stamp (read_call (link_in v.flight) stamp (events_in v.flight)) (after_read (events_in v.flight) stamp (number_of v.entries))
 
-abbrev pub drew_publish : List ForecastRow → View → ℕ → View
+abbrev pub drew_publish : List Row → View → ℕ → View
 drew_publish forecast v stamp = drew v stamp (publish_call (link_in v.flight) stamp (events_in v.flight) forecast) (after_publish (events_in v.flight) stamp (number_of v.entries) forecast)
 
 -- the first view: pass 0, which makes the others, and has all calls that are left

@@ -1,6 +1,6 @@
 // The rule of the table, and the names of its steps.
 ghost use Rattle.std.specs.Prelude.{List};
-ghost use Rattle.board_model.specs.declared.forecasts.ForecastRow.{ForecastRow};
+ghost use Rattle.board_model.specs.declared.forecasts.Row.{Row};
 ghost use Rattle.board_model.specs.declared.boards.BoardEvent.{BoardEvent};
 ghost use Rattle.board_rule.specs.Rule.{Holds};
 ghost use Rattle.board_rule.specs.Views.{first_view, dealt, newcomer, courier, spent, informed, ended};
@@ -34,7 +34,7 @@ impl<S, Q: Stands<S>> TableRule<S, View, Terms> for BoardRule<Q> {
 ///
 /// docs/DESIGN.md, "Shared boards".
 pub trait Asked {
-    ghost forecast: { List ForecastRow };
+    ghost forecast: { List Row };
 }
 
 impl Asked for Brand {

@@ -1,16 +1,16 @@
 //! Forecasts.
-use board_model::{Forecast, ForecastRow};
+use board_model::{Forecast, Row};
 use std::alloc::{AllocError, Global};
 use std::test::Fail;
 
 /// Half a vehicle in second 22, and half a one in second 23.
 pub(crate) fn two_rows(alloc: Global) -> Result<Forecast, AllocError> {
     let mut forecast = Forecast::empty(alloc);
-    forecast.push(ForecastRow {
+    forecast.push(Row {
         second: 22,
         amount: 500,
     })?;
-    forecast.push(ForecastRow {
+    forecast.push(Row {
         second: 23,
         amount: 500,
     })?;

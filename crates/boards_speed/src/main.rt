@@ -7,7 +7,7 @@
 ghost use Rattle.std.specs.Prelude.{◌≡◌, ◌<◌, ◌≤◌, All};
 ghost use denote.Param.Send.{IsSync};
 
-use board_model::{Forecast, ForecastRow, OpenGate};
+use board_model::{Forecast, Row, OpenGate};
 use plan_boards::{Boards, Pass};
 use std::alloc::{AllocError, Global};
 use std::process::ExitCode;
@@ -65,7 +65,7 @@ fn work_of_words(rt: &HostRuntime) -> Option<Work> {
 fn forecast_of(alloc: Global, rows: u32) -> Result<Forecast, AllocError> {
     let mut forecast = Forecast::empty(alloc);
     for second in 0..rows.min(180) {
-        forecast.push(ForecastRow {
+        forecast.push(Row {
             second,
             amount: 500,
         })?;

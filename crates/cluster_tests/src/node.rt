@@ -3,7 +3,7 @@ ghost use Rattle.std.specs.Prelude.{◌≡◌, ◌+◌, ◌*◌, ◌<◌, ◌≤
 ghost use Rattle.road_net.specs.Senses.{IsSensedOf};
 ghost use Rattle.clusters.specs.Inflow.{IsHeardOf};
 
-use board_model::{Forecast, ForecastRow, Heard};
+use board_model::{Forecast, Row, Heard};
 use foundation::items::Items;
 use road_net::{LinkSense, Network, Sensed};
 use std::alloc::{AllocError, Global};
@@ -141,11 +141,11 @@ fn forecast(alloc: Global, rows: [u32; 4]) -> Result<Forecast, AllocError> {
         && (1..=80_000).contains(&amount)
         && (1..=80_000).contains(&other)
     {
-        forecast.push(ForecastRow {
+        forecast.push(Row {
             second: first,
             amount,
         })?;
-        forecast.push(ForecastRow {
+        forecast.push(Row {
             second,
             amount: other,
         })?;

@@ -8,40 +8,40 @@ use Rattle.std.proofs.lemmas.List.Folds.{find-append}
 use Rattle.std.proofs.lemmas.List.Sums.{sum_by-set}
 use Rattle.std.proofs.lemmas.Bool.{eq-eqb, cases_lt, cond_below, cond_above}
 use Rattle.std.proofs.lemmas.Bool.Decides.{eqb_tells}
-use Rattle.board_model.specs.declared.forecasts.ForecastRow.{ForecastRow}
+use Rattle.board_model.specs.declared.forecasts.Row.{Row}
 use Rattle.board_model.specs.Forecasts.{IsForecast, IsRow, amount_at, seconds}
 use Rattle.clusters.proofs.ListLaws.{rising-apart, find-none}
 
-abbrev no_row : ForecastRow
+abbrev no_row : Row
 no_row = record { second = 0; amount = 0 }
 
-abbrev amount_of : Option ForecastRow → ℕ
+abbrev amount_of : Option Row → ℕ
 amount_of row = unwrap_or (option_map (λ r. r.amount) row) 0
 
 ne-eqb : (a b : ℕ) → a ≢ b → nat_eq a b ≡ false
 ne-eqb a b ne = elim (eqb_tells a b) [ inl same ↦ absurd (ne same.1) | inr other ↦ other.0 ]
 
-option_or-none : (o : Option ForecastRow) → option_or o None ≡ o
+option_or-none : (o : Option Row) → option_or o None ≡ o
 option_or-none None = refl
 option_or-none (Some row) = refl
 
-has : ℕ → ForecastRow → Bool
+has : ℕ → Row → Bool
 has s row = nat_eq row.second s
 
 -- the amount in second s with one more row: what it was where that row has another second, and else that row's
-pub amount-other : (rows : List ForecastRow) (i s : ℕ) → i < length rows → (get_or rows i no_row).second ≢ s → amount_at (take (i + 1) rows) s ≡ amount_at (take i rows) s
+pub amount-other : (rows : List Row) (i s : ℕ) → i < length rows → (get_or rows i no_row).second ≢ s → amount_at (take (i + 1) rows) s ≡ amount_at (take i rows) s
 unfolding has
 amount-other rows i s lt ne =
-    let row : ForecastRow = get_or rows i no_row in
+    let row : Row = get_or rows i no_row in
     let miss : nat_eq row.second s ≡ false = ne-eqb row.second s ne in
     let one : find (has s) (row ∷ []) ≡ None = rw miss refl in
     ap amount_of (ap (find (has s)) (take_more rows i no_row lt) ∙ find-append (has s) (take i rows) (row ∷ []) ∙ ap (option_or (find (has s) (take i rows))) one ∙ option_or-none (find (has s) (take i rows)))
 
-pub amount-same : (rows : List ForecastRow) (i s : ℕ) → i < length rows → IsStrictlyIncreasing (seconds rows) → (get_or rows i no_row).second ≡ s
+pub amount-same : (rows : List Row) (i s : ℕ) → i < length rows → IsStrictlyIncreasing (seconds rows) → (get_or rows i no_row).second ≡ s
     → amount_at (take (i + 1) rows) s ≡ (get_or rows i no_row).amount
 unfolding has
 amount-same rows i s lt rising e =
-    let row : ForecastRow = get_or rows i no_row in
+    let row : Row = get_or rows i no_row in
     let hit : nat_eq row.second s ≡ true = eq-eqb row.second s e in
     let one : find (has s) (row ∷ []) ≡ Some row = rw hit refl in
     let earlier : All (λ r. has s r ≡ false) (take i rows) = All-from_get_or (λ r. has s r ≡ false) (take i rows) no_row (λ k below.
@@ -55,12 +55,12 @@ amount-same rows i s lt rising e =
     ap amount_of (ap (find (has s)) (take_more rows i no_row lt) ∙ find-append (has s) (take i rows) (row ∷ []) ∙ ap (λ o. option_or o (find (has s) (row ∷ []))) none ∙ one)
 
 -- The first i rows are put in their seconds, those from the second `from` on; nothing stood there.
-pub record IsPutting (now from : ℕ) (rows : List ForecastRow) (before amounts : List ℕ) (i : ℕ) : Type 0 where
+pub record IsPutting (now from : ℕ) (rows : List Row) (before amounts : List ℕ) (i : ℕ) : Type 0 where
   pub near : (k : ℕ) → now + k < from → get_or amounts k 0 ≡ get_or before k 0
   pub far : (k : ℕ) → from ≤ now + k → k < length before → get_or amounts k 0 ≡ amount_at (take i rows) (now + k)
   pub total : sum amounts ≤ sum before + 80000 * i
 
-pub putting-none : (now from : ℕ) (rows : List ForecastRow) (before : List ℕ) → ((k : ℕ) → from ≤ now + k → get_or before k 0 ≡ 0) → IsPutting now from rows before before 0
+pub putting-none : (now from : ℕ) (rows : List Row) (before : List ℕ) → ((k : ℕ) → from ≤ now + k → get_or before k 0 ≡ 0) → IsPutting now from rows before before 0
 putting-none now from rows before h = record {
   near = λ k lt. refl;
   far = λ k le lt. h k le;
@@ -68,7 +68,7 @@ putting-none now from rows before h = record {
 }
 
 -- a row whose second has no place changes nothing
-pub putting-skip : (now from : ℕ) (rows : List ForecastRow) (before amounts : List ℕ) (i : ℕ)
+pub putting-skip : (now from : ℕ) (rows : List Row) (before amounts : List ℕ) (i : ℕ)
     → IsPutting now from rows before amounts i → i < length rows → ((get_or rows i no_row).second < from) ⊎ (now + length before ≤ (get_or rows i no_row).second)
     → IsPutting now from rows before amounts (i + 1)
 putting-skip now from rows before amounts i h lt out = record {
@@ -79,7 +79,7 @@ putting-skip now from rows before amounts i h lt out = record {
   total = omega (arith, h.total);
 }
 
-pub putting-put : (now from : ℕ) (rows : List ForecastRow) (before amounts : List ℕ) (i place : ℕ)
+pub putting-put : (now from : ℕ) (rows : List Row) (before amounts : List ℕ) (i place : ℕ)
     → IsForecast rows → IsPutting now from rows before amounts i → length amounts ≡ length before → i < length rows
     → from ≤ now + place → place < length before → (get_or rows i no_row).second ≡ now + place
     → IsPutting now from rows before (set amounts place (get_or rows i no_row).amount) (i + 1)
@@ -99,7 +99,7 @@ putting-put now from rows before amounts i place rows_are h same lt le below e =
       omega (arith, h.total, sum_by-set (λ x. x) amounts place (get_or rows i no_row).amount 0 (omega arith), row.most);
 }
 
-pub putting-all : (now from : ℕ) (rows : List ForecastRow) (before amounts : List ℕ) (i : ℕ) → IsPutting now from rows before amounts i → length rows ≤ i
+pub putting-all : (now from : ℕ) (rows : List Row) (before amounts : List ℕ) (i : ℕ) → IsPutting now from rows before amounts i → length rows ≤ i
     → (k : ℕ) → k < length before → get_or amounts k 0 ≡ cond (nat_lt (now + k) from) (get_or before k 0) (amount_at rows (now + k))
 putting-all now from rows before amounts i h all k below = elim (cases_lt (now + k) from) [
   | inl near ↦ h.near k near ∙ cond_below (now + k) from (get_or before k 0) (amount_at rows (now + k)) near

@@ -5,7 +5,7 @@ use Rattle.std.proofs.lemmas.List.{map-append, append-nil}
 use Rattle.std.proofs.lemmas.List.Elements.{All-push, All-weaker}
 use Rattle.std.proofs.lemmas.Bool.{cases_lt}
 use Rattle.road_net.proofs.Ends.{concat-push}
-use Rattle.clusters.specs.declared.vehicle_groups.LinkFlow.{LinkFlow}
+use Rattle.clusters.specs.declared.vehicle_groups.Part.{Part}
 use Rattle.clusters.specs.declared.vehicle_groups.Platoon.{Platoon}
 use Rattle.clusters.specs.Cuts.{filled_from, filled, first_of, last_of, IsRun, CannotJoin, run_at}
 use Rattle.clusters.specs.Platoons.{platoon_of, platoon_within}
@@ -14,7 +14,7 @@ use Rattle.clusters.proofs.ListLaws.{get_or-push-at, get_or-push-other, length-p
 use Rattle.clusters.proofs.CutLaws.{filled-append, filled-none}
 
 -- The runs of the seconds before `from`, and their platoons.
-pub record IsGathering (gap most now : ℕ) (series : List ℕ) (streams : List LinkFlow) (platoons : List Platoon) (from : ℕ) : Type 0 where
+pub record IsGathering (gap most now : ℕ) (series : List ℕ) (streams : List Part) (platoons : List Platoon) (from : ℕ) : Type 0 where
   pub runs : List (List ℕ)
   pub within : from ≤ length series
   pub all : concat runs ≡ filled_from series 0 from
@@ -26,7 +26,7 @@ pub record IsGathering (gap most now : ℕ) (series : List ℕ) (streams : List 
   pub few : length runs ≤ from
   pub made : platoons ≡ map (platoon_of now streams) runs
 
-pub gathering-none : (gap most now : ℕ) (series : List ℕ) (streams : List LinkFlow) → IsGathering gap most now series streams [] 0
+pub gathering-none : (gap most now : ℕ) (series : List ℕ) (streams : List Part) → IsGathering gap most now series streams [] 0
 unfolding filled_from
 gathering-none gap most now series streams = record {
   runs = [];
@@ -46,7 +46,7 @@ before-later gap most series from end runs le h =
     All-weaker (IsRunBefore gap most series from) (IsRunBefore gap most series end)
     (λ run r. record { shape = r.shape; filled = r.filled; order = r.order; before = omega (arith, r.before) }) runs h
 
-pub gathering-more : (gap most now : ℕ) (series : List ℕ) (streams : List LinkFlow) (platoons more : List Platoon) (from first end : ℕ) (platoon : Platoon)
+pub gathering-more : (gap most now : ℕ) (series : List ℕ) (streams : List Part) (platoons more : List Platoon) (from first end : ℕ) (platoon : Platoon)
     → IsGathering gap most now series streams platoons from → IsNext series from first → IsRunUpTo gap most series first end → IsClosed gap most series first end
     → platoon ≡ platoon_within now streams first end → more ≡ platoons ++ platoon ∷ [] → IsGathering gap most now series streams more end
 gathering-more gap most now series streams platoons more from first end platoon h next run closed is pushed =
@@ -105,7 +105,7 @@ gathering-more gap most now series streams platoons more from first end platoon 
           ∙ sym (map-append (platoon_of now streams) runs (r ∷ []));
     }
 
-pub gathering-all : (gap most now : ℕ) (series : List ℕ) (streams : List LinkFlow) (platoons : List Platoon) (from : ℕ)
+pub gathering-all : (gap most now : ℕ) (series : List ℕ) (streams : List Part) (platoons : List Platoon) (from : ℕ)
     → IsGathering gap most now series streams platoons from → IsEmpty series from (length series) → AreGathered gap most now series streams platoons
 gathering-all gap most now series streams platoons from h empty =
     let le : from ≤ length series = h.within in

@@ -4,7 +4,7 @@ use Rattle.std.specs.List.{range_with_len}
 use Rattle.std.specs.List.Sorted.{IsStrictlyIncreasing}
 use Rattle.std.proofs.lemmas.List.{get_or-map, length-map, get_or_past}
 use Rattle.std.proofs.lemmas.Simd.{map-map}
-use Rattle.board_model.specs.declared.forecasts.ForecastRow.{ForecastRow}
+use Rattle.board_model.specs.declared.forecasts.Row.{Row}
 use Rattle.std.proofs.lemmas.List.FromFn.{get_or-map-range_with_len, length-map-range_with_len}
 use Rattle.std.proofs.lemmas.List.Elements.{All-get_or, All-from_get_or, All-map, All-weaker}
 use Rattle.std.proofs.lemmas.Bool.{cases_lt}
@@ -17,7 +17,7 @@ use Rattle.net_numbers.specs.Numbers.{Net, no_link}
 use Rattle.net_numbers.specs.Outline.{IsOutline, IsLink, ArePhaseLinks, link_at, phases_at, phase_links_at, plan_at}
 use Rattle.road_net.specs.Network.{IsNetwork}
 use Rattle.road_net.specs.declared.senses.Sensed.{Sensed}
-use Rattle.clusters.specs.declared.vehicle_groups.LinkFlow.{LinkFlow}
+use Rattle.clusters.specs.declared.vehicle_groups.Part.{Part}
 use Rattle.clusters.specs.declared.vehicle_groups.Platoon.{Platoon}
 use Rattle.clusters.specs.Smoothing.{smoothed, left_by}
 use Rattle.clusters.specs.Inflow.{inflow, inflow_at, leaving, sense_of, heard_forecast}
@@ -45,7 +45,7 @@ smoothed-le sat amounts =
     All-map (λ x. x ≤ sat) (λ k. left_by sat amounts (k + 1) - left_by sat amounts k) (range_with_len 0 (length amounts))
     (λ k d lt. left-le sat amounts (get_or (range_with_len 0 (length amounts)) k d))
 
-length-inflow : (now look travel queue : ℕ) (coming : List ℕ) (rows : List ForecastRow) → length (inflow now look travel queue coming rows) ≡ look
+length-inflow : (now look travel queue : ℕ) (coming : List ℕ) (rows : List Row) → length (inflow now look travel queue coming rows) ≡ look
 unfolding inflow
 length-inflow now look travel queue coming rows = length-map-range_with_len (inflow_at now travel queue coming rows) now look
 
@@ -79,22 +79,22 @@ links-few net node phase h there exists =
     All-get_or (λ ps. All (ArePhaseLinks (length net.link_names)) ps) net.phase_links node [] (omega (arith, h.phases_count)) h.phase_links in
     (All-get_or (ArePhaseLinks (length net.link_names)) (phases_at net node) phase [] (omega (arith, h.phase_counts node there)) phases).count
 
-part-small : (net : Net) (look : ℕ) (s : LinkFlow) → IsOutline net → IsPart net look s → All (λ amount. amount ≤ 5000) s.amounts
+part-small : (net : Net) (look : ℕ) (s : Part) → IsOutline net → IsPart net look s → All (λ amount. amount ≤ 5000) s.amounts
 part-small net look s h p = All-weaker (λ amount. amount ≤ (link_at net s.link).sat) (λ amount. amount ≤ 5000) (λ amount le. omega (arith, le, sat-le net s.link h)) s.amounts p.amounts
 
-pub streams-sound : (net : Net) (node phase : ℕ) (sensed : Sensed) (heard : List Heard) (links : List ℕ) (streams : List LinkFlow) (look : ℕ)
+pub streams-sound : (net : Net) (node phase : ℕ) (sensed : Sensed) (heard : List Heard) (links : List ℕ) (streams : List Part) (look : ℕ)
     → IsNetwork net → node < length net.node_names → phase < length (plan_at net node) → links ≡ phase_links_at net node phase
     → look ≡ net.run.look → streams ≡ streams_of net sensed heard links → AreStreams look streams
 streams-sound net node phase sensed heard links streams look h there exists l r e =
-    let P : List LinkFlow → Type 0 = λ ss. AreStreams look ss in
+    let P : List Part → Type 0 = λ ss. AreStreams look ss in
     subst P (sym e) (rw r (record {
-      few = omega (arith, length-map links (λ k. let p : LinkFlow = record { link = k; amounts = leaving net sensed heard k } in p), ap length l, links-few net node phase h.outline there exists);
+      few = omega (arith, length-map links (λ k. let p : Part = record { link = k; amounts = leaving net sensed heard k } in p), ap length l, links-few net node phase h.outline there exists);
       long = All-weaker (IsPart net net.run.look) (λ s. length s.amounts ≡ net.run.look) (λ s p. p.count) (streams_of net sensed heard links) (streams-parts net sensed heard links);
       small = All-weaker (IsPart net net.run.look) (λ s. All (λ amount. amount ≤ 5000) s.amounts) (λ s p. part-small net net.run.look s h.outline p) (streams_of net sensed heard links) (streams-parts net sensed heard links);
     }))
 
 -- one platoon
-platoon-parts : (net : Net) (look now first end : ℕ) (streams : List LinkFlow) (links : List ℕ)
+platoon-parts : (net : Net) (look now first end : ℕ) (streams : List Part) (links : List ℕ)
     → All (IsPart net look) streams → map (λ part. part.link) streams ≡ links → end ≤ look → IsPlatoon net now links (platoon_within now streams first end)
 platoon-parts net look now first end streams links h order le = record {
   arr = omega arith;
@@ -110,7 +110,7 @@ platoon-parts net look now first end streams links h order le = record {
   whole = refl;
 }
 
-platoon-cluster : (look now first end : ℕ) (streams : List LinkFlow) → AreStreams look streams → now ≤ 18000 → look ≤ 180 → first < end → end ≤ look
+platoon-cluster : (look now first end : ℕ) (streams : List Part) → AreStreams look streams → now ≤ 18000 → look ≤ 180 → first < end → end ≤ look
     → 1 ≤ sum_by (brought first) streams → IsCluster (platoon_within now streams first end).cluster
 platoon-cluster look now first end streams h early short lt le filled =
     let long : All (λ s. end ≤ length s.amounts) streams = All-weaker (λ s. length s.amounts ≡ look) (λ s. end ≤ length s.amounts) (λ s e. omega (arith, e)) streams h.long in
@@ -122,18 +122,18 @@ platoon-cluster look now first end streams h early short lt le filled =
     }
 
 -- the platoons of runs, by their places
-platoon-at : (now : ℕ) (streams : List LinkFlow) (runs : List (List ℕ)) (k : ℕ) (d : Platoon) → k < length runs
+platoon-at : (now : ℕ) (streams : List Part) (runs : List (List ℕ)) (k : ℕ) (d : Platoon) → k < length runs
     → get_or (map (platoon_of now streams) runs) k d ≡ platoon_of now streams (run_at runs k)
 platoon-at now streams runs k d lt = get_or-map (platoon_of now streams) runs k [] d lt
 
-cluster-at : (now : ℕ) (streams : List LinkFlow) (runs : List (List ℕ)) (k : ℕ) → k < length runs
+cluster-at : (now : ℕ) (streams : List Part) (runs : List (List ℕ)) (k : ℕ) → k < length runs
     → cluster_at (clusters_of (map (platoon_of now streams) runs)) k ≡ (platoon_of now streams (run_at runs k)).cluster
 cluster-at now streams runs k lt =
     let d : Platoon = platoon_of now streams [] in
     get_or-map (λ p. p.cluster) (map (platoon_of now streams) runs) k d _ (omega (arith, length-map runs (platoon_of now streams)))
     ∙ ap (λ p. p.cluster) (platoon-at now streams runs k d lt)
 
-arrival-at : (now : ℕ) (streams : List LinkFlow) (runs : List (List ℕ)) (k : ℕ) → k < length runs
+arrival-at : (now : ℕ) (streams : List Part) (runs : List (List ℕ)) (k : ℕ) → k < length runs
     → get_or (arrivals (map (platoon_of now streams) runs)) k 0 ≡ now + first_of (run_at runs k)
 arrival-at now streams runs k lt =
     let d : Platoon = platoon_of now streams [] in
@@ -144,7 +144,7 @@ each-run : (gap most : ℕ) (series : List ℕ) (runs : List (List ℕ)) (k : �
     → IsRunBefore gap most series (length series) (run_at runs k)
 each-run gap most series runs k lt h = All-get_or (IsRunBefore gap most series (length series)) runs k [] lt h
 
-pub phase-made : (net : Net) (node phase : ℕ) (sensed : Sensed) (heard : List Heard) (series : List ℕ) (streams : List LinkFlow) (list : List Platoon)
+pub phase-made : (net : Net) (node phase : ℕ) (sensed : Sensed) (heard : List Heard) (series : List ℕ) (streams : List Part) (list : List Platoon)
     → IsNetwork net → sensed.now ≤ 18000 → streams ≡ streams_of net sensed heard (phase_links_at net node phase) → AreStreams net.run.look streams
     → series ≡ together streams net.run.look → AreGathered net.run.gap (most_of net node phase) sensed.now series streams list
     → AreOfPhase net node phase sensed heard list
@@ -158,8 +158,8 @@ phase-made net node phase sensed heard series streams list h early are sound bri
     let count : length series ≡ net.run.look = ap length brings ∙ length-map-range_with_len (λ x. sum_by (brought x) streams) 0 net.run.look in
     let each : (k : ℕ) → k < length made.runs → IsRunBefore net.run.gap (most_of net node phase) series (length series) (run_at made.runs k) =
     λ k lt. each-run net.run.gap (most_of net node phase) series made.runs k lt made.each in
-    let parts : All (IsPart net net.run.look) streams = let P : List LinkFlow → Type 0 = λ ss. All (IsPart net net.run.look) ss in subst P (sym are) (streams-parts net sensed heard (phase_links_at net node phase)) in
-    let order : map (λ part. part.link) streams ≡ phase_links_at net node phase = ap (map (λ (part : LinkFlow). part.link)) are ∙ streams-links net sensed heard (phase_links_at net node phase) in
+    let parts : All (IsPart net net.run.look) streams = let P : List Part → Type 0 = λ ss. All (IsPart net net.run.look) ss in subst P (sym are) (streams-parts net sensed heard (phase_links_at net node phase)) in
+    let order : map (λ part. part.link) streams ≡ phase_links_at net node phase = ap (map (λ (part : Part). part.link)) are ∙ streams-links net sensed heard (phase_links_at net node phase) in
     let filled : (x : ℕ) → x < net.run.look → get_or series x 0 ≡ sum_by (brought x) streams =
     λ x lt. ap (λ xs. get_or xs x 0) brings ∙ get_or-map-range_with_len (λ y. sum_by (brought y) streams) 0 net.run.look x x 0 lt (omega arith) in
     let platoons : List Platoon = map (platoon_of now streams) runs in
@@ -167,7 +167,7 @@ phase-made net node phase sensed heard series streams list h early are sound bri
     record {
       platoons = record {
         runs = made.runs;
-        cut = let P : List ℕ → Type 0 = λ xs. IsCut net.run.gap (most_of net node phase) xs made.runs in let Q : List LinkFlow → Type 0 = λ ss. IsCut net.run.gap (most_of net node phase) (together ss net.run.look) made.runs in subst Q are (subst P brings made.cut);
+        cut = let P : List ℕ → Type 0 = λ xs. IsCut net.run.gap (most_of net node phase) xs made.runs in let Q : List Part → Type 0 = λ ss. IsCut net.run.gap (most_of net node phase) (together ss net.run.look) made.runs in subst Q are (subst P brings made.cut);
         each = made.made ∙ ap (λ ss. map (platoon_of sensed.now ss) made.runs) are;
       };
       parts =
@@ -205,7 +205,7 @@ phase-made net node phase sensed heard series streams list h early are sound bri
       };
     }
 
-pub phase-from : (net : Net) (node phase : ℕ) (sensed : Sensed) (heard : List Heard) (run : Run) (times : Phase) (plan : List Phase) (links series : List ℕ) (streams : List LinkFlow) (list : List Platoon)
+pub phase-from : (net : Net) (node phase : ℕ) (sensed : Sensed) (heard : List Heard) (run : Run) (times : Phase) (plan : List Phase) (links series : List ℕ) (streams : List Part) (list : List Platoon)
     → IsNetwork net → sensed.now ≤ 18000 → run ≡ net.run → plan ≡ plan_at net node → times ≡ phase_at plan phase → links ≡ phase_links_at net node phase
     → streams ≡ streams_of net sensed heard links → AreStreams run.look streams → series ≡ together streams run.look
     → AreGathered run.gap (times.greatest - times.loss) sensed.now series streams list → AreOfPhase net node phase sensed heard list

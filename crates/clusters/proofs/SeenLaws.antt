@@ -8,7 +8,7 @@ use Rattle.std.proofs.lemmas.List.Folds.{sum_by-replicate}
 use Rattle.std.proofs.lemmas.List.Sums.{sum_by-append, sum_by-cons, sum_by-take-le, sum_by-set}
 use Rattle.std.proofs.lemmas.Bool.{cases_lt, cond_below, cond_above, eq-eqb, cond-true, cond-false}
 use Rattle.std.proofs.lemmas.Bool.Decides.{eqb_tells}
-use Rattle.board_model.specs.declared.forecasts.ForecastRow.{ForecastRow}
+use Rattle.board_model.specs.declared.forecasts.Row.{Row}
 use Rattle.board_model.specs.Forecasts.{amount_at}
 use Rattle.board_model.specs.declared.boards.Heard.{Heard}
 use Rattle.net_numbers.specs.Numbers.{Net}
@@ -84,7 +84,7 @@ seen-made look travel queue coming xs seen some far_off e made =
     }
 
 -- with the forecast after the time of travel, it is the inflow
-pub inflow-made : (now look travel queue : ℕ) (coming : List ℕ) (rows : List ForecastRow) (seen amounts : List ℕ)
+pub inflow-made : (now look travel queue : ℕ) (coming : List ℕ) (rows : List Row) (seen amounts : List ℕ)
     → IsSeen look travel queue coming seen → length amounts ≡ length seen
     → ((k : ℕ) → k < length seen → get_or amounts k 0 ≡ cond (nat_lt (now + k) (now + travel)) (get_or seen k 0) (amount_at rows (now + k)))
     → 1 ≤ travel → amounts ≡ inflow now look travel queue coming rows
@@ -144,7 +144,7 @@ sense-within sensed l queue coming q e =
     omega (arith, q, ap sum e, h)
 
 -- what leaves a link, of the parts as they were found
-pub leaving-made : (net : Net) (sensed : Sensed) (heard : List Heard) (l : ℕ) (link : Link) (look queue : ℕ) (coming : List ℕ) (rows : List ForecastRow) (inflows amounts : List ℕ)
+pub leaving-made : (net : Net) (sensed : Sensed) (heard : List Heard) (l : ℕ) (link : Link) (look queue : ℕ) (coming : List ℕ) (rows : List Row) (inflows amounts : List ℕ)
     → link ≡ link_at net l → look ≡ net.run.look → queue ≡ (sense_of sensed l).queue → coming ≡ (sense_of sensed l).coming → rows ≡ heard_forecast heard l
     → inflows ≡ inflow sensed.now look link.travel queue coming rows → amounts ≡ smoothed link.sat inflows → amounts ≡ leaving net sensed heard l
 unfolding leaving

@@ -5,32 +5,32 @@ use Rattle.std.proofs.lemmas.List.{take_more, map-append, get_or-drop, get_or-ta
 use Rattle.std.proofs.lemmas.List.FromFn.{fill_by_all}
 use Rattle.std.proofs.lemmas.List.Elements.{All-get_or, All-head, All-tail, All-take, All-drop, All-weaker}
 use Rattle.std.proofs.lemmas.List.Sums.{sum_by-append, sum_by_more, sum_by-le, sum_by-take-le, sum_by-cons, get_or-le-sum_by}
-use Rattle.clusters.specs.declared.vehicle_groups.LinkFlow.{LinkFlow}
+use Rattle.clusters.specs.declared.vehicle_groups.Part.{Part}
 use Rattle.clusters.specs.Platoons.{together, part_of, whole_of}
 use Rattle.clusters.proofs.ListLaws.{get_or-le}
 
-abbrev pub AreSmall : List LinkFlow → Type 0
+abbrev pub AreSmall : List Part → Type 0
 AreSmall streams = All (λ s. All (λ amount. amount ≤ 5000) s.amounts) streams
 
-abbrev pub brought : ℕ → LinkFlow → ℕ
+abbrev pub brought : ℕ → Part → ℕ
 brought x s = get_or s.amounts x 0
 
-abbrev pub IsTogether : List LinkFlow → List ℕ → ℕ → Type 0
+abbrev pub IsTogether : List Part → List ℕ → ℕ → Type 0
 IsTogether streams series i = (k : ℕ) → get_or series k 0 ≡ sum_by (brought k) (take i streams)
 
-brought-le : (streams : List LinkFlow) (x : ℕ) → AreSmall streams → sum_by (brought x) streams ≤ length streams * 5000
+brought-le : (streams : List Part) (x : ℕ) → AreSmall streams → sum_by (brought x) streams ≤ length streams * 5000
 brought-le streams x h = sum_by-le (brought x) 5000 streams (All-weaker (λ s. All (λ amount. amount ≤ 5000) s.amounts) (λ s. brought x s ≤ 5000) (λ s each. get_or-le 5000 s.amounts each x) streams h)
 
-pub together-fits : (streams : List LinkFlow) (series : List ℕ) (i k : ℕ) (s : LinkFlow) → length streams ≤ 16 → AreSmall streams → i < length streams → s ≡ get_or streams i s
+pub together-fits : (streams : List Part) (series : List ℕ) (i k : ℕ) (s : Part) → length streams ≤ 16 → AreSmall streams → i < length streams → s ≡ get_or streams i s
     → IsTogether streams series i → get_or series k 0 + get_or s.amounts k 0 ≤ 80000
 together-fits streams series i k s few small lt e h =
     omega (arith, h k, sum_by_more (brought k) streams i s lt, ap (brought k) e, sum_by-take-le (brought k) streams (i + 1), brought-le streams k small)
 
-pub together-more : (streams : List LinkFlow) (before series : List ℕ) (i : ℕ) (s : LinkFlow) → i < length streams → s ≡ get_or streams i s
+pub together-more : (streams : List Part) (before series : List ℕ) (i : ℕ) (s : Part) → i < length streams → s ≡ get_or streams i s
     → IsTogether streams before i → ((k : ℕ) → get_or series k 0 ≡ get_or before k 0 + get_or s.amounts k 0) → IsTogether streams series (i + 1)
 together-more streams before series i s lt e h added = λ k. omega (arith, added k, h k, sum_by_more (brought k) streams i s lt, ap (brought k) e)
 
-pub together-all : (streams : List LinkFlow) (series : List ℕ) (i look : ℕ) → length streams ≤ i → length series ≡ look → IsTogether streams series i
+pub together-all : (streams : List Part) (series : List ℕ) (i look : ℕ) → length streams ≤ i → length series ≡ look → IsTogether streams series i
     → series ≡ together streams look
 unfolding together
 together-all streams series i look all same h =
@@ -55,25 +55,25 @@ first-in-slice xs first end lt le =
     get_or-take (end - first) (drop first xs) 0 0 (omega arith) ∙ get_or-drop first xs 0 0 ∙ ap (λ k. get_or xs k 0) zero_at in
     omega (arith, e, get_or-le-sum_by (λ x. x) (slice_range xs first end) 0 0 (omega (arith, length-slice_range xs first end le)))
 
-pub stream-small : (streams : List LinkFlow) (i : ℕ) (s : LinkFlow) → AreSmall streams → i < length streams → s ≡ get_or streams i s → All (λ amount. amount ≤ 5000) s.amounts
-stream-small streams i s small lt e = let P : LinkFlow → Type 0 = λ p. All (λ amount. amount ≤ 5000) p.amounts in subst P (sym e) (All-get_or P streams i s lt small)
+pub stream-small : (streams : List Part) (i : ℕ) (s : Part) → AreSmall streams → i < length streams → s ≡ get_or streams i s → All (λ amount. amount ≤ 5000) s.amounts
+stream-small streams i s small lt e = let P : Part → Type 0 = λ p. All (λ amount. amount ≤ 5000) p.amounts in subst P (sym e) (All-get_or P streams i s lt small)
 
 -- A platoon's size, stream by stream.
-pub record IsSizing (first end : ℕ) (streams parts : List LinkFlow) (i size : ℕ) : Type 0 where
+pub record IsSizing (first end : ℕ) (streams parts : List Part) (i size : ℕ) : Type 0 where
   pub made : parts ≡ map (part_of first end) (take i streams)
   pub whole : size ≡ whole_of parts
   pub fits : size ≤ 900000 * i
 
-pub sizing-none : (first end : ℕ) (streams : List LinkFlow) → IsSizing first end streams [] 0 0
+pub sizing-none : (first end : ℕ) (streams : List Part) → IsSizing first end streams [] 0 0
 sizing-none first end streams = record { made = refl; whole = refl; fits = omega arith }
 
-pub sizing-more : (first end : ℕ) (streams parts more : List LinkFlow) (i size sum_of_it : ℕ) (s : LinkFlow) (amounts : List ℕ)
+pub sizing-more : (first end : ℕ) (streams parts more : List Part) (i size sum_of_it : ℕ) (s : Part) (amounts : List ℕ)
     → IsSizing first end streams parts i size → i < length streams → s ≡ get_or streams i s → AreSmall streams → end ≤ 180
     → amounts ≡ slice_range s.amounts first end → more ≡ parts ++ record { link = s.link; amounts = amounts } ∷ [] → sum_of_it ≡ sum (slice_range s.amounts first end)
     → IsSizing first end streams more (i + 1) (size + sum_of_it)
 sizing-more first end streams parts more i size sum_of_it s amounts h lt e small le cut pushed total =
-    let one : LinkFlow → List LinkFlow = λ p. p ∷ [] in
-    let same : part_of first end s ≡ record { link = s.link; amounts = amounts } = ap (λ xs. let p : LinkFlow = record { link = s.link; amounts = xs } in p) (sym cut) in
+    let one : Part → List Part = λ p. p ∷ [] in
+    let same : part_of first end s ≡ record { link = s.link; amounts = amounts } = ap (λ xs. let p : Part = record { link = s.link; amounts = xs } in p) (sym cut) in
     let made : more ≡ map (part_of first end) (take (i + 1) streams) =
     pushed ∙ ap (λ ps. ps ++ record { link = s.link; amounts = amounts } ∷ []) h.made
     ∙ ap (λ p. map (part_of first end) (take i streams) ++ p ∷ []) (sym same)
@@ -88,32 +88,32 @@ sizing-more first end streams parts more i size sum_of_it s amounts h lt e small
             h.whole,
             total,
             ap whole_of pushed,
-            sum_by-append (λ (part : LinkFlow). sum part.amounts) parts (record { link = s.link; amounts = amounts } ∷ []),
-            sum_by-cons (λ (part : LinkFlow). sum part.amounts) (record { link = s.link; amounts = amounts }) [],
+            sum_by-append (λ (part : Part). sum part.amounts) parts (record { link = s.link; amounts = amounts } ∷ []),
+            sum_by-cons (λ (part : Part). sum part.amounts) (record { link = s.link; amounts = amounts }) [],
             ap sum cut,
           );
       fits = omega (arith, h.fits, total, sum-slice_range-le s.amounts first end each le);
     }
 
 -- a platoon has something, and not too much
-pub whole-some : (streams : List LinkFlow) (first end : ℕ) → first < end → All (λ s. end ≤ length s.amounts) streams
+pub whole-some : (streams : List Part) (first end : ℕ) → first < end → All (λ s. end ≤ length s.amounts) streams
     → sum_by (brought first) streams ≤ whole_of (map (part_of first end) streams)
 whole-some [] first end lt h = omega arith
 whole-some (s ∷ streams) first end lt h =
     omega (
       arith,
       sum_by-cons (brought first) s streams,
-      sum_by-cons (λ (part : LinkFlow). sum part.amounts) (part_of first end s) (map (part_of first end) streams),
-      first-in-slice s.amounts first end lt (All-head (λ (t : LinkFlow). end ≤ length t.amounts) s streams h),
-      whole-some streams first end lt (All-tail (λ (t : LinkFlow). end ≤ length t.amounts) s streams h),
+      sum_by-cons (λ (part : Part). sum part.amounts) (part_of first end s) (map (part_of first end) streams),
+      first-in-slice s.amounts first end lt (All-head (λ (t : Part). end ≤ length t.amounts) s streams h),
+      whole-some streams first end lt (All-tail (λ (t : Part). end ≤ length t.amounts) s streams h),
     )
 
-pub whole-few : (streams : List LinkFlow) (first end : ℕ) → AreSmall streams → end ≤ 180 → whole_of (map (part_of first end) streams) ≤ 900000 * length streams
+pub whole-few : (streams : List Part) (first end : ℕ) → AreSmall streams → end ≤ 180 → whole_of (map (part_of first end) streams) ≤ 900000 * length streams
 whole-few [] first end h le = omega arith
 whole-few (s ∷ streams) first end h le =
     omega (
       arith,
-      sum_by-cons (λ (part : LinkFlow). sum part.amounts) (part_of first end s) (map (part_of first end) streams),
-      sum-slice_range-le s.amounts first end (All-head (λ (p : LinkFlow). All (λ amount. amount ≤ 5000) p.amounts) s streams h) le,
-      whole-few streams first end (All-tail (λ (p : LinkFlow). All (λ amount. amount ≤ 5000) p.amounts) s streams h) le,
+      sum_by-cons (λ (part : Part). sum part.amounts) (part_of first end s) (map (part_of first end) streams),
+      sum-slice_range-le s.amounts first end (All-head (λ (p : Part). All (λ amount. amount ≤ 5000) p.amounts) s streams h) le,
+      whole-few streams first end (All-tail (λ (p : Part). All (λ amount. amount ≤ 5000) p.amounts) s streams h) le,
     )

@@ -3,7 +3,7 @@ use Rattle.std.specs.Prelude.{◌≡◌, ℕ, ◌+◌, ◌-◌, ◌==◌, nat_lt
 use Rattle.std.specs.List.{range_with_len}
 use Rattle.std.specs.Option.{option_map}
 use Rattle.board_model.specs.declared.boards.Heard.{Heard}
-use Rattle.board_model.specs.declared.forecasts.ForecastRow.{ForecastRow}
+use Rattle.board_model.specs.declared.forecasts.Row.{Row}
 use Rattle.board_model.specs.Forecasts.{amount_at}
 use Rattle.net_numbers.specs.Numbers.{Net}
 use Rattle.net_numbers.specs.Outline.{link_at}
@@ -25,17 +25,17 @@ unfoldable pub sense_of : Sensed → ℕ → LinkSense
 sense_of sensed link = unwrap_or (find (λ s. s.link == link) sensed.links) no_sense
 
 -- what is heard of a link; of one that comes from outside, the empty forecast
-unfoldable pub heard_forecast : List Heard → ℕ → List ForecastRow
+unfoldable pub heard_forecast : List Heard → ℕ → List Row
 heard_forecast heard link = unwrap_or (option_map (λ h. h.forecast) (find (λ h. h.link == link) heard)) []
 
 -- What reaches the end of a link in second x. In second `now` the queue counts; for the time of travel, the vehicles that are on
 -- the link; and from then on the forecast.
-abbrev pub inflow_at : ℕ → ℕ → ℕ → List ℕ → List ForecastRow → ℕ → ℕ
+abbrev pub inflow_at : ℕ → ℕ → ℕ → List ℕ → List Row → ℕ → ℕ
 inflow_at now travel queue coming forecast x =
     (if x == now then queue else 0) + (if nat_lt x (now + travel) then slice_index coming (x - now) else amount_at forecast x)
 
 -- and in each of `look` seconds from `now` on
-unfoldable pub inflow : ℕ → ℕ → ℕ → ℕ → List ℕ → List ForecastRow → List ℕ
+unfoldable pub inflow : ℕ → ℕ → ℕ → ℕ → List ℕ → List Row → List ℕ
 inflow now look travel queue coming forecast = map (inflow_at now travel queue coming forecast) (range_with_len now look)
 
 -- what leaves at the end of a link in each second that the planning looks ahead, if its phase is green throughout

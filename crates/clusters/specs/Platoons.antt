@@ -6,40 +6,40 @@ use Rattle.phase_plan.specs.Phases.{phase_at}
 use Rattle.net_numbers.specs.Numbers.{Net}
 use Rattle.net_numbers.specs.Outline.{phase_links_at, plan_at}
 use Rattle.road_net.specs.declared.senses.Sensed.{Sensed}
-use Rattle.clusters.specs.declared.vehicle_groups.LinkFlow.{LinkFlow}
+use Rattle.clusters.specs.declared.vehicle_groups.Part.{Part}
 use Rattle.clusters.specs.declared.vehicle_groups.Platoon.{Platoon}
 use Rattle.clusters.specs.Cuts.{IsCut, first_of, last_of}
 use Rattle.clusters.specs.Inflow.{leaving}
 
 -- what leaves each of these links
-abbrev pub streams_of : Net → Sensed → List Heard → List ℕ → List LinkFlow
+abbrev pub streams_of : Net → Sensed → List Heard → List ℕ → List Part
 streams_of net sensed heard links = map (λ l. record { link = l; amounts = leaving net sensed heard l }) links
 
 -- what they bring together, in each of the first `look` seconds
-unfoldable pub together : List LinkFlow → ℕ → List ℕ
+unfoldable pub together : List Part → ℕ → List ℕ
 together streams look = map (λ x. sum_by (λ s. slice_index s.amounts x) streams) (range_with_len 0 look)
 
 -- what a stream brings from this second on, before the second `end`
-abbrev pub part_of : ℕ → ℕ → LinkFlow → LinkFlow
+abbrev pub part_of : ℕ → ℕ → Part → Part
 part_of first end s = record { link = s.link; amounts = slice_range s.amounts first end }
 
 -- all amounts of these parts
-abbrev pub whole_of : List LinkFlow → ℕ
+abbrev pub whole_of : List Part → ℕ
 whole_of parts = sum_by (λ part. sum part.amounts) parts
 
 -- the platoon from this second on, before the second `end`: a part of each stream, and their sum as its size
-abbrev pub platoon_within : ℕ → List LinkFlow → ℕ → ℕ → Platoon
+abbrev pub platoon_within : ℕ → List Part → ℕ → ℕ → Platoon
 platoon_within now streams first end = record {
   cluster = record { size = whole_of (map (part_of first end) streams); arr = now + first; len = end - first };
   parts = map (part_of first end) streams;
 }
 
 -- the platoon of a run
-abbrev pub platoon_of : ℕ → List LinkFlow → List ℕ → Platoon
+abbrev pub platoon_of : ℕ → List Part → List ℕ → Platoon
 platoon_of now streams run = platoon_within now streams (first_of run) (last_of run + 1)
 
 -- the platoons are those of the runs into which what the streams bring together is cut
-pub record ArePlatoons (gap most now look : ℕ) (streams : List LinkFlow) (platoons : List Platoon) : Type 0 where
+pub record ArePlatoons (gap most now look : ℕ) (streams : List Part) (platoons : List Platoon) : Type 0 where
   pub runs : List (List ℕ)
   pub cut : IsCut gap most (together streams look) runs
   pub each : platoons ≡ map (platoon_of now streams) runs

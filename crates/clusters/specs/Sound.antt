@@ -7,7 +7,7 @@ use Rattle.switch_rules.specs.Serving.{IsCluster}
 use Rattle.switch_rules.specs.declared.Cluster.{Cluster}
 use Rattle.net_numbers.specs.Numbers.{Net}
 use Rattle.net_numbers.specs.Outline.{link_at, phase_links_at, plan_at}
-use Rattle.clusters.specs.declared.vehicle_groups.LinkFlow.{LinkFlow}
+use Rattle.clusters.specs.declared.vehicle_groups.Part.{Part}
 use Rattle.clusters.specs.declared.vehicle_groups.Platoon.{Platoon}
 use Rattle.board_model.specs.declared.boards.Heard.{Heard}
 use Rattle.road_net.specs.declared.senses.Sensed.{Sensed}
@@ -15,7 +15,7 @@ use Rattle.clusters.specs.Platoons.{ArePlatoons, most_of, platoons_at, streams_o
 use Rattle.clusters.specs.Windows.{IsRising}
 
 -- a part of a platoon of `len` seconds: an amount for each, at most what can leave its link in a second
-pub record IsPart (net : Net) (len : ℕ) (part : LinkFlow) : Type 0 where
+pub record IsPart (net : Net) (len : ℕ) (part : Part) : Type 0 where
   pub count : length part.amounts ≡ len
   pub amounts : All (λ amount. amount ≤ (link_at net part.link).sat) part.amounts
 

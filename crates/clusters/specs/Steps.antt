@@ -1,6 +1,6 @@
 -- What the steps of the work make: an inflow, and the runs of a series. No public clause names these words.
 use Rattle.std.specs.Prelude.{◌≡◌, ℕ, ◌+◌, ◌-◌, ◌<◌, ◌≤◌, ◌⊎◌, List, map, length, slice_index, sum, All, ◌==◌, if◌then◌else◌}
-use Rattle.clusters.specs.declared.vehicle_groups.LinkFlow.{LinkFlow}
+use Rattle.clusters.specs.declared.vehicle_groups.Part.{Part}
 use Rattle.clusters.specs.declared.vehicle_groups.Platoon.{Platoon}
 use Rattle.clusters.specs.Cuts.{IsCut, IsRun, filled_from, first_of, last_of, run_at}
 use Rattle.clusters.specs.Platoons.{platoon_of}
@@ -36,7 +36,7 @@ pub record IsRunBefore (gap most : ℕ) (series : List ℕ) (end : ℕ) (run : L
   pub before : last_of run < end
 
 -- the platoons are those of the runs of a cut, one after another
-pub record AreGathered (gap most now : ℕ) (series : List ℕ) (streams : List LinkFlow) (platoons : List Platoon) : Type 0 where
+pub record AreGathered (gap most now : ℕ) (series : List ℕ) (streams : List Part) (platoons : List Platoon) : Type 0 where
   pub runs : List (List ℕ)
   pub cut : IsCut gap most series runs
   pub each : All (IsRunBefore gap most series (length series)) runs
@@ -45,7 +45,7 @@ pub record AreGathered (gap most now : ℕ) (series : List ℕ) (streams : List 
   pub made : platoons ≡ map (platoon_of now streams) runs
 
 -- at most 16 streams of `look` seconds, none of which brings more than 5000 in one
-pub record AreStreams (look : ℕ) (streams : List LinkFlow) : Type 0 where
+pub record AreStreams (look : ℕ) (streams : List Part) : Type 0 where
   pub few : length streams ≤ 16
   pub long : All (λ s. length s.amounts ≡ look) streams
   pub small : All (λ s. All (λ amount. amount ≤ 5000) s.amounts) streams

@@ -3,7 +3,7 @@ ghost use Rattle.std.specs.Prelude.{◌≡◌, ◌+◌, ◌*◌, ◌<◌, ◌≤
 ghost use Rattle.clusters.specs.Platoons.{part_of, platoon_within, together};
 ghost use Rattle.clusters.specs.Steps.{AreGathered, AreStreams, IsEmpty, IsNext, IsRunUpTo, IsClosed};
 
-use crate::vehicle_groups::{LinkFlow, Platoon};
+use crate::vehicle_groups::{Part, Platoon};
 use foundation::items::Items;
 use std::alloc::{AllocError, Global};
 use switch_rules::Cluster;
@@ -11,7 +11,7 @@ use switch_rules::Cluster;
 /// What the streams bring together, in each of the first `look` seconds.
 pub(crate) fn together(
     alloc: Global,
-    streams: &[LinkFlow],
+    streams: &[Part],
     look: u32,
 ) -> Result<Vec<u32>, AllocError>
     requires { AreStreams look streams.now }
@@ -84,7 +84,7 @@ pub(crate) fn gather_platoons(
     alloc: Global,
     cutting: Cutting,
     series: &[u32],
-    streams: &[LinkFlow],
+    streams: &[Part],
 ) -> Result<Vec<Platoon>, AllocError>
     requires now { cutting.now ≤ 18000 }
     requires gap { cutting.gap ≤ 10 }
@@ -107,7 +107,7 @@ pub(crate) fn gather_platoons(
 fn platoon(
     alloc: Global,
     now: u32,
-    streams: &[LinkFlow],
+    streams: &[Part],
     first: usize,
     end: usize,
 ) -> Result<Platoon, AllocError>
@@ -124,7 +124,7 @@ fn platoon(
     for stream in streams {
         let amounts = &stream.amounts.as_slice()[first..end];
         size += total(amounts);
-        parts.push(LinkFlow {
+        parts.push(Part {
             link: stream.link,
             amounts: Items::from_vec(Vec::from_slice(alloc, amounts)?),
         })?;

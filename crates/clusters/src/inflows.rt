@@ -8,8 +8,8 @@ ghost use Rattle.clusters.specs.Inflow.{inflow, leaving, sense_of, heard_forecas
 ghost use Rattle.clusters.specs.Platoons.{streams_of};
 
 use crate::smoothing::smooth_in_place;
-use crate::vehicle_groups::LinkFlow;
-use board_model::{ForecastRow, Heard};
+use crate::vehicle_groups::Part;
+use board_model::{Row, Heard};
 use foundation::items::Items;
 use road_net::{LinkSense, Network, Sensed};
 use std::alloc::{AllocError, Global};
@@ -21,7 +21,7 @@ pub(crate) fn streams(
     links: &[u32],
     sensed: &Sensed,
     heard: &[Heard],
-) -> Result<Vec<LinkFlow>, AllocError>
+) -> Result<Vec<Part>, AllocError>
     requires links { All (λ l. l < length net.now.link_names) links.now }
     requires now { sensed.now.now ≤ 18000 }
     requires amounts { sum_by amount sensed.now.links ≤ 2000000000 }
@@ -30,7 +30,7 @@ pub(crate) fn streams(
     let mut streams = Vec::with_capacity(alloc, links.len())?;
     for l in links {
         let amounts = link_outflow(alloc, net, *l, sensed, heard)?;
-        streams.push(LinkFlow {
+        streams.push(Part {
             link: *l,
             amounts: Items::from_vec(amounts),
         })?;
@@ -88,7 +88,7 @@ fn find_sense(sensed: &Sensed, l: u32) -> Option<&LinkSense>
 
 /// The rows of the forecast that was heard of a link; none where none was.
 #[tactic(auto, unfolding(crate::specs::Inflow::heard_forecast))]
-fn rows_of(heard: &[Heard], l: u32) -> &[ForecastRow]
+fn rows_of(heard: &[Heard], l: u32) -> &[Row]
     ensures value { result.now ≡ heard_forecast heard.now l }
     ensures forecast { IsForecast result.now }
 {
@@ -106,7 +106,7 @@ fn inflow(
     travel: u32,
     queue: u32,
     coming: &[u32],
-    rows: &[ForecastRow],
+    rows: &[Row],
 ) -> Result<Vec<u32>, AllocError>
     requires now { now ≤ 18000 }
     requires look { (1 ≤ look) × (look ≤ 180) }
@@ -154,7 +154,7 @@ fn pad_with_zeros(alloc: Global, front: &[u32], count: usize) -> Result<Vec<u32>
 
 /// Puts the amounts of the forecast in their seconds, those from the second `from` on; nothing stands there yet. The
 /// first amount is that of the second `now`.
-fn add_forecast(amounts: &mut [u32], now: u32, from: u32, rows: &[ForecastRow])
+fn add_forecast(amounts: &mut [u32], now: u32, from: u32, rows: &[Row])
     requires now { now ≤ 18000 }
     requires from { now ≤ from }
     requires few { length amounts.old ≤ 180 }

@@ -10,5 +10,5 @@ mod windows;
 
 pub use node_platoons::platoons;
 pub use smoothing::smooth;
-pub use vehicle_groups::{LinkFlow, Platoon, Window};
+pub use vehicle_groups::{Part, Platoon, Window};
 pub use windows::window;

@@ -8,14 +8,14 @@ use switch_rules::Cluster;
 ///
 /// docs/RULES.md, "Platoons".
 #[derive(Drop)]
-pub struct LinkFlow {
+pub struct Part {
     /// The number of the link.
     pub link: u32,
     /// What leaves the link in each second of the platoon, in thousandths of a vehicle.
     pub amounts: Items<u32>,
 }
 
-impl CrossesThreads for LinkFlow {}
+impl CrossesThreads for Part {}
 
 /// Vehicles of one phase that come together, with what comes along each link.
 ///
@@ -25,7 +25,7 @@ pub struct Platoon {
     /// The platoon as planning sees it.
     pub cluster: Cluster,
     /// One part for each link of the phase, in the order in which the phase names them.
-    pub parts: Items<LinkFlow>,
+    pub parts: Items<Part>,
 }
 
 impl CrossesThreads for Platoon {}

@@ -14,15 +14,6 @@ use outside_world::Shelf;
 use road_net::Network;
 use std::alloc::Global;
 
-/// The files of a network and of arrivals at it.
-#[derive(Clone, Copy)]
-pub struct SceneFiles<'a> {
-    /// The file of the network.
-    pub net: &'a str,
-    /// The file of the arrivals.
-    pub arr: &'a str,
-}
-
 /// A network, and arrivals at it.
 #[derive(Drop)]
 pub struct Scene {

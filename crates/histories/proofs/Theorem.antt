@@ -5,7 +5,7 @@ use Rattle.std.proofs.lemmas.Bool.{cases_Bool}
 use Rattle.std.proofs.lemmas.Option.{get_or_from_slice_get, slice_get_within}
 use Rattle.std.proofs.lemmas.List.{length-map}
 use Rattle.std.proofs.lemmas.List.Elements.{All-nil, All-cons, All-head, All-tail}
-use Rattle.board_model.specs.declared.forecasts.ForecastRow.{ForecastRow}
+use Rattle.board_model.specs.declared.forecasts.Row.{Row}
 use Rattle.board_model.specs.declared.boards.BoardEvent.{BoardEvent}
 use Rattle.board_model.specs.declared.boards.BoardKind.TheVariants.{Read, Publish}
 use Rattle.board_model.specs.Boards.{IsReadOf}
@@ -88,7 +88,7 @@ module _ (steps : ℕ → List BoardStep) (rounds : ℕ) (calls : ℕ → List C
                 subst (λ (b : Bool). IsReadOf (version_at steps (nodes all) call.link (length before)) (cond b (Publish call.forecast) (Read call.version))) reads mine;
             forecast = λ reads.
                 let a : Agrees (logs call.link) call = at-get (λ (c : Call). Agrees (logs c.link) c) (calls n) (length (of_node n before)) call (spread (λ l c. Agrees (logs l) c) (calls n) (λ l. agree.each l n)) got in
-                a.forecast ∙ ap (λ (p : List (List ForecastRow)). slice_index_or ([] ∷ p) call.version []) (published-is steps rounds calls turns from is-from logs tied call.link);
+                a.forecast ∙ ap (λ (p : List (List Row)). slice_index_or ([] ∷ p) call.version []) (published-is steps rounds calls turns from is-from logs tied call.link);
           },
         )
 

@@ -1,14 +1,14 @@
 -- The calls in the history that their logs tell.
 use Rattle.std.specs.Prelude.{◌≡◌, ℕ, ◌<◌, false, Some, List, [], ◌∷◌, length, map, filter, slice_get, slice_index, slice_index_or}
 use Rattle.board_model.specs.declared.calls.Call.{Call}
-use Rattle.board_model.specs.declared.forecasts.ForecastRow.{ForecastRow}
+use Rattle.board_model.specs.declared.forecasts.Row.{Row}
 use Rattle.histories.specs.declared.steps.BoardStep.{BoardStep}
 use Rattle.histories.specs.Histories.{earlier, step_at, version_at, IsEntry}
 use Rattle.histories.specs.Steps.{is_publish_of}
 use Rattle.histories.specs.Calls.{step_of}
 
 -- the forecasts that the calls publish on a link
-abbrev pub sent : ℕ → List Call → List (List ForecastRow)
+abbrev pub sent : ℕ → List Call → List (List Row)
 sent link calls = map (λ call. call.forecast) (filter (λ call. is_publish_of link (step_of call)) calls)
 
 -- Each node has these steps in a round, and made these calls; of each link this node publishes on it.

@@ -13,7 +13,7 @@ use Rattle.clusters.specs.Cuts.{IsRun, filled, filled_from}
 use Rattle.clusters.specs.Platoons.{ArePlatoons, ArePlatoonsOf, most_of, platoon_of, platoons_at, streams_of, together}
 use Rattle.clusters.specs.Sound.{cluster_lists, clusters_of}
 use Rattle.clusters.specs.Windows.{IsWindow, counts_of}
-use Rattle.clusters.specs.declared.vehicle_groups.LinkFlow.{LinkFlow}
+use Rattle.clusters.specs.declared.vehicle_groups.Part.{Part}
 use Rattle.clusters.specs.declared.vehicle_groups.Platoon.{Platoon}
 use Rattle.clusters.specs.declared.vehicle_groups.Window.{Window}
 use Rattle.intersection_actor.specs.Steps.{ArriveBy}
@@ -46,7 +46,7 @@ filled-below : (series : List ℕ) → Below (length series) (filled series)
 unfolding filled_from
 filled-below series = All-filter (λ x. nat_lt 0 (get_or series x 0)) (λ x. x < length series) (range_with_len 0 (length series)) (range-below (length series))
 
-together-length : (streams : List LinkFlow) (look : ℕ) → length (together streams look) ≡ look
+together-length : (streams : List Part) (look : ℕ) → length (together streams look) ≡ look
 unfolding together
 together-length streams look = length-map (range_with_len 0 look) _ ∙ length-range_with_len 0 look
 
@@ -54,7 +54,7 @@ together-length streams look = length-map (range_with_len 0 look) _ ∙ length-r
 abbrev ComesBy : ℕ → Platoon → Type 0
 ComesBy second p = p.cluster.arr ≤ second
 
-list-soon : (gap most now look : ℕ) (streams : List LinkFlow) (list : List Platoon) → ArePlatoons gap most now look streams list → All (ComesBy (now + look)) list
+list-soon : (gap most now look : ℕ) (streams : List Part) (list : List Platoon) → ArePlatoons gap most now look streams list → All (ComesBy (now + look)) list
 list-soon gap most now look streams list h =
     let n : ℕ = length (together streams look) in
     let inside : Below n (concat h.runs) = subst (Below n) (sym h.cut.all) (filled-below (together streams look)) in

@@ -10,7 +10,7 @@ use control_flow::greens::Timeline;
 use control_flow::rotation;
 use foundation::items::Items;
 use foundation::threads::CrossesThreads;
-use outflow::{Servings, forecast};
+use outflow::forecast;
 use road_net::{Network, Sensed};
 use schedule_meaning::Planner;
 use std::alloc::{AllocError, Global};
@@ -281,16 +281,13 @@ impl Actor {
         let Want::Publish(link) = self.want else {
             unreachable!()
         };
-        let servings = Servings {
-            phases: self.phases.as_slice(),
-            served: self.served.as_slice(),
-        };
         forecast(
             alloc,
             net,
             self.node,
             &self.window,
-            &servings,
+            self.phases.as_slice(),
+            self.served.as_slice(),
             link,
             self.sensed.now,
         )
@@ -300,7 +297,7 @@ impl Actor {
     /// no memory.
     ///
     /// docs/RULES.md, "A node's round".
-    pub fn note_sent(&mut self, net: &Network)
+    pub fn sent(&mut self, net: &Network)
         requires of { IsOf net.now self.old }
         requires want { IsPublish self.old.want }
         ensures tells { (place : ℕ) → self.old.want ≡ told_at net.now self.old.node place

@@ -8,7 +8,7 @@ use Rattle.std.proofs.lemmas.List.{get_or_append_left, length_push}
 use Rattle.std.proofs.lemmas.List.Elements.{Contains-append_left, Contains-push}
 use Rattle.arrivals.specs.Amounts.{Amounts}
 use Rattle.board_model.specs.declared.boards.Heard.{Heard}
-use Rattle.board_model.specs.declared.forecasts.ForecastRow.{ForecastRow}
+use Rattle.board_model.specs.declared.forecasts.Row.{Row}
 use Rattle.histories.specs.Histories.{count, round_at, step_at, version_at}
 use Rattle.histories.specs.Steps.{board_steps, is_publish_of, publisher}
 use Rattle.histories.specs.declared.steps.BoardStep.{BoardStep}
@@ -198,7 +198,7 @@ module _ (net : Net) (network : IsNetwork net) (arrivals : Amounts) (heard : ℕ
       along = λ place link inside step.
           let ends = ends-at net network p round way place link inside step in
           let v : ℕ = version_at (board_steps net) p link place in
-          subst (Contains (heard (round_at (board_steps net) p place) (get_or p place 0))) (ap (λ (f : List ForecastRow). record { link = link; version = v; forecast = f }) (forecast-same link ends.teller (get_or p place 0) ends.from ends.to v (version-rises (board_steps net) p link place (length p) (omega arith))))
+          subst (Contains (heard (round_at (board_steps net) p place) (get_or p place 0))) (ap (λ (f : List Row). record { link = link; version = v; forecast = f }) (forecast-same link ends.teller (get_or p place 0) ends.from ends.to v (version-rises (board_steps net) p link place (length p) (omega arith))))
           (is.along place link inside step);
       boards_are = record {
         all = is.boards_are.all;

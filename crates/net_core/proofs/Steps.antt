@@ -4,7 +4,7 @@ use Rattle.std.proofs.lemmas.Bool.{cases_eq, cases_lt}
 use Rattle.std.proofs.lemmas.List.{drop_all, drop_more, get_or-append_right, get_or-map, length-map, length-drop}
 use Rattle.arrivals.specs.Amounts.{Amounts}
 use Rattle.board_model.specs.declared.boards.Heard.{Heard}
-use Rattle.board_model.specs.declared.forecasts.ForecastRow.{ForecastRow}
+use Rattle.board_model.specs.declared.forecasts.Row.{Row}
 use Rattle.clusters.specs.Windows.{counts_of}
 use Rattle.clusters.specs.declared.vehicle_groups.Window.{Window}
 use Rattle.control_flow.specs.Greens.{standing}
@@ -59,7 +59,7 @@ link_in (Publish l) = l
 link_in Done = 0
 
 -- what is heard of a link
-abbrev heard_of : ℕ → ℕ → List ForecastRow → Heard
+abbrev heard_of : ℕ → ℕ → List Row → Heard
 heard_of k v f = record { link = k; version = v; forecast = f }
 
 apart : true ≡ false → ⊥

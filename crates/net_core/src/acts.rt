@@ -110,7 +110,7 @@ pub(crate) fn tell(
     ensures of { IsOf net.now actor.new }
 {
     let forecast = actor.outgoing(alloc, net)?;
-    actor.note_sent(net);
+    actor.sent(net);
     board.version += 1;
     board.forecast = forecast;
     Ok(())

@@ -37,7 +37,7 @@ pub(crate) fn arrive(recent: &mut [u32], links: u32, arrivals: &Arrivals, second
 {
     let mut all = 0;
     for l in 0..links {
-        let amount = arrivals.amount_entering(l, second);
+        let amount = arrivals.entering(l, second);
         rows::put(recent, l, second, amount);
         all += u64::from(amount);
     }

@@ -3,6 +3,7 @@ ghost use Rattle.std.specs.Prelude.{◌≡◌, ℕ, ◌<◌, List, IfErr, IfOk, 
 ghost use Rattle.arrivals.specs.Amounts.{AreArrivals, entering};
 ghost use Rattle.histories.specs.Histories.{IsLawful};
 ghost use Rattle.net_numbers.specs.Numbers.{number_of};
+ghost use Rattle.commands.specs.Commands.{Instance};
 ghost use Rattle.commands.specs.Ending.{Makes};
 ghost use Rattle.commands.specs.Headline.{IsPlannedText};
 ghost use Rattle.commands.specs.Outcome.{Outcome};
@@ -19,10 +20,8 @@ use schedule_meaning::write_instance;
 use std::alloc::{AllocError, Global};
 
 /// The arguments of `instance`.
-///
-/// docs/FORMATS.md, "Words".
 #[derive(Clone, Copy)]
-pub struct InstanceArgs<'a> {
+pub(crate) struct InstanceArgs<'a> {
     /// The file of the network.
     pub net: &'a str,
     /// The file of the arrivals at it.
@@ -125,15 +124,26 @@ fn make_instance<S: Shelf>(
 /// docs/FORMATS.md, "Words".
 pub fn instance_job<S: Shelf, O: Sink, E: Sink>(
     alloc: Global,
-    args: &InstanceArgs<'_>,
+    net: &str,
+    arr: &str,
+    hist: &str,
+    node: &str,
+    round: u32,
     shelf: &mut S,
     out: &mut O,
     err: &mut E,
 ) -> Status
-    ensures { Outcome (call_with args.now)
+    ensures { Outcome (Instance net.now arr.now hist.now node.now round)
         (record { shelf = S.state shelf.old; out = O.state out.old; err = E.state err.old })
         (record { shelf = S.state shelf.new; out = O.state out.new; err = E.state err.new }) result }
 {
-    let made = make_instance(alloc, shelf, args);
+    let args = InstanceArgs {
+        net,
+        arr,
+        hist,
+        node,
+        round,
+    };
+    let made = make_instance(alloc, shelf, &args);
     end(alloc, made, out, err)
 }

@@ -14,7 +14,7 @@ mod summary;
 mod turns;
 
 pub use grid::grid_job;
-pub use instance::{InstanceArgs, instance_job};
+pub use instance::instance_job;
 pub use laws::law_of_instances;
 pub use net::net_job;
 pub use replay::replay_job;

@@ -5,7 +5,7 @@ ghost use Rattle.commands.specs.Outcome.{Outcome};
 
 use super::rounds::report;
 use board_model::Gate;
-use commands::{Made, Refusal, SceneFiles, Status, end, fetch_scene};
+use commands::{Made, Refusal, Status, end, fetch_scene};
 use outside_world::{Shelf, Sink};
 use std::alloc::Global;
 use std::sync::Wait;
@@ -16,12 +16,13 @@ fn make_report<R: Threads + Wait + Sync, S: Shelf, G: Gate + Sync>(
     rt: &R,
     alloc: Global,
     shelf: &mut S,
-    files: &SceneFiles<'_>,
+    net: &str,
+    arr: &str,
     gate: &G,
 ) -> Result<Made, Refusal>
-    ensures { Makes (Net files.now.net.now files.now.arr.now) (S.state shelf.old) (S.state shelf.new) result }
+    ensures { Makes (Net net.now arr.now) (S.state shelf.old) (S.state shelf.new) result }
 {
-    let scene = fetch_scene(alloc, shelf, files.net, files.arr)?;
+    let scene = fetch_scene(alloc, shelf, net, arr)?;
     let text = report(rt, alloc, &scene.network, &scene.arrivals, gate)?;
     Ok(Made::Done(text))
 }
@@ -38,16 +39,17 @@ fn make_report<R: Threads + Wait + Sync, S: Shelf, G: Gate + Sync>(
 pub fn net_job<R: Threads + Wait + Sync, S: Shelf, O: Sink, E: Sink, G: Gate + Sync>(
     rt: &R,
     alloc: Global,
-    files: &SceneFiles<'_>,
+    net: &str,
+    arr: &str,
     shelf: &mut S,
     out: &mut O,
     err: &mut E,
     gate: &G,
 ) -> Status
-    ensures { Outcome (Net files.now.net.now files.now.arr.now)
+    ensures { Outcome (Net net.now arr.now)
         (record { shelf = S.state shelf.old; out = O.state out.old; err = E.state err.old })
         (record { shelf = S.state shelf.new; out = O.state out.new; err = E.state err.new }) result }
 {
-    let made = make_report(rt, alloc, shelf, files, gate);
+    let made = make_report(rt, alloc, shelf, net, arr, gate);
     end(alloc, made, out, err)
 }

@@ -5,7 +5,7 @@ use Rattle.std.specs.List.{range_with_len}
 use Rattle.std.proofs.lemmas.List.FromFn.{get_or-map-range_with_len}
 use Rattle.board_model.specs.declared.boards.Heard.{Heard}
 use Rattle.board_model.specs.declared.calls.Call.{Call}
-use Rattle.board_model.specs.declared.forecasts.ForecastRow.{ForecastRow}
+use Rattle.board_model.specs.declared.forecasts.Row.{Row}
 use Rattle.histories.specs.Histories.{IsLawful, earlier, round_at, version_at}
 use Rattle.histories.specs.Steps.{board_steps, is_publish_of, publisher}
 use Rattle.histories.specs.declared.steps.BoardStep.TheVariants.{Publish}
@@ -45,7 +45,7 @@ along net network heard made calls history are lawful told place link inside ste
     let forecast : call.forecast ≡ forecast_at net made link (version_at (board_steps net) history link place) =
     at.forecast reads.0
     ∙ ap (λ l. slice_index_or ([] ∷ sent l (calls (publisher net l))) call.version []) reads.1
-    ∙ ap (λ (s : List (List ForecastRow)). slice_index_or ([] ∷ s) call.version []) sent-is
+    ∙ ap (λ (s : List (List Row)). slice_index_or ([] ∷ s) call.version []) sent-is
     ∙ ap (λ v. slice_index_or ([] ∷ map (λ round. told_in net round link (made round (publisher net link))) (range_with_len 0 net.run.rounds)) v []) version
     ∙ version-told net made link net.run.rounds (version_at (board_steps net) history link place) most in
     let same : heard_of call ≡ hearing net made link (version_at (board_steps net) history link place) =

@@ -6,7 +6,7 @@ use Rattle.std.proofs.lemmas.List.{length_push, length-map, map-append, take_all
 use Rattle.std.proofs.lemmas.List.Elements.{All-nil, filter-append}
 use Rattle.std.proofs.lemmas.Option.{slice_get_within}
 use Rattle.board_model.specs.declared.calls.Call.{Call}
-use Rattle.board_model.specs.declared.forecasts.ForecastRow.{ForecastRow}
+use Rattle.board_model.specs.declared.forecasts.Row.{Row}
 use Rattle.board_rule.specs.Passes as board
 use Rattle.board_rule.specs.Passes.{PassView, call_of_publish}
 use Rattle.board_model.specs.declared.boards.Sent.{Sent}
@@ -120,7 +120,7 @@ pub among-all : (net : Net) (exits : List ℕ) (i node : ℕ) → exits ≡ exit
 among-all net exits i node are past = ap (filter (goes net)) (take_all i exits past ∙ are)
 
 -- one publishing
-pub sent-as : (net : Net) (link : ℕ) (a b : Acting) (p q : PassView) (f : List ForecastRow) (sent : Sent) → board.HasSent p q link f sent → f ≡ outgoing net link a
+pub sent-as : (net : Net) (link : ℕ) (a b : Acting) (p q : PassView) (f : List Row) (sent : Sent) → board.HasSent p q link f sent → f ≡ outgoing net link a
     → b ≡ wanting (tells_from net a.node (link + 1)) a → ((place : ℕ) → a.want ≡ told_at net a.node place → b.want ≡ told_at net a.node (place + 1)) → HasSent net link a b p q
 sent-as net link a b p q f sent is forecast actor next = record {
   call = call_of_publish link sent f;

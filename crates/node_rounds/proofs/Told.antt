@@ -9,7 +9,7 @@ use Rattle.std.proofs.lemmas.Nat.{div-mul-add}
 use Rattle.std.proofs.lemmas.Option.{get_or_from_slice_get, slice_get_within}
 use Rattle.board_model.specs.declared.boards.Heard.{Heard}
 use Rattle.board_model.specs.declared.calls.Call.{Call}
-use Rattle.board_model.specs.declared.forecasts.ForecastRow.{ForecastRow}
+use Rattle.board_model.specs.declared.forecasts.Row.{Row}
 use Rattle.histories.specs.Steps.{board_steps, is_publish_of}
 use Rattle.histories.specs.declared.steps.BoardStep.{BoardStep}
 use Rattle.histories.specs.declared.steps.BoardStep.TheVariants.{Read, Publish}
@@ -88,7 +88,7 @@ module _ (net : Net) where
       let what = publish-is c link is in
       let told : All (λ call. call.publishes ≡ true → call.forecast ≡ told_in net round call.link made) picked = All-filter (λ c. is_publish_of link (step_of c)) (λ call. call.publishes ≡ true → call.forecast ≡ told_in net round call.link made) calls are.tells in
       let own : c.forecast ≡ told_in net round c.link made = All-head (λ call. call.publishes ≡ true → call.forecast ≡ told_in net round call.link made) c [] (subst (All (λ call. call.publishes ≡ true → call.forecast ≡ told_in net round call.link made)) only told) what.0 in
-      ap (map (λ (c : Call). c.forecast)) only ∙ ap (λ (f : List ForecastRow). f ∷ []) (own ∙ ap (λ l. told_in net round l made) what.1)
+      ap (map (λ (c : Call). c.forecast)) only ∙ ap (λ (f : List Row). f ∷ []) (own ∙ ap (λ l. told_in net round l made) what.1)
 
 -- what is heard and made is the same in the first rounds
 pub in-moved : (net : Net) (heard seen : ℕ → ℕ → List Heard) (made other : ℕ → ℕ → Commitment) (rounds : ℕ) (calls : ℕ → List Call)

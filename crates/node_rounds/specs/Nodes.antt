@@ -2,7 +2,7 @@
 use Rattle.std.specs.Prelude.{◌≡◌, ℕ, ◌+◌, ◌*◌, ◌<◌, ◌≤◌, true, false, List, [], ◌∷◌, ◌++◌, All, length, map}
 use Rattle.board_model.specs.declared.boards.Heard.{Heard}
 use Rattle.board_model.specs.declared.calls.Call.{Call}
-use Rattle.board_model.specs.declared.forecasts.ForecastRow.{ForecastRow}
+use Rattle.board_model.specs.declared.forecasts.Row.{Row}
 use Rattle.board_rule.specs.Passes.{AreInOrder, BoardsView, PassView, after_call}
 use Rattle.clusters.specs.Inflow.{IsHeardOf}
 use Rattle.clusters.specs.Windows.{counts_of}
@@ -72,7 +72,7 @@ pub record HasHeard (a b : Acting) (p q : PassView) : Type 0 where
   pub actor : b ≡ record a { want = b.want; left = b.left; heard = a.heard ++ map heard_of calls }
 
 -- what an actor tells on a link
-abbrev pub outgoing : Net → ℕ → Acting → List ForecastRow
+abbrev pub outgoing : Net → ℕ → Acting → List Row
 outgoing net link a = told_forecast net link a.sensed.now (departures a.window.lists (counts_of a.window.lists) a.phases a.served)
 
 -- a publishing on a link: the call was added to the pass, with what the actor tells, and the actor wants the next

@@ -59,7 +59,7 @@ fn publish<R: Threads + Wait + Sync, G: Gate>(
     let forecast = actor.outgoing(alloc, net)?;
     gate.before(rt, pass.number(), round, link, true);
     send(rt, boards, link, gate, forecast, pass)?;
-    actor.note_sent(net);
+    actor.sent(net);
     Ok(())
 }
 

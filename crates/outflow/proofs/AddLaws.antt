@@ -12,42 +12,42 @@ use Rattle.road_net.specs.Joins.{link_at}
 use Rattle.road_net.specs.Network.{IsNetwork}
 use Rattle.road_net.proofs.Shares.{split-found, split-none}
 use Rattle.road_net.proofs.PartsAtMost.{shares-most, split-most}
-use Rattle.clusters.specs.declared.vehicle_groups.LinkFlow.{LinkFlow}
+use Rattle.clusters.specs.declared.vehicle_groups.Part.{Part}
 use Rattle.clusters.proofs.ListLaws.{get_or-le}
 use Rattle.outflow.specs.Outflow.{part_coming}
 use Rattle.outflow.specs.Steps.{IsShareInto}
 
-abbrev pub AreSmall : List LinkFlow → Type 0
+abbrev pub AreSmall : List Part → Type 0
 AreSmall parts = All (λ part. All (λ amount. amount ≤ 5000) part.amounts) parts
 
 -- at this place of a platoon whose first amount stands in place `first`
-pub coming-at : (net : Net) (exit k first : ℕ) (part : LinkFlow) → first ≤ k → part_coming net exit 0 k first part ≡ split_of (turns_at net part.link) (get_or part.amounts (k - first) 0) exit
+pub coming-at : (net : Net) (exit k first : ℕ) (part : Part) → first ≤ k → part_coming net exit 0 k first part ≡ split_of (turns_at net part.link) (get_or part.amounts (k - first) 0) exit
 coming-at net exit k first part le =
     let e : first + 0 ≡ first = omega arith in
     sym (cond_above k (first + 0) 0 (split_of (turns_at net part.link) (get_or part.amounts (k - (first + 0)) 0) exit) _ (omega arith) refl)
     ∙ ap (λ n. split_of (turns_at net part.link) (get_or part.amounts (k - n) 0) exit) e
 
 -- The first i parts have been added; what stands before the place `first` is what stood there.
-pub record IsAddingParts (net : Net) (exit first : ℕ) (before : List ℕ) (parts : List LinkFlow) (amounts : List ℕ) (i : ℕ) : Type 0 where
+pub record IsAddingParts (net : Net) (exit first : ℕ) (before : List ℕ) (parts : List Part) (amounts : List ℕ) (i : ℕ) : Type 0 where
   pub near : (k : ℕ) → k < first → get_or amounts k 0 ≡ get_or before k 0
   pub far : (k : ℕ) → first ≤ k → k < length before → get_or amounts k 0 ≡ sum_by (part_coming net exit 0 k first) (take i parts)
   pub past : (k : ℕ) → length before ≤ k → get_or amounts k 0 ≡ 0
 
-pub adding-none : (net : Net) (exit first : ℕ) (before : List ℕ) (parts : List LinkFlow) → ((k : ℕ) → first ≤ k → get_or before k 0 ≡ 0) → IsAddingParts net exit first before parts before 0
+pub adding-none : (net : Net) (exit first : ℕ) (before : List ℕ) (parts : List Part) → ((k : ℕ) → first ≤ k → get_or before k 0 ≡ 0) → IsAddingParts net exit first before parts before 0
 adding-none net exit first before parts h = record {
   near = λ k lt. refl;
   far = λ k le lt. h k le;
   past = λ k le. get_or_past before k 0 le;
 }
 
-pub part-small : (net : Net) (exit first k : ℕ) (parts : List LinkFlow) (i : ℕ) → AreSmall parts → ((l : ℕ) → sum_by share_of (turns_at net l) ≤ 1000) → first ≤ k
+pub part-small : (net : Net) (exit first k : ℕ) (parts : List Part) (i : ℕ) → AreSmall parts → ((l : ℕ) → sum_by share_of (turns_at net l) ≤ 1000) → first ≤ k
     → sum_by (part_coming net exit 0 k first) (take i parts) ≤ length parts * 5000
 part-small net exit first k parts i small shares le =
     let each : All (λ part. part_coming net exit 0 k first part ≤ 5000) parts = All-weaker (λ part. All (λ amount. amount ≤ 5000) part.amounts) (λ part. part_coming net exit 0 k first part ≤ 5000)
     (λ part s. omega (arith, coming-at net exit k first part le, split-most (turns_at net part.link) (get_or part.amounts (k - first) 0) exit (shares part.link), get_or-le 5000 part.amounts s (k - first))) parts small in
     omega (arith, sum_by-take-le (part_coming net exit 0 k first) parts i, sum_by-le (part_coming net exit 0 k first) 5000 parts each)
 
-pub adding-more : (net : Net) (exit first : ℕ) (before : List ℕ) (parts : List LinkFlow) (amounts more : List ℕ) (i : ℕ) (part : LinkFlow) (share : ℕ × ℕ)
+pub adding-more : (net : Net) (exit first : ℕ) (before : List ℕ) (parts : List Part) (amounts more : List ℕ) (i : ℕ) (part : Part) (share : ℕ × ℕ)
     → IsAddingParts net exit first before parts amounts i → i < length parts → part ≡ get_or parts i part → length amounts ≡ length before → length more ≡ length amounts
     → IsShareInto (turns_at net part.link) exit share
     → ((k : ℕ) → k < first → get_or more k 0 ≡ get_or amounts k 0)
@@ -75,7 +75,7 @@ shares-of net h l = elim (cases_lt l (length net.links)) [
   | inr past ↦ let none : turns_at net l ≡ [] = get_or_past net.turns l [] (omega (arith, h.outline.road_count, h.outline.turn_count)) in rw none (omega arith)
 ]
 
-pub adding-fits : (net : Net) (exit first : ℕ) (before : List ℕ) (parts : List LinkFlow) (amounts : List ℕ) (i k : ℕ) → IsAddingParts net exit first before parts amounts i
+pub adding-fits : (net : Net) (exit first : ℕ) (before : List ℕ) (parts : List Part) (amounts : List ℕ) (i k : ℕ) → IsAddingParts net exit first before parts amounts i
     → AreSmall parts → length parts ≤ 16 → ((l : ℕ) → sum_by share_of (turns_at net l) ≤ 1000) → first ≤ k → get_or amounts k 0 ≤ 80000
 adding-fits net exit first before parts amounts i k h small few shares le = elim (cases_lt k (length before)) [
   | inl below ↦ omega (arith, h.far k le below, part-small net exit first k parts i small shares le)

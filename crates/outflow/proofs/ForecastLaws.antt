@@ -3,7 +3,7 @@ use Rattle.std.proofs.Common.{◌≡◌, ℕ, zero, suc, ◌+◌, ◌-◌, ◌<�
 use Rattle.std.specs.List.{range_with_len}
 use Rattle.std.proofs.lemmas.List.Elements.{All-cons, All-contains}
 use Rattle.std.proofs.lemmas.Bool.{cases_lt, cond_below, cond_above}
-use Rattle.board_model.specs.declared.forecasts.ForecastRow.{ForecastRow}
+use Rattle.board_model.specs.declared.forecasts.Row.{Row}
 use Rattle.net_numbers.specs.Numbers.{Net}
 use Rattle.net_numbers.specs.Outline.{link_at}
 use Rattle.road_net.specs.Network.{IsNetwork, exit_links}
@@ -37,15 +37,15 @@ pub positive-later : (f : ℕ → ℕ) (a n low : ℕ) → ((d : ℕ) → d < lo
 positive-later f a zero low h = λ k d lt. absurd (omega arith)
 positive-later f a (suc n) low h = elim (cases_lt 0 (f a)) [
   | inl some ↦
-      let P : List ForecastRow → Type 0 = All (λ row. low ≤ row.second) in
+      let P : List Row → Type 0 = All (λ row. low ≤ row.second) in
       let late : low ≤ a = elim (cases_lt a low) [
         | inl early ↦ absurd (let e : f a ≡ 0 = h a early in omega (arith, e))
         | inr fine ↦ fine
       ] in
       subst P (cond_below 0 (f a) (record { second = a; amount = f a } ∷ positive_rows f (range_with_len (a + 1) n)) (positive_rows f (range_with_len (a + 1) n)) some)
-      (All-cons (λ (row : ForecastRow). low ≤ row.second) (record { second = a; amount = f a }) (positive_rows f (range_with_len (a + 1) n)) late (positive-later f (a + 1) n low h))
+      (All-cons (λ (row : Row). low ≤ row.second) (record { second = a; amount = f a }) (positive_rows f (range_with_len (a + 1) n)) late (positive-later f (a + 1) n low h))
   | inr none ↦
-      let P : List ForecastRow → Type 0 = All (λ row. low ≤ row.second) in
+      let P : List Row → Type 0 = All (λ row. low ≤ row.second) in
       subst P (cond_above 0 (f a) (record { second = a; amount = f a } ∷ positive_rows f (range_with_len (a + 1) n)) (positive_rows f (range_with_len (a + 1) n)) _ none refl)
       (positive-later f (a + 1) n low h)
 ]

@@ -21,7 +21,7 @@ use Rattle.net_numbers.specs.Outline.{ArePhaseLinks, IsLink, IsOutline, link_at,
 use Rattle.road_net.specs.Network.{IsNetwork}
 use Rattle.road_net.proofs.PartsAtMost.{split-most}
 use Rattle.outflow.proofs.AddLaws.{AreSmall, coming-at, part-small, shares-of}
-use Rattle.clusters.specs.declared.vehicle_groups.LinkFlow.{LinkFlow}
+use Rattle.clusters.specs.declared.vehicle_groups.Part.{Part}
 use Rattle.clusters.specs.declared.vehicle_groups.Platoon.{Platoon}
 use Rattle.clusters.specs.Platoons.{platoons_at}
 use Rattle.clusters.specs.Sound.{AreOfNode, IsPart, IsPlatoon, cluster_lists, clusters_of}
@@ -115,10 +115,10 @@ next-of net node now plan lists left head k s of h = elim (cases_lt k (length li
 ]
 
 -- before a departure's first vehicles can have travelled the exit, nothing comes
-part-early : (net : Net) (exit travel d start : ℕ) (part : LinkFlow) → d < start + travel → part_coming net exit travel d start part ≡ 0
+part-early : (net : Net) (exit travel d start : ℕ) (part : Part) → d < start + travel → part_coming net exit travel d start part ≡ 0
 part-early net exit travel d start part lt = sym (cond_below d (start + travel) 0 (_) lt)
 
-departure-early : (net : Net) (exit travel d start : ℕ) (parts : List LinkFlow) → d < start + travel → sum_by (part_coming net exit travel d start) parts ≡ 0
+departure-early : (net : Net) (exit travel d start : ℕ) (parts : List Part) → d < start + travel → sum_by (part_coming net exit travel d start) parts ≡ 0
 departure-early net exit travel d start [] lt = refl
 departure-early net exit travel d start (p ∷ parts) lt =
     omega (arith, sum_by-cons (part_coming net exit travel d start) p parts, part-early net exit travel d start p lt, departure-early net exit travel d start parts lt)
@@ -208,7 +208,7 @@ serving-at net node now lists left head ks ss i d of h lt =
     }
 
 -- what comes of the parts of a departure, by place and by second
-part-moved : (net : Net) (exit travel now first start k : ℕ) (part : LinkFlow) → first + now ≡ start + travel → part_coming net exit 0 k first part ≡ part_coming net exit travel (now + k) start part
+part-moved : (net : Net) (exit travel now first start k : ℕ) (part : Part) → first + now ≡ start + travel → part_coming net exit 0 k first part ≡ part_coming net exit travel (now + k) start part
 part-moved net exit travel now first start k part e = elim (cases_lt k first) [
   | inl below ↦
       sym (cond_below k (first + 0) 0 (split_of (turns_at net part.link) (get_or part.amounts (k - (first + 0)) 0) exit) (omega arith))
@@ -220,7 +220,7 @@ part-moved net exit travel now first start k part e = elim (cases_lt k first) [
       ∙ cond_above (now + k) (start + travel) 0 (split_of (turns_at net part.link) (get_or part.amounts (now + k - (start + travel)) 0) exit) _ (omega arith) refl
 ]
 
-parts-moved : (net : Net) (exit travel now first start k : ℕ) (parts : List LinkFlow) → first + now ≡ start + travel
+parts-moved : (net : Net) (exit travel now first start k : ℕ) (parts : List Part) → first + now ≡ start + travel
     → sum_by (part_coming net exit 0 k first) parts ≡ sum_by (part_coming net exit travel (now + k) start) parts
 parts-moved net exit travel now first start k [] e = refl
 parts-moved net exit travel now first start k (p ∷ parts) e =
@@ -250,23 +250,23 @@ fit-platoon net node now k p h there below q =
     All-get_or (λ ps. All (ArePhaseLinks (length net.link_names)) ps) net.phase_links node [] (omega (arith, h.outline.phases_count)) h.outline.phase_links in
     let links : ArePhaseLinks (length net.link_names) (phase_links_at net node k) = All-get_or (ArePhaseLinks (length net.link_names)) (phases_at net node) k [] (omega (arith, h.outline.phase_counts node there)) phases in
     let P : List ℕ → Type 0 = λ ls. All (λ l. l < length net.link_names) ls in
-    let numbers : All (λ l. l < length net.link_names) (map (λ (part : LinkFlow). part.link) p.parts) = subst P (sym q.order) links.exist in
-    let d : LinkFlow = record { link = 0; amounts = [] } in
+    let numbers : All (λ l. l < length net.link_names) (map (λ (part : Part). part.link) p.parts) = subst P (sym q.order) links.exist in
+    let d : Part = record { link = 0; amounts = [] } in
     record {
       small = All-weaker (IsPart net p.cluster.len) (λ part. All (λ amount. amount ≤ 5000) part.amounts)
           (λ part s. All-weaker (λ amount. amount ≤ (link_at net part.link).sat) (λ amount. amount ≤ 5000) (λ amount le. omega (arith, le, sat-le net part.link h.outline)) part.amounts s.amounts) p.parts q.parts;
-      few = omega (arith, length-map p.parts (λ (part : LinkFlow). part.link), ap length q.order, links.count);
+      few = omega (arith, length-map p.parts (λ (part : Part). part.link), ap length q.order, links.count);
       links = All-from_get_or (λ part. part.link < length net.link_names) p.parts d (λ j lt.
-          omega (arith, get_or-map (λ (part : LinkFlow). part.link) p.parts j d 0 lt, All-get_or (λ l. l < length net.link_names) (map (λ (part : LinkFlow). part.link) p.parts) j 0 (omega (arith, length-map p.parts (λ (part : LinkFlow). part.link))) numbers));
+          omega (arith, get_or-map (λ (part : Part). part.link) p.parts j d 0 lt, All-get_or (λ l. l < length net.link_names) (map (λ (part : Part). part.link) p.parts) j 0 (omega (arith, length-map p.parts (λ (part : Part). part.link))) numbers));
     }
 
 -- nothing comes of a part after its last second
-part-past : (net : Net) (exit k first len : ℕ) (part : LinkFlow) → ((l : ℕ) → sum_by share_of (turns_at net l) ≤ 1000) → first + len ≤ k → length part.amounts ≡ len → part_coming net exit 0 k first part ≡ 0
+part-past : (net : Net) (exit k first len : ℕ) (part : Part) → ((l : ℕ) → sum_by share_of (turns_at net l) ≤ 1000) → first + len ≤ k → length part.amounts ≡ len → part_coming net exit 0 k first part ≡ 0
 part-past net exit k first len part shares le count =
     let none : get_or part.amounts (k - first) 0 ≡ 0 = get_or_past part.amounts (k - first) 0 (omega arith) in
     omega (arith, coming-at net exit k first part (omega arith), split-most (turns_at net part.link) (get_or part.amounts (k - first) 0) exit (shares part.link), none)
 
-parts-past : (net : Net) (exit k first len : ℕ) (parts : List LinkFlow) → ((l : ℕ) → sum_by share_of (turns_at net l) ≤ 1000) → first + len ≤ k → All (IsPart net len) parts
+parts-past : (net : Net) (exit k first len : ℕ) (parts : List Part) → ((l : ℕ) → sum_by share_of (turns_at net l) ≤ 1000) → first + len ≤ k → All (IsPart net len) parts
     → sum_by (part_coming net exit 0 k first) parts ≡ 0
 parts-past net exit k first len [] shares le h = refl
 parts-past net exit k first len (p ∷ parts) shares le h =

@@ -1,7 +1,7 @@
 -- What a node tells of an exit link: when the vehicles that it has planned to serve will come to that link's end.
 use Rattle.std.specs.Prelude.{ℕ, ◌+◌, ◌-◌, nat_lt, if◌then◌else◌, List, [], ◌∷◌, filter, length, map, slice_index, slice_index_or, sum_by}
 use Rattle.std.specs.List.{range_with_len}
-use Rattle.board_model.specs.declared.forecasts.ForecastRow.{ForecastRow}
+use Rattle.board_model.specs.declared.forecasts.Row.{Row}
 use Rattle.phase_plan.specs.declared.Phase.{Phase}
 use Rattle.switch_rules.specs.Orders.{one_less}
 use Rattle.switch_rules.specs.Sequences.{AreNextServings, no_cluster}
@@ -10,7 +10,7 @@ use Rattle.switch_rules.specs.declared.Served.{Served}
 use Rattle.net_numbers.specs.Numbers.{Net}
 use Rattle.net_numbers.specs.Outline.{link_at, turns_at}
 use Rattle.road_net.specs.Joins.{split_of}
-use Rattle.clusters.specs.declared.vehicle_groups.LinkFlow.{LinkFlow}
+use Rattle.clusters.specs.declared.vehicle_groups.Part.{Part}
 use Rattle.clusters.specs.declared.vehicle_groups.Platoon.{Platoon}
 use Rattle.clusters.specs.Platoons.{platoons_at}
 use Rattle.clusters.specs.Sound.{cluster_lists}
@@ -43,7 +43,7 @@ departures lists left (k ∷ ks) (s ∷ ss) = record { platoon = next_platoon li
 
 -- What of a part comes to the end of the exit in second d, where its platoon starts at this second and the exit takes `travel`
 -- seconds: of what leaves its link so long before, what turns into the exit.
-abbrev pub part_coming : Net → ℕ → ℕ → ℕ → ℕ → LinkFlow → ℕ
+abbrev pub part_coming : Net → ℕ → ℕ → ℕ → ℕ → Part → ℕ
 part_coming net exit travel d start part =
     if nat_lt d (start + travel) then 0 else split_of (turns_at net part.link) (slice_index part.amounts (d - (start + travel))) exit
 
@@ -56,9 +56,9 @@ abbrev pub coming_in : Net → ℕ → List Departure → ℕ → ℕ
 coming_in net exit leave d = sum_by (departure_coming net exit (link_at net exit).travel d) leave
 
 -- the rows of the seconds in which something comes
-abbrev pub positive_rows : (ℕ → ℕ) → List ℕ → List ForecastRow
+abbrev pub positive_rows : (ℕ → ℕ) → List ℕ → List Row
 positive_rows amount seconds = filter (λ row. nat_lt 0 row.amount) (map (λ d. record { second = d; amount = amount d }) seconds)
 
 -- the forecast of these departures: a row for each second before now + look in which something comes
-unfoldable pub told_forecast : Net → ℕ → ℕ → List Departure → List ForecastRow
+unfoldable pub told_forecast : Net → ℕ → ℕ → List Departure → List Row
 told_forecast net exit now leave = positive_rows (coming_in net exit leave) (range_with_len 0 (now + net.run.look))

@@ -8,7 +8,7 @@ ghost use Rattle.outflow.specs.Outflow.{AreServed, departures, part_coming};
 ghost use Rattle.outflow.specs.Steps.{AreArriving, IsShareInto};
 
 use crate::servings::Servings;
-use clusters::{LinkFlow, Platoon, Window};
+use clusters::{Part, Platoon, Window};
 use road_net::{Network, Turn, part_of_turn};
 use std::alloc::{AllocError, Global};
 
@@ -60,7 +60,7 @@ fn platoon_at(list: &[Platoon], place: usize) -> Option<&Platoon>
 }
 
 /// Adds what of each part comes, the first of it in this place.
-fn add_platoon(amounts: &mut [u32], net: &Network, parts: &[LinkFlow], first: usize, exit: u32)
+fn add_platoon(amounts: &mut [u32], net: &Network, parts: &[Part], first: usize, exit: u32)
     requires links { All (λ part. part.link < length net.now.link_names) parts.now }
     requires few { length parts.now ≤ 16 }
     requires small { All (λ part. All (λ amount. amount ≤ 5000) part.amounts) parts.now }

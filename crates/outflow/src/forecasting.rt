@@ -9,17 +9,18 @@ ghost use Rattle.outflow.specs.Outflow.{AreServed, departures, told_forecast, po
 
 use crate::exit_flow::exit_flow;
 use crate::servings::Servings;
-use board_model::{Forecast, ForecastRow};
+use board_model::{Forecast, Row};
 use clusters::Window;
 use road_net::Network;
 use std::alloc::{AllocError, Global};
+use switch_rules::Served;
 
 /// When the vehicles of these servings will come to the end of an exit link of the node: for each second before
 /// `now` + look, what turns into the exit of all that leaves in time, where that is more than nothing.
 ///
 /// `now` is at most 18,000. The window's platoons are the node's from `now` on, each with a part for each link of its phase,
 /// in their order, with an amount for each second of at most the link's `sat`. The servings are those of one feasible
-/// sequence of the window's clusters, or none at all.
+/// sequence of the clusters of `w`, or none at all.
 ///
 /// The rows are at most 180, each of 1 to 80,000 in a second before `now` + look, and none comes before `now` + travel of the
 /// exit. No servings make the empty forecast. `Err`: out of memory.
@@ -29,24 +30,25 @@ pub fn forecast(
     alloc: Global,
     net: &Network,
     node: u32,
-    window: &Window,
-    servings: &Servings,
+    w: &Window,
+    phases: &[u8],
+    served: &[Served],
     exit: u32,
     now: u32,
 ) -> Result<Forecast, AllocError>
     requires node { node < length net.now.node_names }
     requires now { now ≤ 18000 }
     requires exit { Contains (exit_links net.now node) exit }
-    requires platoons { AreOfNode net.now node now window.now.lists }
-    requires served { AreServed (plan_at net.now node) window.now.lists servings.now.phases.now
-        servings.now.served.now }
+    requires platoons { AreOfNode net.now node now w.now.lists }
+    requires served { AreServed (plan_at net.now node) w.now.lists phases.now served.now }
     ensures value { IfOk result (λ forecast. forecast ≡ told_forecast net.now exit now
-        (departures window.now.lists (counts_of window.now.lists) servings.now.phases.now servings.now.served.now)) }
+        (departures w.now.lists (counts_of w.now.lists) phases.now served.now)) }
     ensures later { IfOk result (λ forecast. All (λ row. now + (link_at net.now exit).travel ≤ row.second) forecast) }
 {
     // The exit is one of these links, so it exists.
     let _exits = net.exit_links(node);
-    let amounts = exit_flow(alloc, net, node, window, servings, exit, now)?;
+    let servings = Servings { phases, served };
+    let amounts = exit_flow(alloc, net, node, w, &servings, exit, now)?;
     rows(alloc, now, amounts.as_slice())
 }
 
@@ -62,7 +64,7 @@ fn rows(alloc: Global, now: u32, amounts: &[u32]) -> Result<Forecast, AllocError
     let mut forecast = Forecast::with_capacity(alloc, filled)?;
     for (k, amount) in amounts.iter().enumerate() {
         if *amount > 0 {
-            forecast.push(ForecastRow {
+            forecast.push(Row {
                 second: now + k as u32,
                 amount: *amount,
             })?;

@@ -6,4 +6,3 @@ mod forecasting;
 mod servings;
 
 pub use forecasting::forecast;
-pub use servings::Servings;

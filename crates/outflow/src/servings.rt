@@ -5,7 +5,7 @@ use switch_rules::Served;
 ///
 /// docs/RULES.md, "Predicted outflow".
 #[derive(Drop)]
-pub struct Servings<'a> {
+pub(crate) struct Servings<'a> {
     /// The phase of each serving.
     pub phases: &'a [u8],
     /// The servings.

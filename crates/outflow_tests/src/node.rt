@@ -3,7 +3,7 @@ ghost use Rattle.std.specs.Prelude.{◌≡◌, ◌*◌, ◌<◌, ◌≤◌, IfOk
 ghost use Rattle.road_net.specs.Senses.{IsSensedOf};
 ghost use Rattle.clusters.specs.Inflow.{IsHeardOf};
 
-use board_model::{Forecast, ForecastRow, Heard};
+use board_model::{Forecast, Row, Heard};
 use foundation::items::Items;
 use road_net::{LinkSense, Network, Sensed};
 use std::alloc::{AllocError, Global};
@@ -65,11 +65,11 @@ pub(crate) fn sensed(alloc: Global, net: &Network, node: u32) -> Result<Sensed, 
 fn told(alloc: Global, link: u32) -> Result<Forecast, AllocError> {
     let mut forecast = Forecast::empty(alloc);
     if link == AB {
-        forecast.push(ForecastRow {
+        forecast.push(Row {
             second: 22,
             amount: 500,
         })?;
-        forecast.push(ForecastRow {
+        forecast.push(Row {
             second: 23,
             amount: 500,
         })?;

@@ -3,7 +3,7 @@ use Rattle.std.specs.Prelude.{◌≡◌, ℕ, ◌+◌, ◌<◌, ◌≤◌, false
 use Rattle.board_model.specs.declared.boards.BoardEvent.{BoardEvent}
 use Rattle.board_model.specs.declared.boards.Seen.{Seen}
 use Rattle.board_model.specs.declared.boards.Sent.{Sent}
-use Rattle.board_model.specs.declared.forecasts.ForecastRow.{ForecastRow}
+use Rattle.board_model.specs.declared.forecasts.Row.{Row}
 use Rattle.board_model.specs.Forecasts.{IsAboveLast}
 use Rattle.board_model.specs.Boards.{Log, stamps, version_of, newest}
 use Rattle.board_rule.specs.Plays.{HasDrawn}
@@ -54,7 +54,7 @@ pub record ReadHeld (m : Hand) (seen : Seen) (n : Hand) : Type 0 where
   pub forecast : seen.forecast ≡ newest (held m).events
   pub view : n.0 ≡ drew_read m.0 seen.stamp
 
-pub record SentHeld (m : Hand) (f : List ForecastRow) (sent : Sent) (n : Hand) : Type 0 where
+pub record SentHeld (m : Hand) (f : List Row) (sent : Sent) (n : Hand) : Type 0 where
   pub drawn : HasDrawn m.0 sent.stamp
   pub version : sent.version ≡ version_of (held m).events + 1
   pub view : n.0 ≡ drew_publish f m.0 sent.stamp
@@ -66,7 +66,7 @@ pub record ReadAt (m : Hand) (seen : Seen) (n : Hand) : Type 0 where
   pub forecast : seen.forecast ≡ newest (held m).events
   pub after : n ≡ (flying (drew_read m.0 seen.stamp) None, [])
 
-pub record SentAt (m : Hand) (f : List ForecastRow) (sent : Sent) (n : Hand) : Type 0 where
+pub record SentAt (m : Hand) (f : List Row) (sent : Sent) (n : Hand) : Type 0 where
   pub drawn : HasDrawn m.0 sent.stamp
   pub version : sent.version ≡ version_of (held m).events + 1
   pub after : n ≡ (flying (drew_publish f m.0 sent.stamp) None, [])

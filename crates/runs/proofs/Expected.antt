@@ -12,7 +12,7 @@ use Rattle.board_model.specs.declared.boards.Heard.{Heard}
 use Rattle.clusters.specs.Cuts.{CannotJoin, IsRun, filled, filled_from, first_of, last_of, run_at}
 use Rattle.clusters.specs.Platoons.{ArePlatoons, ArePlatoonsOf, platoon_of, platoons_at, together}
 use Rattle.clusters.specs.Windows.{IsLongest, IsWindow, counts_of}
-use Rattle.clusters.specs.declared.vehicle_groups.LinkFlow.{LinkFlow}
+use Rattle.clusters.specs.declared.vehicle_groups.Part.{Part}
 use Rattle.clusters.specs.declared.vehicle_groups.Platoon.{Platoon}
 use Rattle.clusters.specs.declared.vehicle_groups.Window.{Window}
 use Rattle.clusters.proofs.WindowLaws.{front-within, sum-grows}
@@ -100,7 +100,7 @@ module _ (gap most : ℕ) where
       second others [] s t = both others (s ∙ append-nil q) (sym t)
       second others (z ∷ zs) s t = absurd (no-longer q qs z zs (concat rs) y t (subst (IsRun gap most) s (All-head (IsRun gap most) r rs x.0)) (subst Rise s (rise-left r (concat rs) up)))
 
-same-platoons : (gap most now look : ℕ) (streams : List LinkFlow) (a b : List Platoon) → ArePlatoons gap most now look streams a → ArePlatoons gap most now look streams b → a ≡ b
+same-platoons : (gap most now look : ℕ) (streams : List Part) (a b : List Platoon) → ArePlatoons gap most now look streams a → ArePlatoons gap most now look streams b → a ≡ b
 same-platoons gap most now look streams a b h g =
     h.each
     ∙ ap (map (platoon_of now streams)) (same-cut gap most h.runs g.runs (h.cut.all ∙ sym g.cut.all) (subst Rise (sym h.cut.all) (filled-rise (together streams look))) (h.cut.each, h.cut.apart) (g.cut.each, g.cut.apart))

@@ -14,7 +14,7 @@ use Rattle.clusters.specs.Sound.{AreOfPhase, ArePlannable, cluster_lists}
 use Rattle.clusters.specs.Steps.{AreGathered, IsRunBefore}
 use Rattle.clusters.specs.Taking.{AreFronts}
 use Rattle.clusters.specs.Windows.{IsWindow, counts_of}
-use Rattle.clusters.specs.declared.vehicle_groups.LinkFlow.{LinkFlow}
+use Rattle.clusters.specs.declared.vehicle_groups.Part.{Part}
 use Rattle.clusters.specs.declared.vehicle_groups.Platoon.{Platoon}
 use Rattle.clusters.specs.declared.vehicle_groups.Window.{Window}
 use Rattle.clusters.proofs.PlatoonLaws.{ArePhases, phase-made, phases-clusters, streams-sound}
@@ -101,7 +101,7 @@ module _ (gap most : ℕ) (series : List ℕ) where
         before = All-get_or (λ x. x < length series) run (length run - 1) 0 (omega arith) within;
       }
 
-  gathered : (now : ℕ) (streams : List LinkFlow) (runs : List (List ℕ)) → IsCut gap most series runs → AreGathered gap most now series streams (map (platoon_of now streams) runs)
+  gathered : (now : ℕ) (streams : List Part) (runs : List (List ℕ)) → IsCut gap most series runs → AreGathered gap most now series streams (map (platoon_of now streams) runs)
   gathered now streams runs cut =
       let up : Rise (concat runs) = subst Rise (sym cut.all) (filled-rise series) in
       let rises : All Rise runs = rise-runs runs up in
@@ -120,7 +120,7 @@ module _ (net : Net) (network : IsNetwork net) (node : ℕ) (below : node < leng
   of-phase : (k : ℕ) (list : List Platoon) → k < length (plan_at net node)
       → ArePlatoons net.run.gap (most_of net node k) sensed.now net.run.look (streams_of net sensed heard (phase_links_at net node k)) list → AreOfPhase net node k sensed heard list
   of-phase k list exists are =
-      let streams : List LinkFlow = streams_of net sensed heard (phase_links_at net node k) in
+      let streams : List Part = streams_of net sensed heard (phase_links_at net node k) in
       phase-made net node k sensed heard (together streams net.run.look) streams list network early refl
       (streams-sound net node k sensed heard (phase_links_at net node k) streams net.run.look network below exists refl refl refl) refl
       (subst (AreGathered net.run.gap (most_of net node k) sensed.now (together streams net.run.look) streams) (sym are.each) (gathered net.run.gap (most_of net node k) (together streams net.run.look) sensed.now streams are.runs are.cut))

@@ -6,7 +6,7 @@ use Rattle.std.proofs.lemmas.Bool.{cases_lt}
 use Rattle.std.proofs.lemmas.List.{ext_get_or}
 use Rattle.arrivals.specs.Amounts.{Amounts}
 use Rattle.board_model.specs.declared.boards.Heard.{Heard}
-use Rattle.board_model.specs.declared.forecasts.ForecastRow.{ForecastRow}
+use Rattle.board_model.specs.declared.forecasts.Row.{Row}
 use Rattle.histories.specs.Histories.{IsLawful, version_at}
 use Rattle.histories.specs.Steps.{board_steps}
 use Rattle.histories.proofs.Versions.{version-law}
@@ -45,7 +45,7 @@ module _ (net : Net) (network : IsNetwork net) (arrivals : Amounts) (h : List �
       let l : ℕ = get_or (heard_links net n) q 0 in
       let (place, at) = place-of net network h lawful r n q less (first-small net n q first) in
       heard-at net arrivals h a.heard a.made net.run.rounds a.by.commits a.along r n q place less below first at none
-      ∙ ap (λ (f : List ForecastRow). record { link = l; version = version_at (board_steps net) h l place; forecast = f }) (same q place first at)
+      ∙ ap (λ (f : List Row). record { link = l; version = version_at (board_steps net) h l place; forecast = f }) (same q place first at)
       ∙ sym (heard-at net arrivals h b.heard b.made net.run.rounds b.by.commits b.along r n q place less below first at none))
 
   commit-same : (r n : ℕ) → r < net.run.rounds → n < length net.node_names → Same r → HearsSame r n → a.made r n ≡ b.made r n

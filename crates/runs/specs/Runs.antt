@@ -3,7 +3,7 @@ use Rattle.std.specs.Prelude.{◌≡◌, ℕ, zero, suc, ◌*◌, ◌/◌, ◌<�
 use Rattle.std.specs.List.{flat_map, range_with_len}
 use Rattle.arrivals.specs.Amounts.{Amounts}
 use Rattle.board_model.specs.declared.boards.Heard.{Heard}
-use Rattle.board_model.specs.declared.forecasts.ForecastRow.{ForecastRow}
+use Rattle.board_model.specs.declared.forecasts.Row.{Row}
 use Rattle.clusters.specs.Inflow.{IsHeardOf}
 use Rattle.clusters.specs.Windows.{counts_of}
 use Rattle.control_flow.specs.Greens.{standing}
@@ -45,12 +45,12 @@ abbrev pub sensed_in : Net → Amounts → (ℕ → ℕ → Commitment) → ℕ 
 sensed_in net arrivals made round node = sense net (past_by net arrivals made (round * net.run.step)) (round * net.run.step) node
 
 -- what a commit of a round tells on a link
-abbrev pub told_in : Net → ℕ → ℕ → Commitment → List ForecastRow
+abbrev pub told_in : Net → ℕ → ℕ → Commitment → List Row
 told_in net round link c = told_forecast net link (round * net.run.step) (departures c.window.lists (counts_of c.window.lists) (phases_of c.answer) c.served)
 
 -- the forecast of a version of a link: version 0 is the empty one, and each next version is told by the commit of one round more
 -- of the node that publishes on the link
-abbrev pub forecast_at : Net → (ℕ → ℕ → Commitment) → ℕ → ℕ → List ForecastRow
+abbrev pub forecast_at : Net → (ℕ → ℕ → Commitment) → ℕ → ℕ → List Row
 forecast_at net made link zero = []
 forecast_at net made link (suc round) = told_in net round link (made round (publisher net link))
 

@@ -2,7 +2,7 @@
 ghost use Rattle.std.specs.Prelude.{◌≡◌, IfOk};
 ghost use Rattle.board_rule.specs.Passes.{AreAllPasses, fresh_passes};
 
-use board_model::{BoardKind, BoardLog, Forecast, ForecastRow, Gate, OpenGate};
+use board_model::{BoardKind, BoardLog, Forecast, Row, Gate, OpenGate};
 use plan_boards::{Boards, Pass};
 use std::alloc::{AllocError, Global};
 use std::sync::Wait;
@@ -12,7 +12,7 @@ use std::thread::Threads;
 /// Half a vehicle in this second.
 pub(crate) fn one_row(alloc: Global, second: u32) -> Result<Forecast, AllocError> {
     let mut forecast = Forecast::empty(alloc);
-    forecast.push(ForecastRow {
+    forecast.push(Row {
         second: second.min(1000),
         amount: 500,
     })?;

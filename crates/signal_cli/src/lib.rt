@@ -9,9 +9,9 @@ mod plan;
 mod top;
 mod verdicts;
 
-pub use certify::{Table, certify_job};
+pub use certify::{certify_bound_job, certify_job};
 pub use check::check_job;
-pub use commands::{SceneFiles, Status};
-pub use network_jobs::{InstanceArgs, grid_job, instance_job, net_job, replay_job, turns_job};
+pub use commands::Status;
+pub use network_jobs::{grid_job, instance_job, net_job, replay_job, turns_job};
 pub use plan::plan_job;
 pub use top::signal;

@@ -5,13 +5,13 @@ ghost use Rattle.commands.specs.Outcome.{Outcome};
 ghost use Rattle.commands.specs.Refusals.{Says};
 ghost use Rattle.commands.specs.declared.refusals.Refusal.TheVariants as refusal;
 
-use super::certify::{Table, certify_job};
+use super::certify::{certify_bound_job, certify_job};
 use super::check::check_job;
 use super::plan::plan_job;
 use board_model::Gate;
-use commands::{Command, Refusal, SceneFiles, Status, command_of, refuse};
+use commands::{Command, Refusal, Status, command_of, refuse};
 use foundation::text::Text;
-use network_jobs::{InstanceArgs, grid_job, instance_job, net_job, replay_job, turns_job};
+use network_jobs::{grid_job, instance_job, net_job, replay_job, turns_job};
 use outside_world::{Shelf, Sink};
 use std::alloc::Global;
 use std::sync::Wait;
@@ -65,32 +65,19 @@ fn run<R: Threads + Wait + Sync, S: Shelf, O: Sink, E: Sink, G: Gate + Sync>(
 {
     match command {
         Command::Plan { file } => plan_job(alloc, file, shelf, out, err),
-        Command::Certify { file } => certify_job(alloc, Table::Whole, file, shelf, out, err),
-        Command::CertifyBound { file } => {
-            certify_job(alloc, Table::Bounded, file, shelf, out, err)
-        }
+        Command::Certify { file } => certify_job(alloc, file, shelf, out, err),
+        Command::CertifyBound { file } => certify_bound_job(alloc, file, shelf, out, err),
         Command::Check { file } => check_job(alloc, file, shelf, out, err),
         Command::Turns { net, arr } => turns_job(alloc, net, arr, shelf, out, err),
         Command::Replay { net, arr, hist } => replay_job(alloc, net, arr, hist, shelf, out, err),
-        Command::Net { net, arr } => {
-            net_job(rt, alloc, &SceneFiles { net, arr }, shelf, out, err, gate)
-        }
+        Command::Net { net, arr } => net_job(rt, alloc, net, arr, shelf, out, err, gate),
         Command::Instance {
             net,
             arr,
             hist,
             node,
             round,
-        } => {
-            let args = InstanceArgs {
-                net,
-                arr,
-                hist,
-                node,
-                round,
-            };
-            instance_job(alloc, &args, shelf, out, err)
-        }
+        } => instance_job(alloc, net, arr, hist, node, round, shelf, out, err),
         Command::Grid {
             number,
             side,

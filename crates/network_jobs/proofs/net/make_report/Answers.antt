@@ -5,7 +5,7 @@ use Rattle.commands.proofs.Outcomes.{failed}
 use Rattle.network_jobs.proofs.net.make_report.Goals as goal
 
 pub returns-in_err-scene : goal.returns-in_err-scene
-returns-in_err-scene g c = failed (Net c.args.files.now.net.now c.args.files.now.arr.now) _ _ c.from_residual.result _ (c.in_err-scene.ensures.refused (λ network. NoMore)) c.from_residual.ensures.1
+returns-in_err-scene g c = failed (Net c.args.net.now c.args.arr.now) _ _ c.from_residual.result _ (c.in_err-scene.ensures.refused (λ network. NoMore)) c.from_residual.ensures.1
 
 pub returns : goal.returns
 returns g c =

@@ -1,6 +1,6 @@
 use Rattle.std.proofs.Common.{◌∙◌, ap, List, get_or, ◌+◌, ◌-◌, arith}
 use Rattle.net_numbers.specs.declared.roads.Link.{Link}
-use Rattle.clusters.specs.declared.vehicle_groups.LinkFlow.{LinkFlow}
+use Rattle.clusters.specs.declared.vehicle_groups.Part.{Part}
 use Rattle.clusters.specs.declared.vehicle_groups.Platoon.{Platoon}
 use Rattle.clusters.proofs.SeenLaws.{written}
 use Rattle.outflow.proofs.ServedLaws.{clear-after, filling-all, filling-more, found-fit, listed, no_served, phase-below, phases-few, platoon-found, platoon-there, serving-late}
@@ -55,7 +55,7 @@ loop-i-preserved c =
     (filling-more c.args.net.now c.args.node c.args.exit c.args.now c.args.window.now.lists c.args.servings.now.phases.now c.args.servings.now.served.now c.loop-i.taken c.loop-i.amounts.items c.add_platoon.new.amounts c.loop-i.i
     ((get_or c.args.servings.now.served.now c.loop-i.i no_served).start + c.link-travel.result.travel - c.args.now) no_served (record { cluster = c.in-Some.platoon.now.cluster; parts = c.as_slice-in-loop-i-2.result.now })
     c.requires.platoons c.loop-i.invariant (omega arith) (phases-few c.args.net.now c.args.node c.args.now c.args.window.now.lists c.link-travel.ensures.network c.requires.node c.requires.platoons)
-    (ap (λ (ps : List LinkFlow). let p : Platoon = record { cluster = c.in-Some.platoon.now.cluster; parts = ps } in p) c.as_slice-in-loop-i-2.ensures ∙ (platoon-found c.args.net.now c.args.node c.args.exit c.args.now c.args.window.now.lists c.args.servings.now.phases.now c.args.servings.now.served.now c.loop-i.taken c.loop-i.amounts.items c.loop-i.i c.as_slice-in-loop-i.result.now c.in-Some.platoon.now c.requires.platoons c.loop-i.invariant (omega arith)
+    (ap (λ (ps : List Part). let p : Platoon = record { cluster = c.in-Some.platoon.now.cluster; parts = ps } in p) c.as_slice-in-loop-i-2.ensures ∙ (platoon-found c.args.net.now c.args.node c.args.exit c.args.now c.args.window.now.lists c.args.servings.now.phases.now c.args.servings.now.served.now c.loop-i.taken c.loop-i.amounts.items c.loop-i.i c.as_slice-in-loop-i.result.now c.in-Some.platoon.now c.requires.platoons c.loop-i.invariant (omega arith)
     (listed c.args.window.now.lists c.as_slice.result.now (get_or c.args.servings.now.phases.now c.loop-i.i 0) c.index-as_slice-k.result c.as_slice-in-loop-i.result.now c.as_slice.ensures (phase-below c.args.net.now c.args.node c.args.exit c.args.now c.args.window.now.lists c.args.servings.now.phases.now c.args.servings.now.served.now c.loop-i.taken c.loop-i.amounts.items c.loop-i.i c.requires.platoons c.loop-i.invariant (omega arith)) c.index-as_slice-k.is c.as_slice-in-loop-i.ensures) c.in-Some.ensures))
     (omega (arith, serving-late c.args.net.now c.args.node c.args.exit c.args.now c.args.window.now.lists c.args.servings.now.phases.now c.args.servings.now.served.now c.loop-i.taken c.loop-i.amounts.items c.loop-i.i c.requires.platoons c.loop-i.invariant (omega arith), ap (λ (l : Link). l.travel) c.link-travel.ensures.value))
     (omega arith)

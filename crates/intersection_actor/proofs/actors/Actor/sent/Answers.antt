@@ -6,7 +6,7 @@ use Rattle.intersection_actor.specs.declared.records.Want.TheVariants.{Publish}
 use Rattle.intersection_actor.specs.contracts.actors.Actor.{the_view}
 use Rattle.intersection_actor.proofs.SettleLaws.{sent-of}
 use Rattle.intersection_actor.proofs.TellLaws.{told-next}
-use Rattle.intersection_actor.proofs.actors.Actor.note_sent.Goals as goal
+use Rattle.intersection_actor.proofs.actors.Actor.sent.Goals as goal
 
 pub returns-clause-of : goal.returns-clause-of
 returns-clause-of c =
