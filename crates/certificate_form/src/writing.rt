@@ -30,7 +30,7 @@ const PART_CAPACITY: usize = 106 * PART + 4;
 pub fn write_certificate(alloc: Global, c: &Certificate) -> Result<Vec<u8>, AllocError>
     ensures text { IfOk result (λ text. text.items ≡ certificate_text c.now) }
     ensures lawful { IsCertificate c.now }
-    ensures spells { IfOk result (λ text. IsCertificateText text.items c.now) }
+    ensures is_text { IfOk result (λ text. IsCertificateText text.items c.now) }
     ensures short { IfOk result (λ text. length text.items
         ≤ 48 * length c.now.entries + 4 * length (sequence_of c.now.answer) + 3000) }
 {
@@ -98,7 +98,7 @@ pub fn put_certificate<O: Sink>(alloc: Global, c: &Certificate, out: &mut O) -> 
 /// docs/FORMATS.md, "Certificate text".
 pub fn law_of_certificate_text(c: &Certificate)
     ensures lawful { IsCertificate c.now }
-    ensures spells { HasText c.now }
+    ensures is_text { HasText c.now }
     ensures short { length (certificate_text c.now)
         ≤ 48 * length c.now.entries + 4 * length (sequence_of c.now.answer) + 3000 }
 {

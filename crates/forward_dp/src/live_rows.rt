@@ -118,7 +118,8 @@ impl Rows {
         requires { self.old.gone + length self.old.earlier.items < 2 ^ 64 }
         ensures keeps_entries { past.new.keeps_entries ≡ past.old.keeps_entries }
         ensures entered { (gone : List Row) → HasEntries past.old gone
-            → OnOk result (IsEntered (HasEntries past.new) (slice_index counts.now 0) (slice_index next.now 0) gone self.old self.new) }
+            → OnOk result (IsEntered (HasEntries past.new) (slice_index counts.now 0)
+            (slice_index next.now 0) gone self.old self.new) }
     {
         if next[0] <= counts[0] {
             return Ok(());

@@ -179,7 +179,8 @@ fn fill_group<L: Ledger>(
     past: &mut DroppedRows,
     steps: &mut Steps<L>,
 ) -> Result<usize, AllocError>
-    requires group { (gone : List Row) × IsGroupReady task.now.i.now task.now.limit group.now.counts group.now.phase group.now.from gone rows.old }
+    requires group { (gone : List Row)
+        × IsGroupReady task.now.i.now task.now.limit group.now.counts group.now.phase group.now.from gone rows.old }
     requires empty { IsEmpty reached.old }
     ensures filled { (gone : List Row) → HasEntries past.old gone
         → IsGroupReady task.now.i.now task.now.limit group.now.counts group.now.phase group.now.from gone rows.old
@@ -187,7 +188,8 @@ fn fill_group<L: Ledger>(
     ensures keeps_entries { past.new.keeps_entries ≡ past.old.keeps_entries }
     ensures empty { OnOk result (IsEmpty reached.new) }
     ensures steps { IfOk result (λ end. steps.new + group.now.from ≤ steps.old + end) }
-    ensures most { (gone : List Row) → IsGroupReady task.now.i.now task.now.limit group.now.counts group.now.phase group.now.from gone rows.old
+    ensures most { (gone : List Row)
+        → IsGroupReady task.now.i.now task.now.limit group.now.counts group.now.phase group.now.from gone rows.old
         → steps.new + group.now.from ≤ steps.old + length (all_rows gone rows.old) }
 {
     let phase = group.phase;

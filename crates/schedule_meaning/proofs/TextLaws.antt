@@ -44,12 +44,12 @@ lists-below-text plan h lists bytes e short = λ i d inside.
 
 -- the text of an instance has fewer than 2^32 bytes
 short-text : (bytes : List ℕ) (p : Problem) → IsInstanceText bytes p → sum (counts_of p.lists) ≤ 40 → length bytes < 2 ^ 32
-short-text bytes p spells few =
-    fits (length bytes) (length (instance_text p.plan p.head p.lists)) (sum_by (λ list. length list) p.lists) (sum (counts_of p.lists)) (ap length spells.1) (text-le p.plan p.head p.lists spells.0) (sum-map length p.lists) few
+short-text bytes p is_text few =
+    fits (length bytes) (length (instance_text p.plan p.head p.lists)) (sum_by (λ list. length list) p.lists) (sum (counts_of p.lists)) (ap length is_text.1) (text-le p.plan p.head p.lists is_text.0) (sum-map length p.lists) few
   where
     fits : (n m c s : ℕ) → n ≡ m → m ≤ 56 * c + 500 → s ≡ c → s ≤ 40 → n < 2 ^ 32
     fits n m c s e f g h = omega arith
 
 pub short-texts : {X E : Type 0} (bytes : X → List ℕ) (p : Problem) (r : Result X E) → IfOk r (λ x. IsInstanceText (bytes x) p) → sum (counts_of p.lists) ≤ 40 → IfOk r (λ x. length (bytes x) < 2 ^ 32)
-short-texts bytes p (Ok x) spells few = short-text (bytes x) p spells few
-short-texts bytes p (Err e) spells few = tt
+short-texts bytes p (Ok x) is_text few = short-text (bytes x) p is_text few
+short-texts bytes p (Err e) is_text few = tt

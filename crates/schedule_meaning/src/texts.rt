@@ -75,7 +75,7 @@ pub fn read_instance(alloc: Global, bytes: &[u8]) -> Result<Instance, TextFault>
 pub fn write_instance(alloc: Global, i: &Instance) -> Result<Vec<u8>, AllocError>
     ensures text { IfOk result (λ text. text.items ≡ instance_text i.now.plan i.now.head i.now.lists) }
     ensures lawful { IsInstance i.now }
-    ensures spells { IfOk result (λ text. IsInstanceText text.items i.now) }
+    ensures is_text { IfOk result (λ text. IsInstanceText text.items i.now) }
     ensures short { IfOk result (λ text. length text.items < 2 ^ 32) }
 {
     write_form(alloc, i.plan().phases(), &i.head(), i.lists())

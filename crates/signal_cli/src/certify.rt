@@ -84,7 +84,7 @@ fn certificate_of_file<S: Shelf>(
 {
     let instance = fetch_instance(alloc, shelf, TextPlace::First, file)?;
     let certificate = certificate_of(alloc, table, &instance)?;
-    // Called for its clauses `lawful`, `spells` and `short`.
+    // Called for its clauses `lawful`, `is_text` and `short`.
     law_of_certificate_text(&certificate);
     // Called for its clause: no other certificate has this text.
     law_of_certificates();

@@ -7,8 +7,8 @@ use Rattle.certificate_form.proofs.WritingLaws.{certificate_fits, text_parts}
 use Rattle.certificate_form.proofs.LengthLaws.{text-le}
 use Rattle.certificate_form.proofs.writing.write_certificate.Goals as goal
 
-pub returns-clause-spells : goal.returns-clause-spells
-returns-clause-spells c =
+pub returns-clause-is_text : goal.returns-clause-is_text
+returns-clause-is_text c =
     let claim = c.args.c.now in
     let instance = subst (λ (p : Problem). form.HasText p.plan p.head p.lists) c.instance-2.ensures c.in_ok-write_front.ensures.fits in
     let answer = subst IsWritableAnswer c.answer.ensures.value c.in_ok-write_tail.ensures.answer in
@@ -18,4 +18,4 @@ returns-clause-spells c =
 pub returns-clause-short : goal.returns-clause-short
 returns-clause-short c =
     let claim = c.args.c.now in
-    omega (arith, ap length (returns-clause-spells c).1, text-le claim c.entries-entries.ensures.certificate (returns-clause-spells c).0)
+    omega (arith, ap length (returns-clause-is_text c).1, text-le claim c.entries-entries.ensures.certificate (returns-clause-is_text c).0)

@@ -16,7 +16,7 @@ returns-clause-whole g c is =
         (
           (
             written IsWhole said.instance made.certificate made.ensures.instance (made.ensures.whole is) made.ensures.best
-                (accepted _ _ _ c.law_of_certificates.ensures text.short made.ensures.few.0 made.ensures.few.1 text.lawful (text.spells, refl) made.ensures.proves),
+                (accepted _ _ _ c.law_of_certificates.ensures text.short made.ensures.few.0 made.ensures.few.1 text.lawful (text.is_text, refl) made.ensures.proves),
             λ against. against,
           ),
           λ what missing. missing,
@@ -36,7 +36,7 @@ returns-clause-bounded g c is =
         (
           (
             written IsBounded said.instance made.certificate made.ensures.instance (made.ensures.bounded is) made.ensures.best
-                (accepted _ _ _ c.law_of_certificates.ensures text.short made.ensures.few.0 made.ensures.few.1 text.lawful (text.spells, refl) made.ensures.proves),
+                (accepted _ _ _ c.law_of_certificates.ensures text.short made.ensures.few.0 made.ensures.few.1 text.lawful (text.is_text, refl) made.ensures.proves),
             λ against. against,
           ),
           λ what missing. missing,
