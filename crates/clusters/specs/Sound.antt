@@ -50,7 +50,7 @@ pub record ArePlannable (lists : List (List Cluster)) : Type 0 where
   pub few : sum (counts_of lists) ≤ most_clusters
   pub orders : length (orders (counts_of lists)) ≤ most_orders
 
--- the platoons of a phase of a node, with what planning and forecasting ask of them
+-- The platoons of a phase of a node, with what planning and forecasting ask of them. No public clause names it.
 pub record AreOfPhase (net : Net) (node phase : ℕ) (sensed : Sensed) (heard : List Heard) (list : List Platoon) : Type 0 where
   pub platoons : ArePlatoons net.run.gap (most_of net node phase) sensed.now net.run.look (streams_of net sensed heard (phase_links_at net node phase)) list
   pub parts : All (IsPlatoon net sensed.now (phase_links_at net node phase)) list

@@ -1,16 +1,16 @@
 //! What a node plans in a round.
 ghost use Rattle.std.specs.Prelude.{◌≡◌, ◌+◌, ◌<◌, ◌≤◌, All, IfOk, length};
-ghost use Rattle.switch_rules.specs.Serving.{IsHead};
-ghost use Rattle.control_flow.specs.Greens.{BeginBy, IsLawful, end_of};
-ghost use Rattle.control_flow.specs.Timelines.{AreServings};
-ghost use Rattle.schedule_meaning.specs.Best.{IsBest};
-ghost use Rattle.net_numbers.specs.Outline.{plan_at};
-ghost use Rattle.road_net.specs.Senses.{IsSensedOf};
 ghost use Rattle.clusters.specs.Inflow.{IsHeardOf};
 ghost use Rattle.clusters.specs.Sound.{ArePlannable, cluster_lists, clusters_of};
+ghost use Rattle.control_flow.specs.Greens.{BeginBy, IsLawful, end_of};
+ghost use Rattle.control_flow.specs.Timelines.{AreServings};
 ghost use Rattle.intersection_actor.specs.Commits.{AreServedBy, line_for, phases_of, used_of};
-ghost use Rattle.switch_rules.specs.declared.Served.{Served};
 ghost use Rattle.intersection_actor.specs.Steps.{IsExpected, IsNextLine, IsPlanned, IsScheduled};
+ghost use Rattle.net_numbers.specs.Outline.{plan_at};
+ghost use Rattle.road_net.specs.Senses.{IsSensedOf};
+ghost use Rattle.schedule_meaning.specs.Best.{IsBest};
+ghost use Rattle.switch_rules.specs.declared.Served.{Served};
+ghost use Rattle.switch_rules.specs.Serving.{IsHead};
 
 use crate::records::Used;
 use board_model::Heard;

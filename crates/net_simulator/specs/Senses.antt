@@ -21,7 +21,7 @@ link_sense net past n l = record { link = l; queue = queue net past n l; coming 
 abbrev pub sense : Net → (ℕ → ℕ → Passed) → ℕ → ℕ → Sensed
 sense net past n node = record { now = n; links = map (link_sense net past n) (entry_links net node) }
 
--- the same by what a world keeps: the queues and the row of what entered
+-- The same by what a world keeps: the queues and the row of what entered. No public clause names it.
 abbrev pub seen_by : Net → List ℕ → List ℕ → ℕ → ℕ → LinkSense
 seen_by net queues recent n l = record {
   link = l;

@@ -16,7 +16,7 @@ outward (Some node) amount = 0
 abbrev pub arrived : Net → (ℕ → ℕ → ℕ) → ℕ → ℕ
 arrived net arriving n = total (λ x. total (arriving x) (length net.link_names)) n
 
--- all that ever arrives is at most 2,000,000,000
+-- All that ever arrives is at most 2,000,000,000. No public clause names it.
 abbrev pub AreFew : Net → (ℕ → ℕ → ℕ) → Type 0
 AreFew net arriving = (n : ℕ) → arrived net arriving n ≤ 2000000000
 

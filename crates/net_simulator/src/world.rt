@@ -1,16 +1,16 @@
 //! The world.
 
 ghost use Rattle.std.specs.Prelude.{◌≡◌, ℕ, ◌+◌, ◌≤◌, ◌<◌, Option, IfOk, List, length, replicate};
-ghost use Rattle.net_numbers.specs.Numbers.{Net};
+ghost use Rattle.arrivals.specs.Amounts.{Amounts, AreArrivals};
 ghost use Rattle.control_flow.specs.declared.greens.Green.{Green};
 ghost use Rattle.control_flow.specs.Greens.{standing};
-ghost use Rattle.road_net.specs.Senses.{IsSensedOf};
-ghost use Rattle.net_simulator.specs.Flow.{past_of};
-ghost use Rattle.net_simulator.specs.Counts.{counts_at, no_totals, IsBalanced};
-ghost use Rattle.arrivals.specs.Amounts.{Amounts, AreArrivals};
-ghost use Rattle.net_simulator.specs.Worlds.{WorldState, Stands, IsWorldOf, standing_by};
-ghost use Rattle.net_simulator.specs.Senses.{sense};
+ghost use Rattle.net_numbers.specs.Numbers.{Net};
 ghost use Rattle.net_simulator.specs.Arriving.{arriving_of};
+ghost use Rattle.net_simulator.specs.Counts.{counts_at, no_totals, IsBalanced};
+ghost use Rattle.net_simulator.specs.Flow.{past_of};
+ghost use Rattle.net_simulator.specs.Senses.{sense};
+ghost use Rattle.net_simulator.specs.Worlds.{WorldState, Stands, IsWorldOf, standing_by};
+ghost use Rattle.road_net.specs.Senses.{IsSensedOf};
 
 use super::lights::Lights;
 use super::totals::{LinkTotals, Totals};

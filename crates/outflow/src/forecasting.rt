@@ -1,11 +1,11 @@
 //! Forecasts of what comes to the end of an exit link.
 ghost use Rattle.std.specs.Prelude.{◌≡◌, ◌+◌, ◌-◌, ◌<◌, ◌≤◌, ℕ, All, Contains, IfOk, length, slice_index};
 ghost use Rattle.std.specs.List.{range_with_len};
-ghost use Rattle.net_numbers.specs.Outline.{link_at, plan_at};
-ghost use Rattle.road_net.specs.Network.{exit_links};
 ghost use Rattle.clusters.specs.Sound.{AreOfNode};
 ghost use Rattle.clusters.specs.Windows.{counts_of};
+ghost use Rattle.net_numbers.specs.Outline.{link_at, plan_at};
 ghost use Rattle.outflow.specs.Outflow.{AreServed, departures, told_forecast, positive_rows};
+ghost use Rattle.road_net.specs.Network.{exit_links};
 
 use crate::exit_flow::exit_flow;
 use crate::servings::Servings;
