@@ -68,10 +68,18 @@ pub fn command_of(words: &[Text]) -> Option<Command<'_>>
 {
     let (word, rest) = words.split_first()?;
     match word.as_str() {
-        "plan" => Some(Command::Plan { file: only_word(rest)? }),
-        "certify" => Some(Command::Certify { file: only_word(rest)? }),
-        "certify_bound" => Some(Command::CertifyBound { file: only_word(rest)? }),
-        "check" => Some(Command::Check { file: only_word(rest)? }),
+        "plan" => Some(Command::Plan {
+            file: only_word(rest)?,
+        }),
+        "certify" => Some(Command::Certify {
+            file: only_word(rest)?,
+        }),
+        "certify_bound" => Some(Command::CertifyBound {
+            file: only_word(rest)?,
+        }),
+        "check" => Some(Command::Check {
+            file: only_word(rest)?,
+        }),
         "turns" => {
             let (net, arr) = two_words(rest)?;
             Some(Command::Turns { net, arr })

@@ -7,7 +7,7 @@ ghost use Rattle.round_calls.specs.Calls.{AreStepsOf, HaveCallsLeft, IsRunOfCall
 use crate::cuts::{put_together, quartered};
 use arrivals::Arrivals;
 use board_model::Gate;
-use ended_runs::{record_of, empty_record};
+use ended_runs::{empty_record, record_of};
 use lasting_rounds::{Nodes, play_lasting};
 use merged_calls::law_of_merged_calls;
 use net_simulator::World;

@@ -57,9 +57,9 @@ pub(crate) fn begin<P: Planner>(
     ensures begun { (arriving : ℕ → ℕ → ℕ) (lines : ℕ → List Green)
         → Stands net.now arriving (standing_by lines) world.now
         → OnOk result (Settles net.now (reading (heard_links net.now actor.old.node))
-            (begun net.now round
-                (sense net.now (past_of net.now arriving (standing_by lines) world.now.second) world.now.second node) actor.old)
-            actor.new) }
+        (begun net.now round
+        (sense net.now (past_of net.now arriving (standing_by lines) world.now.second) world.now.second node) actor.old)
+        actor.new) }
     ensures of { IsOf net.now actor.new }
 {
     let sensed = world.sense(alloc, net, node)?;
@@ -78,8 +78,7 @@ pub(crate) fn read<P: Planner>(
 ) -> Result<(), AllocError>
     requires of { IsOf net.now actor.old }
     requires want { actor.old.want ≡ Want.Read link }
-    ensures read {
-        let mid = with_heard (record { link = link; version = board.now.version; forecast = board.now.forecast }) actor.old in
+    ensures read { let mid = with_heard (record { link = link; version = board.now.version; forecast = board.now.forecast }) actor.old in
         OnOk result (Settles net.now mid.want mid actor.new) }
     ensures of { IsOf net.now actor.new }
 {

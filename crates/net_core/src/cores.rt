@@ -1,10 +1,10 @@
 //! A run under way.
 use crate::faults::StepFault;
-use crate::stepping::{begin_round, go_on, is_done, play};
 use crate::first_parts::parts_of;
 use crate::parts::Parts;
+use crate::stepping::{begin_round, go_on, is_done, play};
 use arrivals::Arrivals;
-use ended_runs::{EmptyRecord, record_of, empty_record};
+use ended_runs::{EmptyRecord, empty_record, record_of};
 use foundation::threads::CrossesThreads;
 use intersection_actor::Want;
 use road_net::Network;

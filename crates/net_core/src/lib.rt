@@ -4,13 +4,13 @@
 mod acts;
 mod cores;
 mod faults;
-mod stepping;
 mod first_parts;
-mod parts;
 mod history_run;
+mod parts;
+mod stepping;
 
 pub use cores::Core;
 pub use faults::StepFault;
 pub use histories::{History, lawful, merge, turn_order};
-pub use runs::RunRecord;
 pub use history_run::run;
+pub use runs::RunRecord;

@@ -9,7 +9,7 @@ use crate::joined::{play_all, threads_of};
 use crate::stages::{Stage, stage_of};
 use arrivals::Arrivals;
 use board_model::Gate;
-use ended_runs::{record_of, empty_record};
+use ended_runs::{empty_record, record_of};
 use merged_calls::law_of_merged_calls;
 use plan_boards::{Boards, Pass};
 use road_net::Network;

@@ -33,7 +33,12 @@ fn run_of_turns(alloc: Global, net: &Network, arrivals: &Arrivals) -> Result<Run
 }
 
 // The summary of the run of the turn order on the grid of a number.
-fn summary_of_grid(alloc: Global, number: u64, side: u32, rounds: u32) -> Result<Vec<u8>, AllocError>
+fn summary_of_grid(
+    alloc: Global,
+    number: u64,
+    side: u32,
+    rounds: u32,
+) -> Result<Vec<u8>, AllocError>
     requires side { IsSide side }
     requires rounds { AreRounds rounds }
     ensures { IfOk result (λ text. IsGridSummary number side rounds text.items) }

@@ -103,8 +103,9 @@ fn make_instance<S: Shelf>(
 ) -> Result<Made, Refusal>
     ensures { Makes (call_with args.now) (S.state shelf.old) (S.state shelf.new) result }
 {
-    let HistoryScene { scene, history } =
-        fetch_history_scene(alloc, shelf, args.net, args.arr, args.hist)?;
+    let HistoryScene { scene, history } = fetch_history_scene(
+        alloc, shelf, args.net, args.arr, args.hist,
+    )?;
     let text = find_planned_text(
         alloc,
         &scene.network,

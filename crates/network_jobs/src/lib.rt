@@ -3,10 +3,10 @@
 #![tactic(auto)]
 
 mod grid;
+mod history_runs;
 mod instance;
 mod laws;
 mod replay;
-mod history_runs;
 mod summary;
 mod turns;
 

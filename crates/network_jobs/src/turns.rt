@@ -26,7 +26,12 @@ fn report_of_turns(alloc: Global, net: &Network, arrivals: &Arrivals) -> Result<
 }
 
 // The report of the run of the turn order, with the network and the arrivals in the files.
-fn make_report<S: Shelf>(alloc: Global, shelf: &mut S, net: &str, arr: &str) -> Result<Made, Refusal>
+fn make_report<S: Shelf>(
+    alloc: Global,
+    shelf: &mut S,
+    net: &str,
+    arr: &str,
+) -> Result<Made, Refusal>
     ensures { Makes (Turns net.now arr.now) (S.state shelf.old) (S.state shelf.new) result }
 {
     let scene = fetch_scene(alloc, shelf, net, arr)?;

@@ -10,7 +10,7 @@ ghost use Rattle.commands.specs.Outcome.{Outcome};
 
 use crate::delivery::deliver;
 use certificate_form::{has_text, one_certificate};
-use command_texts::{TextPlace, Refusal, Status, fetch_instance};
+use command_texts::{Refusal, Status, TextPlace, fetch_instance};
 use dp_certificate::Certificate;
 use foundation::steps::Steps;
 use outside_world::{Shelf, Sink};

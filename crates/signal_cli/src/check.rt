@@ -9,7 +9,7 @@ ghost use Rattle.commands.specs.Outcome.{Outcome};
 
 use super::verdicts::rejected_line;
 use cert_checker::Verdict;
-use command_texts::{TextPlace, Refusal, Status, fetch_certificate};
+use command_texts::{Refusal, Status, TextPlace, fetch_certificate};
 use commands::{Made, end};
 use dp_certificate::Certificate;
 use foundation::steps::Steps;

@@ -4,7 +4,7 @@ ghost use Rattle.commands.specs.Ending.{Makes};
 ghost use Rattle.commands.specs.Outcome.{Outcome};
 
 use super::answers::answer_text;
-use command_texts::{TextPlace, Refusal, Status, fetch_instance};
+use command_texts::{Refusal, Status, TextPlace, fetch_instance};
 use commands::{Made, end};
 use forward_dp::LayerPlanner;
 use outside_world::{Shelf, Sink};

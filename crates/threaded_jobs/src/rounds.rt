@@ -68,7 +68,11 @@ fn run_with_passes<R: Threads + Wait + Sync, G: Gate + Sync>(
 }
 
 /// The logs of the boards.
-fn close_boards(alloc: Global, boards: Boards, passes: Vec<Pass>) -> Result<Vec<BoardLog>, AllocError>
+fn close_boards(
+    alloc: Global,
+    boards: Boards,
+    passes: Vec<Pass>,
+) -> Result<Vec<BoardLog>, AllocError>
     requires { AreAllPasses boards passes.items }
     ensures { IfOk result (λ logs. AreLogsOfPasses boards.links passes.items logs.items) }
 {
