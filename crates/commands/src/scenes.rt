@@ -69,7 +69,8 @@ pub fn fetch_history_scene<S: Shelf>(
     ensures entered { IfOk result (λ all. AreArrivals all.scene.network all.scene.arrivals) }
     ensures lawful { IfOk result (λ all. IsLawful all.scene.network all.history) }
     ensures ok { OnOk result (S.state shelf.new ≡ S.state shelf.old) }
-    ensures refused { IfErr result (StopsIn (history_texts net.now arr.now hist.now) (S.state shelf.old) (S.state shelf.new)) }
+    ensures refused { IfErr result
+        (StopsIn (history_texts net.now arr.now hist.now) (S.state shelf.old) (S.state shelf.new)) }
 {
     let scene = fetch_scene(alloc, shelf, net, arr)?;
     let history = fetch_history(alloc, shelf, TextPlace::Third, hist, &scene.network)?;

@@ -78,7 +78,8 @@ pub(crate) fn read<P: Planner>(
 ) -> Result<(), AllocError>
     requires of { IsOf net.now actor.old }
     requires want { actor.old.want ≡ Want.Read link }
-    ensures read { let mid = with_heard (record { link = link; version = board.now.version; forecast = board.now.forecast }) actor.old in
+    ensures read { let mid = with_heard
+        (record { link = link; version = board.now.version; forecast = board.now.forecast }) actor.old in
         OnOk result (Settles net.now mid.want mid actor.new) }
     ensures of { IsOf net.now actor.new }
 {
