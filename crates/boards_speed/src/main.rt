@@ -7,7 +7,7 @@
 ghost use Rattle.std.specs.Prelude.{◌≡◌, ◌<◌, ◌≤◌, All};
 ghost use denote.Param.Send.{IsSync};
 
-use board_model::{Forecast, Row, OpenGate};
+use board_model::{Forecast, OpenGate, Row};
 use plan_boards::{Boards, Pass};
 use std::alloc::{AllocError, Global};
 use std::process::ExitCode;

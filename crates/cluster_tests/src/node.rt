@@ -3,7 +3,7 @@ ghost use Rattle.std.specs.Prelude.{◌≡◌, ◌+◌, ◌*◌, ◌<◌, ◌≤
 ghost use Rattle.road_net.specs.Senses.{IsSensedOf};
 ghost use Rattle.clusters.specs.Inflow.{IsHeardOf};
 
-use board_model::{Forecast, Row, Heard};
+use board_model::{Forecast, Heard, Row};
 use foundation::items::Items;
 use road_net::{LinkSense, Network, Sensed};
 use std::alloc::{AllocError, Global};

@@ -9,11 +9,7 @@ use std::alloc::{AllocError, Global};
 use switch_rules::Cluster;
 
 /// What the streams bring together, in each of the first `look` seconds.
-pub(crate) fn together(
-    alloc: Global,
-    streams: &[Part],
-    look: u32,
-) -> Result<Vec<u32>, AllocError>
+pub(crate) fn together(alloc: Global, streams: &[Part], look: u32) -> Result<Vec<u32>, AllocError>
     requires { AreStreams look streams.now }
     ensures value { IfOk result (λ series. series.items ≡ together streams.now look) }
     ensures count { IfOk result (λ series. vec_len series ≡ look) }

@@ -9,7 +9,7 @@ ghost use Rattle.clusters.specs.Platoons.{streams_of};
 
 use crate::smoothing::smooth_in_place;
 use crate::vehicle_groups::Part;
-use board_model::{Row, Heard};
+use board_model::{Heard, Row};
 use foundation::items::Items;
 use road_net::{LinkSense, Network, Sensed};
 use std::alloc::{AllocError, Global};

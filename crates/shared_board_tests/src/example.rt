@@ -2,7 +2,7 @@
 ghost use Rattle.std.specs.Prelude.{◌≡◌, IfOk};
 ghost use Rattle.board_rule.specs.Passes.{AreAllPasses, fresh_passes};
 
-use board_model::{BoardKind, BoardLog, Forecast, Row, Gate, OpenGate};
+use board_model::{BoardKind, BoardLog, Forecast, Gate, OpenGate, Row};
 use plan_boards::{Boards, Pass};
 use std::alloc::{AllocError, Global};
 use std::sync::Wait;
