@@ -1,4 +1,4 @@
-//! All nodes play a round, each in a branch of its own, carried by no fewer threads than there are processors.
+//! All nodes play a round, in as many parts that play at once as there are threads.
 ghost use Rattle.std.specs.Prelude.{◌≡◌, ◌<◌, ◌≤◌, OnOk, length};
 ghost use denote.Param.Send.{IsSend, IsSync};
 ghost use Rattle.node_rounds.specs.Rounds.{AreSamePasses, CanAllPlay, HaveAllPlayed};
@@ -14,7 +14,7 @@ use std::alloc::{AllocError, Global};
 use std::sync::Wait;
 use std::thread::{Threads, available_parallelism, join_mut};
 
-/// So many threads carry a round at the least, where it has as many nodes.
+/// The least number of threads that carry a round, where it has as many nodes.
 const LEAST_THREADS: usize = 4;
 
 /// How many threads carry a round at the least: one for each processor, and not fewer than `LEAST_THREADS`.
@@ -25,7 +25,7 @@ pub(crate) fn threads_of<R: Threads>(rt: &R) -> usize {
     }
 }
 
-/// How many of so many nodes play in a thread of their own beside the others, where so many threads carry them.
+/// How many of these nodes play in a thread of their own beside the others, where this many threads carry them.
 fn front_of(nodes: usize, threads: usize) -> usize
     requires nodes { 2 ≤ nodes }
     requires threads { 2 ≤ threads }
@@ -38,7 +38,7 @@ fn front_of(nodes: usize, threads: usize) -> usize
 /// These nodes play a round, each with its actor, planner and pass: a part in a thread of its own beside the others, until one thread
 /// is left. That one, and one that finds no other to be had, plays its nodes in turn.
 ///
-/// An `Err` comes only where memory runs out; the other nodes still play to their ends.
+/// `Err`: out of memory; the other nodes still play to their ends.
 #[cycle(halves)]
 pub(crate) fn play_all<P: Planner + Send, R: Threads + Wait + Sync, G: Gate + Sync>(
     rt: &R,

@@ -88,17 +88,17 @@ fn play_rounds<P: Planner + Send, R: Threads + Wait + Sync, G: Gate + Sync>(
     Ok(())
 }
 
-/// The run of a network in threads. In each round every node plays in a branch of its own: it senses, reads the boards of the links on
-/// which it hears other nodes, plans with its own planner, and publishes on the boards of those on which it tells them, in whatever
-/// order the machine gives. Each board step is a call of the node's own pass, and `gate.before` is called before it. Then the passes
-/// meet, and the world moves.
+/// The run of a network in threads. In each round the nodes are cut into parts that play at once, each in a branch of joined work; in a
+/// part one node plays after the other. A node senses, reads the boards of the links on which it hears other nodes, plans with its own
+/// planner, and publishes on the boards of those on which it tells them, in whatever order the machine gives. Each board step is a call of
+/// the node's own pass, and `gate.before` is called before it. Then the passes meet, and the world moves.
 ///
 /// There is one planner for each node. The boards have as many links as the network; the passes are all passes of these boards, by
 /// number, one for each node, and none has made a call. Each has at least as many calls left as its node has board steps in all rounds.
 ///
 /// The calls of each pass are its node's board steps, round by round, and each reading has the version that the plan of its round
 /// names. The merge of the logs of these calls is lawful, and where the logs agree with the calls, as those of `close` do, the answer
-/// is the run of that merge. An `Err` comes only where memory runs out. Then too the passes are still all passes of these boards, by
+/// is the run of that merge. `Err`: out of memory. Then too the passes are still all passes of these boards, by
 /// number, with the calls that were made. It waits for the boards.
 ///
 /// docs/DESIGN.md, "Rounds in threads".
