@@ -37,7 +37,7 @@ module _ (f : PassView → PassView) where
   pub partly-step : (ps : List PassView) (k : ℕ) (p d : PassView) → k < length ps → p ≡ get_or ps k d → set (partly ps k) k (f p) ≡ partly ps (k + 1)
   partly-step ps k p d within is = let next : suc k ≡ k + 1 = omega arith in partly-suc ps k p d within is ∙ ap (partly ps) next
 
--- the pass behind those before it
+-- the pass after those before it
 pub at-middle : (new rest : List PassView) (p : PassView) → slice_get (new ++ p ∷ rest) (length new) ≡ Some p
 at-middle [] rest p = refl
 at-middle (x ∷ xs) rest p = at-middle xs rest p

@@ -85,7 +85,7 @@ fresh-each id calls from zero k n there = tt
 fresh-each id calls from (suc count) zero n there = let same : from ≡ n = omega arith in (refl, same)
 fresh-each id calls from (suc count) (suc k) n there = fresh-each id calls (from + 1) count k n (omega arith)
 
--- they are all passes of boards that have so many
+-- they are all passes of boards that have this many
 pub fresh-all : (boards : BoardsView) (calls : ℕ) → AreAllPasses boards (fresh_passes boards.id calls 0 boards.passes)
 fresh-all boards calls = record {
   count = length-map-range_with_len (fresh_pass boards.id calls) 0 boards.passes;

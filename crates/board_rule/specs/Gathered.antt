@@ -1,4 +1,4 @@
--- What stands behind a pass and the boards, and on the way to opened and closed boards. No public clause names these.
+-- What a pass and the boards are in the table, and on the way to opened and closed boards. No public clause names these.
 use Rattle.std.specs.Prelude.{◌≡◌, ℕ, ◌+◌, ◌*◌, ◌<◌, ◌≤◌, true, Some, None, List, [], ◌∷◌, length, map, All, IfSome, slice_get}
 use Rattle.atomic_table.specs.Seated.{TableId}
 use Rattle.atomic_table.specs.Table.{Me}
@@ -19,7 +19,7 @@ pub record AreBoards (id : TableId) (key : Terms) (links passes : ℕ) : Type 0 
   pub small : links ≤ 320
   pub some : 1 ≤ passes
 
--- what contracts see of a pass that stands on a seat
+-- what contracts see of a pass of a seat
 abbrev pub pass_view : TableId → View → ℕ → ℕ → PassView
 pass_view id v number left = record { boards = id; number = number; left = left; known = v.known; calls = calls_of v.entries }
 

@@ -85,7 +85,7 @@ pub(crate) fn play_all<P: Planner + Send, R: Threads + Wait + Sync, G: Gate + Sy
     )
 }
 
-/// Two parts of the nodes play a round at once: the first in a thread of its own, the second carried by so many. All threads of a round are
+/// Two parts of the nodes play a round at once: the first in a thread of its own, the second carried by this many threads. All threads of a round are
 /// started by one, so that none has to wait until another that starts it is running.
 #[cycle(halves)]
 fn play_both<P: Planner + Send, R: Threads + Wait + Sync, G: Gate + Sync>(

@@ -1,4 +1,4 @@
--- Two parts of the nodes that played a round, one behind the other, and what a slice of a whole list leaves.
+-- Two parts of the nodes that played a round, one after the other, and what a slice of a whole list leaves.
 use Rattle.std.proofs.Common.{◌≡◌, ℕ, ◌+◌, ◌-◌, ◌≤◌, List, ◌++◌, Result, Ok, Err, OnOk, length, take, drop, get_or, sym, ap, subst, ◌∙◌, inl, inr, arith, length-append, length-take-le}
 use Rattle.std.proofs.lemmas.Bool.{cases_lt}
 use Rattle.std.proofs.lemmas.List.{get_or-append-add, get_or_append_left, take-append-drop, take_at}

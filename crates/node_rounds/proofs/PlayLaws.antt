@@ -64,7 +64,7 @@ publishes-all calls links same k d inside reads =
     never : (l m : ℕ) → steps.Read l ≡ steps.Publish m → ⊥
     never l m e = cc
 
--- behind its last publishing it has done its round
+-- after its last publishing it has done its round
 pub is-done : (net : Net) (d e : Acting) (q r : PassView) → HasTold net d e q r (told_links net d.node) → e.want ≡ Done
 is-done net d e q r told = ap (λ (x : Acting). x.want) told.actor ∙ ap telling (slice_get_past (told_links net d.node) (length (told_links net d.node)) (omega arith))
 

@@ -43,10 +43,10 @@ fn begin(
 }
 
 /// A node plays a round with its own actor, planner and pass: it senses the world, reads the links on which it hears other nodes,
-/// plans, and publishes on the links on which it tells them. Each board step is a call of the pass, behind `gate.before`. Other
+/// plans, and publishes on the links on which it tells them. Each board step is a call of the pass, after `gate.before`. Other
 /// nodes play at the same time.
 ///
-/// An `Err` comes only where memory runs out. The pass keeps the calls that were made.
+/// `Err`: out of memory. The pass keeps the calls that were made.
 ///
 /// docs/DESIGN.md, "Rounds in threads".
 pub fn play<P: Planner, R: Threads + Wait + Sync, G: Gate>(

@@ -1,4 +1,4 @@
-//! Some of the nodes play a round, one behind the other.
+//! Some of the nodes play a round, one after the other.
 ghost use Rattle.std.specs.Prelude.{◌≡◌, OnOk, length};
 ghost use Rattle.node_rounds.specs.Rounds.{AreSamePasses, CanAllPlay, HaveAllPlayed};
 
@@ -16,7 +16,7 @@ use std::thread::Threads;
 /// These nodes play a round, each with its actor, planner and pass: one half after the other, down to single nodes. Nodes that are not
 /// among them may play at the same time.
 ///
-/// An `Err` comes only where memory runs out; the other nodes still play to their ends. The passes keep their boards and numbers, and
+/// `Err`: out of memory; the other nodes still play to their ends. The passes keep their boards and numbers, and
 /// the calls that were made.
 ///
 /// docs/DESIGN.md, "Rounds in threads".

@@ -68,7 +68,7 @@ impl Boards {
     /// Closes the boards with all their passes, by number, into the logs of the passes' calls: one for each link, legal,
     /// with each call once, and the calls agree with it.
     ///
-    /// An `Err` comes only where memory runs out, and gives the boards and the passes back.
+    /// `Err`: out of memory; it gives the boards and the passes back.
     ///
     /// docs/DESIGN.md, "Shared boards".
     pub fn close(

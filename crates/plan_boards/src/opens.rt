@@ -107,7 +107,7 @@ impl Boards {
     /// Boards with one empty log for each link, and as many passes as are asked for, with the numbers 0, 1, .., each with
     /// this number of calls left. There are 1 to 320 links, 1 to 64 passes and 1 to 1,000,000 calls.
     ///
-    /// An `Err` comes only where memory runs out.
+    /// `Err`: out of memory.
     ///
     /// docs/DESIGN.md, "Shared boards".
     pub fn new(

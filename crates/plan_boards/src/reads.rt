@@ -105,7 +105,7 @@ impl Boards {
     /// all that the pass knew. The pass is one of these boards with calls left, and the link exists. `gate.inside` is
     /// called once while the call holds the link's turn. It waits for the turn.
     ///
-    /// An `Err` comes only where memory runs out, leaves the pass as it was, and adds no event to a log.
+    /// `Err`: out of memory; the pass is as it was, and the call adds no event to a log.
     ///
     /// docs/DESIGN.md, "Shared boards".
     pub fn read<R: Threads + Wait + Sync, G: Gate>(
