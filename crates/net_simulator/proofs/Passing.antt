@@ -18,7 +18,7 @@ use Rattle.net_simulator.specs.declared.totals.LinkTotals.{LinkTotals}
 use Rattle.net_simulator.specs.declared.totals.Totals.{Totals}
 use Rattle.road_net.specs.Totals.{total}
 use Rattle.net_simulator.specs.Flow.{Passed, passed_in, nothing, history, queue, waiting, discharged, entered_in, past_of}
-use Rattle.arrivals.specs.Amounts.{Amounts, AreArrivals, entered_in as entering_at}
+use Rattle.arrivals.specs.Amounts.{Amounts, AreArrivals, entering as entering_at}
 use Rattle.net_simulator.specs.Arriving.{arriving_of}
 use Rattle.net_simulator.specs.Sums.{outward, arrived, gone, on_road, delay, link_totals, totals, AreFew}
 use Rattle.net_simulator.specs.Rows.{cell}
