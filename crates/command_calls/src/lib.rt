@@ -5,13 +5,10 @@ use board_model::OpenGate;
 use foundation::items::Items;
 use foundation::text::Text;
 use outside_world::{MemoryShelf, MemorySink, SinkFail};
-use signal_cli::{Status, plan_job, signal};
+use signal_cli::{Status, signal};
 use std::alloc::{AllocError, Global};
 use std::sync::Wait;
 use std::thread::Threads;
-
-/// The lines of two phases alike, up to the head's.
-pub const TWO_PHASES: &str = "instance 1\nphases 2\nphase 5 30 3 2 2 120\nphase 5 30 3 2 2 120\n";
 
 /// The whole text of two clusters that meet: the plan is 0 1, with delay 24000.
 pub const TWO_CLUSTERS: &str =
@@ -56,16 +53,6 @@ impl Ending {
         self.status == status
             && self.out.bytes() == out.as_bytes()
             && self.err.bytes() == err.as_bytes()
-    }
-
-    /// Whether the work was done, with these bytes in `out` and nothing in `err`.
-    pub fn is_done(&self, out: &[u8]) -> bool {
-        self.status == Status::Done && self.out.bytes() == out && self.err.bytes().is_empty()
-    }
-
-    /// What stands in `out`.
-    pub fn out(&self) -> &[u8] {
-        self.out.bytes()
     }
 }
 
@@ -133,24 +120,6 @@ pub fn run_on_network<R: Threads + Wait + Sync>(
         ("hist", hist.as_bytes()),
     ];
     run_over(rt, alloc, &words, files, faults)
-}
-
-/// Calls the program with the words `plan file` over this text. Nothing fails.
-pub fn plan<R: Threads + Wait + Sync>(
-    rt: &R,
-    alloc: Global,
-    text: &[u8],
-) -> Result<Ending, AllocError> {
-    run(rt, alloc, &["plan", "file"], text, NO_FAULTS)
-}
-
-/// Calls the job of `plan` by itself over the file `file` with this text. Nothing fails.
-pub fn job(alloc: Global, text: &[u8]) -> Result<Ending, AllocError> {
-    let mut shelf = shelf_of(alloc, text.to_vec(alloc)?, &[])?;
-    let mut out = MemorySink::new(alloc, 1000, Vec::new(alloc))?;
-    let mut err = MemorySink::new(alloc, 1000, Vec::new(alloc))?;
-    let status = plan_job(alloc, "file", &mut shelf, &mut out, &mut err);
-    Ok(Ending { status, out, err })
 }
 
 fn texts(alloc: Global, words: &[&str]) -> Result<Vec<Text>, AllocError> {

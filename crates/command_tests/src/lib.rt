@@ -1,14 +1,12 @@
-//! Tests of the commands, from their words to what they write: worked examples with their answers, the
-//! texts that are read and those that are not, and faults of files, sinks and memory in mid-work.
+//! Tests of what no recorded case shows: faults of files, sinks and memory in mid-work, the words of a process, and texts as long as
+//! they may be.
 #![tactic(auto)]
 
 #[cfg(test)]
 mod adapters;
 #[cfg(test)]
-mod certificates;
+mod faults;
 #[cfg(test)]
-mod planning;
+mod long_texts;
 #[cfg(test)]
 mod process;
-#[cfg(test)]
-mod refusals;

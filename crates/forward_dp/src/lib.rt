@@ -23,7 +23,6 @@ mod orders;
 mod rows;
 mod table;
 
-use crate::{Row, better_of};
 use answers::sequence_of;
 pub use certifying::{certify, certify_within};
 use dp_certificate::list_lengths;

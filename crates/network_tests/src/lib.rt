@@ -1,17 +1,14 @@
-//! Tests of the road network: its worked file, each fault at each kind of place, the order of faults, and drafts.
+//! Tests of what no clause of a network's crates says and no command shows: splits, smoothed series, windows, and the world of the
+//! worked network second by second.
 #![tactic(auto)]
 
 #[cfg(test)]
-mod accessors;
+mod lights;
 #[cfg(test)]
-mod drafts;
+mod series;
 #[cfg(test)]
-mod greatest;
+mod splits;
 #[cfg(test)]
-mod orders;
+mod windows_of_lists;
 #[cfg(test)]
-mod refusals;
-#[cfg(test)]
-mod rows;
-#[cfg(test)]
-mod texts;
+mod world;

@@ -1,12 +1,14 @@
-//! Tests of what no clause of the planner's crates says: each public call once with ample memory, worked
-//! examples with their answers, and which fault comes first.
+//! Tests of what no clause of the planner's crates says and no command shows: single servings and whole sequences, the planner that
+//! tries all orders, and the timelines of a signal.
 #![tactic(auto)]
 
 #[cfg(test)]
-mod faults_of_texts;
+mod lines;
 #[cfg(test)]
 mod planners;
 #[cfg(test)]
+mod seconds;
+#[cfg(test)]
 mod servings;
 #[cfg(test)]
-mod texts;
+mod splices;

@@ -1,19 +1,8 @@
-//! What each planner answers for worked instances.
+//! What the planner that tries all orders answers for worked instances; no command calls it.
 
-use super::texts::TWO_PHASES;
-use forward_dp::LayerPlanner;
-use schedule_meaning::{Answer, Instance, PlainPlanner, Planner, best_answer, read_instance};
-use std::alloc::Global;
+use super::servings::{IMPATIENT, TWO_PHASES, instance};
+use schedule_meaning::{Answer, PlainPlanner, best_answer};
 use std::test::Fail;
-
-const IMPATIENT: &str = "instance 1\nphases 2\nphase 5 30 3 2 2 20\nphase 5 30 3 2 2 10\n";
-
-const FOUR_PHASES: &str = "instance 1\n\
-    phases 4\n\
-    phase 5 120 3 2 2 3600\n\
-    phase 5 120 3 2 2 3600\n\
-    phase 5 120 3 2 2 3600\n\
-    phase 5 120 3 2 2 3600\n";
 
 // What the instance shows, the lines up to its head, those from there to its end, and the best answer: whether
 // there is a plan, its delay and its sequence.
@@ -63,73 +52,26 @@ const WORKED: &[(&str, &str, &str, bool, u64, &[u8])] = &[
         144,
         &[0, 1, 1, 0, 0, 0, 1, 1, 1, 0, 0, 1, 1, 0, 0, 1, 1, 0],
     ),
-    (
-        "forty clusters, with almost as many orders as there may be",
-        FOUR_PHASES,
-        "head 0 0 0 kept\ncluster 0 3000 19 3\ncluster 0 4000 35 1\ncluster 0 1500 41 1\n\
-         cluster 0 4000 45 3\ncluster 0 1000 53 4\ncluster 0 500 68 2\ncluster 0 3500 83 2\n\
-         cluster 0 3500 91 2\ncluster 0 1500 97 1\ncluster 0 1500 109 4\ncluster 0 500 117 1\n\
-         cluster 0 1500 123 2\ncluster 0 3000 129 3\ncluster 0 1500 137 2\ncluster 0 3500 152 2\n\
-         cluster 0 3000 160 1\ncluster 0 1500 169 2\ncluster 0 3000 177 1\ncluster 0 3000 184 1\n\
-         cluster 0 3000 188 3\ncluster 0 3000 197 4\ncluster 0 4000 205 4\ncluster 0 500 222 2\n\
-         cluster 0 3000 230 1\ncluster 0 3500 239 1\ncluster 0 500 247 4\ncluster 0 1500 260 1\n\
-         cluster 0 1000 272 2\ncluster 0 3000 279 4\ncluster 0 2500 293 3\ncluster 0 3000 305 1\n\
-         cluster 0 3500 312 1\ncluster 0 3000 316 2\ncluster 0 1500 328 3\ncluster 0 1000 338 3\n\
-         cluster 0 2500 347 3\ncluster 0 1500 354 1\ncluster 1 1500 9 4\ncluster 1 1000 26 1\n\
-         cluster 2 500 17 4\n",
-        true,
-        371_000,
-        &[
-            0, 0, 0, 0, 0, 1, 1, 2, 0, 0, 0, 0, 0, 0, 0, 0, 0, 0, 0, 0, 0, 0, 0, 0, 0, 0, 0, 0, 0,
-            0, 0, 0, 0, 0, 0, 0, 0, 0, 0, 0,
-        ],
-    ),
 ];
 
 #[test]
 fn worked_plans(rt: HostRuntime) -> Result<(), Fail> {
     let alloc = rt.alloc();
     for &(shows, phases, rest, is_plan, delay, sequence) in WORKED {
-        let text = [phases, rest, "end\n"].concat(alloc)?;
-        assert!(rt; text.len() < 10_000);
-        let instance = read_instance(alloc, text.as_bytes())
-            .ok()
-            .ok_or("no instance")?;
-        let by_layers = answers(
-            alloc,
-            &mut LayerPlanner,
-            &instance,
-            is_plan,
-            delay,
-            sequence,
-        )?;
-        let plainly = answers(
-            alloc,
-            &mut PlainPlanner,
-            &instance,
-            is_plan,
-            delay,
-            sequence,
-        )?;
-        assert!(rt; by_layers && plainly, "{shows}");
+        let instance = instance(alloc, phases, rest)?;
+        let found = best_answer(alloc, &mut PlainPlanner, &instance)?;
+        assert!(rt; is_answer(&found, is_plan, delay, sequence), "{shows}");
     }
     Ok(())
 }
 
-// Whether a planner has this answer.
-fn answers<P: Planner>(
-    alloc: Global,
-    planner: &mut P,
-    instance: &Instance,
-    is_plan: bool,
-    delay: u64,
-    sequence: &[u8],
-) -> Result<bool, Fail> {
-    Ok(match best_answer(alloc, planner, instance)? {
+// Whether an answer is this one.
+fn is_answer(answer: &Answer, is_plan: bool, delay: u64, sequence: &[u8]) -> bool {
+    match answer {
         Answer::Plan {
             sequence: found,
             delay: least,
-        } => is_plan && least == delay && found.as_slice() == sequence,
+        } => is_plan && *least == delay && found.as_slice() == sequence,
         Answer::NoPlan => !is_plan,
-    })
+    }
 }

@@ -2,21 +2,34 @@
 
 ghost use Rattle.std.specs.Prelude.{◌≡◌, ◌<◌, length};
 
-use super::texts::TWO_PHASES;
-use foundation::items::Items;
 use foundation::steps::Steps;
+<<<<<<< HEAD
 use phase_plan::{Phase, PhasePlan, PlanFault};
 use schedule_meaning::{
     Instance, InstanceFault, SeqFault, ServingsFault, Timed, read_instance, replay, servings,
 };
+=======
+use phase_plan::{Phase, PhasePlan};
+use schedule_meaning::{Instance, SeqFault, ServingsFault, Timed, read_instance, replay, servings};
+>>>>>>> 529e19bce9c8d67d5429f0282ea2feef86747505
 use std::alloc::Global;
 use std::marker::Brand;
 use std::sync::ledger::{Blank, Ledger};
 use std::test::Fail;
+<<<<<<< HEAD
 use switch_rules::{Cluster, Head, LATEST_TIME, Served, Unfit, serve, ways};
 use text_lines::field_u64;
+=======
+use switch_rules::{Head, LATEST_TIME, Served, Unfit, serve, ways};
+>>>>>>> 529e19bce9c8d67d5429f0282ea2feef86747505
 
-const IMPATIENT: &str = "instance 1\nphases 2\nphase 5 30 3 2 2 20\nphase 5 30 3 2 2 10\n";
+/// The lines of two phases alike, up to the head's.
+pub(crate) const TWO_PHASES: &str =
+    "instance 1\nphases 2\nphase 5 30 3 2 2 120\nphase 5 30 3 2 2 120\n";
+
+/// The same, where clusters may not wait long.
+pub(crate) const IMPATIENT: &str =
+    "instance 1\nphases 2\nphase 5 30 3 2 2 20\nphase 5 30 3 2 2 10\n";
 
 const MEETING: &str = "head 0 0 0 kept\ncluster 0 4000 0 8\ncluster 1 2000 3 4\n";
 
@@ -30,13 +43,6 @@ const PHASE: Phase = Phase {
     clear: 2,
     loss: 2,
     wait: 120,
-};
-
-const HEAD: Head = Head {
-    phase: 0,
-    since: 0,
-    at: 0,
-    fresh: false,
 };
 
 // How the first cluster of a phase is served from the head, or why it is not.
@@ -359,61 +365,8 @@ fn numbers_of_orders(rt: HostRuntime) {
     assert_eq!(rt; ways(&[10, 9]), 50001);
 }
 
-#[test]
-fn numbers_of_phases(rt: HostRuntime) -> Result<(), Fail> {
-    for count in [0, 1, 5, 300] {
-        let phases = vec![in rt.alloc(); PHASE; count]?;
-        assert!(rt; phases.len() <= 300);
-        let refused = PhasePlan::new(phases).err();
-        assert!(rt; refused == Some(PlanFault::Count(count as u32)), "{count}");
-    }
-    Ok(())
-}
-
-// The number of lists is judged behind the head and before the clusters.
-#[test]
-fn numbers_of_lists(rt: HostRuntime) -> Result<(), Fail> {
-    let alloc = rt.alloc();
-    let nothing = Cluster {
-        size: 0,
-        arr: 0,
-        len: 0,
-    };
-    let wrong = Items::from_vec(vec![in alloc; nothing]?);
-    let one = vec![in alloc; wrong]?;
-    let lists = Instance::new(two_phases(alloc)?, HEAD, one).err();
-    assert_eq!(rt; lists, Some(InstanceFault::ListCount));
-    let head = Head { at: 31, ..HEAD };
-    let times = Instance::new(two_phases(alloc)?, head, Vec::new(alloc)).err();
-    assert_eq!(rt; times, Some(InstanceFault::HeadTime));
-    Ok(())
-}
-
-const FIELDS: &[(&str, Option<u64>)] = &[
-    ("18446744073709551615\n", Some(u64::MAX)),
-    ("18446744073709551616\n", None),
-    ("01\n", None),
-    ("\n", None),
-    ("1", None),
-];
-
-#[test]
-fn fields_of_lines(rt: HostRuntime) {
-    for &(line, number) in FIELDS {
-        let found = match field_u64(b'\n', line.as_bytes()) {
-            Some((found, _)) => Some(found),
-            None => None,
-        };
-        assert!(rt; found == number, "{line:?}");
-    }
-}
-
-fn two_phases(alloc: Global) -> Result<PhasePlan, Fail> {
-    let phases = vec![in alloc; PHASE, PHASE]?;
-    Ok(PhasePlan::new(phases).ok().ok_or("no plan")?)
-}
-
-fn instance(alloc: Global, phases: &str, rest: &str) -> Result<Instance, Fail> {
+/// The instance of these phases, with these lines behind them.
+pub(crate) fn instance(alloc: Global, phases: &str, rest: &str) -> Result<Instance, Fail> {
     let text = [phases, rest, "end\n"].concat(alloc)?;
     if text.len() > 10_000 {
         return Err("long".into());

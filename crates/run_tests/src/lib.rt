@@ -1,14 +1,10 @@
-//! Tests of runs: what the nodes of a worked network plan, in many orders of their board steps, its reports, files of histories, and
-//! what a core refuses.
+//! Tests of what no clause of the runs' crates says and no command shows: the steps of nodes, which histories are lawful, the merge of
+//! logs, and what a core answers to steps.
 #![tactic(auto)]
 
 #[cfg(test)]
-mod files;
+mod lawful;
 #[cfg(test)]
-mod orders;
-#[cfg(test)]
-mod played;
-#[cfg(test)]
-mod reports;
+mod merges;
 #[cfg(test)]
 mod steps;

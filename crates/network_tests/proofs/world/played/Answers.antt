@@ -1,0 +1,5 @@
+use Rattle.std.proofs.Common.{arith}
+use Rattle.network_tests.proofs.world.played.Goals as goal
+
+pub loop-i-init : goal.loop-i-init
+loop-i-init c = record { second = omega (arith, c.in-Ok.ensures.second); stands = c.in-Ok.ensures.stands _ _ }

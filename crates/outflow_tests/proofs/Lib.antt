@@ -1,2 +1,0 @@
-mod NodeLaws
-mod PlanLaws

@@ -1,5 +1,0 @@
-//! Tests of `plan` over texts one byte away from an instance's.
-#![tactic(auto)]
-
-#[cfg(test)]
-mod spellings;

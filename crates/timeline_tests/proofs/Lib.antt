@@ -1,1 +1,0 @@
--- What the crate's proofs share.
