@@ -3,25 +3,13 @@
 ghost use Rattle.std.specs.Prelude.{◌≡◌, ◌<◌, length};
 
 use foundation::steps::Steps;
-<<<<<<< HEAD
-use phase_plan::{Phase, PhasePlan, PlanFault};
-use schedule_meaning::{
-    Instance, InstanceFault, SeqFault, ServingsFault, Timed, read_instance, replay, servings,
-};
-=======
 use phase_plan::{Phase, PhasePlan};
 use schedule_meaning::{Instance, SeqFault, ServingsFault, Timed, read_instance, replay, servings};
->>>>>>> 529e19bce9c8d67d5429f0282ea2feef86747505
 use std::alloc::Global;
 use std::marker::Brand;
 use std::sync::ledger::{Blank, Ledger};
 use std::test::Fail;
-<<<<<<< HEAD
-use switch_rules::{Cluster, Head, LATEST_TIME, Served, Unfit, serve, ways};
-use text_lines::field_u64;
-=======
 use switch_rules::{Head, LATEST_TIME, Served, Unfit, serve, ways};
->>>>>>> 529e19bce9c8d67d5429f0282ea2feef86747505
 
 /// The lines of two phases alike, up to the head's.
 pub(crate) const TWO_PHASES: &str =
