@@ -11,7 +11,7 @@ use Rattle.forward_dp.specs.Rows.{time_of}
 use Rattle.forward_dp.specs.declared.rows.Row.{Row}
 use Rattle.forward_dp.specs.Numbers.{counts_number}
 use Rattle.forward_dp.specs.Tables.{AreRows, IsFrom, IsReached, counts_number_at, row_number}
-use Rattle.forward_dp.proofs.Rows.{IsLed, counts-same, reached-entry, reached-led}
+use Rattle.forward_dp.proofs.RowLaws.{IsLed, counts-same, reached-entry, reached-led}
 
 -- a slice of the rows from a place on
 pub record IsSlice (rows source : List Row) (start : ℕ) : Type 0 where

@@ -5,7 +5,7 @@ use Rattle.std.proofs.lemmas.Nat.{pow-add, and_mask, div-mul-add, mod-mul-add}
 use Rattle.std.proofs.lemmas.List.{take-append-drop, drop_more, take_more}
 use Rattle.std.proofs.lemmas.List.Elements.{All-drop}
 use Rattle.forward_dp.specs.Numbers.{order_number}
-use Rattle.forward_dp.proofs.Orders.{order-append, order-cons, order-below}
+use Rattle.forward_dp.proofs.OrderLaws.{order-append, order-cons, order-below}
 
 -- a shift by two bits is one digit to the base 4
 two-bits : (n : ℕ) → 2 ^ (2 * n) ≡ 4 ^ n

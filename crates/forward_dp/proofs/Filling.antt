@@ -19,7 +19,7 @@ use Rattle.forward_dp.specs.Numbers.{counts_number}
 use Rattle.forward_dp.specs.Tables.{AreBelow, AreEnds, CanFill, CanFillCell, IsCellFilled, IsFilled, IsFrom, IsNextCounts, IsTable, counts_number_at, unit_of}
 use Rattle.forward_dp.proofs.Cells.{IsCell, cell-is, cell-source, counts-rise, slice-is}
 use Rattle.forward_dp.proofs.Growing.{grown, made-counts, none-between, none-of-phase, none-past, table-on}
-use Rattle.forward_dp.proofs.Rows.{back, before-four, before-is, before_of, number-more}
+use Rattle.forward_dp.proofs.RowLaws.{back, before-four, before-is, before_of, number-more}
 
 -- the rows from which a group is reached
 pub record IsFound (p : Problem) (counts : List ℕ) (k : ℕ) (rows source : List Row) (start end : ℕ) (cluster : Cluster) : Type 0 where

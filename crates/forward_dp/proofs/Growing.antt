@@ -21,8 +21,8 @@ use Rattle.forward_dp.proofs.Reaching.{arrival-of, arrival-phase}
 use Rattle.forward_dp.specs.Numbers.{counts_number, order_number}
 use Rattle.forward_dp.specs.Tables.{AreWithin, HasRowFor, IsReached, IsTable, IsWholeTable, row_group, row_number, stage_group}
 use Rattle.forward_dp.proofs.Cells.{IsCell, time-small}
-use Rattle.forward_dp.proofs.Orders.{order-push}
-use Rattle.forward_dp.proofs.Rows.{EndsBy, IsLed, before-four, before_of, back, counts-same, ends-by, entry-stage, forth, group-parts, led, reached-led, step-counts, step-phase}
+use Rattle.forward_dp.proofs.OrderLaws.{order-push}
+use Rattle.forward_dp.proofs.RowLaws.{EndsBy, IsLed, before-four, before_of, back, counts-same, ends-by, entry-stage, forth, group-parts, led, reached-led, step-counts, step-phase}
 
 pairs-append : {X : Type 0} (R : X → X → Type 0) (xs ys : List X) → AllPairs R xs → AllPairs R ys → ((i j : ℕ) (d : X) → i < length xs → j < length ys → R (get_or xs i d) (get_or ys j d)) → AllPairs R (xs ++ ys)
 pairs-append R xs ys first second across i j d less inside = elim (cases_lt j (length xs)) [

@@ -6,7 +6,7 @@ use Rattle.dp_certificate.specs.Certificates.{IsBefore, digits_of}
 use Rattle.dp_certificate.specs.Proves.{stage_of_entry}
 use Rattle.forward_dp.specs.declared.rows.Row.{Row}
 use Rattle.forward_dp.specs.Tables.{row_number}
-use Rattle.forward_dp.proofs.Rows.{IsLed, four}
+use Rattle.forward_dp.proofs.RowLaws.{IsLed, four}
 
 three-way : {P : Type 0} (x y : ℕ) → (x < y → P) → (x ≡ y → P) → (y < x → P) → P
 three-way x y less same more = elim (cases_lt x y) [

@@ -8,9 +8,9 @@ mod Growing
 mod KeyOrder
 mod Meeting
 mod Merging
-mod Orders
+mod OrderLaws
 mod Parting
-mod Rows
+mod RowLaws
 mod Wholes
 pub mod Bounds
 pub mod Keeping

@@ -18,7 +18,7 @@ use Rattle.forward_dp.proofs.Cells.{IsCell, cell-is}
 use Rattle.forward_dp.proofs.Few.{rows-few}
 use Rattle.forward_dp.proofs.Filling.{IsFound, can-fill, cell-filled, cell-ready, ends-filled, ends-passed, ends-start, filled, found, small-digits, small-last, table-filled, table-passed}
 use Rattle.forward_dp.proofs.Growing.{table-first, table-whole}
-use Rattle.forward_dp.proofs.Rows.{back, before-four, before-is, before_of, number-more}
+use Rattle.forward_dp.proofs.RowLaws.{back, before-four, before-is, before_of, number-more}
 
 -- a source stands among all rows: those before it have lower counts than a number, and those after it higher ones
 pub record IsAmid (front source behind all : List Row) (number : ℕ) : Type 0 where

@@ -33,10 +33,10 @@ use Rattle.forward_dp.proofs.Cells.{IsCell, led-at}
 use Rattle.forward_dp.proofs.Few.{rows-few}
 use Rattle.forward_dp.proofs.Growing.{no-more}
 use Rattle.forward_dp.proofs.KeyOrder.{keys-rise}
-use Rattle.forward_dp.proofs.Orders.{best-none, best-plan}
+use Rattle.forward_dp.proofs.OrderLaws.{best-none, best-plan}
 use Rattle.forward_dp.specs.declared.live_rows.Rows.{Rows}
 use Rattle.forward_dp.proofs.Parting.{latest-cell}
-use Rattle.forward_dp.proofs.Rows.{entry_for, entry-stage, four, led, reached-led, same-parts}
+use Rattle.forward_dp.proofs.RowLaws.{entry_for, entry-stage, four, led, reached-led, same-parts}
 
 if-some : {X : Type 0} (P : X → Type 0) (o : Option X) (x : X) → o ≡ Some x → IfSome o P → P x
 if-some P o x e h = subst (λ o. IfSome o P) e h

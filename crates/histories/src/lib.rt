@@ -3,14 +3,12 @@
 #![tactic(auto)]
 
 mod call_laws;
-mod calls;
 mod history;
 mod merging;
 mod progress;
 mod steps;
 
 pub use call_laws::law_of_merged_calls;
-pub use calls::{};
 pub use history::{History, law_of_histories, law_of_versions, lawful, turn_order};
 pub use merging::merge;
 pub use progress::{Progress, Stop};

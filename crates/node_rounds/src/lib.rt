@@ -5,11 +5,9 @@
 mod hearing;
 mod laws;
 mod playing;
-mod round_laws;
 mod telling;
 mod turns;
 
 pub use laws::law_of_round_calls;
 pub use playing::play;
-pub use round_laws::{};
 pub use turns::play_in_turn;

@@ -2,13 +2,11 @@
 //! run keeps; the actors of a network between two rounds; and the record of a run that is over.
 #![tactic(auto)]
 
-mod ended_run;
 mod laws;
 mod new_actors;
 mod records;
 mod run_records;
 
-pub use ended_run::{};
 pub use laws::{law_of_one_run, law_of_runs};
 pub use new_actors::{Actors, actors_of};
 pub use records::RunRecord;

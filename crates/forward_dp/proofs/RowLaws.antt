@@ -19,7 +19,7 @@ use Rattle.forward_dp.specs.declared.rows.Row.{Row}
 use Rattle.forward_dp.specs.Numbers.{counts_number, order_number}
 use Rattle.forward_dp.specs.Tables.{IsReached, unit_of}
 use Rattle.forward_dp.proofs.Bounds.{IsStage, stage-bounds, stage-few}
-use Rattle.forward_dp.proofs.Orders.{order-below}
+use Rattle.forward_dp.proofs.OrderLaws.{order-below}
 
 -- ---- lists of four
 
