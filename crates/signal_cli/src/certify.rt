@@ -22,10 +22,8 @@ use std::marker::Brand;
 use std::sync::ledger::{Blank, Ledger};
 
 /// Which table of entries a certificate is made with.
-///
-/// docs/RULES.md, "Certificate".
 #[derive(Debug, Clone, Copy, PartialEq, Eq)]
-pub enum Table {
+enum Table {
     /// The whole table, as `certify` writes it.
     Whole,
     /// The bounded table, as `certify_bound` writes it.
@@ -91,28 +89,42 @@ fn certificate_of_file<S: Shelf>(
     Ok(certificate)
 }
 
-/// The commands `certify FILE`, by the whole table, and `certify_bound FILE`, by the bounded one: writes the
-/// certificate of the instance in the file, with its best answer and that table of entries, which prove it. `check`
-/// accepts that text: it is within the limit of a text, and is the text of this certificate and of no other.
+/// The command `certify FILE`: writes the certificate of the instance in the file, with its best answer and the whole
+/// table of entries, which prove it. `check` accepts that text: it is within the limit of a text, and is the text of this
+/// certificate and of no other.
 ///
 /// Each status has its cause, and each refusal writes its line to `err`, as `signal` says.
 ///
 /// docs/FORMATS.md, "Words".
 pub fn certify_job<S: Shelf, O: Sink, E: Sink>(
     alloc: Global,
-    table: Table,
     file: &str,
     shelf: &mut S,
     out: &mut O,
     err: &mut E,
 ) -> Status
-    ensures whole { table ≡ Table.Whole → Outcome (Certify file.now)
-        (record { shelf = S.state shelf.old; out = O.state out.old; err = E.state err.old })
-        (record { shelf = S.state shelf.new; out = O.state out.new; err = E.state err.new }) result }
-    ensures bounded { table ≡ Table.Bounded → Outcome (CertifyBound file.now)
+    ensures { Outcome (Certify file.now)
         (record { shelf = S.state shelf.old; out = O.state out.old; err = E.state err.old })
         (record { shelf = S.state shelf.new; out = O.state out.new; err = E.state err.new }) result }
 {
-    let made = certificate_of_file(alloc, table, shelf, file);
-    deliver(alloc, made, out, err)
+    let certificate = certificate_of_file(alloc, Table::Whole, shelf, file);
+    deliver(alloc, certificate, out, err)
+}
+
+/// The command `certify_bound FILE`: as `certify_job`, with the bounded table of entries.
+///
+/// docs/FORMATS.md, "Words".
+pub fn certify_bound_job<S: Shelf, O: Sink, E: Sink>(
+    alloc: Global,
+    file: &str,
+    shelf: &mut S,
+    out: &mut O,
+    err: &mut E,
+) -> Status
+    ensures { Outcome (CertifyBound file.now)
+        (record { shelf = S.state shelf.old; out = O.state out.old; err = E.state err.old })
+        (record { shelf = S.state shelf.new; out = O.state out.new; err = E.state err.new }) result }
+{
+    let certificate = certificate_of_file(alloc, Table::Bounded, shelf, file);
+    deliver(alloc, certificate, out, err)
 }

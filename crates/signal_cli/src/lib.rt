@@ -9,7 +9,7 @@ mod plan;
 mod top;
 mod verdicts;
 
-pub use certify::{Table, certify_job};
+pub use certify::{certify_bound_job, certify_job};
 pub use check::check_job;
 pub use command_texts::Status;
 pub use network_jobs::{grid_job, instance_job, replay_job, turns_job};

@@ -5,7 +5,7 @@ ghost use Rattle.commands.specs.Outcome.{Outcome};
 ghost use Rattle.command_texts.specs.Refusals.{Says};
 ghost use Rattle.command_texts.specs.declared.refusals.Refusal.TheVariants as refusal;
 
-use super::certify::{Table, certify_job};
+use super::certify::{certify_bound_job, certify_job};
 use super::check::check_job;
 use super::plan::plan_job;
 use board_model::Gate;
@@ -67,10 +67,8 @@ fn run<R: Threads + Wait + Sync, S: Shelf, O: Sink, E: Sink, G: Gate + Sync>(
 {
     match command {
         Command::Plan { file } => plan_job(alloc, file, shelf, out, err),
-        Command::Certify { file } => certify_job(alloc, Table::Whole, file, shelf, out, err),
-        Command::CertifyBound { file } => {
-            certify_job(alloc, Table::Bounded, file, shelf, out, err)
-        }
+        Command::Certify { file } => certify_job(alloc, file, shelf, out, err),
+        Command::CertifyBound { file } => certify_bound_job(alloc, file, shelf, out, err),
         Command::Check { file } => check_job(alloc, file, shelf, out, err),
         Command::Turns { net, arr } => turns_job(alloc, net, arr, shelf, out, err),
         Command::Replay { net, arr, hist } => replay_job(alloc, net, arr, hist, shelf, out, err),
