@@ -323,6 +323,12 @@ certified p given limit entries answer made h same out =
     let here : IsCertified p limit c = record { table = h.table; best = h.best; proves = whole-proves p limit entries answer h.lawful h.delay h.table h.best; few = (h.few, best-few p answer h.lawful h.best) } in
     subst (IsCertified p limit) (sym is) here
 
+-- of the table as it was made, and the answer of its best row
+pub certified-parts : (p given : Problem) (limit : Option ℕ) (gone : List Row) (rows : Rows) (earlier latest : List Row) (entries : List Entry) (answer : Answer) (made : Claim) → IsInstance p → IsSomeDelay p limit → IsTableMade p limit gone rows → earlier ≡ rows.earlier.items → latest ≡ rows.latest.items
+    → entries ≡ map (λ r. r.entry) (gone ++ earlier ++ latest) → IsBest p answer → given ≡ p → made ≡ record { problem = given; entries = entries; answer = answer } → IsCertified p limit made
+certified-parts p given limit gone rows earlier latest entries answer made lawful delay table first second taken best same out =
+    certified p given limit entries answer made (parts p limit gone rows earlier latest entries answer lawful delay table first second taken best) same out
+
 -- and they are one
 pub lawful : (p given : Problem) (limit : Option ℕ) (entries : List Entry) (answer : Answer) → AreParts p limit entries answer → given ≡ p → IsCertificate (record { problem = given; entries = entries; answer = answer })
 lawful p given limit entries answer h same =

@@ -94,27 +94,23 @@ pub reaches-unfit : (p : Problem) (prefix left : List ℕ) (head : Head) (delay 
 reaches-unfit p prefix left head delay k c why reached e f order =
     delay-timing p (prefix ++ k ∷ order) ∙ ap (option_map (λ (x : ℕ × Head). x.0)) (reached (k ∷ order) ∙ ap (option_map (onward delay)) (timed-unfit p left head k order c why e f))
 
--- the best of more sequences
-best-none : (p : Problem) (all : List (List ℕ)) (order : List ℕ) (answer : Answer) → delay_of p order ≡ None → IsBestAmong p all answer → IsBestAmong p (all ++ order ∷ []) answer
-best-none p all order NoPlan e h = All-push (λ s. delay_of p s ≡ None) all order h e
-best-none p all order (Plan sequence least) e h = record {
+-- the best of more sequences, where one more has no less delay
+best-keeps : (p : Problem) (all : List (List ℕ)) (order sequence : List ℕ) (least : ℕ) → IfSome (delay_of p order) (λ d. least ≤ d) → IsBestPlan p all sequence least → IsBestPlan p (all ++ order ∷ []) sequence least
+best-keeps p all order sequence least no_less h = record {
   feasible = h.feasible;
   before = h.before;
   after = h.after ++ order ∷ [];
   among = ap (λ xs. xs ++ order ∷ []) h.among ∙ append_assoc h.before (sequence ∷ h.after) (order ∷ []);
   first = h.first;
-  least = All-push (λ s. IfSome (delay_of p s) (λ d. least ≤ d)) h.after order h.least (subst (λ (o : Option ℕ). IfSome o (λ d. least ≤ d)) (sym e) tt);
+  least = All-push (λ s. IfSome (delay_of p s) (λ d. least ≤ d)) h.after order h.least no_less;
 }
 
+best-none : (p : Problem) (all : List (List ℕ)) (order : List ℕ) (answer : Answer) → delay_of p order ≡ None → IsBestAmong p all answer → IsBestAmong p (all ++ order ∷ []) answer
+best-none p all order NoPlan e h = All-push (λ s. delay_of p s ≡ None) all order h e
+best-none p all order (Plan sequence least) e h = best-keeps p all order sequence least (subst (λ (o : Option ℕ). IfSome o (λ d. least ≤ d)) (sym e) tt) h
+
 best-worse : (p : Problem) (all : List (List ℕ)) (order sequence : List ℕ) (d least : ℕ) → delay_of p order ≡ Some d → least ≤ d → IsBestPlan p all sequence least → IsBestPlan p (all ++ order ∷ []) sequence least
-best-worse p all order sequence d least e worse h = record {
-  feasible = h.feasible;
-  before = h.before;
-  after = h.after ++ order ∷ [];
-  among = ap (λ xs. xs ++ order ∷ []) h.among ∙ append_assoc h.before (sequence ∷ h.after) (order ∷ []);
-  first = h.first;
-  least = All-push (λ s. IfSome (delay_of p s) (λ d. least ≤ d)) h.after order h.least (subst (λ (o : Option ℕ). IfSome o (λ d. least ≤ d)) (sym e) worse);
-}
+best-worse p all order sequence d least e worse h = best-keeps p all order sequence least (subst (λ (o : Option ℕ). IfSome o (λ d. least ≤ d)) (sym e) worse) h
 
 -- a fact of an option's value, weakened
 if-some-weaker : (o : Option ℕ) (P Q : ℕ → Type 0) → ((n : ℕ) → P n → Q n) → IfSome o P → IfSome o Q

@@ -22,9 +22,7 @@ use std::marker::Brand;
 use std::sync::ledger::{Blank, Ledger};
 
 /// Which table of entries a certificate is made with.
-///
-/// docs/RULES.md, "Certificate".
-#[derive(Clone, Copy)]
+#[derive(Debug, Clone, Copy, PartialEq, Eq)]
 enum Table {
     /// The whole table, as `certify` writes it.
     Whole,
@@ -91,28 +89,8 @@ fn certificate_of_file<S: Shelf>(
     Ok(certificate)
 }
 
-/// Writes the certificate of the instance in a file, with its best answer and the entries of this table.
-fn certify_by<S: Shelf, O: Sink, E: Sink>(
-    alloc: Global,
-    table: Table,
-    file: &str,
-    shelf: &mut S,
-    out: &mut O,
-    err: &mut E,
-) -> Status
-    ensures whole { table ≡ Table.Whole → Outcome (Certify file.now)
-        (record { shelf = S.state shelf.old; out = O.state out.old; err = E.state err.old })
-        (record { shelf = S.state shelf.new; out = O.state out.new; err = E.state err.new }) result }
-    ensures bounded { table ≡ Table.Bounded → Outcome (CertifyBound file.now)
-        (record { shelf = S.state shelf.old; out = O.state out.old; err = E.state err.old })
-        (record { shelf = S.state shelf.new; out = O.state out.new; err = E.state err.new }) result }
-{
-    let made = certificate_of_file(alloc, table, shelf, file);
-    deliver(alloc, made, out, err)
-}
-
-/// The command `certify FILE`: writes the certificate of the instance in the file, with its best answer and the whole table
-/// of entries, which prove it. `check` accepts that text: it is within the limit of a text, and is the text of this
+/// The command `certify FILE`: writes the certificate of the instance in the file, with its best answer and the whole
+/// table of entries, which prove it. `check` accepts that text: it is within the limit of a text, and is the text of this
 /// certificate and of no other.
 ///
 /// Each status has its cause, and each refusal writes its line to `err`, as `signal` says.
@@ -129,12 +107,11 @@ pub fn certify_job<S: Shelf, O: Sink, E: Sink>(
         (record { shelf = S.state shelf.old; out = O.state out.old; err = E.state err.old })
         (record { shelf = S.state shelf.new; out = O.state out.new; err = E.state err.new }) result }
 {
-    certify_by(alloc, Table::Whole, file, shelf, out, err)
+    let certificate = certificate_of_file(alloc, Table::Whole, shelf, file);
+    deliver(alloc, certificate, out, err)
 }
 
-/// The command `certify_bound FILE`: does what `certify_job` does, with the entries of the bounded table.
-///
-/// Each status has its cause, and each refusal writes its line to `err`, as `signal` says.
+/// The command `certify_bound FILE`: as `certify_job`, with the bounded table of entries.
 ///
 /// docs/FORMATS.md, "Words".
 pub fn certify_bound_job<S: Shelf, O: Sink, E: Sink>(
@@ -148,5 +125,6 @@ pub fn certify_bound_job<S: Shelf, O: Sink, E: Sink>(
         (record { shelf = S.state shelf.old; out = O.state out.old; err = E.state err.old })
         (record { shelf = S.state shelf.new; out = O.state out.new; err = E.state err.new }) result }
 {
-    certify_by(alloc, Table::Bounded, file, shelf, out, err)
+    let certificate = certificate_of_file(alloc, Table::Bounded, shelf, file);
+    deliver(alloc, certificate, out, err)
 }

@@ -251,3 +251,7 @@ short i v c digit h = omega (arith, pow_more 10 i)
 
 pub fits : (i v : ℕ) → i ≤ 19 → v < 10 ^ i → v < 10000000000000000000
 fits i v h below = let most : 10 ^ i ≤ 10 ^ 19 = pow-le-pow_right (lit≤ tt) h in omega arith
+
+-- one more digit of a short number
+pub short-fits : (i v c : ℕ) → i + 1 ≤ 19 → IsAsciiDigit c → v < 10 ^ i → v * 10 + (c - 48) < 10000000000000000000
+short-fits i v c few digit h = fits (i + 1) (v * 10 + (c - 48)) few (short i v c digit h)

@@ -1,20 +1,14 @@
 use Rattle.std.proofs.Common.{◌+◌, ◌-◌, ◌*◌, ◌^◌, ◌<◌, get_or, refl, arith}
-use Rattle.text_lines.proofs.Digits.{digit-more, fits, short}
+use Rattle.text_lines.proofs.Digits.{digit-more, fits, short, short-fits}
 use Rattle.text_lines.proofs.fields.short_field.Goals as goal
 
 pub overflow_mul-number : goal.overflow_mul-number
 overflow_mul-number c =
-    let i = c.loop-index.index in
-    let v = c.loop-index.number in
-    let digit = c.if-not-is_ascii_digit.ensures.cases in
-    omega (arith, fits (i + 1) (v * 10 + (get_or c.args.bytes.now i 0 - 48)) (omega arith) (short i v (get_or c.args.bytes.now i 0) digit c.loop-index.invariant.short))
+    omega (arith, short-fits c.loop-index.index c.loop-index.number (get_or c.args.bytes.now c.loop-index.index 0) (omega arith) c.if-not-is_ascii_digit.ensures.cases c.loop-index.invariant.short)
 
 pub overflow_add-number : goal.overflow_add-number
 overflow_add-number c =
-    let i = c.loop-index.index in
-    let v = c.loop-index.number in
-    let digit = c.if-not-is_ascii_digit.ensures.cases in
-    omega (arith, fits (i + 1) (v * 10 + (get_or c.args.bytes.now i 0 - 48)) (omega arith) (short i v (get_or c.args.bytes.now i 0) digit c.loop-index.invariant.short))
+    omega (arith, short-fits c.loop-index.index c.loop-index.number (get_or c.args.bytes.now c.loop-index.index 0) (omega arith) c.if-not-is_ascii_digit.ensures.cases c.loop-index.invariant.short)
 
 pub loop-index-preserved : goal.loop-index-preserved
 loop-index-preserved c =
