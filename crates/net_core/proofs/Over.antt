@@ -2,7 +2,7 @@
 use Rattle.std.proofs.Common.{◌≡◌, subst, inl, inr, arith}
 use Rattle.arrivals.specs.Amounts.{Amounts}
 use Rattle.runs.specs.Ending.{IsRecordOf}
-use Rattle.runs.proofs.Records.{run-by}
+use Rattle.runs.proofs.EndedRecords.{run-by}
 use Rattle.histories.specs.Histories.{IsLawful}
 use Rattle.net_numbers.specs.Numbers.{Net}
 use Rattle.road_net.specs.Network.{IsNetwork}

@@ -10,7 +10,7 @@ use Rattle.board_model.specs.declared.boards.Heard.{Heard}
 use Rattle.board_model.specs.declared.calls.Call.{Call}
 use Rattle.board_rule.specs.Passes.{BoardsView, PassView, calls_in}
 use Rattle.runs.specs.Ending.{IsRecordOf}
-use Rattle.runs.proofs.Records.{run-by}
+use Rattle.runs.proofs.EndedRecords.{run-by}
 use Rattle.histories.specs.Histories.{IsLawful}
 use Rattle.histories.specs.Merges.{IsMerge}
 use Rattle.histories.specs.Steps.{board_steps, publisher}

@@ -12,5 +12,5 @@ pub mod Places
 pub mod PlanLaws
 pub mod PromiseLaws
 pub mod Queues
-pub mod Records
+pub mod EndedRecords
 pub mod Resting
