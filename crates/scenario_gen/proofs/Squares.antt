@@ -11,7 +11,7 @@ use Rattle.scenario_gen.proofs.Legal.{HasNetwork, is_legal, legal-by}
 run-within : (rounds : ℕ) → AreRounds rounds → IsRun (run rounds)
 run-within rounds are = record { step = (omega arith, omega arith); look = (omega arith, omega arith); within = omega arith; gap = omega arith; rounds = (are.least, are.most) }
 
--- the test computes for each number of nodes a side, each in a lemma of its own, since computing it takes many steps
+-- the test computes for each number of nodes a side
 legal-2 : (rounds : ℕ) → is_legal (grid_draft 2 rounds) ≡ true
 unfolding digits numbered roads_of link_of turn_of conflict_of
 legal-2 rounds = refl
