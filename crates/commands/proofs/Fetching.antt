@@ -30,4 +30,4 @@ fetched-long (Some known) kind name bytes e long =
 -- a text that was fetched and is read as nothing of its kind is refused for its fault
 pub fetched-bad : (old new : ShelfState) (place : TextPlace) (kind : Kind) (name text : List ℕ) (why : BadText) → new ≡ old → (IsSome old.files → text_of old.files name ≡ Some text)
     → ((said : Said kind) → ¬ Reads kind text said) → HasFault kind text why → StopsAt (refusal.Bad place why) place kind name old new
-fetched-bad old new place kind name text why same told unread fault = (refl, (same, record { text = text; told = told; unread = unread; fault = fault }))
+fetched-bad old new place kind name text why same told unread fault = (refl, same, record { text = text; told = told; unread = unread; fault = fault })

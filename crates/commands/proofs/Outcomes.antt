@@ -22,8 +22,8 @@ use Rattle.commands.specs.Texts.{AllSaid, AreIn, Tells, TellsBad}
 use Rattle.commands.proofs.TextLaws.{as_told, none_bad, none_gains, none_told_bad}
 
 -- a count with one fault more has risen
-risen : {before now : ℕ} → now ≡ one_more before → Rose before now
-risen {before} {now} more = omega (arith, more)
+risen : (before now : ℕ) → now ≡ one_more before → Rose before now
+risen before now more = omega (arith, more)
 
 module _ (call : Call) (old new : Outside) where
   -- what is so of the texts that were read is so of those that are told
@@ -89,8 +89,8 @@ module _ (call : Call) (old new : Outside) where
     err = λ e. elim e [ inl a ↦ absurd (cc) | inr a ↦ absurd (cc) ];
     refused = λ place bad e. absurd (none_refused read.0 read.1 place bad);
     missing = λ said told what misses e. absurd (told_so (MissesNothing call) read.0 said read.1 told read.2.1 what misses);
-    complete = λ said told none for e kept. absurd (kept (risen breaks.faults));
-    against = λ said told none against e kept. absurd (kept (risen breaks.faults));
+    complete = λ said told none for e kept. absurd (kept (risen _ _ breaks.faults));
+    against = λ said told none against e kept. absurd (kept (risen _ _ breaks.faults));
   }
 
   wants : (status : Status) → new.shelf ≡ old.shelf → status ≡ NoMemory → new.out ≡ old.out → Says refusal.NoMemory old.err new.err → Outcome call old new status
