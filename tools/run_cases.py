@@ -4,7 +4,9 @@
 A case is a folder with a file `words`, which has the words of the program's command line, one a
 line, and with the answer that is wanted: `status` has the exit status, `stdout` and `stderr` have
 the bytes written there. A `stdout` or `stderr` that is absent stands for no bytes. The program is
-run in a copy of the case's folder, so that the words can name its other files.
+run in a copy of the case's folder, so that the words can name its other files. A file `replays`
+stands for an output that is not fixed: it has the words of a second run, whose last word names
+what the first one wrote to standard output; the second has to write the same, and to end with 0.
 
 Each FOLDER is a case, or holds cases at any depth. The exit status is 0 where all cases agree, 1
 where any differs, and 2 where there are none, one is malformed or the program can't be run; a
@@ -23,6 +25,7 @@ from concurrent.futures import ThreadPoolExecutor
 from pathlib import Path
 
 ANSWER = ("status", "stdout", "stderr")
+NO_FILES = ("words", "replays", "note", *ANSWER)
 
 
 class Malformed(Exception):
@@ -51,31 +54,51 @@ def recorded(case):
     return int(status), bytes_of(case / "stdout"), bytes_of(case / "stderr")
 
 
-def answered(program, case, seconds):
-    """What the program answers, or None where it took too long; then it is killed with all that it started."""
-    words = bytes_of(case / "words").split(b"\n")
+def words_in(file):
+    """The words of a file, one a line."""
+    words = bytes_of(file).split(b"\n")
     if words[-1] == b"":
         words.pop()
+    return words
+
+
+def answered(program, case, seconds):
+    """What the program answers, or None where it took too long; then it is killed with all that it started."""
     with tempfile.TemporaryDirectory() as place:
         copy = Path(place) / "case"
-        shutil.copytree(case, copy, ignore=shutil.ignore_patterns("words", *ANSWER))
+        shutil.copytree(case, copy, ignore=shutil.ignore_patterns(*NO_FILES))
+        return ended(program, words_in(case / "words"), copy, seconds)
+
+
+def replayed(program, case, told, seconds):
+    """What the program answers to the second run of a case, of which the first told this; None as above."""
+    words = words_in(case / "replays")
+    with tempfile.TemporaryDirectory() as place:
+        copy = Path(place) / "case"
+        shutil.copytree(case, copy, ignore=shutil.ignore_patterns(*NO_FILES))
+        (copy / os.fsdecode(words[-1])).write_bytes(told)
+        return ended(program, words, copy, seconds)
+
+
+def ended(program, words, folder, seconds):
+    """How a run of the program in a folder ended, or None where it took too long."""
+    try:
+        run = subprocess.Popen(
+            [os.fsencode(program), *words],
+            cwd=folder,
+            stdin=subprocess.DEVNULL,
+            stdout=subprocess.PIPE,
+            stderr=subprocess.PIPE,
+            start_new_session=True,
+        )
+    except (OSError, ValueError) as fault:
+        raise Malformed(f"{program} can't be run in {folder}: {fault}") from fault
+    with run:
         try:
-            run = subprocess.Popen(
-                [os.fsencode(program), *words],
-                cwd=copy,
-                stdin=subprocess.DEVNULL,
-                stdout=subprocess.PIPE,
-                stderr=subprocess.PIPE,
-                start_new_session=True,
-            )
-        except (OSError, ValueError) as fault:
-            raise Malformed(f"{program} can't be run in {case}: {fault}") from fault
-        with run:
-            try:
-                out, err = run.communicate(timeout=seconds)
-            except subprocess.TimeoutExpired:
-                os.killpg(run.pid, signal.SIGKILL)
-                return None
+            out, err = run.communicate(timeout=seconds)
+        except subprocess.TimeoutExpired:
+            os.killpg(run.pid, signal.SIGKILL)
+            return None
     return run.returncode, out, err
 
 
@@ -88,8 +111,14 @@ def without_code(answer):
 def difference(program, case, seconds, bad_prefix):
     """What differs in a case, in a few words, or None."""
     wanted, found = recorded(case), answered(program, case, seconds)
-    if found is None:
+    again = (0, wanted[1], b"")
+    if found is not None and (case / "replays").is_file():
+        again = replayed(program, case, found[1], seconds)
+    if found is None or again is None:
         return f"no answer in {seconds:g} seconds"
+    if again[0] != 0 or again[2] != b"":
+        return f"the second run ends with {again[0]} and {shown(again[2])}"
+    wanted = (wanted[0], again[1], wanted[2])
     if bad_prefix:
         wanted, found = without_code(wanted), without_code(found)
     differing = [

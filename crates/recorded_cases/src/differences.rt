@@ -29,7 +29,8 @@ fn of_answer<R: Threads + Wait + Sync>(
     alloc: Global,
     case: Case,
 ) -> Result<String, AllocError> {
-    let found = call(rt, alloc, &case.words, case.files)?;
+    let files = case.files;
+    let found = call(rt, alloc, &case.words, files)?;
     differing(alloc, &case.status, &case.out, &case.err, &found)
 }
 
@@ -40,7 +41,8 @@ fn of_replay<R: Threads + Wait + Sync>(
     case: Case,
     again: Case,
 ) -> Result<String, AllocError> {
-    let first = call(rt, alloc, &case.words, case.files)?;
+    let files = case.files;
+    let first = call(rt, alloc, &case.words, files)?;
     let told = first.out.bytes();
     let mut files = again.files;
     if let Some(name) = case.replays.last() {

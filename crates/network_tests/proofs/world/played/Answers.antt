@@ -2,4 +2,4 @@ use Rattle.std.proofs.Common.{arith}
 use Rattle.network_tests.proofs.world.played.Goals as goal
 
 pub loop-i-init : goal.loop-i-init
-loop-i-init c = record { second = omega (arith, c.in-Ok.ensures.second); stands = c.in-Ok.ensures.stands _ _ }
+loop-i-init c = record { second = omega (arith, c.in_ok-world.ensures.second); stands = c.in_ok-world.ensures.stands _ _ }
