@@ -1,7 +1,7 @@
 // The words of a command line, and the exit status that they end with.
 
 use command_calls::{TWO_CLUSTERS, TWO_CLUSTERS_PLAN};
-use signal_process::run;
+use signal_cli::run;
 use std::env::FillError;
 use std::fs;
 use std::io::{self, ErrorKind, Write};

@@ -1,4 +1,5 @@
-//! The commands of the program, over a shelf of texts and two sinks.
+//! The commands of the program, over a shelf of texts and two sinks; and the words, files and streams of a process, with which the top
+//! call is made.
 #![tactic(auto)]
 
 mod answers;
@@ -6,6 +7,7 @@ mod certify;
 mod check;
 mod delivery;
 mod plan;
+mod process;
 mod top;
 mod verdicts;
 
@@ -14,4 +16,5 @@ pub use check::check_job;
 pub use commands::Status;
 pub use network_jobs::{grid_job, instance_job, net_job, replay_job, turns_job};
 pub use plan::plan_job;
+pub use process::run;
 pub use top::signal;

@@ -1,7 +1,7 @@
 //! The program `signal`. Its stored run plans a worked instance.
 #![tactic(auto)]
 
-use signal_process::run;
+use signal_cli::run;
 use std::process::ExitCode;
 
 fn main(rt: HostRuntime) -> ExitCode {

@@ -1,10 +1,9 @@
 //! The program in its process: its arguments, files and streams, handed to the top call.
-#![tactic(auto)]
 
+use crate::{Status, signal};
 use board_model::OpenGate;
 use foundation::text::Text;
 use outside_world::{FileShelf, StreamSink};
-use signal_cli::{Status, signal};
 use std::alloc::Global;
 use std::env;
 use std::io::{ErrorKind, Write};
