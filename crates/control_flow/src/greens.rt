@@ -93,7 +93,8 @@ impl Timeline {
         ensures ok { OnOk result (self.new ≡ spliced self.old next) }
         ensures refused { OnErr result (self.new ≡ self.old) }
         ensures law { (plan : List Phase) (now : ℕ) (head : Head)
-            → IsPlan plan → IsLawful plan self.old → head_at plan self.old now ≡ Some head → IsLawful plan next → GoesOn head next
+            → IsPlan plan → IsLawful plan self.old → head_at plan self.old now ≡ Some head → IsLawful plan next
+            → GoesOn head next
             → OnOk result (IsContinued plan self.old now next self.new) }
     {
         replace(&mut self.rows, &next.rows)

@@ -41,6 +41,7 @@ pub fn timeline(
     ensures begins_by { (n : ℕ) → head.now.since ≤ n → until + 20 ≤ n → All (λ s. s.green ≤ n) served.now
         → IfOk result (BeginBy n) }
 {
+    // Called for its clause: the phases are a plan.
     law_of_plans(plan);
     let mut rows = Vec::with_capacity(alloc, phases.len() + 2 * usize::from(plan.count()))?;
     let mut current = *head;
@@ -83,6 +84,7 @@ pub fn rotation(
     ensures end { IfOk result (λ line. until < end_of line) }
     ensures begins_by { (n : ℕ) → head.now.since ≤ n → until + 20 ≤ n → IfOk result (BeginBy n) }
 {
+    // Called for its clause: the phases are a plan.
     law_of_plans(plan);
     let mut rows = Vec::new(alloc);
     let earliest = earliest_end(plan, head);
@@ -90,7 +92,7 @@ pub fn rotation(
     Ok(Timeline::from_rows(rows))
 }
 
-/// That the phases are a plan.
+/// The phases are a plan.
 fn law_of_plans(plan: &PhasePlan)
     ensures { IsPlan plan.now }
 {
@@ -112,7 +114,8 @@ fn leave(
     requires phase { phase < length plan.now }
     requires begin { earliest_green plan.now head.now phase ≤ begin }
     ensures { OnOk result (rows.new.items ≡ rows.old.items
-        ++ left_for plan.now head.now (last_end plan.now head.now phase begin) (passed_numbers plan.now head.now.phase phase)) }
+        ++ left_for plan.now head.now (last_end plan.now head.now phase begin)
+        (passed_numbers plan.now head.now.phase phase)) }
 {
     let times = plan.phase(head.phase);
     let in_time = begin - plan.switch_time(head.phase, phase);
