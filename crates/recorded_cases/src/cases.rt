@@ -74,11 +74,11 @@ pub(crate) fn read_case<R: Files + AllocGlobal + Clone + Drop>(
 /// Adds a file of its folder to a case.
 fn add_file(alloc: Global, case: &mut Case, name: String, bytes: Vec<u8>) -> io::Result<()> {
     match name.as_str() {
-        "words" => case.words = words_of(alloc, &bytes)?,
+        "words" => case.words = words_of(alloc, &text_of(bytes)?)?,
         "status" => case.status = text_of(bytes)?,
         "stdout" => case.out = bytes,
         "stderr" => case.err = bytes,
-        "replays" => case.replays = words_of(alloc, &bytes)?,
+        "replays" => case.replays = words_of(alloc, &text_of(bytes)?)?,
         "note" => {}
         _ => case
             .files
@@ -88,13 +88,13 @@ fn add_file(alloc: Global, case: &mut Case, name: String, bytes: Vec<u8>) -> io:
 }
 
 /// The words of these lines.
-fn words_of(alloc: Global, lines: &[u8]) -> io::Result<Vec<Text>> {
+fn words_of(alloc: Global, lines: &str) -> io::Result<Vec<Text>> {
     let mut words = Vec::new(alloc);
-    let Some(lines) = lines.strip_suffix(b"\n") else {
+    let Some(lines) = lines.strip_suffix('\n') else {
         return Ok(words);
     };
-    for word in lines.split(|byte| *byte == b'\n') {
-        words.push(Text::from_string(text_of(word.to_vec(alloc)?)?))?;
+    for word in lines.split('\n') {
+        words.push(Text::from_string(String::from_str(alloc, word)?))?;
     }
     Ok(words)
 }

@@ -85,17 +85,16 @@ fn add_difference(
     if wanted == found {
         return Ok(());
     }
-    let mut lines = wanted.split(|byte| *byte == b'\n');
-    for (place, line) in found.split(|byte| *byte == b'\n').enumerate() {
-        let other = lines.next();
-        if other != Some(line) {
-            let shown = str::from_utf8(line).unwrap_or("?");
-            let other = str::from_utf8(other.unwrap_or(b"")).unwrap_or("?");
+    let found = str::from_utf8(found).unwrap_or("?");
+    let mut lines = str::from_utf8(wanted).unwrap_or("?").split('\n');
+    for (place, line) in found.split('\n').enumerate() {
+        let other = lines.next().unwrap_or("");
+        if line != other {
             return Ok(write!(
                 text,
-                "{part} has {shown:?} in place of {other:?} behind {place} lines; "
+                "{part} has {line:?} in place of {other:?} after {place} lines; "
             )?);
         }
     }
-    Ok(write!(text, "{part} ends too early; ")?)
+    Ok(write!(text, "{part} ends otherwise; ")?)
 }
