@@ -1,4 +1,4 @@
-//! The worked network of docs/FORMATS.md for tests: its text, what enters it, reports of its runs, and the network itself.
+//! The worked network of docs/FORMATS.md for tests: its text, what enters it, a report of its run, and the network itself.
 #![tactic(auto)]
 
 use road_net::{NetFault, Network, read_network};
@@ -145,50 +145,8 @@ link,,,xb,0,0,0
 total,,,1000,0,1000,500
 ";
 
-/// Files of histories of one round, each with the report of its run, with the one vehicle.
-pub const ONE_ROUND: &[(&str, &str)] = &[
-    (
-        "kind,round,node,x,y,z,w\nstep,,a,,,,\nstep,,a,,,,\nstep,,b,,,,\nstep,,b,,,,\n",
-        "kind,round,node,x,y,z,w
-step,0,a,read,ba,0,
-step,0,a,publish,ab,1,
-step,0,b,read,ab,1,
-step,0,b,publish,ba,1,
-plan,0,a,ba=0,plan,0,
-plan,0,b,ab=1,plan,0,
-green,,a,0,0,30,
-green,,b,0,0,30,
-link,,,sa,1000,0,0
-link,,,ab,0,0,0
-link,,,ba,0,0,0
-link,,,sb,0,0,0
-link,,,xb,0,0,0
-total,,,1000,0,1000,0
-",
-    ),
-    (
-        "kind,round,node,x,y,z,w\nstep,,a,,,,\nstep,,b,,,,\nstep,,a,,,,\nstep,,b,,,,\n",
-        "kind,round,node,x,y,z,w
-step,0,a,read,ba,0,
-step,0,b,read,ab,0,
-step,0,a,publish,ab,1,
-step,0,b,publish,ba,1,
-plan,0,a,ba=0,plan,0,
-plan,0,b,ab=0,plan,0,
-green,,a,0,0,30,
-green,,b,0,0,30,
-link,,,sa,1000,0,0
-link,,,ab,0,0,0
-link,,,ba,0,0,0
-link,,,sb,0,0,0
-link,,,xb,0,0,0
-total,,,1000,0,1000,0
-",
-    ),
-];
-
-/// The text of the network with so many rounds.
-pub fn with_rounds(alloc: Global, rounds: u32) -> Result<String, AllocError> {
+// The text of the network with so many rounds.
+fn with_rounds(alloc: Global, rounds: u32) -> Result<String, AllocError> {
     let line = format!(in alloc; "rounds = {rounds}")?;
     NETWORK.replace(alloc, "rounds = 4", line.as_str())
 }
