@@ -12,7 +12,7 @@ ghost use Rattle.network_jobs.specs.Missing.{Misses};
 
 use super::history_runs::kept_run;
 use arrivals::Arrivals;
-use commands::{HistoryScene, Made, Named, Refusal, Status, end, fetch_history_scene};
+use commands::{Made, Named, Refusal, Status, end, fetch_history_scene};
 use histories::History;
 use outside_world::{Shelf, Sink};
 use road_net::Network;
@@ -101,14 +101,12 @@ fn make_instance<S: Shelf>(
 ) -> Result<Made, Refusal>
     ensures { Makes (call_with args.now) (S.state shelf.old) (S.state shelf.new) result }
 {
-    let HistoryScene { scene, history } = fetch_history_scene(
-        alloc, shelf, args.net, args.arr, args.hist,
-    )?;
+    let read = fetch_history_scene(alloc, shelf, args.net, args.arr, args.hist)?;
     let text = find_planned_text(
         alloc,
-        &scene.network,
-        &scene.arrivals,
-        &history,
+        &read.scene.network,
+        &read.scene.arrivals,
+        &read.history,
         args.node,
         args.round,
     )?;

@@ -4,7 +4,7 @@ ghost use Rattle.commands.specs.Ending.{Makes};
 ghost use Rattle.commands.specs.Outcome.{Outcome};
 
 use super::history_runs::report;
-use commands::{HistoryScene, Made, Refusal, Status, end, fetch_history_scene};
+use commands::{Made, Refusal, Status, end, fetch_history_scene};
 use outside_world::{Shelf, Sink};
 use std::alloc::Global;
 
@@ -18,8 +18,13 @@ fn make_report<S: Shelf>(
 ) -> Result<Made, Refusal>
     ensures { Makes (Replay net.now arr.now hist.now) (S.state shelf.old) (S.state shelf.new) result }
 {
-    let HistoryScene { scene, history } = fetch_history_scene(alloc, shelf, net, arr, hist)?;
-    let text = report(alloc, &scene.network, &scene.arrivals, &history)?;
+    let read = fetch_history_scene(alloc, shelf, net, arr, hist)?;
+    let text = report(
+        alloc,
+        &read.scene.network,
+        &read.scene.arrivals,
+        &read.history,
+    )?;
     Ok(Made::Done(text))
 }
 

@@ -4,30 +4,30 @@ use Rattle.network_jobs.specs.Args.{call_with}
 use Rattle.network_jobs.proofs.Missed.{missed, none_missed}
 use Rattle.network_jobs.proofs.instance.make_instance.Goals as goal
 
-pub returns-in_err-scene : goal.returns-in_err-scene
-returns-in_err-scene g c = failed (call_with c.args.args.now) _ _ c.from_residual.result _ c.in_err-scene.ensures.refused c.from_residual.ensures.1
+pub returns-in_err-read : goal.returns-in_err-read
+returns-in_err-read g c = failed (call_with c.args.args.now) _ _ c.from_residual.result _ c.in_err-read.ensures.refused c.from_residual.ensures.1
 
 pub returns-in_err-text : goal.returns-in_err-text
 returns-in_err-text g c =
     let args = c.args.args.now in
-    let made = c.in_ok-scene in
+    let made = c.in_ok-read in
     let texts = made.ensures.texts in
     handed_on (call_with args) _ _ c.from_residual-in_err-text.result _
-    (missed args.net.now args.arr.now args.hist.now args.node.now args.round made.scene.network (entering made.scene.arrivals) made.history _ _ _ made.ensures.ok
+    (missed args.net.now args.arr.now args.hist.now args.node.now args.round made.read.scene.network (entering made.read.scene.arrivals) made.read.history _ _ _ made.ensures.ok
     texts.0 texts.1.0 texts.1.1.0 c.in_err-text.ensures.refused) c.from_residual-in_err-text.ensures.1
 
 pub returns : goal.returns
 returns g c =
     let args = c.args.args.now in
-    let made = c.in_ok-scene in
+    let made = c.in_ok-read in
     let text = c.in_ok-text in (
       made.ensures.ok,
       (
-        (made.scene.network, (entering made.scene.arrivals, (made.history, tt))),
+        (made.read.scene.network, (entering made.read.scene.arrivals, (made.read.history, tt))),
         made.ensures.texts,
         (
           (text.ensures.planned, λ against. against),
-          none_missed args.net.now args.arr.now args.hist.now args.node.now args.round made.scene.network (entering made.scene.arrivals) made.history text.ensures.exists.0 text.ensures.exists.1,
+          none_missed args.net.now args.arr.now args.hist.now args.node.now args.round made.read.scene.network (entering made.read.scene.arrivals) made.read.history text.ensures.exists.0 text.ensures.exists.1,
         ),
       ),
     )

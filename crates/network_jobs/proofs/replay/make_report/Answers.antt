@@ -3,10 +3,10 @@ use Rattle.commands.specs.Commands.{Replay}
 use Rattle.commands.proofs.Outcomes.{failed}
 use Rattle.network_jobs.proofs.replay.make_report.Goals as goal
 
-pub returns-in_err-scene : goal.returns-in_err-scene
-returns-in_err-scene g c = failed (Replay c.args.net.now c.args.arr.now c.args.hist.now) _ _ c.from_residual.result _ c.in_err-scene.ensures.refused c.from_residual.ensures.1
+pub returns-in_err-read : goal.returns-in_err-read
+returns-in_err-read g c = failed (Replay c.args.net.now c.args.arr.now c.args.hist.now) _ _ c.from_residual.result _ c.in_err-read.ensures.refused c.from_residual.ensures.1
 
 pub returns : goal.returns
 returns g c =
-    let made = c.in_ok-scene in
-    (made.ensures.ok, ((made.scene.network, (entering made.scene.arrivals, (made.history, tt))), made.ensures.texts, ((c.in_ok-text.ensures, λ against. against), λ what missing. missing)))
+    let made = c.in_ok-read in
+    (made.ensures.ok, ((made.read.scene.network, (entering made.read.scene.arrivals, (made.read.history, tt))), made.ensures.texts, ((c.in_ok-text.ensures, λ against. against), λ what missing. missing)))

@@ -8,13 +8,13 @@ use Rattle.network_jobs.proofs.rounds.open_boards.Goals as goal
 
 pub returns-clause-nodes : goal.returns-clause-nodes
 returns-clause-nodes c =
-    ap length c.in_ok-boards.ensures.passes ∙ length-map-range_with_len (fresh_pass c.in_ok-boards.boards.id c.calls_for_pass.result) 0 c.nodes.result ∙ c.nodes.ensures.value
+    ap length c.in_ok-boards.ensures.passes ∙ length-map-range_with_len (fresh_pass c.in_ok-boards.boards.id c.calls_for_pass-calls.result) 0 c.nodes.result ∙ c.nodes.ensures.value
 
 pub returns-clause-fresh : goal.returns-clause-fresh
 returns-clause-fresh c =
-    subst (All (λ (p : PassView). p.calls ≡ [])) (sym c.in_ok-boards.ensures.passes) (fresh-none c.in_ok-boards.boards.id c.calls_for_pass.result c.nodes.result)
+    subst (All (λ (p : PassView). p.calls ≡ [])) (sym c.in_ok-boards.ensures.passes) (fresh-none c.in_ok-boards.boards.id c.calls_for_pass-calls.result c.nodes.result)
 
 pub returns-clause-left : goal.returns-clause-left
 returns-clause-left c =
-    let passes = c.in_ok-boards.ensures.passes ∙ ap (fresh_passes c.in_ok-boards.boards.id c.calls_for_pass.result 0) c.nodes.ensures.value in
-    subst (HaveCallsLeft c.args.net.now) (sym passes) (fresh-left c.args.net.now c.in_ok-boards.boards.id c.calls_for_pass.result c.calls_for_pass.ensures.enough)
+    let passes = c.in_ok-boards.ensures.passes ∙ ap (fresh_passes c.in_ok-boards.boards.id c.calls_for_pass-calls.result 0) c.nodes.ensures.value in
+    subst (HaveCallsLeft c.args.net.now) (sym passes) (fresh-left c.args.net.now c.in_ok-boards.boards.id c.calls_for_pass-calls.result c.calls_for_pass-calls.ensures.enough)

@@ -1,0 +1,19 @@
+use Rattle.std.proofs.Common.{◌≡◌, ◌++◌, ◌∙◌, List, length, take, drop, sym, subst}
+use Rattle.board_rule.specs.Passes.{PassView, calls_in}
+use Rattle.node_rounds.specs.Calls.{IsRunOfCalls, MergeToLawful}
+use Rattle.node_rounds.proofs.Joining.{put-back}
+use Rattle.network_jobs.proofs.rounds.run_with_passes.Goals as goal
+
+pub returns-clause-lawful : goal.returns-clause-lawful
+returns-clause-lawful g c =
+    let played = c.run_rounds.new.passes in
+    let dealt = c.args.passes in
+    let back : take dealt.len (played ++ drop (length played) dealt.items) ≡ played = put-back dealt.len played dealt.items dealt.ok.0 (c.run_rounds.ensures.passes.count ∙ sym c.requires.all.count) in
+    subst (λ (passes : List PassView). MergeToLawful c.args.net.now (calls_in passes)) (sym back) c.in_ok-run.ensures.lawful
+
+pub returns-clause-run : goal.returns-clause-run
+returns-clause-run g c =
+    let played = c.run_rounds.new.passes in
+    let dealt = c.args.passes in
+    let back : take dealt.len (played ++ drop (length played) dealt.items) ≡ played = put-back dealt.len played dealt.items dealt.ok.0 (c.run_rounds.ensures.passes.count ∙ sym c.requires.all.count) in
+    subst (λ (passes : List PassView). IsRunOfCalls c.args.net.now c.args.arrivals.now (calls_in passes) c.in_ok-run.run') (sym back) c.in_ok-run.ensures.run
