@@ -4,7 +4,7 @@ use board_model::{Gate, OpenGate};
 use command_calls::shelf_with;
 use meeting_gate::MeetingGate;
 use outside_world::MemorySink;
-use signal_cli::{SceneFiles, Status, net_job};
+use signal_cli::{Status, net_job};
 use std::alloc::{AllocError, Global};
 use std::sync::Wait;
 use std::test::Fail;
@@ -21,11 +21,9 @@ fn job<R: Threads + Wait + Sync, G: Gate + Sync>(
     let mut shelf = shelf_with(alloc, files, &[])?;
     let mut out = MemorySink::new(alloc, 10_000, Vec::new(alloc))?;
     let mut err = MemorySink::new(alloc, 1000, Vec::new(alloc))?;
-    let names = SceneFiles {
-        net: "net",
-        arr: "arr",
-    };
-    let status = net_job(rt, alloc, &names, &mut shelf, &mut out, &mut err, gate);
+    let status = net_job(
+        rt, alloc, "net", "arr", &mut shelf, &mut out, &mut err, gate,
+    );
     Ok(status)
 }
 
