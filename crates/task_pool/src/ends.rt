@@ -1,0 +1,141 @@
+//! What the ends of a slot do.
+ghost use Rattle.std.specs.Prelude.{◌≡◌, ◌≢◌, None, Some, IfNone, IfOk, IfSome};
+ghost use Rattle.task_pool.specs.Places.{IsBack};
+ghost use Rattle.task_pool.specs.Known.{IsOwnerOf, IsWorkerOf, laid_of, taken_of};
+
+use crate::rule::{Begin, Close, Lay, PutBack, SeatWorker, TakeBack, TakeTask};
+use crate::slot::{Slot, SlotOwner, SlotWorker};
+use crate::task::Task;
+use atomic_table::Table;
+use std::alloc::{AllocError, Global};
+use std::hint::spin_loop;
+use std::sync::Wait;
+use std::thread::yield_now;
+
+/// The number of looks after which a thread that waits lets others run.
+const LOOKS: u64 = 1000;
+
+/// Waits a moment, after this number of looks. Answers the number that the next wait is passed.
+pub(crate) fn pause(looks: u64) -> u64 {
+    if looks < LOOKS {
+        spin_loop();
+        return looks + 1;
+    }
+    yield_now();
+    looks
+}
+
+impl<T: Task + Drop> Slot<T> {
+    /// A new slot, with nothing in it. `Err`: out of memory.
+    pub fn new(alloc: Global) -> Result<(Slot<T>, SlotOwner<T>), AllocError>
+        ensures { IfOk result (λ r. IsOwnerOf r.0 r.1 × (laid_of r.1 ≡ None)) }
+    {
+        let (table, mut seat) = Table::vacant(alloc, &[0], 1, &())?;
+        table.shared.store::<Begin>(&mut seat, 0, 0);
+        Ok((Slot { table }, SlotOwner { seat, byte: 0 }))
+    }
+
+    /// One more end for a worker.
+    pub fn worker(&self, owner: &mut SlotOwner<T>) -> SlotWorker<T>
+        requires { IsOwnerOf self.now owner.old }
+        ensures owner { IsOwnerOf self.now owner.new × (laid_of owner.new ≡ laid_of owner.old) }
+        ensures worker { IsWorkerOf self.now result × (taken_of result ≡ None) }
+    {
+        let seat = self.table.shared.split_seat::<SeatWorker>(&mut owner.seat);
+        SlotWorker { seat, byte: 0 }
+    }
+
+    /// Lays a task in the slot.
+    pub fn lay(&self, owner: &mut SlotOwner<T>, task: T)
+        requires slot { IsOwnerOf self.now owner.old }
+        requires free { laid_of owner.old ≡ None }
+        requires ready { T.ready task }
+        ensures { IsOwnerOf self.now owner.new × (laid_of owner.new ≡ Some task) }
+    {
+        let shared = &self.table.shared;
+        let None = shared.exchange(&mut owner.seat, 0, Some(task)) else {
+            unreachable!();
+        };
+        shared.store::<Lay>(&mut owner.seat, 0, 1);
+    }
+
+    /// Takes the task back, if it is done.
+    pub fn try_take_back(&self, owner: &mut SlotOwner<T>) -> Option<T>
+        requires slot { IsOwnerOf self.now owner.old }
+        requires laid { laid_of owner.old ≢ None }
+        ensures slot { IsOwnerOf self.now owner.new }
+        ensures back { IfSome result (λ task. IsBack T.done (laid_of owner.old) task × (laid_of owner.new ≡ None)) }
+        ensures waits { IfNone result (laid_of owner.new ≡ laid_of owner.old) }
+    {
+        let shared = &self.table.shared;
+        if shared.peek(0) != 3 {
+            return None;
+        }
+        if shared.compare_exchange::<TakeBack<T>>(&mut owner.seat, 0, 3, 0) != 3 {
+            return None;
+        }
+        shared.exchange(&mut owner.seat, 0, None)
+    }
+
+    /// Waits until the task is done, and takes it back.
+    pub fn take_back<R: Wait>(&self, rt: &R, owner: &mut SlotOwner<T>) -> T
+        requires slot { IsOwnerOf self.now owner.old }
+        requires laid { laid_of owner.old ≢ None }
+        ensures slot { IsOwnerOf self.now owner.new × (laid_of owner.new ≡ None) }
+        ensures done { IsBack T.done (laid_of owner.old) result }
+    {
+        let mut looks = 0;
+        for _ in rt.forever() {
+            if let Some(task) = self.try_take_back(owner) {
+                return task;
+            }
+            looks = pause(looks);
+        }
+        unreachable!()
+    }
+
+    /// Closes the slot: no end finds a task there any more.
+    pub fn close(&self, owner: &mut SlotOwner<T>)
+        requires slot { IsOwnerOf self.now owner.old }
+        requires free { laid_of owner.old ≡ None }
+        ensures { IsOwnerOf self.now owner.new × (laid_of owner.new ≡ None) }
+    {
+        self.table.shared.store::<Close>(&mut owner.seat, 0, 4);
+    }
+
+    /// The slot was closed.
+    pub fn is_closed(&self) -> bool {
+        self.table.shared.peek(0) == 4
+    }
+
+    /// Takes the task that lies in the slot, if one does.
+    pub fn try_take(&self, worker: &mut SlotWorker<T>) -> Option<T>
+        requires slot { IsWorkerOf self.now worker.old }
+        requires free { taken_of worker.old ≡ None }
+        ensures slot { IsWorkerOf self.now worker.new }
+        ensures taken { IfSome result (λ task. T.ready task × (taken_of worker.new ≡ Some task)) }
+        ensures nothing { IfNone result (taken_of worker.new ≡ None) }
+    {
+        let shared = &self.table.shared;
+        if shared.peek(0) != 1 {
+            return None;
+        }
+        if shared.compare_exchange::<TakeTask<T>>(&mut worker.seat, 0, 1, 2) != 1 {
+            return None;
+        }
+        shared.exchange(&mut worker.seat, 0, None)
+    }
+
+    /// Puts back what became of the task.
+    pub fn put_back(&self, worker: &mut SlotWorker<T>, task: T)
+        requires slot { IsWorkerOf self.now worker.old }
+        requires done { IsBack T.done (taken_of worker.old) task }
+        ensures { IsWorkerOf self.now worker.new × (taken_of worker.new ≡ None) }
+    {
+        let shared = &self.table.shared;
+        let None = shared.exchange(&mut worker.seat, 0, Some(task)) else {
+            unreachable!();
+        };
+        shared.store::<PutBack>(&mut worker.seat, 0, 3);
+    }
+}
