@@ -1,9 +1,11 @@
-//! The rounds of a network in threads: in each round the nodes are cut into parts that play at once, each node with its own pass at
-//! the shared boards; then the passes meet, and the world moves.
+//! The rounds of a network in threads: each node's round is a task of its own, which whichever thread is free does, with the node's own
+//! pass at the shared boards; after each round the passes meet, and the world moves.
 #![tactic(auto)]
 
-mod joined;
+mod all_nodes;
+mod network_runs;
+mod node_tasks;
 mod rounds;
-mod stages;
+mod set_up;
 
-pub use rounds::run_rounds;
+pub use network_runs::run_rounds;

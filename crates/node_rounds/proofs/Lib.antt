@@ -1,11 +1,11 @@
 pub mod Along
 pub mod FreshPasses
 pub mod HearLaws
-pub mod Joining
 pub mod Made
 pub mod Passes
 pub mod PlayLaws
 pub mod Rounding
+pub mod Slices
 pub mod Starting
 pub mod TellLaws
 pub mod ThreadRuns

@@ -24,7 +24,6 @@ use Rattle.net_numbers.specs.Numbers.{Net}
 use Rattle.net_simulator.specs.Worlds.{WorldState}
 use Rattle.road_net.specs.Network.{IsNetwork}
 use Rattle.runs.specs.Promises.{KeepsPromises}
-use Rattle.runs.specs.Promises.{IsKeptRun}
 use Rattle.runs.specs.Runs.{IsRun, IsRunBy}
 use Rattle.runs.specs.declared.records.RunRecord.{RunRecord}
 use Rattle.runs.proofs.PlanLaws.{all-plans}

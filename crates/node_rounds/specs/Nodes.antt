@@ -10,7 +10,7 @@ use Rattle.control_flow.specs.Greens.{end_of}
 use Rattle.control_flow.specs.declared.greens.Green.{Green}
 use Rattle.histories.specs.Steps.{board_steps}
 use Rattle.histories.specs.declared.steps.BoardStep.TheVariants as steps
-use Rattle.intersection_actor.specs.Acting.{Acting, reading, told_at, wanting, with_heard}
+use Rattle.intersection_actor.specs.Acting.{Acting, begun, reading, told_at, wanting, with_heard}
 use Rattle.intersection_actor.specs.Commits.{Commitment, IsCommit, record_of}
 use Rattle.intersection_actor.specs.Rounds.{IsOf}
 use Rattle.intersection_actor.specs.declared.records.Want.TheVariants.{Done}
@@ -52,6 +52,20 @@ pub record HasMade (old new : PassView) (calls : List Call) : Type 0 where
 abbrev pub IsSeen : Net → WorldState → ℕ → Sensed → Type 0
 IsSeen net world node sensed = (arriving : ℕ → ℕ → ℕ) (lines : ℕ → List Green) → Stands net arriving (standing_by lines) world
     → sensed ≡ sense net (past_of net arriving (standing_by lines) world.second) world.second node
+
+-- a node has begun a round: it has sensed the world, and heard nothing yet
+pub record HasBegun (net : Net) (round : ℕ) (world : WorldState) (a b : Acting) : Type 0 where
+  pub sensed : Sensed
+  pub seen : IsSeen net world a.node sensed
+  pub actor : b ≡ begun net round sensed a
+
+-- a node may go on with a round: it has begun it, from an actor that might
+pub record CanGoOn (net : Net) (round : ℕ) (boards : BoardsView) (b : Acting) (p : PassView) : Type 0 where
+  pub world : WorldState
+  pub rested : Acting
+  pub can : CanPlay net round world boards rested p
+  pub begins : HasBegun net round world rested b
+  pub of : IsOf net b
 
 -- a reading of a link: the call was added to the pass, and the actor took what it tells
 pub record HasRead (link : ℕ) (a b : Acting) (p q : PassView) : Type 0 where
@@ -124,3 +138,7 @@ pub record IsRoundOf (net : Net) (round : ℕ) (world : WorldState) (a b : Actin
 -- a node has played a round
 abbrev pub HasPlayed : Net → ℕ → WorldState → Acting → Acting → PassView → PassView → Type 0
 HasPlayed net round world a b p q = (did : NodeRound) × IsRoundOf net round world a b p q did
+
+-- a node that had begun a round has played it: under whatever world, and from whatever actor, it had begun it
+abbrev pub HasPlayedOn : Net → ℕ → BoardsView → Acting → Acting → PassView → PassView → Type 0
+HasPlayedOn net round boards b c p q = (world : WorldState) (a : Acting) → CanPlay net round world boards a p → HasBegun net round world a b → HasPlayed net round world a c p q

@@ -7,35 +7,34 @@ ghost use Rattle.net_numbers.specs.Numbers.{Net};
 ghost use Rattle.road_net.specs.Network.{heard_links};
 ghost use Rattle.node_rounds.specs.Nodes.{HasHeard, HasRead, IsSamePass};
 
+use crate::round_setting::RoundSetting;
 use board_model::{Gate, Heard};
 use intersection_actor::{Actor, Want};
-use plan_boards::{Boards, Pass};
-use road_net::Network;
-use std::alloc::{AllocError, Global};
+use plan_boards::Pass;
+use std::alloc::AllocError;
 use std::sync::Wait;
 use std::thread::Threads;
 
 /// The node reads the link that it wants to read.
-fn read<R: Threads + Wait + Sync, G: Gate>(
+fn read<'a, R: Threads + Wait + Sync, G: Gate>(
     rt: &R,
-    alloc: Global,
-    boards: &Boards,
-    round: u32,
+    setting: &RoundSetting<'a, G>,
     link: u32,
-    gate: &G,
     actor: &mut Actor,
     pass: &mut Pass,
 ) -> Result<(), AllocError>
-    requires boards { pass.old.boards ≡ boards.now.id }
-    requires link { link < boards.now.links }
+    requires boards { pass.old.boards ≡ setting.now.boards.now.id }
+    requires link { link < setting.now.boards.now.links }
     requires left { 0 < pass.old.left }
     requires want { actor.old.want ≡ Want.Read link }
     ensures read { OnOk result (HasRead link actor.old actor.new pass.old pass.new) }
     ensures of { (net : Net) → IsOf net actor.old → IsOf net actor.new }
     ensures same { IsSamePass pass.old pass.new }
 {
-    gate.before(rt, pass.number(), round, link, false);
-    let seen = boards.read(rt, alloc, pass, link, gate)?;
+    let boards = setting.boards;
+    let gate = setting.gate;
+    gate.before(rt, pass.number(), setting.round, link, false);
+    let seen = boards.read(rt, setting.alloc, pass, link, gate)?;
     actor.take(Heard {
         link,
         version: seen.version,
@@ -44,30 +43,27 @@ fn read<R: Threads + Wait + Sync, G: Gate>(
 }
 
 /// The node reads all links on which it hears another one.
-pub(crate) fn hear<R: Threads + Wait + Sync, G: Gate>(
+pub(crate) fn hear<'a, R: Threads + Wait + Sync, G: Gate>(
     rt: &R,
-    alloc: Global,
-    net: &Network,
-    boards: &Boards,
-    round: u32,
-    gate: &G,
+    setting: &RoundSetting<'a, G>,
     actor: &mut Actor,
     pass: &mut Pass,
 ) -> Result<(), AllocError>
-    requires links { boards.now.links ≡ length net.now.link_names }
-    requires boards { pass.old.boards ≡ boards.now.id }
-    requires left { length (board_steps net.now actor.old.node) ≤ pass.old.left }
-    requires of { IsOf net.now actor.old }
-    requires begun { (actor.old.left ≡ heard_links net.now actor.old.node) × (actor.old.want ≡ reading actor.old.left) }
+    requires links { setting.now.boards.now.links ≡ length setting.now.net.now.link_names }
+    requires boards { pass.old.boards ≡ setting.now.boards.now.id }
+    requires left { length (board_steps setting.now.net.now actor.old.node) ≤ pass.old.left }
+    requires of { IsOf setting.now.net.now actor.old }
+    requires begun { (actor.old.left ≡ heard_links setting.now.net.now actor.old.node)
+        × (actor.old.want ≡ reading actor.old.left) }
     ensures heard { OnOk result (HasHeard actor.old actor.new pass.old pass.new) }
     ensures all { OnOk result (actor.new.left ≡ []) }
-    ensures of { IsOf net.now actor.new }
+    ensures of { IsOf setting.now.net.now actor.new }
     ensures same { IsSamePass pass.old pass.new }
 {
-    // What it says of the network is wanted here, and not the count.
-    let _ = net.nodes();
+    // `nodes` is called for its clause `network`.
+    let _ = setting.net.nodes();
     while let Want::Read(link) = actor.want() {
-        read(rt, alloc, boards, round, link, gate, actor, pass)?;
+        read(rt, setting, link, actor, pass)?;
     }
     Ok(())
 }

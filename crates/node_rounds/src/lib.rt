@@ -5,9 +5,9 @@
 mod hearing;
 mod laws;
 mod playing;
+mod round_setting;
 mod telling;
-mod turns;
 
 pub use laws::law_of_round_calls;
-pub use playing::play;
-pub use turns::play_in_turn;
+pub use playing::{begin, play};
+pub use round_setting::RoundSetting;

@@ -50,8 +50,10 @@ impl Boards {
         self.table.shared.join_seat::<HearCourier>(seat, other);
     }
 
-    // Hears what a pass knows.
-    fn collect(&self, meeting: &mut Meeting, pass: &mut Pass)
+    /// The meeting hears what a pass knows, which stays as it is.
+    ///
+    /// docs/DESIGN.md, "Shared boards".
+    pub fn collect(&self, meeting: &mut Meeting, pass: &mut Pass)
         requires boards { (meeting.old.boards ≡ self.now.id) × (pass.old.boards ≡ self.now.id) }
         ensures pass { pass.new ≡ pass.old }
         ensures boards { meeting.new.boards ≡ meeting.old.boards }
@@ -61,8 +63,10 @@ impl Boards {
         self.hear(&mut meeting.seat, courier);
     }
 
-    // Tells a pass what is known.
-    fn inform(&self, meeting: &mut Meeting, pass: &mut Pass)
+    /// A pass hears what the meeting knows. It keeps its number, its calls and its calls left.
+    ///
+    /// docs/DESIGN.md, "Shared boards".
+    pub fn inform(&self, meeting: &mut Meeting, pass: &mut Pass)
         requires boards { (meeting.old.boards ≡ self.now.id) × (pass.old.boards ≡ self.now.id) }
         ensures pass { pass.new ≡ raised meeting.old.known pass.old }
         ensures meeting { meeting.new ≡ meeting.old }
@@ -71,8 +75,8 @@ impl Boards {
         self.hear(&mut pass.seat, courier);
     }
 
-    /// Begins a meeting with what a pass knows. A caller that holds its passes in several slices lets the meeting hear each
-    /// slice, and then tells each.
+    /// Begins a meeting with what a pass knows. A caller whose passes are in places of their own lets the meeting hear each pass, and
+    /// then each pass hears the meeting.
     ///
     /// docs/DESIGN.md, "Shared boards".
     pub fn begin_meeting(&self, pass: &mut Pass) -> Meeting
@@ -84,24 +88,21 @@ impl Boards {
         Meeting { seat }
     }
 
-    /// Hears what passes know. They stay as they were.
-    ///
-    /// docs/DESIGN.md, "Shared boards".
-    pub fn hear_all(&self, meeting: &mut Meeting, passes: &mut [Pass])
+    // The meeting hears what passes know.
+    fn hear_all(&self, meeting: &mut Meeting, passes: &mut [Pass])
         requires meeting { meeting.old.boards ≡ self.now.id }
         requires boards { All (λ p. p.boards ≡ self.now.id) passes.old }
         ensures passes { passes.new ≡ passes.old }
-        ensures meeting { (meeting.new.boards ≡ self.now.id) × (meeting.new.known ≡ max meeting.old.known (highest passes.old)) }
+        ensures boards { meeting.new.boards ≡ self.now.id }
+        ensures known { meeting.new.known ≡ max meeting.old.known (highest passes.old) }
     {
         for i in 0..passes.len() {
             self.collect(meeting, &mut passes[i]);
         }
     }
 
-    /// Tells passes what all that met know. Each keeps its number, its calls and its calls left.
-    ///
-    /// docs/DESIGN.md, "Shared boards".
-    pub fn tell_all(&self, meeting: &mut Meeting, passes: &mut [Pass])
+    // Passes hear what the meeting knows.
+    fn tell_all(&self, meeting: &mut Meeting, passes: &mut [Pass])
         requires meeting { meeting.old.boards ≡ self.now.id }
         requires boards { All (λ p. p.boards ≡ self.now.id) passes.old }
         ensures passes { passes.new ≡ map (raised meeting.old.known) passes.old }

@@ -6,7 +6,7 @@ use Rattle.node_rounds.proofs.hearing.hear.Given as goal
 abbrev pub invariant-loop-link : goal.invariant-loop-link
 invariant-loop-link g l = record {
   heard : HasHeard l.fn.actor l.actor l.fn.pass l.pass;
-  of : IsOf l.net l.actor;
+  of : IsOf l.setting.net.now l.actor;
   same : IsSamePass l.fn.pass l.pass;
 }
 

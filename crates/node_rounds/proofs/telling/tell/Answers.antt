@@ -5,7 +5,7 @@ use Rattle.node_rounds.proofs.telling.tell.Goals as goal
 
 pub publish-requires-clause-want : goal.publish-requires-clause-want
 publish-requires-clause-want g c κs within =
-    let net = c.args.net.now in
+    let net = c.args.setting.now.net.now in
     let exits = c.exit_links-link-items.result.now in
     let k = c.loop-link.link-index in
     let goes_there = goes-by net _ c.link.result c.is_none.result c.link.ensures.value c.is_none.ensures c.if-is_none.false in
@@ -14,7 +14,7 @@ publish-requires-clause-want g c κs within =
 
 pub publish-requires-clause-left : goal.publish-requires-clause-left
 publish-requires-clause-left g c κs within =
-    let net = c.args.net.now in
+    let net = c.args.setting.now.net.now in
     let exits = c.exit_links-link-items.result.now in
     let k = c.loop-link.link-index in
     let goes_there = goes-by net _ c.link.result c.is_none.result c.link.ensures.value c.is_none.ensures c.if-is_none.false in
@@ -23,7 +23,7 @@ publish-requires-clause-left g c κs within =
 
 pub loop-link-preserved : goal.loop-link-preserved
 loop-link-preserved g c =
-    let net = c.args.net.now in
+    let net = c.args.setting.now.net.now in
     let exits = c.exit_links-link-items.result.now in
     let k = c.loop-link.link-index in
     let i = c.loop-link.invariant in

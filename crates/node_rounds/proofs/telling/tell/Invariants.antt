@@ -5,7 +5,7 @@ use Rattle.node_rounds.proofs.telling.tell.Given as goal
 
 abbrev pub invariant-loop-link : goal.invariant-loop-link
 invariant-loop-link g l = record {
-  told : HasTold l.net l.fn.actor l.actor l.fn.pass l.pass (told_among l.net l.link-items l.link-index);
-  of : IsOf l.net l.actor;
+  told : HasTold l.setting.net.now l.fn.actor l.actor l.fn.pass l.pass (told_among l.setting.net.now l.link-items l.link-index);
+  of : IsOf l.setting.net.now l.actor;
   same : IsSamePass l.fn.pass l.pass;
 }

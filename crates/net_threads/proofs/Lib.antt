@@ -1,0 +1,3 @@
+pub mod TaskLists
+pub mod Rounding
+pub mod Trades

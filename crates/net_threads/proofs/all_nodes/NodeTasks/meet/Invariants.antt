@@ -1,0 +1,14 @@
+use Rattle.std.proofs.Common.{◌≡◌}
+use Rattle.board_rule.specs.Passes.{highest, raised}
+use Rattle.board_rule.proofs.Meets.{partly}
+use Rattle.net_threads.specs.Tasks.{actors_in, passes_in, settings_in}
+use Rattle.net_threads.proofs.all_nodes.NodeTasks.meet.Given as goal
+
+abbrev pub invariant-loop-k : goal.invariant-loop-k
+invariant-loop-k g l = record {
+  actors : actors_in l.self.all.items ≡ actors_in l.fn.self.all.items;
+  passes : passes_in l.self.all.items ≡ partly (raised (highest (passes_in l.fn.self.all.items))) (passes_in l.fn.self.all.items) l.k;
+  settings : settings_in l.self.all.items ≡ settings_in l.fn.self.all.items;
+  boards : l.meeting.boards ≡ l.boards.id;
+  known : l.meeting.known ≡ highest (passes_in l.fn.self.all.items);
+}

@@ -1,0 +1,68 @@
+use Rattle.std.proofs.Common.{◌≡◌, ◌+◌, List, All, length, refl, sym, ap, subst, ◌∙◌}
+use Rattle.board_rule.specs.Passes.{BoardsView, PassView, highest}
+use Rattle.intersection_actor.specs.Acting.{Acting}
+use Rattle.net_draft.specs.declared.drafts.Run.{Run}
+use Rattle.net_numbers.specs.Numbers.{Net}
+use Rattle.net_simulator.specs.Arriving.{arriving_of}
+use Rattle.net_simulator.specs.Worlds.{Stands, standing_by}
+use Rattle.runs.specs.Resting.{lines_of}
+use Rattle.node_rounds.specs.Rounds.{Between, names}
+use Rattle.node_rounds.proofs.Passes.{all-boards, own-same, raised-names}
+use Rattle.node_rounds.proofs.Rounding.{can-play, over-before, round-over}
+use Rattle.net_threads.specs.Tasks.{actors_in, passes_in}
+use Rattle.net_threads.proofs.Rounding.{all-links, all-played, can-begin}
+use Rattle.net_threads.proofs.rounds.Rounds.play_round.Goals as goal
+
+pub play-requires-clause-can : goal.play-requires-clause-can
+play-requires-clause-can g c κs within =
+    let r = c.args.self.now in
+    let at = c.requires.at in
+    let tasks = r.nodes.all.items in
+    can-begin r.net.now r.boards.now c.args.round (length (actors_in tasks)) r.world tasks at.tasks
+    (can-play r.net.now c.run-step.ensures.network r.arrivals.now c.args.round r.boards.now (passes_in tasks) (actors_in tasks) r.world at.between c.requires.round at.arrivals (length (actors_in tasks)) at.between.all)
+
+pub play-requires-clause-links : goal.play-requires-clause-links
+play-requires-clause-links g c κs within =
+    let r = c.args.self.now in
+    all-links r.net.now r.boards.now r.nodes.all.items c.requires.at.tasks c.requires.at.links
+
+pub meet-requires-clause-boards : goal.meet-requires-clause-boards
+meet-requires-clause-boards g c =
+    let r = c.args.self.now in
+    all-boards r.boards.now (passes_in c.play.new.self.all.items) (own-same r.boards.now (passes_in r.nodes.all.items) (passes_in c.play.new.self.all.items) c.in_ok-play.ensures.same c.requires.at.between.own.own)
+
+pub move_world-requires-clause-stands : goal.move_world-requires-clause-stands
+move_world-requires-clause-stands g c =
+    let r = c.args.self.now in
+    subst (λ (l : List Acting). Stands r.net.now (arriving_of r.arrivals.now) (standing_by (lines_of l)) r.world) (sym c.meet.ensures.actors)
+    (over-before r.net.now c.run-step.ensures.network r.arrivals.now c.args.round r.boards.now (passes_in r.nodes.all.items) (actors_in r.nodes.all.items) r.world c.requires.at.between c.requires.round
+    (actors_in c.play.new.self.all.items) (passes_in c.play.new.self.all.items) (all-played r.net.now r.boards.now c.args.round r.world r.nodes.all.items c.play.new.self.all.items c.requires.at.tasks c.in_ok-play.ensures.played))
+
+pub returns-clause-same : goal.returns-clause-same
+returns-clause-same g c = record {
+  net = refl;
+  arrivals = refl;
+  boards = refl;
+  passes = ap names c.meet.ensures.met ∙ raised-names (highest (passes_in c.play.new.self.all.items)) (passes_in c.play.new.self.all.items) ∙ c.in_ok-play.ensures.same;
+}
+
+pub returns-clause-at : goal.returns-clause-at
+returns-clause-at g c =
+    let r = c.args.self.now in
+    let at = c.requires.at in
+    let old = r.nodes.all.items in
+    let new = c.play.new.self.all.items in
+    let met = c.meet.new.self.all.items in
+    let net = r.net.now in
+    let world = c.move_world.new.world in
+    let played = all-played net r.boards.now c.args.round r.world old new at.tasks c.in_ok-play.ensures.played in
+    let stands : Stands net (arriving_of r.arrivals.now) (standing_by (lines_of (actors_in new))) world =
+    subst (λ (l : List Acting). Stands net (arriving_of r.arrivals.now) (standing_by (lines_of l)) world) c.meet.ensures.actors c.move_world.ensures.stands in
+    let over = round-over net c.run-step.ensures.network r.arrivals.now c.args.round r.boards.now (passes_in old) (actors_in old) r.world at.between c.requires.round (actors_in new) (passes_in new) played
+    c.in_ok-play.ensures.same world (c.move_world.ensures.second ∙ ap (λ (x : Run). r.world.second + x.step) c.run-step.ensures.value) stands in
+    record {
+      arrivals = at.arrivals;
+      links = at.links;
+      tasks = subst (λ (l : List (Net × BoardsView)). All (λ (s : Net × BoardsView). (s.0 ≡ net) × (s.1 ≡ r.boards.now)) l) (sym (c.meet.ensures.settings ∙ c.in_ok-play.ensures.settings)) at.tasks;
+      between = subst (λ (z : List PassView × List Acting). Between net r.arrivals.now r.boards.now (c.args.round + 1) z.0 z.1 world) (λ i. (sym c.meet.ensures.met i, sym c.meet.ensures.actors i)) over;
+    }

@@ -1,0 +1,137 @@
+//! A node's round as a task.
+ghost use Rattle.std.specs.Prelude.{◌≡◌, max, OnOk, length};
+ghost use Rattle.board_rule.specs.Passes.{raised};
+ghost use Rattle.node_rounds.specs.Nodes.{CanGoOn, HasPlayedOn, IsSamePass};
+ghost use Rattle.net_threads.specs.Tasks.{CanBeginTask, HasBegunTask, IsSameTask, actor_of, pass_of};
+
+use board_model::Gate;
+use intersection_actor::Actor;
+use net_simulator::World;
+use node_rounds::{RoundSetting, begin, play};
+use plan_boards::{Boards, Meeting, Pass};
+use schedule_meaning::Planner;
+use std::alloc::AllocError;
+use std::mem::swap;
+use std::sync::Wait;
+use std::thread::Threads;
+use task_pool::Task;
+
+/// A node, with what it plays by.
+#[derive(Drop)]
+pub struct Node<P> {
+    pub(crate) actor: Actor,
+    pub(crate) planner: P,
+    pub(crate) pass: Pass,
+}
+
+/// A node's round, as a task: it has begun, and the node plays on where the task is done.
+#[derive(Drop)]
+pub struct NodeTask<'a, P, G> {
+    pub(crate) setting: RoundSetting<'a, G>,
+    pub(crate) node: Box<Node<P>>,
+    /// How it ended: `Err` where memory ran out.
+    pub(crate) ended: Result<(), AllocError>,
+}
+
+impl<'a, P: Planner + Drop, G: Gate> Task for NodeTask<'a, P, G> {
+    ghost use Rattle.net_threads.specs.Tasks.{CanPlayTask, HasPlayedTask};
+
+    ghost ready = { CanPlayTask };
+
+    ghost done = { HasPlayedTask };
+
+    fn run<R: Threads + Wait + Sync>(self, rt: &R) -> Self {
+        let NodeTask {
+            setting,
+            mut node,
+            ended: _,
+        } = self;
+        let ended = go_on(rt, &setting, &mut *node);
+        NodeTask {
+            setting,
+            node,
+            ended,
+        }
+    }
+}
+
+/// The node goes on with the round that it has begun.
+///
+/// `Err`: out of memory.
+fn go_on<'a, P: Planner, R: Threads + Wait + Sync, G: Gate>(
+    rt: &R,
+    setting: &RoundSetting<'a, G>,
+    node: &mut Node<P>,
+) -> Result<(), AllocError>
+    requires links { setting.now.boards.now.links ≡ length setting.now.net.now.link_names }
+    requires can { CanGoOn setting.now.net.now setting.now.round setting.now.boards.now node.old.actor node.old.pass }
+    ensures played { OnOk result (HasPlayedOn setting.now.net.now setting.now.round setting.now.boards.now
+        node.old.actor node.new.actor node.old.pass node.new.pass) }
+    ensures same { IsSamePass node.old.pass node.new.pass }
+{
+    play(
+        rt,
+        setting,
+        &mut node.actor,
+        &mut node.planner,
+        &mut node.pass,
+    )
+}
+
+impl<'a, P: Planner + Drop, G: Gate> NodeTask<'a, P, G> {
+    /// The node begins a round: it senses the world.
+    ///
+    /// `Err`: out of memory.
+    pub(crate) fn begin(&mut self, world: &World, round: u32) -> Result<(), AllocError>
+        requires can { CanBeginTask round world.now self.old }
+        ensures same { IsSameTask self.old self.new }
+        ensures begun { OnOk result (HasBegunTask round world.now self.old self.new) }
+    {
+        self.setting.round = round;
+        let node = &mut *self.node;
+        begin(&self.setting, world, &mut node.actor, &node.pass)
+    }
+
+    /// A meeting that knows what the node's pass knows.
+    pub(crate) fn open_meeting(&mut self, boards: &Boards) -> Meeting
+        requires boards { (pass_of self.old).boards ≡ boards.now.id }
+        ensures actor { actor_of self.new ≡ actor_of self.old }
+        ensures pass { pass_of self.new ≡ pass_of self.old }
+        ensures setting { self.new.setting ≡ self.old.setting }
+        ensures meeting { (result.boards ≡ boards.now.id) × (result.known ≡ (pass_of self.old).known) }
+    {
+        boards.begin_meeting(&mut self.node.pass)
+    }
+
+    /// The node's pass tells a meeting what it knows.
+    pub(crate) fn tell(&mut self, boards: &Boards, meeting: &mut Meeting)
+        requires boards { (meeting.old.boards ≡ boards.now.id) × ((pass_of self.old).boards ≡ boards.now.id) }
+        ensures actor { actor_of self.new ≡ actor_of self.old }
+        ensures pass { pass_of self.new ≡ pass_of self.old }
+        ensures setting { self.new.setting ≡ self.old.setting }
+        ensures boards { meeting.new.boards ≡ meeting.old.boards }
+        ensures known { meeting.new.known ≡ max meeting.old.known (pass_of self.old).known }
+    {
+        boards.collect(meeting, &mut self.node.pass);
+    }
+
+    /// The node's pass hears what a meeting knows.
+    pub(crate) fn hear(&mut self, boards: &Boards, meeting: &mut Meeting)
+        requires boards { (meeting.old.boards ≡ boards.now.id) × ((pass_of self.old).boards ≡ boards.now.id) }
+        ensures actor { actor_of self.new ≡ actor_of self.old }
+        ensures pass { pass_of self.new ≡ raised meeting.old.known (pass_of self.old) }
+        ensures setting { self.new.setting ≡ self.old.setting }
+        ensures meeting { meeting.new ≡ meeting.old }
+    {
+        boards.inform(meeting, &mut self.node.pass);
+    }
+
+    /// The node takes this pass for its own, which takes its place.
+    pub(crate) fn trade(&mut self, pass: &mut Pass)
+        ensures actor { actor_of self.new ≡ actor_of self.old }
+        ensures pass { (pass_of self.new ≡ pass.old) × (pass.new ≡ pass_of self.old) }
+        ensures setting { self.new.setting ≡ self.old.setting }
+    {
+        swap(&mut self.node.pass, pass);
+    }
+}
