@@ -3,26 +3,28 @@
 
 use board_model::Gate;
 use foundation::threads::CrossesThreads;
+use std::hint::spin_loop;
 use std::sync::Wait;
 use std::sync::atomic::{AtomicU64, Ordering};
 use std::thread;
 use std::thread::Threads;
 
-// How often a node that reads looks out for the other one before it goes on: so many times so many looks.
-const TURNS: u32 = 200_000;
+/// How often a node that reads looks out for the other one and yields, before it goes on without it: a count of times, in each of
+/// which it looks this often.
+const TURNS: u32 = 2_000;
 
 const LOOKS: u32 = 1_000;
 
-/// A gate for two nodes, each of which reads the link that the other one publishes, and no other. Inside its reading each looks out for
-/// the other node inside its own in the same round, while both hold a turn.
+/// A gate for two nodes, each with the link that it reads. Inside its reading of that link each looks out for the other node inside
+/// its own in the same round, while both hold a turn. Where the other one does not come in some time, it goes on: a miss.
+///
+/// Each of the two reads one link in a round, once and before it publishes.
 #[derive(Drop)]
 pub struct MeetingGate {
-    first: (u32, u32),
-    second: (u32, u32),
-    by_first: AtomicU64,
-    by_second: AtomicU64,
+    first: Reader,
+    second: Reader,
     missed: AtomicU64,
-    told: AtomicU64,
+    announced: AtomicU64,
 }
 
 impl CrossesThreads for MeetingGate {}
@@ -31,19 +33,22 @@ impl MeetingGate {
     /// The gate for two nodes, each with the link that it reads.
     pub fn new(first: (u32, u32), second: (u32, u32)) -> Self {
         MeetingGate {
-            first,
-            second,
-            by_first: AtomicU64::new(0),
-            by_second: AtomicU64::new(0),
+            first: Reader::new(first),
+            second: Reader::new(second),
             missed: AtomicU64::new(0),
-            told: AtomicU64::new(0),
+            announced: AtomicU64::new(0),
         }
     }
 
     /// How often the first node was inside its reading, how often the second, how often one looked out in vain, and how many board
-    /// steps of the two were told before they came, each with its node, round and link.
+    /// steps of the two were announced before they came, each with its node, round and link.
     pub fn met(&self) -> [u64; 4] {
-        let counters = [&self.by_first, &self.by_second, &self.missed, &self.told];
+        let counters = [
+            &self.first.readings,
+            &self.second.readings,
+            &self.missed,
+            &self.announced,
+        ];
         counters.map(|counter| counter.load(Ordering::SeqCst))
     }
 }
@@ -57,27 +62,20 @@ impl Gate for MeetingGate {
         link: u32,
         publish: bool,
     ) {
-        let of_first = if publish { self.second.1 } else { self.first.1 };
-        let of_second = if publish { self.first.1 } else { self.second.1 };
-        let is_told = if (node, link) == (self.first.0, of_first) {
-            is_due(&self.by_first, round, publish)
-        } else if (node, link) == (self.second.0, of_second) {
-            is_due(&self.by_second, round, publish)
-        } else {
-            false
-        };
-        if is_told {
-            self.told.fetch_add(1, Ordering::SeqCst);
+        if self.first.expects(node, round, link, publish)
+            || self.second.expects(node, round, link, publish)
+        {
+            self.announced.fetch_add(1, Ordering::SeqCst);
         }
     }
 
     fn inside<R: Threads + Wait + Sync>(&self, _rt: &R, node: u32, link: u32, publish: bool) {
         let is_met = if publish {
             true
-        } else if (node, link) == self.first {
-            meets(&self.by_first, &self.by_second)
-        } else if (node, link) == self.second {
-            meets(&self.by_second, &self.by_first)
+        } else if self.first.reads(node, link) {
+            self.first.meets(&self.second)
+        } else if self.second.reads(node, link) {
+            self.second.meets(&self.first)
         } else {
             true
         };
@@ -87,29 +85,59 @@ impl Gate for MeetingGate {
     }
 }
 
-// Whether the next board step of a node that was inside so many readings is one of this round: a reading, or the publishing behind it.
-fn is_due(readings: &AtomicU64, round: u32, publish: bool) -> bool {
-    readings.load(Ordering::SeqCst) == u64::from(round) + u64::from(publish)
+/// A node, the link that it reads, and how often it was inside a reading of it.
+#[derive(Drop)]
+struct Reader {
+    node: u32,
+    link: u32,
+    readings: AtomicU64,
 }
 
-// Raises a node's own counter, and looks at that of the other node until it is as high. Whether it was.
-fn meets(own: &AtomicU64, other: &AtomicU64) -> bool {
-    let number = own.fetch_add(1, Ordering::SeqCst).wrapping_add(1);
-    for _ in 0..TURNS {
-        if is_reached(other, number) {
-            return true;
+impl Reader {
+    /// The node with its link, before any reading.
+    fn new((node, link): (u32, u32)) -> Self {
+        Reader {
+            node,
+            link,
+            readings: AtomicU64::new(0),
         }
-        thread::yield_now();
     }
-    false
-}
 
-// Whether a counter reaches this number while it is looked at.
-fn is_reached(counter: &AtomicU64, number: u64) -> bool {
-    for _ in 0..LOOKS {
-        if counter.load(Ordering::SeqCst) >= number {
-            return true;
-        }
+    /// Whether this node reads this link.
+    fn reads(&self, node: u32, link: u32) -> bool {
+        node == self.node && link == self.link
     }
-    false
+
+    /// Whether the node's next board step may be this one: its reading of the round, or a publishing after it.
+    fn expects(&self, node: u32, round: u32, link: u32, publish: bool) -> bool {
+        let is_step = if publish {
+            node == self.node && link != self.link
+        } else {
+            self.reads(node, link)
+        };
+        is_step && self.readings.load(Ordering::SeqCst) == u64::from(round) + u64::from(publish)
+    }
+
+    /// Counts a reading, and looks at the other node until it has as many. Whether it had.
+    fn meets(&self, other: &Reader) -> bool {
+        let number = self.readings.fetch_add(1, Ordering::SeqCst).wrapping_add(1);
+        for _ in 0..TURNS {
+            if other.reaches(number) {
+                return true;
+            }
+            thread::yield_now();
+        }
+        false
+    }
+
+    /// Whether the node has this number of readings while it is looked at.
+    fn reaches(&self, number: u64) -> bool {
+        for _ in 0..LOOKS {
+            if self.readings.load(Ordering::SeqCst) >= number {
+                return true;
+            }
+            spin_loop();
+        }
+        false
+    }
 }
