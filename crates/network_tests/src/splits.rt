@@ -12,15 +12,10 @@ const TWO_TURNS: &str = r#"{ exit = "ba", share = 500 }, { exit = "xb", share = 
 const THREE_TURNS: &str =
     r#"{ exit = "xb", share = 333 }, { exit = "yb", share = 333 }, { exit = "ba", share = 334 }"#;
 
-/// The beginning of the last link, and the further link before it.
+/// The name of the last link, and the whole of it before the name of a further one.
 const LAST_LINK: &str = r#"name = "xb""#;
 
-const FURTHER_LINK: &str = "name = \"xb\"
-from = \"b\"
-travel = 10
-sat = 500
-[[link]]
-name = \"yb\"";
+const FURTHER_LINK: &str = r#"name = "xb", from = "b", travel = 10, sat = 500 }, { name = "yb""#;
 
 /// An amount, and the parts of it that turn from each link into each link, of the network with three turns.
 const SEVEN: &[&[u32]] = &[

@@ -1,112 +1,44 @@
-//! The worked network of docs/FORMATS.md for tests: its text, what enters it, a report of its run, and the network itself.
+//! The worked network of docs/FORMATS.md for tests: its text, what enters it, a report of its run, the network itself, and copies of it.
 #![tactic(auto)]
 
+mod copies;
+
+pub use copies::{network_of_copies, vehicles_of_copies};
 use road_net::{NetFault, Network, read_network};
 use std::alloc::{AllocError, Global};
 
 /// Two nodes, a 0 and b 1, for four rounds. The links by number: sa 0 enters at a, ab 1 leads from a to b and ba 2 back, sb 3 enters
-/// at b, and xb 4 leaves it.
-pub const NETWORK: &str = r#"[run]
+/// at b, and xb 4 leaves it. A line that begins with a space is a node, a link or a conflict.
+pub const NETWORK: &str = r#"node = [
+  { name = "a", phase = [
+    { least = 5, greatest = 30, yellow = 3, clear = 2, loss = 2, wait = 120, links = ["ba"] },
+    { least = 5, greatest = 30, yellow = 3, clear = 2, loss = 2, wait = 120, links = ["sa"] },
+  ] },
+  { name = "b", phase = [
+    { least = 5, greatest = 30, yellow = 3, clear = 2, loss = 2, wait = 120, links = ["ab"] },
+    { least = 5, greatest = 30, yellow = 3, clear = 2, loss = 2, wait = 120, links = ["sb"] },
+  ] },
+]
+link = [
+  { name = "sa", to = "a", travel = 10, sat = 500, turn = [{ exit = "ab", share = 1000 }] },
+  { name = "ab", from = "a", to = "b", travel = 10, sat = 500, turn = [{ exit = "ba", share = 500 }, { exit = "xb", share = 500 }] },
+  { name = "ba", from = "b", to = "a", travel = 10, sat = 500, turn = [{ exit = "ab", share = 1000 }] },
+  { name = "sb", to = "b", travel = 10, sat = 500, turn = [{ exit = "xb", share = 1000 }] },
+  { name = "xb", from = "b", travel = 10, sat = 500 },
+]
+conflict = [
+  { a = "ba", b = "sa" },
+  { a = "ab", b = "sb" },
+]
+[run]
 step = 5
 look = 30
 gap = 1
 rounds = 4
-
-[[node]]
-name = "a"
-[[node.phase]]
-least = 5
-greatest = 30
-yellow = 3
-clear = 2
-loss = 2
-wait = 120
-links = ["ba"]
-[[node.phase]]
-least = 5
-greatest = 30
-yellow = 3
-clear = 2
-loss = 2
-wait = 120
-links = ["sa"]
-
-[[node]]
-name = "b"
-[[node.phase]]
-least = 5
-greatest = 30
-yellow = 3
-clear = 2
-loss = 2
-wait = 120
-links = ["ab"]
-[[node.phase]]
-least = 5
-greatest = 30
-yellow = 3
-clear = 2
-loss = 2
-wait = 120
-links = ["sb"]
-
-[[link]]
-name = "sa"
-to = "a"
-travel = 10
-sat = 500
-turn = [{ exit = "ab", share = 1000 }]
-
-[[link]]
-name = "ab"
-from = "a"
-to = "b"
-travel = 10
-sat = 500
-turn = [{ exit = "ba", share = 500 }, { exit = "xb", share = 500 }]
-
-[[link]]
-name = "ba"
-from = "b"
-to = "a"
-travel = 10
-sat = 500
-turn = [{ exit = "ab", share = 1000 }]
-
-[[link]]
-name = "sb"
-to = "b"
-travel = 10
-sat = 500
-turn = [{ exit = "xb", share = 1000 }]
-
-[[link]]
-name = "xb"
-from = "b"
-travel = 10
-sat = 500
-
-[[conflict]]
-a = "ba"
-b = "sa"
-
-[[conflict]]
-a = "ab"
-b = "sb"
 "#;
 
 /// One vehicle enters in second 0.
 pub const ONE_VEHICLE: &str = "second,link,amount\n0,sa,1000\n";
-
-/// Vehicles that enter at both nodes.
-pub const MANY_VEHICLES: &str = "second,link,amount
-0,sa,1000
-1,sb,1500
-3,sa,700
-6,sb,1000
-8,sa,2000
-12,sb,500
-";
 
 /// The report of the run of four rounds in the turn order, with the one vehicle. It is a file of its history too.
 pub const REPORT: &str = "kind,round,node,x,y,z,w
@@ -145,17 +77,21 @@ link,,,xb,0,0,0
 total,,,1000,0,1000,500
 ";
 
-// The text of the network with so many rounds.
+/// The text of the network with this number of rounds.
 fn with_rounds(alloc: Global, rounds: u32) -> Result<String, AllocError> {
     let line = format!(in alloc; "rounds = {rounds}")?;
     NETWORK.replace(alloc, "rounds = 4", line.as_str())
 }
 
-/// The network with so many rounds.
-pub fn network(alloc: Global, rounds: u32) -> Result<Network, NetFault> {
-    let text = with_rounds(alloc, rounds)?;
+/// The network of a text, which has at most 10,000 bytes.
+pub fn network_of(alloc: Global, text: &str) -> Result<Network, NetFault> {
     if text.len() > 10_000 {
         return Err(NetFault::NoMemory);
     }
     read_network(alloc, text.as_bytes())
+}
+
+/// The network with this number of rounds.
+pub fn network(alloc: Global, rounds: u32) -> Result<Network, NetFault> {
+    network_of(alloc, with_rounds(alloc, rounds)?.as_str())
 }
