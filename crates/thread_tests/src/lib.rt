@@ -1,16 +1,9 @@
-//! Tests of threads: calls at shared boards one after another and at once, a run that is the run of the history that its boards tell, and
-//! nodes of a round that act side by side.
+//! Tests of runs in threads: any two nodes of a round can be inside a reading at the same time.
 #![tactic(auto)]
 
 #[cfg(test)]
-mod at_once;
-#[cfg(test)]
-mod example;
-#[cfg(test)]
-mod inside;
-#[cfg(test)]
 mod job;
 #[cfg(test)]
-mod played;
+mod pairs;
 #[cfg(test)]
-mod replays;
+mod rounds;

@@ -5,7 +5,7 @@ use Rattle.std.proofs.lemmas.List.FromFn.{length-map-range_with_len}
 use Rattle.board_rule.specs.Passes.{PassView, fresh_pass}
 use Rattle.node_rounds.specs.Calls.{HaveCallsLeft}
 use Rattle.node_rounds.proofs.FreshPasses.{fresh-left, fresh-none}
-use Rattle.thread_tests.proofs.played.ran.Goals as goal
+use Rattle.thread_tests.proofs.rounds.play.Goals as goal
 
 pub run_rounds-requires-clause-nodes : goal.run_rounds-requires-clause-nodes
 run_rounds-requires-clause-nodes g c κs within =

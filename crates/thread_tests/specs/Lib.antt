@@ -1,2 +1,0 @@
--- The crate has one definition, for its own functions.
-pub mod Told
