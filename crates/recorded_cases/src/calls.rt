@@ -9,9 +9,9 @@ use std::sync::Wait;
 use std::thread::Threads;
 
 /// How many bytes may be written to each sink.
-const ROOM: usize = 32_000_000;
+const CAPACITY: usize = 32_000_000;
 
-/// How a call of the program ended: its exit status, and what stands in `out` and `err`.
+/// How a call of the program ended: its exit status, and what is in `out` and `err`.
 #[derive(Drop)]
 pub(crate) struct Ending {
     pub(crate) status: u8,
@@ -27,8 +27,8 @@ pub(crate) fn call<R: Threads + Wait + Sync>(
     files: Vec<(Text, Items<u8>)>,
 ) -> Result<Ending, AllocError> {
     let mut shelf = MemoryShelf::new(alloc, files, Vec::new(alloc));
-    let mut out = MemorySink::new(alloc, ROOM, Vec::new(alloc))?;
-    let mut err = MemorySink::new(alloc, ROOM, Vec::new(alloc))?;
+    let mut out = MemorySink::new(alloc, CAPACITY, Vec::new(alloc))?;
+    let mut err = MemorySink::new(alloc, CAPACITY, Vec::new(alloc))?;
     let status = signal(rt, alloc, words, &mut shelf, &mut out, &mut err, &OpenGate);
     Ok(Ending {
         status: status.code(),

@@ -4,79 +4,90 @@ use crate::cases::{Case, read_case};
 use foundation::items::Items;
 use foundation::text::Text;
 use std::alloc::{AllocError, Global};
-use std::io;
 use std::rt::Files;
 use std::sync::Wait;
 use std::thread::Threads;
+use std::{io, mem};
 
 /// What differs in the case of a folder; nothing where it is answered as it has to be.
 pub(crate) fn difference<R: Files + AllocGlobal + Clone + Drop + Threads + Wait + Sync>(
     rt: &R,
     folder: &str,
 ) -> io::Result<String> {
-    let case = read_case(rt, folder)?;
+    let mut case = read_case(rt, folder)?;
     if case.replays.is_empty() {
-        Ok(of_answer(rt, rt.alloc(), case)?)
-    } else {
-        let again = read_case(rt, folder)?;
-        Ok(of_replay(rt, rt.alloc(), case, again)?)
+        return Ok(of_answer(rt, rt.alloc(), &mut case)?);
     }
+    let mut replay = read_case(rt, folder)?;
+    Ok(of_replay(rt, rt.alloc(), &mut case, &mut replay)?)
+}
+
+/// Calls the program with the words of a case over its files, which the case then no longer has.
+fn call_case<R: Threads + Wait + Sync>(
+    rt: &R,
+    alloc: Global,
+    case: &mut Case,
+) -> Result<Ending, AllocError> {
+    let files = mem::replace(&mut case.files, Vec::new(alloc));
+    call(rt, alloc, &case.words, files)
 }
 
 /// What differs in a case with a fixed answer.
 fn of_answer<R: Threads + Wait + Sync>(
     rt: &R,
     alloc: Global,
-    case: Case,
+    case: &mut Case,
 ) -> Result<String, AllocError> {
-    let files = case.files;
-    let found = call(rt, alloc, &case.words, files)?;
-    differing(alloc, &case.status, &case.out, &case.err, &found)
+    let found = call_case(rt, alloc, case)?;
+    differing(alloc, case, &found)
 }
 
-/// What differs where what the first call writes is what the second has to write: the case, and the same once more.
+/// What differs where what the first call writes is what the second has to write: the case, and the same once more for the second call.
 fn of_replay<R: Threads + Wait + Sync>(
     rt: &R,
     alloc: Global,
-    case: Case,
-    again: Case,
+    case: &mut Case,
+    replay: &mut Case,
 ) -> Result<String, AllocError> {
-    let files = case.files;
-    let first = call(rt, alloc, &case.words, files)?;
-    let told = first.out.bytes();
-    let mut files = again.files;
-    if let Some(name) = case.replays.last() {
-        let name = Text::from_string(String::from_str(alloc, name.as_str())?);
-        files.push((name, Items::from_vec(told.to_vec(alloc)?)))?;
+    let found = call_case(rt, alloc, case)?;
+    case.out = found.out.bytes().to_vec(alloc)?;
+    turn_to_replay(alloc, replay, found.out.bytes())?;
+    let text = differing(alloc, case, &found)?;
+    if text.is_empty() {
+        of_answer(rt, alloc, replay)
+    } else {
+        Ok(text)
     }
-    let second = call(rt, alloc, &case.replays, files)?;
-    let mut text = differing(alloc, &case.status, told, &case.err, &first)?;
-    text.push_str(differing(alloc, "0", told, &[], &second)?.as_str())?;
-    Ok(text)
 }
 
-/// What differs in an answer from these parts.
-fn differing(
-    alloc: Global,
-    status: &str,
-    out: &[u8],
-    err: &[u8],
-    found: &Ending,
-) -> Result<String, AllocError> {
+/// Makes of a case that of its second call, which reads the text that the first wrote, and has to write it.
+fn turn_to_replay(alloc: Global, case: &mut Case, written: &[u8]) -> Result<(), AllocError> {
+    case.words = mem::replace(&mut case.replays, Vec::new(alloc));
+    if let Some(name) = case.words.last() {
+        let name = Text::from_string(String::from_str(alloc, name.as_str())?);
+        let content = Items::from_vec(written.to_vec(alloc)?);
+        case.files.push((name, content))?;
+    }
+    case.status = String::from_str(alloc, "0")?;
+    case.out = written.to_vec(alloc)?;
+    case.err = Vec::new(alloc);
+    Ok(())
+}
+
+/// What differs in an answer from that of the case.
+fn differing(alloc: Global, case: &Case, found: &Ending) -> Result<String, AllocError> {
     let mut text = String::new(alloc);
-    let code = found.status;
-    let wanted = status.trim();
+    let (code, wanted) = (found.status, case.status.trim());
     if format!(in alloc; "{code}")?.as_str() != wanted {
         write!(text, "status is {code} in place of {wanted}; ")?;
     }
-    add_difference(alloc, &mut text, "stdout", out, found.out.bytes())?;
-    add_difference(alloc, &mut text, "stderr", err, found.err.bytes())?;
+    add_difference(&mut text, "stdout", &case.out, found.out.bytes())?;
+    add_difference(&mut text, "stderr", &case.err, found.err.bytes())?;
     Ok(text)
 }
 
 /// Adds the first line in which two texts differ, if they do.
 fn add_difference(
-    alloc: Global,
     text: &mut String,
     part: &str,
     wanted: &[u8],

@@ -10,85 +10,85 @@ mod differences;
 
 use cases::{Kind, names_in};
 use differences::difference;
+use std::alloc::AllocError;
 use std::io;
 use std::process::ExitCode;
 use std::rt::Files;
 use std::sync::Wait;
 use std::thread::Threads;
 
-/// How many cases were done, how many of them were answered otherwise, and the lines that tell it.
+/// How many cases were answered otherwise, and the lines that name them.
 #[derive(Drop)]
-struct Tally {
-    cases: u64,
-    differing: u64,
+struct Differing {
+    count: u64,
     lines: String,
 }
 
 fn main(rt: HostRuntime) -> io::Result<ExitCode> {
-    let mut tally = Tally {
-        cases: 0,
-        differing: 0,
-        lines: String::new(rt.alloc()),
-    };
-    if let Err(fault) = do_all(&rt, &mut tally) {
-        println!(&rt; "cannot list the cases: {fault}")?;
-        return Ok(ExitCode::from(2));
+    match folders(&rt) {
+        Ok(folders) => {
+            let differing = do_all(&rt, &folders)?;
+            conclude(&rt, folders.len(), &differing)
+        }
+        Err(fault) => {
+            println!(&rt; "cannot list the cases: {fault}")?;
+            Ok(ExitCode::from(2))
+        }
     }
-    let Tally {
-        cases,
-        differing,
-        lines,
-    } = tally;
-    print!(&rt; "{lines}")?;
-    if differing == 0 {
-        println!(&rt; "{cases} cases, all equal")?;
+}
+
+/// Prints the lines, and the last line. The exit status.
+fn conclude(rt: &HostRuntime, cases: usize, differing: &Differing) -> io::Result<ExitCode> {
+    let Differing { count, lines } = differing;
+    if *count == 0 {
+        println!(rt; "{cases} cases, all equal")?;
         return Ok(ExitCode::from(0));
     }
-    println!(&rt; "{cases} cases, {differing} differ")?;
+    println!(rt; "{lines}{cases} cases, {count} differ")?;
     Ok(ExitCode::from(1))
 }
 
-/// Does the cases of all groups.
+/// The folders of all cases.
+fn folders(rt: &HostRuntime) -> io::Result<Vec<String>> {
+    let mut folders = Vec::new(rt.alloc());
+    for group in &names_in(rt, ".", Kind::Folder)? {
+        add_group(rt, group, &mut folders)?;
+    }
+    Ok(folders)
+}
+
+/// Adds the folders of the cases of a group.
+fn add_group(rt: &HostRuntime, group: &str, folders: &mut Vec<String>) -> io::Result<()> {
+    for name in &names_in(rt, group, Kind::Folder)? {
+        folders.push(format!(in rt.alloc(); "{group}/{name}")?)?;
+    }
+    Ok(())
+}
+
+/// Does the cases of these folders.
 fn do_all<R: Files + AllocGlobal + Clone + Drop + Threads + Wait + Sync>(
     rt: &R,
-    tally: &mut Tally,
-) -> io::Result<()> {
-    for group in &names_in(rt, ".", Kind::Folder)? {
-        do_group(rt, group, tally)?;
-    }
-    Ok(())
-}
-
-/// Does the cases of a group.
-fn do_group<R: Files + AllocGlobal + Clone + Drop + Threads + Wait + Sync>(
-    rt: &R,
-    group: &str,
-    tally: &mut Tally,
-) -> io::Result<()> {
-    for name in &names_in(rt, group, Kind::Folder)? {
-        do_case(
-            rt,
-            format!(in rt.alloc(); "{group}/{name}")?.as_str(),
-            tally,
-        )?;
-    }
-    Ok(())
-}
-
-/// Does the case of a folder.
-fn do_case<R: Files + AllocGlobal + Clone + Drop + Threads + Wait + Sync>(
-    rt: &R,
-    folder: &str,
-    tally: &mut Tally,
-) -> io::Result<()> {
-    tally.cases = tally.cases.saturating_add(1);
-    let found = match difference(rt, folder) {
-        Ok(found) => found,
-        Err(fault) => format!(in rt.alloc(); "cannot be read: {fault}")?,
+    folders: &[String],
+) -> io::Result<Differing> {
+    let mut differing = Differing {
+        count: 0,
+        lines: String::new(rt.alloc()),
     };
+    for folder in folders {
+        let found = match difference(rt, folder) {
+            Ok(found) => found,
+            Err(fault) => format!(in rt.alloc(); "cannot be read: {fault}")?,
+        };
+        add_line(folder, &found, &mut differing)?;
+    }
+    Ok(differing)
+}
+
+/// Adds what differs in a case, if anything does.
+fn add_line(folder: &str, found: &str, differing: &mut Differing) -> Result<(), AllocError> {
     if !found.is_empty() {
-        tally.differing = tally.differing.saturating_add(1);
-        write!(tally.lines, "{folder}: {found}\n")?;
+        differing.count = differing.count.saturating_add(1);
+        write!(differing.lines, "{folder}: {found}\n")?;
     }
     Ok(())
 }
