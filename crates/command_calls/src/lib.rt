@@ -67,21 +67,17 @@ pub fn run<R: Threads + Wait + Sync>(
     run_with_room(rt, alloc, words, text.to_vec(alloc)?, faults, 1000)
 }
 
-/// The same, where so many bytes may be written.
+/// The same, where this number of bytes may be written.
 pub fn run_with_room<R: Threads + Wait + Sync>(
     rt: &R,
     alloc: Global,
     words: &[&str],
     text: Vec<u8>,
     faults: Faults<'_>,
-    room: usize,
+    capacity: usize,
 ) -> Result<Ending, AllocError> {
-    let words = texts(alloc, words)?;
-    let mut shelf = shelf_of(alloc, text, faults.fetches)?;
-    let mut out = MemorySink::new(alloc, room, faults.out.to_vec(alloc)?)?;
-    let mut err = MemorySink::new(alloc, 1000, faults.err.to_vec(alloc)?)?;
-    let status = signal(rt, alloc, &words, &mut shelf, &mut out, &mut err, &OpenGate);
-    Ok(Ending { status, out, err })
+    let shelf = shelf_of(alloc, text, faults.fetches)?;
+    call(rt, alloc, words, shelf, faults, capacity)
 }
 
 /// Calls the program with these words over a shelf with these files; 10,000 bytes may be written.
@@ -92,9 +88,21 @@ pub fn run_over<R: Threads + Wait + Sync>(
     files: &[(&str, &[u8])],
     faults: Faults<'_>,
 ) -> Result<Ending, AllocError> {
+    let shelf = shelf_with(alloc, files, faults.fetches)?;
+    call(rt, alloc, words, shelf, faults, 10_000)
+}
+
+/// Calls the program with these words over this shelf; this number of bytes may be written to `out`.
+fn call<R: Threads + Wait + Sync>(
+    rt: &R,
+    alloc: Global,
+    words: &[&str],
+    mut shelf: MemoryShelf,
+    faults: Faults<'_>,
+    capacity: usize,
+) -> Result<Ending, AllocError> {
     let words = texts(alloc, words)?;
-    let mut shelf = shelf_with(alloc, files, faults.fetches)?;
-    let mut out = MemorySink::new(alloc, 10_000, faults.out.to_vec(alloc)?)?;
+    let mut out = MemorySink::new(alloc, capacity, faults.out.to_vec(alloc)?)?;
     let mut err = MemorySink::new(alloc, 1000, faults.err.to_vec(alloc)?)?;
     let status = signal(rt, alloc, &words, &mut shelf, &mut out, &mut err, &OpenGate);
     Ok(Ending { status, out, err })
@@ -122,6 +130,7 @@ pub fn run_on_network<R: Threads + Wait + Sync>(
     run_over(rt, alloc, &words, files, faults)
 }
 
+/// Words as texts.
 fn texts(alloc: Global, words: &[&str]) -> Result<Vec<Text>, AllocError> {
     let mut texts = Vec::new(alloc);
     for word in words {
@@ -130,10 +139,9 @@ fn texts(alloc: Global, words: &[&str]) -> Result<Vec<Text>, AllocError> {
     Ok(texts)
 }
 
+/// A shelf with one file, `file`.
 fn shelf_of(alloc: Global, text: Vec<u8>, fails: &[u32]) -> Result<MemoryShelf, AllocError> {
-    let name = Text::from_string(String::from_str(alloc, "file")?);
-    let content = Items::from_vec(text);
-    let files = vec![in alloc; (name, content)]?;
+    let files = vec![in alloc; file_of(alloc, "file", text)?]?;
     Ok(MemoryShelf::new(alloc, files, fails.to_vec(alloc)?))
 }
 
@@ -145,12 +153,13 @@ pub fn shelf_with(
 ) -> Result<MemoryShelf, AllocError> {
     let mut files = Vec::new(alloc);
     for &(name, content) in contents {
-        files.push(file_of(alloc, name, content)?)?;
+        files.push(file_of(alloc, name, content.to_vec(alloc)?)?)?;
     }
     Ok(MemoryShelf::new(alloc, files, fails.to_vec(alloc)?))
 }
 
-fn file_of(alloc: Global, name: &str, content: &[u8]) -> Result<(Text, Items<u8>), AllocError> {
+/// A file of a shelf.
+fn file_of(alloc: Global, name: &str, content: Vec<u8>) -> Result<(Text, Items<u8>), AllocError> {
     let name = Text::from_string(String::from_str(alloc, name)?);
-    Ok((name, Items::from_vec(content.to_vec(alloc)?)))
+    Ok((name, Items::from_vec(content)))
 }
