@@ -11,14 +11,14 @@ use std::alloc::{AllocError, Global};
 use std::test::Fail;
 use worked_network::{ONE_VEHICLE, network};
 
-/// So many moves of so many seconds.
+/// A number of moves, each of this number of seconds.
 #[derive(Clone, Copy)]
 struct Moves {
     moves: u32,
     seconds: u32,
 }
 
-/// What is told behind each of ten seconds, in which the vehicle comes, and of each of ten in which half of it waits.
+/// What is told after each of ten seconds, in which the vehicle comes, and of each of ten in which half of it waits.
 const COMING: &str = "1000 0 1000 0\n";
 
 const WAITING: &str = "1000 0 1000 500\n";
@@ -52,16 +52,16 @@ fn told_of(alloc: Global, net: &Network, moves: Moves) -> Result<String, Fail>
 {
     let plans = plans_of_both(alloc)?;
     let arrivals = read_arrivals(alloc, ONE_VEHICLE.as_bytes(), net)?;
-    Ok(played(alloc, net, &plans, &arrivals, moves)?)
+    Ok(played(alloc, net, &plans, moves, &arrivals)?)
 }
 
-/// Plays a network, and tells the totals behind each move, and then what is told in the end.
+/// Plays a network, and tells the totals after each move, and then what is told in the end.
 fn played(
     alloc: Global,
     net: &Network,
     plans: &Plans,
-    arrivals: &Arrivals,
     moves: Moves,
+    arrivals: &Arrivals,
 ) -> Result<String, AllocError>
     requires arrivals { AreArrivals net.now arrivals.now }
     requires moves { moves.moves ≤ 100 }

@@ -3,14 +3,4 @@
 #![tactic(auto)]
 
 #[cfg(test)]
-mod certificates;
-#[cfg(test)]
-mod lines;
-#[cfg(test)]
-mod planners;
-#[cfg(test)]
-mod seconds;
-#[cfg(test)]
-mod servings;
-#[cfg(test)]
-mod splices;
+mod tests;

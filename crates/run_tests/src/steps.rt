@@ -35,17 +35,15 @@ const SPENT: &[(&str, &str)] = &[
     ("abc", "Err(UnknownNode) [Done, Done] 0 false"),
 ];
 
+/// What a planner answers.
+type Answered = Result<Answer, AllocError>;
+
 /// A planner that finds no memory.
 #[derive(Clone, Copy)]
 struct NoMemory;
 
 impl Planner for NoMemory {
-    fn best<L: Ledger>(
-        &mut self,
-        _alloc: Global,
-        _i: &Instance,
-        _steps: &mut Steps<L>,
-    ) -> Result<Answer, AllocError> {
+    fn best<L: Ledger>(&mut self, _: Global, _: &Instance, _: &mut Steps<L>) -> Answered {
         Err(AllocError)
     }
 }

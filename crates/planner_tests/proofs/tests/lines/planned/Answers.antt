@@ -1,6 +1,6 @@
 use Rattle.switch_rules.specs.Sequences.{counts_of}
 use Rattle.control_flow.proofs.SequenceLaws.{listed-servings}
-use Rattle.planner_tests.proofs.lines.planned.Goals as goal
+use Rattle.planner_tests.proofs.tests.lines.planned.Goals as goal
 
 pub timeline-requires-clause-servings : goal.timeline-requires-clause-servings
 timeline-requires-clause-servings c =

@@ -298,30 +298,23 @@ fn sequences(rt: HostRuntime) -> Result<(), Fail> {
     Ok(())
 }
 
-// What a sequence of the clusters that meet serves.
-const SERVED: &[Served] = &[
-    Served {
-        green: 0,
-        start: 0,
-        finish: 8,
-        cost: 0,
-        kept: true,
-    },
-    Served {
-        green: 13,
-        start: 15,
-        finish: 19,
-        cost: 24000,
-        kept: false,
-    },
-];
+// What a sequence of the clusters that meet serves: of each cluster when its green began, its first vehicle leaves and its last has left,
+// its delay, and whether the green before it went on.
+const SERVED: [(u32, u32, u32, u64, bool); 2] = [(0, 0, 8, 0, true), (13, 15, 19, 24000, false)];
 
 #[test]
 fn servings_of_sequences(rt: HostRuntime) -> Result<(), Fail> {
     let alloc = rt.alloc();
     let instance = instance(alloc, TWO_PHASES, MEETING)?;
     let list = servings(alloc, &instance, &[0, 1]).ok().ok_or("none")?;
-    assert_eq!(rt; list.as_slice(), SERVED);
+    let served = SERVED.map(|(green, start, finish, cost, kept)| Served {
+        green,
+        start,
+        finish,
+        cost,
+        kept,
+    });
+    assert_eq!(rt; list.as_slice(), served.as_slice());
     let refused = servings(alloc, &instance, &[0, 2]).err();
     let fault = SeqFault::Phase { place: 2 };
     assert_eq!(rt; refused, Some(ServingsFault::Seq(fault)));
