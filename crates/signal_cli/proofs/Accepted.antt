@@ -38,3 +38,12 @@ written IsTable p c same table best is_accepted = (
   refl,
   is_accepted,
 )
+
+-- the same of a small certificate that proves its answer
+pub written-accepted : (IsTable : Problem → List Entry → Type 0) (p : Problem) (c : Claim) (places : ℕ)
+    → ((d e : Claim) → HasText d → HasText e → certificate_text d ≡ certificate_text e → d ≡ e)
+    → length (certificate_text c) ≤ 48 * length c.entries + 4 * places + 3000 → (length c.entries ≤ most_entries) × (places ≤ most_clusters)
+    → IsCertificate c → cert.IsCertificateText (certificate_text c) c → Proves c → c.problem ≡ p → IsTable p c.entries → IsBest p c.answer
+    → (d : Claim) × (d.problem ≡ p) × IsTable d.problem d.entries × IsBest d.problem d.answer × (certificate_text c ≡ certificate_text d) × IsAcceptedText (certificate_text c) d
+written-accepted IsTable p c places one short few lawful spells proves same table best =
+    written IsTable p c same table best (accepted (certificate_text c) c places one short few.0 few.1 lawful spells proves)

@@ -3,6 +3,7 @@
 #![tactic(auto)]
 
 mod answers;
+mod certificates;
 mod certify;
 mod check;
 mod delivery;
