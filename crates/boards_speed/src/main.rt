@@ -1,5 +1,5 @@
 //! A small program beside the product, to be timed: threads make calls on shared boards, each with a pass of its own, a
-//! publishing and a reading in turn. Its words are THREADS LINKS CALLS ROWS: so many threads, of which the k-th uses link k,
+//! publishing and a reading in turn. Its words are THREADS LINKS CALLS ROWS: the number of threads, of which the k-th uses link k,
 //! counted round the links, and makes CALLS calls; a forecast has ROWS rows. With 0 links each call is a copy of a forecast
 //! alone. It prints how many calls were made.
 #![tactic(auto)]
@@ -61,7 +61,7 @@ fn work_of_words(rt: &HostRuntime) -> Option<Work> {
     })
 }
 
-/// A forecast of so many rows.
+/// A forecast of this number of rows, at most 180.
 fn forecast_of(alloc: Global, rows: u32) -> Result<Forecast, AllocError> {
     let mut forecast = Forecast::empty(alloc);
     for second in 0..rows.min(180) {

@@ -44,7 +44,7 @@ fn platoon(alloc: Global, arr: u32) -> Platoon
     }
 }
 
-/// So many platoons, one after another.
+/// A number of platoons, one after another.
 fn spaced(alloc: Global, first: u32, space: u32, count: u32) -> Result<Vec<Platoon>, AllocError>
     requires first { first ≤ 1000 }
     requires space { (1 ≤ space) × (space ≤ 1000) }

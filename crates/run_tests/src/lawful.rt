@@ -46,7 +46,7 @@ fn judged(alloc: Global, net: &Network, histories: &str) -> Result<String, Alloc
     Ok(text)
 }
 
-/// What the worked network with so many rounds shows: its steps, or of histories, where some are given, which are lawful.
+/// What the worked network with this number of rounds shows: its steps, or of histories, where some are given, which are lawful.
 fn shown(alloc: Global, rounds: u32, histories: Option<&str>) -> Result<String, AllocError> {
     match network(alloc, rounds) {
         Ok(net) => answer(alloc, &net, histories),
