@@ -1,25 +1,38 @@
 //! The command `net`.
 use crate::pairs::{COPIES, MET, PAIRS};
-use command_calls::shelf_with;
+use commands::Status;
+use foundation::items::Items;
+use foundation::text::Text;
 use meeting_gate::MeetingGate;
-use outside_world::MemorySink;
-use signal_cli::{Status, net_job};
+use network_jobs::net_job;
+use outside_world::{MemoryShelf, MemorySink};
 use std::alloc::{AllocError, Global};
 use std::sync::Wait;
 use std::test::Fail;
 use std::thread::Threads;
 use worked_network::{network_of_copies, vehicles_of_copies};
 
-/// How `net` ends on the network and the arrivals of these texts, and what it writes to `out`.
+/// A file of the shelf.
+fn file(alloc: Global, name: &str, text: String) -> Result<(Text, Items<u8>), AllocError> {
+    let name = Text::from_string(String::from_str(alloc, name)?);
+    Ok((name, Items::from_vec(text.into_bytes())))
+}
+
+/// The shelf with the network of the copies, and one vehicle for each.
+fn shelf(alloc: Global) -> Result<MemoryShelf, AllocError> {
+    let net = file(alloc, "net", network_of_copies(alloc, COPIES)?)?;
+    let arr = file(alloc, "arr", vehicles_of_copies(alloc, COPIES)?)?;
+    let files = vec![in alloc; net, arr]?;
+    Ok(MemoryShelf::new(alloc, files, Vec::new(alloc)))
+}
+
+/// How `net` ends with this gate, and what it writes to `out`.
 fn ending<R: Threads + Wait + Sync>(
     rt: &R,
     alloc: Global,
-    net: &str,
-    arr: &str,
     gate: &MeetingGate,
 ) -> Result<(Status, MemorySink), AllocError> {
-    let files = &[("net", net.as_bytes()), ("arr", arr.as_bytes())];
-    let mut shelf = shelf_with(alloc, files, &[])?;
+    let mut shelf = shelf(alloc)?;
     let mut out = MemorySink::new(alloc, 100_000, Vec::new(alloc))?;
     let mut err = MemorySink::new(alloc, 1000, Vec::new(alloc))?;
     let status = net_job(
@@ -45,17 +58,11 @@ fn has_plans(report: &[u8]) -> bool {
 
 #[test]
 fn two_reads_inside_the_command(rt: HostRuntime) -> Result<(), Fail> {
-    let alloc = rt.alloc();
-    let net = network_of_copies(alloc, COPIES)?;
-    let arr = vehicles_of_copies(alloc, COPIES)?;
     for (place, &[first, second]) in PAIRS.iter().enumerate() {
         let gate = MeetingGate::new(first, second);
-        let (status, out) = ending(&rt, alloc, net.as_str(), arr.as_str(), &gate)?;
-        assert_eq!(rt;
-            (status, gate.met()),
-            (Status::Done, MET),
-            "{first:?} {second:?}"
-        );
+        let (status, out) = ending(&rt, rt.alloc(), &gate)?;
+        assert!(rt; status == Status::Done);
+        assert_eq!(rt; gate.met(), MET, "pair {place}");
         assert!(rt; place > 0 || has_plans(out.bytes()));
     }
     Ok(())
