@@ -9,10 +9,10 @@ use std::sync::atomic::{AtomicU64, Ordering};
 use std::thread;
 use std::thread::Threads;
 
-/// How often a node that reads looks out for the other one and yields, before it goes on without it: a count of times, in each of
-/// which it looks this often.
-const TURNS: u32 = 2_000;
+/// How often a node that reads yields, before it goes on without the other one.
+const YIELDS: u32 = 2_000;
 
+/// How often it looks out for the other one before it yields.
 const LOOKS: u32 = 1_000;
 
 /// A gate for two nodes, each with the link that it reads. Inside its reading of that link each looks out for the other node inside
@@ -121,7 +121,7 @@ impl Reader {
     /// Counts a reading, and looks at the other node until it has as many. Whether it had.
     fn meets(&self, other: &Reader) -> bool {
         let number = self.readings.fetch_add(1, Ordering::SeqCst).wrapping_add(1);
-        for _ in 0..TURNS {
+        for _ in 0..YIELDS {
             if other.reaches(number) {
                 return true;
             }

@@ -5,11 +5,11 @@ ghost use Rattle.board_rule.specs.Passes.{AreAllPasses, fresh_passes};
 
 use crate::pairs::{COPIES, MET, PAIRS};
 use arrivals::{Arrivals, read_arrivals};
+use forward_dp::LayerPlanner;
 use histories::law_of_steps;
 use meeting_gate::MeetingGate;
 use net_threads::run_rounds;
 use plan_boards::{Boards, Pass};
-use pruned_dp::BoundPlanner;
 use road_net::Network;
 use std::alloc::{AllocError, Global};
 use std::sync::Wait;
@@ -41,7 +41,7 @@ fn play<R: Threads + Wait + Sync>(
     requires passes { passes.old ≡ fresh_passes boards.now.id (net.now.run.rounds * 320) 0 (length net.now.node_names) }
 {
     law_of_steps(net);
-    let planners = BoundPlanner::many(alloc, net.nodes() as usize)?;
+    let planners = vec![in alloc; LayerPlanner; net.nodes() as usize]?;
     let run = run_rounds(rt, alloc, net, arrivals, planners, boards, passes, gate)?;
     Ok(run.totals.entered)
 }
