@@ -10,7 +10,7 @@ use std::thread;
 use std::thread::Threads;
 
 /// How often a node that reads yields, before it goes on without the other one.
-const YIELDS: u32 = 2_000;
+const YIELDS: u32 = 200_000;
 
 /// How often it looks out for the other one before it yields.
 const LOOKS: u32 = 1_000;
