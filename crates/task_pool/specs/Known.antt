@@ -10,13 +10,13 @@ module _ {T : Type 0} where
   abbrev pub IsOwnerOf : Slot T → SlotOwner T → Type 0
   IsOwnerOf slot owner = owner.seat.table_id ≡ slot.table.shared.table_id
 
-  -- the task that it has laid, and not got back
-  abbrev pub laid_of : SlotOwner T → Option T
-  laid_of owner = owner.seat.me.0.laid
-
   -- it is a worker's end of this slot
   abbrev pub IsWorkerOf : Slot T → SlotWorker T → Type 0
   IsWorkerOf slot worker = worker.seat.table_id ≡ slot.table.shared.table_id
+
+  -- the task that it has laid, and not got back
+  abbrev pub laid_of : SlotOwner T → Option T
+  laid_of owner = owner.seat.me.0.laid
 
   -- the task that it has taken, and not put back
   abbrev pub taken_of : SlotWorker T → Option T

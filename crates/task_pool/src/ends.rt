@@ -15,14 +15,19 @@ use std::thread::yield_now;
 /// The number of looks after which a thread that waits lets others run.
 const LOOKS: u64 = 1000;
 
+/// How long a thread that waits rests between two looks: it then leaves the words that it looks at to those that change them.
+const RESTS: u32 = 32;
+
 /// Waits a moment, after this number of looks. Answers the number that the next wait is passed.
 pub(crate) fn pause(looks: u64) -> u64 {
-    if looks < LOOKS {
-        spin_loop();
-        return looks + 1;
+    if looks >= LOOKS {
+        yield_now();
+        return looks;
     }
-    yield_now();
-    looks
+    for _ in 0..RESTS {
+        spin_loop();
+    }
+    looks + 1
 }
 
 impl<T: Task + Drop> Slot<T> {
