@@ -2,11 +2,10 @@
 //! the calls of all passes tell of the rounds of a network, however the threads ran.
 #![tactic(auto)]
 
-mod hearing;
+mod board_steps;
 mod laws;
 mod playing;
 mod round_setting;
-mod telling;
 
 pub use laws::law_of_round_calls;
 pub use playing::{begin, play};

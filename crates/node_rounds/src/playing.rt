@@ -3,9 +3,8 @@ ghost use Rattle.std.specs.Prelude.{◌≡◌, ◌*◌, ◌<◌, OnOk, length};
 ghost use Rattle.intersection_actor.specs.Rounds.{IsOf};
 ghost use Rattle.node_rounds.specs.Nodes.{CanGoOn, CanPlay, HasBegun, HasPlayedOn, IsSamePass};
 
-use crate::hearing::hear;
+use crate::board_steps::{hear, tell};
 use crate::round_setting::RoundSetting;
-use crate::telling::tell;
 use board_model::Gate;
 use intersection_actor::Actor;
 use net_simulator::World;

@@ -1,7 +1,7 @@
 use Rattle.std.proofs.Common.{◌≡◌, sym, ◌∙◌, arith}
 use Rattle.intersection_actor.specs.declared.records.Want.TheVariants.{Read}
 use Rattle.node_rounds.proofs.HearLaws.{call-left, heard-more, link-there}
-use Rattle.node_rounds.proofs.hearing.hear.Goals as goal
+use Rattle.node_rounds.proofs.board_steps.hear.Goals as goal
 
 pub read-requires-clause-link : goal.read-requires-clause-link
 read-requires-clause-link g c =

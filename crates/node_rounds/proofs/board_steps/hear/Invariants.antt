@@ -1,7 +1,7 @@
 use Rattle.std.proofs.Common.{length}
 use Rattle.intersection_actor.specs.Rounds.{IsOf}
 use Rattle.node_rounds.specs.Nodes.{HasHeard, IsSamePass}
-use Rattle.node_rounds.proofs.hearing.hear.Given as goal
+use Rattle.node_rounds.proofs.board_steps.hear.Given as goal
 
 abbrev pub invariant-loop-link : goal.invariant-loop-link
 invariant-loop-link g l = record {

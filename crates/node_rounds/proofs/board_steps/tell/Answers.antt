@@ -1,24 +1,18 @@
 use Rattle.std.proofs.Common.{subst, sym, ◌∙◌}
 use Rattle.node_rounds.specs.Nodes.{HasTold}
 use Rattle.node_rounds.proofs.TellLaws.{among-more, call-left, goes-by, told-more, wants-link}
-use Rattle.node_rounds.proofs.telling.tell.Goals as goal
+use Rattle.node_rounds.proofs.board_steps.tell.Goals as goal
 
 pub publish-requires-clause-want : goal.publish-requires-clause-want
 publish-requires-clause-want g c κs within =
-    let net = c.args.setting.now.net.now in
-    let exits = c.exit_links-link-items.result.now in
-    let k = c.loop-link.link-index in
-    let goes_there = goes-by net _ c.link.result c.is_none.result c.link.ensures.value c.is_none.ensures c.if-is_none.false in
-    wants-link net exits k _ c.loop-link-test.true c.number.result c.exit_links-link-items.ensures.value goes_there c.args.actor.now c.loop-link.actor c.args.pass.now c.loop-link.pass
+    wants-link c.args.setting.now.net.now c.exit_links-link-items.result.now c.loop-link.link-index _ c.loop-link-test.true c.number.result c.exit_links-link-items.ensures.value
+    (goes-by c.args.setting.now.net.now _ c.link.result c.is_none.result c.link.ensures.value c.is_none.ensures c.if-is_none.false) c.args.actor.now c.loop-link.actor c.args.pass.now c.loop-link.pass
     (sym (c.number.ensures.value ∙ c.requires.number)) c.loop-link.invariant.told
 
 pub publish-requires-clause-left : goal.publish-requires-clause-left
 publish-requires-clause-left g c κs within =
-    let net = c.args.setting.now.net.now in
-    let exits = c.exit_links-link-items.result.now in
-    let k = c.loop-link.link-index in
-    let goes_there = goes-by net _ c.link.result c.is_none.result c.link.ensures.value c.is_none.ensures c.if-is_none.false in
-    call-left net exits k _ c.loop-link-test.true c.number.result c.exit_links-link-items.ensures.value goes_there c.args.actor.now c.loop-link.actor c.args.pass.now c.loop-link.pass
+    call-left c.args.setting.now.net.now c.exit_links-link-items.result.now c.loop-link.link-index _ c.loop-link-test.true c.number.result c.exit_links-link-items.ensures.value
+    (goes-by c.args.setting.now.net.now _ c.link.result c.is_none.result c.link.ensures.value c.is_none.ensures c.if-is_none.false) c.args.actor.now c.loop-link.actor c.args.pass.now c.loop-link.pass
     (sym (c.number.ensures.value ∙ c.requires.number)) c.loop-link.invariant.told c.requires.left
 
 pub loop-link-preserved : goal.loop-link-preserved

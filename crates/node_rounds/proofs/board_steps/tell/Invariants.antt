@@ -1,7 +1,7 @@
 use Rattle.intersection_actor.specs.Rounds.{IsOf}
 use Rattle.node_rounds.specs.Nodes.{HasTold, IsSamePass}
 use Rattle.node_rounds.proofs.TellLaws.{told_among}
-use Rattle.node_rounds.proofs.telling.tell.Given as goal
+use Rattle.node_rounds.proofs.board_steps.tell.Given as goal
 
 abbrev pub invariant-loop-link : goal.invariant-loop-link
 invariant-loop-link g l = record {
