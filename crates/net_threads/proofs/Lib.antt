@@ -1,3 +1,4 @@
-pub mod TaskLists
+pub mod Passes
 pub mod Rounding
+pub mod TaskLists
 pub mod Trades

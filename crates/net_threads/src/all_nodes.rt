@@ -1,20 +1,11 @@
 //! The tasks of all nodes together.
-ghost use Rattle.std.specs.Prelude.{◌≡◌, ◌+◌, ◌≤◌};
-ghost use Rattle.arrivals.specs.Amounts.{AreArrivals};
-ghost use Rattle.net_simulator.specs.Arriving.{arriving_of};
-ghost use Rattle.net_simulator.specs.Worlds.{Stands, standing_by};
-ghost use Rattle.runs.specs.Resting.{lines_of};
-ghost use Rattle.net_threads.specs.Tasks.{actors_in};
+ghost use Rattle.std.specs.Prelude.{◌≡◌};
 
 use crate::node_tasks::{Node, NodeTask};
-use arrivals::Arrivals;
 use board_model::Gate;
-use control_flow::green_at;
-use control_flow::greens::Green;
 use intersection_actor::Actor;
-use net_simulator::{Lights, World};
+use net_simulator::World;
 use plan_boards::{Boards, Meeting, Pass};
-use road_net::Network;
 use schedule_meaning::Planner;
 use std::alloc::{AllocError, Global};
 use std::mem::replace;
@@ -28,37 +19,6 @@ pub struct NodeTasks<'a, P, G> {
     pub(crate) all: Vec<NodeTask<'a, P, G>>,
     /// What is called before and within each board step.
     pub(crate) gate: &'a G,
-}
-
-impl<'a, P, G> Lights for NodeTasks<'a, P, G> {
-    ghost use Rattle.net_threads.specs.Tasks.{actors_in};
-    ghost use Rattle.runs.specs.Resting.{lines_of};
-
-    ghost lines = { λ tasks node. lines_of (actors_in tasks.all.items) node };
-
-    fn green(&self, node: u32, second: u32) -> Option<Green> {
-        if node as usize >= self.all.len() {
-            return None;
-        }
-        green_at(self.all[node as usize].node.actor.timeline(), second)
-    }
-}
-
-/// The world moves by this number of seconds, as the nodes' timelines show their greens.
-pub(crate) fn move_world<'a, P, G>(
-    world: &mut World,
-    net: &Network,
-    nodes: &NodeTasks<'a, P, G>,
-    arrivals: &Arrivals,
-    seconds: u32,
-)
-    requires second { world.old.second + seconds ≤ 18000 }
-    requires arrivals { AreArrivals net.now arrivals.now }
-    requires stands { Stands net.now (arriving_of arrivals.now) (standing_by (lines_of (actors_in nodes.now.all.items))) world.old }
-    ensures second { world.new.second ≡ world.old.second + seconds }
-    ensures stands { Stands net.now (arriving_of arrivals.now) (standing_by (lines_of (actors_in nodes.now.all.items))) world.new }
-{
-    world.advance(net, nodes, arrivals, seconds);
 }
 
 impl<'a, P: Planner + Drop, G: Gate> NodeTasks<'a, P, G> {

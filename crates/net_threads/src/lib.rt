@@ -3,6 +3,7 @@
 #![tactic(auto)]
 
 mod all_nodes;
+mod lights;
 mod network_runs;
 mod node_tasks;
 mod rounds;

@@ -1,7 +1,8 @@
 //! The rounds of a network.
 ghost use Rattle.std.specs.Prelude.{◌≡◌};
 
-use crate::all_nodes::{NodeTasks, move_world};
+use crate::all_nodes::NodeTasks;
+use crate::lights::move_world;
 use crate::node_tasks::NodeTask;
 use arrivals::Arrivals;
 use board_model::Gate;

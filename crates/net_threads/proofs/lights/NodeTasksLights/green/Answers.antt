@@ -5,7 +5,7 @@ use Rattle.intersection_actor.specs.Acting.{Acting}
 use Rattle.net_threads.specs.Tasks.{actor_of, actors_in}
 use Rattle.net_threads.specs.declared.node_tasks.Node.{Node}
 use Rattle.net_threads.specs.declared.node_tasks.NodeTask.{NodeTask}
-use Rattle.net_threads.proofs.all_nodes.NodeTasksLights.green.Goals as goal
+use Rattle.net_threads.proofs.lights.NodeTasksLights.green.Goals as goal
 
 pub returns : goal.returns
 returns g c =
