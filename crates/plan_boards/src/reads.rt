@@ -38,6 +38,18 @@ impl Boards {
             .note_read(stamp, number)
     }
 
+    // A copy of the newest forecast.
+    fn newest_at(&self, alloc: Global, seat: &mut Place, link: u32) -> Result<Forecast, AllocError>
+        requires table { seat.old.table_id ≡ self.now.id }
+        requires slot { HoldsSlot link seat.old.me }
+        ensures table { (seat.new.table_id ≡ seat.old.table_id) × (seat.new.id ≡ seat.old.id) }
+        ensures same { seat.new.me ≡ seat.old.me }
+        ensures ok { IfOk result (λ f. f ≡ newest (held seat.old.me).events) }
+    {
+        seat.slot_mut(&self.table.shared, link as usize)
+            .newest(alloc)
+    }
+
     // Takes the memory for a reading.
     fn prepare_read(
         &self,

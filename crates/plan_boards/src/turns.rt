@@ -1,14 +1,12 @@
 // The turn of a link: it is taken and given back. While a pass has it, the link's log is in its hand.
-ghost use Rattle.std.specs.Prelude.{◌≡◌, ◌<◌, ◌≤◌, ◌+◌, None, [], IfOk, OnOk};
-ghost use Rattle.board_model.specs.Boards.{newest};
+ghost use Rattle.std.specs.Prelude.{◌≡◌, ◌<◌, ◌≤◌, ◌+◌, None, [], OnOk};
 ghost use Rattle.board_rule.specs.Views.{flying};
 ghost use Rattle.board_rule.specs.Gathered.{IsPass};
 ghost use Rattle.plan_boards.specs.Steps.{HasTaken, HoldsSlot, Holding, held};
 
 use crate::boards::{Boards, Place, Whole};
-use board_model::Forecast;
 use board_rule::{GiveTurn, TakeTurn};
-use std::alloc::{AllocError, Global};
+use std::alloc::AllocError;
 use std::sync::Wait;
 use std::sync::atomic::Ordering;
 
@@ -76,22 +74,5 @@ impl Boards {
         ensures ok { OnOk result (1 ≤ (held seat.new.me).spare) }
     {
         seat.slot_mut(&self.table.shared, link as usize).reserve()
-    }
-
-    // A copy of the newest forecast.
-    pub(crate) fn newest_at(
-        &self,
-        alloc: Global,
-        seat: &mut Place,
-        link: u32,
-    ) -> Result<Forecast, AllocError>
-        requires table { seat.old.table_id ≡ self.now.id }
-        requires slot { HoldsSlot link seat.old.me }
-        ensures table { (seat.new.table_id ≡ seat.old.table_id) × (seat.new.id ≡ seat.old.id) }
-        ensures same { seat.new.me ≡ seat.old.me }
-        ensures ok { IfOk result (λ f. f ≡ newest (held seat.old.me).events) }
-    {
-        seat.slot_mut(&self.table.shared, link as usize)
-            .newest(alloc)
     }
 }

@@ -8,7 +8,11 @@ pub returns-in_err-scene : goal.returns-in_err-scene
 returns-in_err-scene g c = failed (Turns c.args.net.now c.args.arr.now) _ _ c.from_residual.result _ (c.in_err-scene.ensures.refused (λ network. NoMore)) c.from_residual.ensures.1
 
 pub returns : goal.returns
-returns g c =
-    let made = c.in_ok-scene in
-    let scene = made.scene in
-    (made.ensures.ok, ((scene.network, (entering scene.arrivals, tt)), (made.ensures.network, (made.ensures.arrivals, tt)), ((c.in_ok-text.ensures, λ against. against), λ what missing. missing)))
+returns g c = (
+  c.in_ok-scene.ensures.ok,
+  (
+    (c.in_ok-scene.scene.network, (entering c.in_ok-scene.scene.arrivals, tt)),
+    (c.in_ok-scene.ensures.network, (c.in_ok-scene.ensures.arrivals, tt)),
+    ((c.in_ok-text.ensures, λ against. against), λ what missing. missing),
+  ),
+)

@@ -7,13 +7,10 @@ use Rattle.plan_boards.proofs.boards.Boards.tell_all.Goals as goal
 pub loop-k-preserved : goal.loop-k-preserved
 loop-k-preserved c =
     let old = c.loop-k.invariant in
-    let now = c.args.passes.now in
     let k = c.loop-k.k in
-    let e = c.inform.ensures in
-    let d = c.index-passes-k.result in
-    let p = get_or c.loop-k.passes k d in
+    let p = get_or c.loop-k.passes k c.index-passes-k.result in
     let f = raised c.args.meeting.now.known in
-    let is : p ≡ get_or now k d = ap (λ l. get_or l k d) old.1 ∙ partly-get f now k d in (
-      e.meeting ∙ old.0,
-      ap (λ q. set c.loop-k.passes k q) (e.pass ∙ ap (λ (m : MeetingView). raised m.known p) old.0) ∙ ap (λ l. set l k (f p)) old.1 ∙ partly-step f now k p d (search rules) is,
+    let is : p ≡ get_or c.args.passes.now k c.index-passes-k.result = ap (λ l. get_or l k c.index-passes-k.result) old.1 ∙ partly-get f c.args.passes.now k c.index-passes-k.result in (
+      c.inform.ensures.meeting ∙ old.0,
+      ap (λ q. set c.loop-k.passes k q) (c.inform.ensures.pass ∙ ap (λ (m : MeetingView). raised m.known p) old.0) ∙ ap (λ l. set l k (f p)) old.1 ∙ partly-step f c.args.passes.now k p c.index-passes-k.result (search rules) is,
     )
