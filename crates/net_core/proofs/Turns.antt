@@ -12,7 +12,7 @@ use Rattle.net_core.specs.Cores.{Course, HasNoTurn, IsOver, IsWanted, MayStep}
 use Rattle.net_core.specs.States.{AreGoing, AreInRound, IsSound, WantsMore}
 use Rattle.net_core.specs.declared.parts.Parts.{Parts}
 use Rattle.net_core.proofs.Standing.{at-any}
-use Rattle.net_core.proofs.Wanting.{going-in, going-last, going-over, going-there, is-wanted, its-turn}
+use Rattle.net_core.proofs.Wanting.{going-in, going-last, going-over, going-there, is-wanted, wanted-once}
 
 -- what a core stands for
 abbrev pub course_of : Net → Amounts → Parts → Bool → Course
@@ -54,7 +54,14 @@ module _ (net : Net) (network : IsNetwork net) (arrivals : Amounts) (p : Parts) 
     }
 
     pub may-step : a.want ≢ Done → MayStep (course_of net arrivals p spent) n
-    may-step more = record { exists = below; fresh = fresh; turn = its-turn net p.history.items n a.want (next-wanted n a below is) more }
+    may-step more = record {
+      exists = below;
+      fresh = fresh;
+      want = a.want;
+      wanted = next-wanted n a below is;
+      some = more;
+      only = λ other wanted. wanted-once net p.history.items n other a.want wanted (next-wanted n a below is);
+    }
 
     pub more-wanted : a.want ≢ Done → WantsMore p n
     more-wanted more d none = more (subst (λ (x : Acting). x.want ≡ Done) (at-any p.actors.all.items n a (going-there net network arrivals p going n below) is d) none)

@@ -18,7 +18,7 @@ use Rattle.intersection_actor.specs.declared.records.Want.{Want}
 use Rattle.intersection_actor.specs.declared.records.Want.TheVariants.{Done}
 use Rattle.net_numbers.specs.Numbers.{Net}
 use Rattle.road_net.specs.Network.{IsNetwork, heard_links, told_links}
-use Rattle.net_core.specs.Cores.{IsItsTurn, IsWanted, wanted_step}
+use Rattle.net_core.specs.Cores.{IsWanted, wanted_step}
 use Rattle.net_core.specs.States.{AreBetween, AreGoing, AreInRound, IsOpen, Plays}
 use Rattle.net_core.specs.declared.parts.Parts.{Parts}
 use Rattle.net_core.proofs.Steps.{reading-next, telling-next, telling-none, told-step}
@@ -60,10 +60,6 @@ module _ (net : Net) (h : List ℕ) where
       let first : a ≡ wanted-at n one.done (count n one.way.part) = one.is in
       let second : b ≡ wanted-at n two.done (count n two.way.part) = two.is in
       first ∙ ap (λ d. wanted-at n d (count n one.way.part)) done ∙ ap (wanted-at n two.done) same ∙ sym second
-
-  -- it is the turn of a node that wants something
-  pub its-turn : (n : ℕ) (want : Want) → IsWanted net h n want → want ≢ Done → IsItsTurn net h n
-  its-turn n want is more other wanted none = more (wanted-once n want other is wanted ∙ none)
 
 -- the step after the first ones
 read-step : (net : Net) (n c : ℕ) → c < length (heard_links net n) → slice_get (board_steps net n) c ≡ Some (steps.Read (get_or (heard_links net n) c 0))

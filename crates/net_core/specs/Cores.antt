@@ -31,15 +31,14 @@ pub record IsWanted (net : Net) (history : List ℕ) (node : ℕ) (want : Want) 
   pub way : IsUnderWay (board_steps net) net.run.rounds done history
   pub is : want ≡ (if done == net.run.rounds then Done else wanted_step (slice_get (board_steps net node) (count node way.part)))
 
--- a node wants something after a history
-abbrev pub IsItsTurn : Net → List ℕ → ℕ → Type 0
-IsItsTurn net history node = (want : Want) → IsWanted net history node want → want ≢ Done
-
--- a node may do its next step: it exists, the core is not spent, and the node wants something
+-- a node may do its next step: it exists, the core is not spent, and the node wants something, and this alone
 pub record MayStep (core : Course) (node : ℕ) : Type 0 where
   pub exists : node < length core.net.node_names
   pub fresh : core.spent ≡ false
-  pub turn : IsItsTurn core.net core.steps node
+  pub want : Want
+  pub wanted : IsWanted core.net core.steps node want
+  pub some : want ≢ Done
+  pub only : (other : Want) → IsWanted core.net core.steps node other → other ≡ want
 
 -- a node exists, but the core is spent; or all its rounds are done; or not all are, and the node wants nothing in this one
 pub record IsSpent (core : Course) (node : ℕ) : Type 0 where
