@@ -9,7 +9,7 @@ use Rattle.net_numbers.specs.Numbers.{Net, number_of}
 use Rattle.runs.specs.Promises.{IsKeptRun}
 use Rattle.runs.specs.declared.records.RunRecord.{RunRecord}
 use Rattle.scenario_gen.specs.Grids.{IsGrid}
-use Rattle.schedule_meaning.specs.Best.{IsBest}
+use Rattle.schedule_meaning.specs.Best.{IsLeast}
 use Rattle.schedule_meaning.specs.Instances.{Problem}
 use Rattle.schedule_meaning.specs.declared.planners.Answer.{Answer}
 use Rattle.schedule_meaning.specs.declared.planners.Answer.TheVariants.{Plan, NoPlan}
@@ -47,7 +47,8 @@ AgreesWith NoPlan NoPlan = Unit {0}
 AgreesWith _ _ = ⊥
 
 -- The bytes are the text of the instance of a plan of a run, that of the node with this name in this round. They are read as this
--- instance and as no other, and the answer of each certificate of it agrees with the plan.
+-- instance and as no other, and every answer of it than which no sequence has less delay agrees with the plan: so does that of
+-- every certificate of it that `check` accepts.
 pub record IsPlannedText (net : Net) (enters : ℕ → ℕ → ℕ) (history : List ℕ) (node : List ℕ) (round : ℕ) (bytes : List ℕ) : Type 0 where
   pub run : RunRecord
   pub runs : IsRunOf net enters history run
@@ -57,7 +58,7 @@ pub record IsPlannedText (net : Net) (enters : ℕ → ℕ → ℕ) (history : L
   pub of_round : plan.round ≡ round
   pub reads : Reads InstanceText bytes plan.instance
   pub only : (other : Problem) → Reads InstanceText bytes other → other ≡ plan.instance
-  pub agrees : (c : Claim) → c.problem ≡ plan.instance → IsBest c.problem c.answer → AgreesWith c.answer plan.answer
+  pub agrees : (c : Claim) → c.problem ≡ plan.instance → IsLeast c.problem c.answer → AgreesWith c.answer plan.answer
 
 -- the bytes are the summary of the run of the turn order on the grid of a number
 pub record IsGridSummary (number side rounds : ℕ) (bytes : List ℕ) : Type 0 where

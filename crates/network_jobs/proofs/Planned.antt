@@ -27,7 +27,6 @@ use Rattle.schedule_meaning.specs.Best.{IsLeast}
 use Rattle.schedule_meaning.specs.Instances.{Problem, IsInstance}
 use Rattle.schedule_meaning.specs.declared.planners.Answer.{Answer}
 use Rattle.schedule_meaning.specs.declared.planners.Answer.TheVariants.{Plan, NoPlan}
-use Rattle.schedule_meaning.proofs.Choosing.{best-least}
 use Rattle.switch_rules.specs.Serving.{IsCluster}
 use Rattle.switch_rules.specs.declared.Cluster.{Cluster}
 use Rattle.commands.specs.Limits.{most_bytes}
@@ -95,7 +94,7 @@ planned net arrivals history node number round bytes run plan runs among of_node
   of_round = of_round;
   reads = reads plan.instance bytes lawful is;
   only = only plan.instance bytes lawful is;
-  agrees = λ c same best. agree plan.instance c.answer plan.answer (subst (λ (p : Problem). IsLeast p c.answer) same (best-least c.problem c.answer best)) least;
+  agrees = λ c same other. agree plan.instance c.answer plan.answer (subst (λ (p : Problem). IsLeast p c.answer) same other) least;
 }
 
 -- so is what is written of it, where the run keeps what it must
