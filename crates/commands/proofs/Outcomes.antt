@@ -45,6 +45,7 @@ module _ (call : Call) (old new : Outside) where
     write_fault = λ e. absurd (cc);
     no_memory = λ e. absurd (cc);
     shelf = λ e. same;
+    files = ap (λ (s : ShelfState). s.files) same;
     out = λ a b c. absurd (a is);
     err = λ e. err;
     refused = λ place bad e. absurd (none_refused read.0 read.1 place bad);
@@ -65,6 +66,7 @@ module _ (call : Call) (old new : Outside) where
     write_fault = λ e. absurd (cc);
     no_memory = λ e. absurd (cc);
     shelf = λ e. same;
+    files = ap (λ (s : ShelfState). s.files) same;
     out = λ a b c. absurd (b is);
     err = λ e. err;
     refused = λ place bad e. absurd (none_refused read.0 read.1 place bad);
@@ -85,6 +87,7 @@ module _ (call : Call) (old new : Outside) where
     write_fault = λ e. (line, (read.0, read.1, (text, read.2.0, breaks)));
     no_memory = λ e. absurd (cc);
     shelf = λ e. same;
+    files = ap (λ (s : ShelfState). s.files) same;
     out = λ a b c. absurd (c is);
     err = λ e. elim e [ inl a ↦ absurd (cc) | inr a ↦ absurd (cc) ];
     refused = λ place bad e. absurd (none_refused read.0 read.1 place bad);
@@ -103,6 +106,7 @@ module _ (call : Call) (old new : Outside) where
     write_fault = λ e. absurd (cc);
     no_memory = λ e. line;
     shelf = λ e. same;
+    files = ap (λ (s : ShelfState). s.files) same;
     out = λ a b c. left;
     err = λ e. elim e [ inl a ↦ absurd (cc) | inr a ↦ absurd (cc) ];
     refused = λ place bad e. inr is;
@@ -124,6 +128,7 @@ module _ (call : Call) (old new : Outside) where
     write_fault = λ e. absurd (cc);
     no_memory = λ e. absurd (cc);
     shelf = λ e. same;
+    files = ap (λ (s : ShelfState). s.files) same;
     out = λ a b c. left;
     err = λ e. elim e [ inl a ↦ absurd (cc) | inr a ↦ absurd (cc) ];
     refused = λ place bad e. inl is;
@@ -132,9 +137,9 @@ module _ (call : Call) (old new : Outside) where
     against = λ said told none against e kept. absurd (never said told none);
   }
 
-  unread : (place : TextPlace) (status : Status) → IsUnread call old.shelf new.shelf place
+  unread : (place : TextPlace) (status : Status) → new.shelf.files ≡ old.shelf.files → IsUnread call old.shelf new.shelf place
       → status ≡ ReadFault → new.out ≡ old.out → Says (refusal.Unread place) old.err new.err → Outcome call old new status
-  unread place status at is left line =
+  unread place status files at is left line =
       let gained : new.shelf ≡ old.shelf → ⊥ = λ e. none_gains old.shelf.failed new.shelf.failed old.shelf.files (texts_of call) place at (ap (λ (s : ShelfState). s.failed) e) in record {
         done = λ e. absurd (cc);
         rejected = λ e. absurd (cc);
@@ -144,6 +149,7 @@ module _ (call : Call) (old new : Outside) where
         write_fault = λ e. absurd (cc);
         no_memory = λ e. absurd (cc);
         shelf = λ e. absurd (e is);
+        files = files;
         out = λ a b c. left;
         err = λ e. elim e [ inl a ↦ absurd (cc) | inr a ↦ absurd (cc) ];
         refused = λ other bad e. absurd (gained e);
@@ -157,7 +163,7 @@ module _ (call : Call) (old new : Outside) where
   refuses refusal.Unwritten status makes ends = absurd makes
   refuses refusal.NoMemory status makes (left, inl said) = wants status makes said.0 left said.1
   refuses refusal.NoMemory status makes (left, inr said) = absurd said.0
-  refuses (refusal.Unread place) status makes (left, inl said) = unread place status makes said.0 left said.1
+  refuses (refusal.Unread place) status makes (left, inl said) = unread place status makes.0 makes.1 said.0 left said.1
   refuses (refusal.Unread place) status makes (left, inr said) = absurd said.0
   refuses (refusal.Bad place why) status makes (left, inl said) =
       bad (refusal.Bad place why) status makes.0 makes.1 (λ said told none. none_bad old.shelf.files (texts_of call) said place why told makes.1) said.0 left said.1

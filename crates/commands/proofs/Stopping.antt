@@ -16,7 +16,7 @@ pub history_stops : (old new : ShelfState) (net arr hist : List ℕ) (network : 
 history_stops old new net arr hist network enters (refusal.Bad place why) is bring stops =
     (stops.1, subst (λ (p : TextPlace). At (IsBad old.files why) old.files (history_texts net arr hist) p) (sym stops.0) (network, is, (enters, bring, stops.2)))
 history_stops old new net arr hist network enters (refusal.Unread place) is bring stops =
-    subst (λ (p : TextPlace). At (λ kind name. GainsLast old.failed new.failed name) old.files (history_texts net arr hist) p) (sym stops.0) (network, is, (enters, bring, stops.1))
+    (stops.1, subst (λ (p : TextPlace). At (λ kind name. GainsLast old.failed new.failed name) old.files (history_texts net arr hist) p) (sym stops.0) (network, is, (enters, bring, stops.2)))
 history_stops old new net arr hist network enters refusal.NoMemory is bring stops = stops
 history_stops old new net arr hist network enters refusal.Usage is bring stops = stops
 history_stops old new net arr hist network enters (refusal.Missing what) is bring stops = stops

@@ -50,8 +50,9 @@ pub record Outcome (call : Call) (old new : Outside) (status : Status) : Type 0 
       × Read call old.shelf.files (λ said. (bytes : List ℕ) × (IsTextOf call said bytes ⊎ IsRejectionOf call said bytes) × Breaks old.out new.out bytes)
   -- memory ran out
   pub no_memory : status ≡ NoMemory → Says refusal.NoMemory old.err new.err
-  -- nothing else changes the shelf, out or err
+  -- nothing else changes the shelf, out or err, and nothing the shelf's files
   pub shelf : status ≢ ReadFault → new.shelf ≡ old.shelf
+  pub files : new.shelf.files ≡ old.shelf.files
   pub out : status ≢ Done → status ≢ Rejected → status ≢ WriteFault → new.out ≡ old.out
   pub err : (status ≡ Done) ⊎ (status ≡ Rejected) → new.err ≡ old.err
   -- a text that the shelf tells, and that is read as nothing of its kind, is refused
