@@ -16,16 +16,14 @@ use Rattle.schedule_meaning.specs.declared.planners.Answer.TheVariants.{Plan, No
 use Rattle.commands.specs.Texts.{HistoryText, InstanceText, Reads, IsTextFor}
 use Rattle.commands.specs.Summary.{summary_text}
 
--- The run of a lawful history, with arrivals that bring this. Whatever order the intersections' board steps take in it: every
--- plan that was committed names the versions of its neighbours' forecasts that it used, none older than one that its intersection
--- had seen; its delay is the least of all feasible sequences of exactly the clusters of the window, made from those versions and
--- from what its own detectors told; there is no plan only where no sequence is feasible; links in conflict are never green
--- together; and every signal interval keeps its bounds.
+-- The run of a lawful history, where this enters each link in each second. Whatever order the intersections' board steps take in
+-- it: every plan that was committed names the versions of its neighbours' forecasts that it used, none older than one that its
+-- intersection had seen; its delay is the least of all feasible sequences of exactly the clusters of the window, made from those
+-- versions and from what its own detectors told; there is no plan only where no sequence is feasible; links in conflict are never
+-- green together; and every signal interval keeps its bounds.
 pub record IsRunOf (net : Net) (enters : ℕ → ℕ → ℕ) (history : List ℕ) (run : RunRecord) : Type 0 where
   pub lawful : IsLawful net history
-  pub arrivals : Amounts
-  pub bring : entering arrivals ≡ enters
-  pub kept : IsKeptRun net arrivals history run
+  pub kept : IsKeptRun net enters history run
 
 -- the bytes are the report of the run of this history
 pub record Headline (net : Net) (enters : ℕ → ℕ → ℕ) (history : List ℕ) (bytes : List ℕ) : Type 0 where

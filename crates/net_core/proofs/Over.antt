@@ -1,6 +1,6 @@
 -- The record of a run that is over.
 use Rattle.std.proofs.Common.{◌≡◌, subst, inl, inr, arith}
-use Rattle.arrivals.specs.Amounts.{Amounts}
+use Rattle.arrivals.specs.Amounts.{Amounts, entering}
 use Rattle.runs.specs.Ending.{IsRecordOf}
 use Rattle.runs.proofs.EndedRecords.{run-by}
 use Rattle.histories.specs.Histories.{IsLawful}
@@ -22,12 +22,12 @@ over-between net arrivals parts going last = elim going [
 
 -- The record of a core whose history is lawful is that of a run.
 pub over-run : (net : Net) → IsNetwork net → (arrivals : Amounts) (parts : Parts) → AreGoing net arrivals parts → IsLawful net parts.history.items → (run : RunRecord) → IsRecordOf net parts.actors.all.items parts.world run
-    → IsRun net arrivals parts.history.items run
+    → IsRun net (entering arrivals) parts.history.items run
 over-run net network arrivals parts going lawful run left =
     let b = over-between net arrivals parts going (going-last net network arrivals parts no_acting going lawful) in
     record {
       heard = b.heard;
       made = b.made;
-      by = run-by net arrivals b.heard b.made parts.actors.all.items parts.world b.all (λ n a below. (b.rests n a below).records) (λ n a below. (b.rests n a below).line) b.running.commits b.running.second b.running.stands run left;
+      by = run-by net (entering arrivals) b.heard b.made parts.actors.all.items parts.world b.all (λ n a below. (b.rests n a below).records) (λ n a below. (b.rests n a below).line) b.running.commits b.running.second b.running.stands run left;
       along = b.running.along;
     }

@@ -2,7 +2,7 @@
 use Rattle.std.proofs.Common.{◌≡◌, ℕ, suc, ◌+◌, ◌-◌, ◌*◌, ◌<◌, ◌≤◌, Bool, true, false, List, [], ◌∷◌, ◌++◌, length, map, drop, get_or, set, refl, sym, ap, subst, ◌∙◌, inl, inr, arith, append_assoc, length-set, get_or-set_same, get_or-set_other}
 use Rattle.std.proofs.lemmas.Bool.{cases_eq, cases_lt}
 use Rattle.std.proofs.lemmas.List.{drop_all, drop_more, get_or-append_right, get_or-map, length-map, length-drop}
-use Rattle.arrivals.specs.Amounts.{Amounts}
+use Rattle.arrivals.specs.Amounts.{Amounts, entering}
 use Rattle.board_model.specs.declared.boards.Heard.{Heard}
 use Rattle.board_model.specs.declared.forecasts.Row.{Row}
 use Rattle.clusters.specs.Windows.{counts_of}
@@ -140,7 +140,7 @@ module _ (net : Net) (network : IsNetwork net) (arrivals : Amounts) (history : L
       fresh-more : (later node : ℕ) → round < later → seen later node ≡ []
       fresh-more later node more = put-round i.heard round n (i.heard round n ++ h ∷ []) later node (λ e. omega arith) ∙ i.fresh later node more
 
-      others : (made : ℕ → ℕ → Commitment) → SameBefore net network arrivals i.made made round → ((s k : ℕ) → (k ≡ n → ⊥) → i.made s k ≡ made s k) → (new : Acting) (k : ℕ) (d : Acting) → (k ≡ n → ⊥) → k < length net.node_names
+      others : (made : ℕ → ℕ → Commitment) → SameBefore net network (entering arrivals) i.made made round → ((s k : ℕ) → (k ≡ n → ⊥) → i.made s k ≡ made s k) → (new : Acting) (k : ℕ) (d : Acting) → (k ≡ n → ⊥) → k < length net.node_names
           → Plays net arrivals seen made round (count k (i.part ++ n ∷ [])) k (get_or (set actors n new) k d)
       others made before same new k d other inside =
           subst (Plays net arrivals seen made round (count k (i.part ++ n ∷ [])) k) (at-other new k d other)
@@ -150,7 +150,7 @@ module _ (net : Net) (network : IsNetwork net) (arrivals : Amounts) (history : L
       listens : Listens net arrivals seen i.made round (c + 1) n (with_heard h old)
       listens = took net network arrivals i.heard i.made round n below c old h x.listens
 
-      built : (new : Acting) (made : ℕ → ℕ → Commitment) → SameBefore net network arrivals i.made made round → ((s k : ℕ) → (k ≡ n → ⊥) → i.made s k ≡ made s k) → IsRunning net arrivals seen made (history ++ n ∷ []) round boards world
+      built : (new : Acting) (made : ℕ → ℕ → Commitment) → SameBefore net network (entering arrivals) i.made made round → ((s k : ℕ) → (k ≡ n → ⊥) → i.made s k ≡ made s k) → IsRunning net arrivals seen made (history ++ n ∷ []) round boards world
           → Plays net arrivals seen made round (c + 1) n new → InRound net arrivals (history ++ n ∷ []) round (set actors n new) boards world
       built new made before same runs own = record {
         heard = seen;
@@ -296,10 +296,10 @@ module _ (net : Net) (network : IsNetwork net) (arrivals : Amounts) (history : L
       | inr past ↦ (let most = i.within n in omega (arith, ap length (steps-beyond net network n past)))
     ]
 
-    over-commits : Acting → AllCommit net arrivals i.heard i.made (round + 1)
+    over-commits : Acting → AllCommit net (entering arrivals) i.heard i.made (round + 1)
     over-commits d r n less below = elim (cases_lt r round) [
       | inl before ↦ i.running.commits r n before below
-      | inr last ↦ (let e : r ≡ round = omega arith in subst (λ s. Commits net arrivals i.heard i.made s n) (sym e) (over-tells n d below).commits)
+      | inr last ↦ (let e : r ≡ round = omega arith in subst (λ s. Commits net (entering arrivals) i.heard i.made s n) (sym e) (over-tells n d below).commits)
     ]
 
     -- the lines of the nodes show what the world moves by
@@ -312,7 +312,7 @@ module _ (net : Net) (network : IsNetwork net) (arrivals : Amounts) (history : L
     lines-show : Acting → (x n : ℕ) → x < (round + 1) * net.run.step → n < length net.node_names → standing (lines_of actors n) x ≡ shown_by net i.made x n
     lines-show d x n less below =
         ap (λ (l : List Green). standing l x) (line-is n d below)
-        ∙ before-shows net network arrivals (round + 1) i.heard i.made (let z = i.below in omega arith) (over-commits d) x n less below
+        ∙ before-shows net network (entering arrivals) (round + 1) i.heard i.made (let z = i.below in omega arith) (over-commits d) x n less below
 
     pub over-before : Acting → Stands net (arriving_of arrivals) (standing_by (lines_of actors)) world
     over-before d = stands-same net network (arriving_of arrivals) (shown_by net i.made) (standing_by (lines_of actors)) world (λ x n less below. sym (lines-show d x n (earlier x less) below)) i.running.stands

@@ -1,6 +1,6 @@
 -- No public clause names these: what a core keeps between two steps.
 use Rattle.std.specs.Prelude.{◌≡◌, ◌≢◌, ℕ, Bool, false, ◌+◌, ◌-◌, ◌*◌, ◌<◌, ◌≤◌, ◌⊎◌, List, [], ◌∷◌, ◌++◌, Some, drop, length, slice_index_or}
-use Rattle.arrivals.specs.Amounts.{Amounts, AreArrivals}
+use Rattle.arrivals.specs.Amounts.{Amounts, AreArrivals, entering}
 use Rattle.board_model.specs.declared.boards.Heard.{Heard}
 use Rattle.control_flow.specs.Greens.{end_of}
 use Rattle.histories.specs.Histories.{count, version_at, HasRounds}
@@ -31,7 +31,7 @@ telling_first (link ∷ links) = Publish link
 pub record Listens (net : Net) (arrivals : Amounts) (heard : ℕ → ℕ → List Heard) (made : ℕ → ℕ → Commitment) (round done node : ℕ) (a : Acting) : Type 0 where
   pub node_is : a.node ≡ node
   pub round_is : a.round ≡ round
-  pub sensed : a.sensed ≡ sensed_in net arrivals made round node
+  pub sensed : a.sensed ≡ sensed_in net (entering arrivals) made round node
   pub so_far : a.heard ≡ heard round node
   pub count : length a.heard ≡ done
   pub left : a.left ≡ drop done (heard_links net node)
@@ -47,7 +47,7 @@ pub record Hears (net : Net) (arrivals : Amounts) (heard : ℕ → ℕ → List 
 -- It tells: it has committed.
 pub record Tells (net : Net) (arrivals : Amounts) (heard : ℕ → ℕ → List Heard) (made : ℕ → ℕ → Commitment) (round done node : ℕ) (a : Acting) : Type 0 where
   pub enough : length (heard_links net node) ≤ done
-  pub commits : Commits net arrivals heard made round node
+  pub commits : Commits net (entering arrivals) heard made round node
   pub now : a.sensed.now ≡ round * net.run.step
   pub window : a.window ≡ (made round node).window
   pub phases : a.phases ≡ phases_of (made round node).answer
@@ -72,7 +72,7 @@ pub record HasBoards (net : Net) (made : ℕ → ℕ → Commitment) (history : 
 -- What holds of a run whose first rounds are done, whatever its nodes do in the next: their commits, what was heard along the
 -- history, the boards, and the world at the begin of the next round.
 pub record IsRunning (net : Net) (arrivals : Amounts) (heard : ℕ → ℕ → List Heard) (made : ℕ → ℕ → Commitment) (history : List ℕ) (done : ℕ) (boards : List Board) (world : WorldState) : Type 0 where
-  pub commits : AllCommit net arrivals heard made done
+  pub commits : AllCommit net (entering arrivals) heard made done
   pub along : HearAlong net history heard made
   pub boards_are : HasBoards net made history boards
   pub second : world.second ≡ done * net.run.step

@@ -107,10 +107,10 @@ all_planned text_of net arrivals history number round run plan (Ok x) runs among
 all_planned text_of net arrivals history number round run plan (Err e) runs among of_node of_round lawful is = tt
 
 -- every run that is kept is whole
-pub all_whole : {E : Type 0} (net : Net) (arrivals : Amounts) (history : List ℕ) (result : Result RunRecord E) → ((run : RunRecord) → IsRun net arrivals history run → IsComplete net run)
-    → IfOk result (IsKeptRun net arrivals history) → IfOk result (IsComplete net)
-all_whole net arrivals history (Ok run) whole kept = whole run kept.run
-all_whole net arrivals history (Err e) whole kept = tt
+pub all_whole : {E : Type 0} (net : Net) (enters : ℕ → ℕ → ℕ) (history : List ℕ) (result : Result RunRecord E) → ((run : RunRecord) → IsRun net enters history run → IsComplete net run)
+    → IfOk result (IsKeptRun net enters history) → IfOk result (IsComplete net)
+all_whole net enters history (Ok run) whole kept = whole run kept.run
+all_whole net enters history (Err e) whole kept = tt
 
 -- a run of a network has few plans, since the network has few rounds and nodes
 few_pairs : (rounds nodes : ℕ) → length (rounds_and_nodes rounds nodes) ≤ rounds * nodes

@@ -1,6 +1,5 @@
 -- The history that closed boards tell, and its run.
-use Rattle.std.proofs.Common.{◌≡◌, ℕ, List, Vec, Global, Result, Ok, Err, IfOk, refl}
-use Rattle.arrivals.specs.Amounts.{Amounts, entering}
+use Rattle.std.proofs.Common.{◌≡◌, ℕ, List, Vec, Global, Result, Ok, Err, IfOk}
 use Rattle.board_model.specs.Boards.{Log}
 use Rattle.board_rule.specs.Passes.{PassView, AreLogsOfPasses, calls_in}
 use Rattle.net_numbers.specs.Numbers.{Net}
@@ -10,13 +9,11 @@ use Rattle.delay_report.specs.Reports.{records_text, report_text, steps_records}
 use Rattle.network_jobs.specs.Merged.{IsRunOfMerge, IsTextOfMerge}
 
 -- The boards are closed with all passes: the run is that of the merge of their logs.
-pub told : (net : Net) (arrivals : Amounts) (links : ℕ) (passes : List PassView) (logs : List Log) (run : RunRecord)
-    → AreLogsOfPasses links passes logs → MergeToLawful net (calls_in passes) → IsRunOfCalls net arrivals (calls_in passes) run
-    → IsRunOfMerge net (entering arrivals) logs run
-told net arrivals links passes logs run closed lawful is_run history merge = record {
+pub told : (net : Net) (enters : ℕ → ℕ → ℕ) (links : ℕ) (passes : List PassView) (logs : List Log) (run : RunRecord)
+    → AreLogsOfPasses links passes logs → MergeToLawful net (calls_in passes) → IsRunOfCalls net enters (calls_in passes) run
+    → IsRunOfMerge net enters logs run
+told net enters links passes logs run closed lawful is_run history merge = record {
   lawful = lawful logs history closed.made merge;
-  arrivals = arrivals;
-  bring = refl;
   kept = is_run logs history closed.made closed.agree merge;
 }
 

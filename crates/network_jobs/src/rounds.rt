@@ -61,7 +61,7 @@ fn run_with_passes<R: Threads + Wait + Sync, G: Gate + Sync>(
     requires left { HaveCallsLeft net.now passes.items }
     ensures passes { IfOk result (λ r. AreAllPasses boards.now r.1.items) }
     ensures lawful { IfOk result (λ r. MergeToLawful net.now (calls_in r.1.items)) }
-    ensures run { IfOk result (λ r. IsRunOfCalls net.now arrivals.now (calls_in r.1.items) r.0) }
+    ensures run { IfOk result (λ r. IsRunOfCalls net.now (entering arrivals.now) (calls_in r.1.items) r.0) }
 {
     let planners = BoundPlanner::many(alloc, net.nodes() as usize)?;
     let mut passes = passes;

@@ -1,6 +1,5 @@
 -- What the calls of the passes tell of a run in threads.
 use Rattle.std.specs.Prelude.{◌≡◌, ℕ, ◌*◌, ◌/◌, ◌≤◌, false, IfSome, Some, List, Contains, length, map, slice_get}
-use Rattle.arrivals.specs.Amounts.{Amounts}
 use Rattle.board_model.specs.Boards.{Log}
 use Rattle.board_model.specs.Calls.{Agree, AreLogsOf, log_at}
 use Rattle.board_model.specs.declared.calls.Call.{Call}
@@ -28,9 +27,9 @@ abbrev pub MergeToLawful : Net → (ℕ → List Call) → Type 0
 MergeToLawful net calls = (logs : List Log) (history : List ℕ) → AreLogsOf calls (log_at logs) → IsMerge logs history → IsLawful net history
 
 -- where the logs of these calls agree with them, this is the run of their merge, with all that a run keeps
-abbrev pub IsRunOfCalls : Net → Amounts → (ℕ → List Call) → RunRecord → Type 0
-IsRunOfCalls net arrivals calls run = (logs : List Log) (history : List ℕ) → AreLogsOf calls (log_at logs) → Agree calls (log_at logs) → IsMerge logs history
-    → IsKeptRun net arrivals history run
+abbrev pub IsRunOfCalls : Net → (ℕ → ℕ → ℕ) → (ℕ → List Call) → RunRecord → Type 0
+IsRunOfCalls net enters calls run = (logs : List Log) (history : List ℕ) → AreLogsOf calls (log_at logs) → Agree calls (log_at logs) → IsMerge logs history
+    → IsKeptRun net enters history run
 
 -- each pass has at least as many calls left as its node has board steps in all rounds
 abbrev pub HaveCallsLeft : Net → List PassView → Type 0

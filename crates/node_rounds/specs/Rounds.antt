@@ -1,6 +1,6 @@
 -- How far the nodes are between the rounds, and what a round of all nodes is.
 use Rattle.std.specs.Prelude.{◌≡◌, ℕ, zero, suc, ◌-◌, ◌*◌, ◌<◌, ◌≤◌, List, [], ◌++◌, All, length, map, slice_index_or}
-use Rattle.arrivals.specs.Amounts.{Amounts}
+use Rattle.arrivals.specs.Amounts.{Amounts, entering}
 use Rattle.atomic_table.specs.Seated.{TableId}
 use Rattle.board_model.specs.declared.boards.Heard.{Heard}
 use Rattle.board_model.specs.declared.calls.Call.{Call}
@@ -68,7 +68,7 @@ pub record Between (net : Net) (arrivals : Amounts) (boards : BoardsView) (round
   pub made : ℕ → ℕ → Commitment
   pub mark : ℕ
   pub most : round ≤ net.run.rounds
-  pub commits : AllCommit net arrivals heard made round
+  pub commits : AllCommit net (entering arrivals) heard made round
   pub second : world.second ≡ round * net.run.step
   pub stands : Stands net (arriving_of arrivals) (shown_by net made) world
   pub all : length actors ≡ length net.node_names

@@ -1,24 +1,22 @@
 -- The record of what actors and a world hold after the last round is that of their commits.
 use Rattle.std.proofs.Common.{◌≡◌, ℕ, ◌+◌, ◌*◌, ◌<◌, List, length, map, get_or, ap, ◌∙◌, arith}
 use Rattle.std.specs.List.{range_with_len}
-use Rattle.arrivals.specs.Amounts.{Amounts}
 use Rattle.board_model.specs.declared.boards.Heard.{Heard}
 use Rattle.intersection_actor.specs.Acting.{Acting}
 use Rattle.intersection_actor.specs.Commits.{Commitment, record_of}
 use Rattle.intersection_actor.specs.declared.records.PlanRecord.{PlanRecord}
 use Rattle.net_numbers.specs.Numbers.{Net}
-use Rattle.net_simulator.specs.Arriving.{arriving_of}
 use Rattle.net_simulator.specs.Counts.{counts_at}
 use Rattle.net_simulator.specs.Flow.{past_of}
 use Rattle.net_simulator.specs.Sums.{link_totals, totals}
 use Rattle.net_simulator.specs.Worlds.{WorldState, Stands}
-use Rattle.runs.specs.Runs.{AllCommit, IsRunBy, line_before, shown_by}
+use Rattle.runs.specs.Runs.{AllCommit, IsRunBy, arriving_by, line_before, shown_by}
 use Rattle.runs.specs.declared.records.RunRecord.{RunRecord}
 use Rattle.runs.proofs.Past.{map-range-same}
 use Rattle.runs.specs.Ending.{IsRecordOf, records_in, round_by_round}
 use Rattle.runs.proofs.Queues.{columns, map-by}
 
-module _ (net : Net) (arrivals : Amounts) (heard : ℕ → ℕ → List Heard) (made : ℕ → ℕ → Commitment) (actors : List Acting) (world : WorldState) where
+module _ (net : Net) (enters : ℕ → ℕ → ℕ) (heard : ℕ → ℕ → List Heard) (made : ℕ → ℕ → Commitment) (actors : List Acting) (world : WorldState) where
   abbrev rounds : ℕ
   rounds = net.run.rounds
 
@@ -29,8 +27,8 @@ module _ (net : Net) (arrivals : Amounts) (heard : ℕ → ℕ → List Heard) (
   row node = map (table node) (range_with_len 0 rounds)
 
   pub run-by : length actors ≡ length net.node_names → ((node : ℕ) (a : Acting) → node < length net.node_names → (get_or actors node a).records ≡ row node)
-      → ((node : ℕ) (a : Acting) → node < length net.node_names → (get_or actors node a).line ≡ line_before net made rounds node) → AllCommit net arrivals heard made rounds
-      → world.second ≡ rounds * net.run.step → Stands net (arriving_of arrivals) (shown_by net made) world → (run : RunRecord) → IsRecordOf net actors world run → IsRunBy net arrivals heard made run
+      → ((node : ℕ) (a : Acting) → node < length net.node_names → (get_or actors node a).line ≡ line_before net made rounds node) → AllCommit net enters heard made rounds
+      → world.second ≡ rounds * net.run.step → Stands net (arriving_by enters) (shown_by net made) world → (run : RunRecord) → IsRecordOf net actors world run → IsRunBy net enters heard made run
   run-by all records lines commits second stands run left = record {
     commits = commits;
     plans = left.plans ∙ ap (round_by_round rounds) all-records ∙ columns table rounds (range_with_len 0 (length net.node_names));
@@ -40,9 +38,9 @@ module _ (net : Net) (arrivals : Amounts) (heard : ℕ → ℕ → List Heard) (
         ∙ ap (λ n. map (line_before net made rounds) (range_with_len 0 n)) all;
     links =
         left.links
-        ∙ map-range-same (counts_at world.counts) (link_totals net (past_of net (arriving_of arrivals) (shown_by net made) (rounds * net.run.step)) (rounds * net.run.step)) 0 (length net.link_names)
-        (λ k least most. stands.counts k (omega arith) ∙ ap (λ s. link_totals net (past_of net (arriving_of arrivals) (shown_by net made) s) s k) second);
-    all = left.totals ∙ stands.totals ∙ ap (λ s. totals net (arriving_of arrivals) (past_of net (arriving_of arrivals) (shown_by net made) s) s) second;
+        ∙ map-range-same (counts_at world.counts) (link_totals net (past_of net (arriving_by enters) (shown_by net made) (rounds * net.run.step)) (rounds * net.run.step)) 0 (length net.link_names)
+        (λ k least most. stands.counts k (omega arith) ∙ ap (λ s. link_totals net (past_of net (arriving_by enters) (shown_by net made) s) s k) second);
+    all = left.totals ∙ stands.totals ∙ ap (λ s. totals net (arriving_by enters) (past_of net (arriving_by enters) (shown_by net made) s) s) second;
   }
     where
       all-records : records_in actors ≡ map row (range_with_len 0 (length net.node_names))

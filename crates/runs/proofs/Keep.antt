@@ -4,7 +4,6 @@ use Rattle.std.specs.Option.{option_map}
 use Rattle.std.proofs.lemmas.Bool.{cond_both, leb-true}
 use Rattle.std.proofs.lemmas.List.{length-map}
 use Rattle.std.proofs.lemmas.Option.{none-some, same_Some}
-use Rattle.arrivals.specs.Amounts.{Amounts}
 use Rattle.board_model.specs.declared.boards.Heard.{Heard}
 use Rattle.clusters.specs.Sound.{ArePlannable, cluster_lists, clusters_of}
 use Rattle.control_flow.specs.Greens.{BeginBy, GoesOn, IsContinued, IsGreen, IsLawful, head_at, head_in, row_after, standing}
@@ -130,7 +129,7 @@ module _ (net : Net) (network : IsNetwork net) (node : ℕ) (below : node < leng
     pub same-past : (second : ℕ) → second < sensed.now → standing c.line second ≡ standing old second
     same-past = goes-on.past
 
-module _ (net : Net) (network : IsNetwork net) (arrivals : Amounts) (heard : ℕ → ℕ → List Heard) (made : ℕ → ℕ → Commitment) (rounds : ℕ) (few : rounds ≤ net.run.rounds) (commits : AllCommit net arrivals heard made rounds) where
+module _ (net : Net) (network : IsNetwork net) (enters : ℕ → ℕ → ℕ) (heard : ℕ → ℕ → List Heard) (made : ℕ → ℕ → Commitment) (rounds : ℕ) (few : rounds ≤ net.run.rounds) (commits : AllCommit net enters heard made rounds) where
   early : (r : ℕ) → r < rounds → r * net.run.step ≤ 18000
   early r less =
       let step = network.outline.run.step.1 in
@@ -143,13 +142,13 @@ module _ (net : Net) (network : IsNetwork net) (arrivals : Amounts) (heard : ℕ
   pub line-is : (r : ℕ) → r ≤ rounds → (node : ℕ) → node < length net.node_names → IsLine (plan_at net node) (line_before net made r node)
   line-is zero most node below = first-line net network node below
   line-is (suc r) most node below =
-      new-line net network node below r (line_before net made r node) (sensed_in net arrivals made r node) (heard r node) (made r node) (early r (omega arith)) (line-is r (omega arith) node below) (commits r node (omega arith) below).commit
+      new-line net network node below r (line_before net made r node) (sensed_in net enters made r node) (heard r node) (made r node) (early r (omega arith)) (line-is r (omega arith) node below) (commits r node (omega arith) below).commit
 
   pub all-keep : AllKeep net made rounds
   all-keep r node less below =
       let line = line-is r (omega arith) node below in
       let c = (commits r node less below).commit in
       record {
-        lawful = (new-line net network node below r (line_before net made r node) (sensed_in net arrivals made r node) (heard r node) (made r node) (early r less) line c).lawful;
-        past = same-past net network node below r (line_before net made r node) (sensed_in net arrivals made r node) (heard r node) (made r node) (early r less) line c;
+        lawful = (new-line net network node below r (line_before net made r node) (sensed_in net enters made r node) (heard r node) (made r node) (early r less) line c).lawful;
+        past = same-past net network node below r (line_before net made r node) (sensed_in net enters made r node) (heard r node) (made r node) (early r less) line c;
       }

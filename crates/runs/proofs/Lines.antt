@@ -6,7 +6,6 @@ use Rattle.std.proofs.lemmas.List.{get_or_default}
 use Rattle.std.proofs.lemmas.List.Elements.{All-get_or}
 use Rattle.std.proofs.lemmas.List.FromFn.{get_or-map-range_with_len}
 use Rattle.std.proofs.lemmas.Nat.{le-div}
-use Rattle.arrivals.specs.Amounts.{Amounts}
 use Rattle.board_model.specs.declared.boards.Heard.{Heard}
 use Rattle.control_flow.specs.Greens.{AreApart, IsGreen, IsLawful, covers, no_green, row_at, standing}
 use Rattle.control_flow.specs.declared.greens.Green.{Green}
@@ -128,8 +127,8 @@ module _ (net : Net) (network : IsNetwork net) (made : ℕ → ℕ → Commitmen
   lawful-after (suc r) some most node below = (keep r node (omega arith) below).lawful
 
 -- the last line of a node is that after the last round
-pub last-is : (net : Net) (arrivals : Amounts) (heard : ℕ → ℕ → List Heard) (made : ℕ → ℕ → Commitment) (run : RunRecord) → IsRunBy net arrivals heard made run → (node : ℕ) → node < length net.node_names
+pub last-is : (net : Net) (enters : ℕ → ℕ → ℕ) (heard : ℕ → ℕ → List Heard) (made : ℕ → ℕ → Commitment) (run : RunRecord) → IsRunBy net enters heard made run → (node : ℕ) → node < length net.node_names
     → last_line run node ≡ line_before net made net.run.rounds node
-last-is net arrivals heard made run by node below =
+last-is net enters heard made run by node below =
     ap (λ (l : List (List Green)). get_or l node []) by.timelines
     ∙ get_or-map-range_with_len (line_before net made net.run.rounds) 0 (length net.node_names) node node [] below (omega arith)

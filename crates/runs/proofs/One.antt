@@ -4,7 +4,6 @@ use Rattle.std.specs.Prelude.{IsSome}
 use Rattle.std.specs.List.{range_with_len}
 use Rattle.std.proofs.lemmas.Bool.{cases_lt}
 use Rattle.std.proofs.lemmas.List.{ext_get_or}
-use Rattle.arrivals.specs.Amounts.{Amounts}
 use Rattle.board_model.specs.declared.boards.Heard.{Heard}
 use Rattle.board_model.specs.declared.forecasts.Row.{Row}
 use Rattle.histories.specs.Histories.{IsLawful, version_at}
@@ -12,11 +11,10 @@ use Rattle.histories.specs.Steps.{board_steps}
 use Rattle.histories.proofs.Versions.{version-law}
 use Rattle.intersection_actor.specs.Commits.{record_of}
 use Rattle.net_numbers.specs.Numbers.{Net}
-use Rattle.net_simulator.specs.Arriving.{arriving_of}
 use Rattle.net_simulator.specs.Flow.{Passed}
 use Rattle.net_simulator.specs.Sums.{link_totals, totals}
 use Rattle.road_net.specs.Network.{IsNetwork, heard_links}
-use Rattle.runs.specs.Runs.{IsRun, end_of_run, forecast_at, hearing, line_before, past_by, plans_in, plans_of, sensed_in, told_in}
+use Rattle.runs.specs.Runs.{IsRun, arriving_by, end_of_run, forecast_at, hearing, line_before, past_by, plans_in, plans_of, sensed_in, told_in}
 use Rattle.runs.specs.declared.records.RunRecord.{RunRecord}
 use Rattle.runs.proofs.Agree.{SameBefore, commit-moved, lines-same, past-same}
 use Rattle.runs.proofs.Committed.{one-commit}
@@ -24,9 +22,9 @@ use Rattle.runs.proofs.Heard.{Ends, heard-at, heard-count, heard-ends}
 use Rattle.runs.proofs.Past.{flat-range-same, map-range-same}
 use Rattle.runs.proofs.Places.{StandsAt, comes-first, first-small, place-of, published}
 
-module _ (net : Net) (network : IsNetwork net) (arrivals : Amounts) (h : List ℕ) (lawful : IsLawful net h) (one other : RunRecord) (a : IsRun net arrivals h one) (b : IsRun net arrivals h other) where
+module _ (net : Net) (network : IsNetwork net) (enters : ℕ → ℕ → ℕ) (h : List ℕ) (lawful : IsLawful net h) (one other : RunRecord) (a : IsRun net enters h one) (b : IsRun net enters h other) where
   abbrev Same : ℕ → Type 0
-  Same r = SameBefore net network arrivals a.made b.made r
+  Same r = SameBefore net network enters a.made b.made r
 
   -- a node hears the same version at a place, and here the same forecast
   HearsSame : ℕ → ℕ → Type 0
@@ -37,21 +35,21 @@ module _ (net : Net) (network : IsNetwork net) (arrivals : Amounts) (h : List �
   heard-same : (r n : ℕ) → r < net.run.rounds → n < length net.node_names → HearsSame r n → a.heard r n ≡ b.heard r n
   unfolding HearsSame
   heard-same r n less below same =
-      let left : length (a.heard r n) ≡ length (heard_links net n) = heard-count net arrivals h a.heard a.made net.run.rounds a.by.commits a.along r n less below in
-      let right : length (b.heard r n) ≡ length (heard_links net n) = heard-count net arrivals h b.heard b.made net.run.rounds b.by.commits b.along r n less below in
+      let left : length (a.heard r n) ≡ length (heard_links net n) = heard-count net enters h a.heard a.made net.run.rounds a.by.commits a.along r n less below in
+      let right : length (b.heard r n) ≡ length (heard_links net n) = heard-count net enters h b.heard b.made net.run.rounds b.by.commits b.along r n less below in
       let none : Heard = hearing net a.made 0 0 in
       ext_get_or none (a.heard r n) (b.heard r n) (left ∙ sym right) (λ q inside.
       let first : q < length (heard_links net n) = omega arith in
       let l : ℕ = get_or (heard_links net n) q 0 in
       let (place, at) = place-of net network h lawful r n q less (first-small net n q first) in
-      heard-at net arrivals h a.heard a.made net.run.rounds a.by.commits a.along r n q place less below first at none
+      heard-at net enters h a.heard a.made net.run.rounds a.by.commits a.along r n q place less below first at none
       ∙ ap (λ (f : List Row). record { link = l; version = version_at (board_steps net) h l place; forecast = f }) (same q place first at)
-      ∙ sym (heard-at net arrivals h b.heard b.made net.run.rounds b.by.commits b.along r n q place less below first at none))
+      ∙ sym (heard-at net enters h b.heard b.made net.run.rounds b.by.commits b.along r n q place less below first at none))
 
   commit-same : (r n : ℕ) → r < net.run.rounds → n < length net.node_names → Same r → HearsSame r n → a.made r n ≡ b.made r n
   commit-same r n less below before same =
-      one-commit net n r (line_before net b.made r n) (sensed_in net arrivals b.made r n) (b.heard r n) (a.made r n) (b.made r n)
-      (commit-moved net network arrivals a.made b.made r n (a.heard r n) (b.heard r n) (a.made r n) before below (heard-same r n less below same) (a.by.commits r n less below).commit)
+      one-commit net n r (line_before net b.made r n) (sensed_in net enters b.made r n) (b.heard r n) (a.made r n) (b.made r n)
+      (commit-moved net network enters a.made b.made r n (a.heard r n) (b.heard r n) (a.made r n) before below (heard-same r n less below same) (a.by.commits r n less below).commit)
       (b.by.commits r n less below).commit
 
   -- The reads of a node in a round, where the nodes whose reads of the round all stand before one of its own commit the same.
@@ -111,9 +109,9 @@ module _ (net : Net) (network : IsNetwork net) (arrivals : Amounts) (h : List �
   -- the records are the same
   pub one-run : one ≡ other
   one-run =
-      let past : past_by net arrivals a.made (end_of_run net) ≡ past_by net arrivals b.made (end_of_run net) = past-same net network arrivals a.made b.made net.run.rounds every in
+      let past : past_by net enters a.made (end_of_run net) ≡ past_by net enters b.made (end_of_run net) = past-same net network enters a.made b.made net.run.rounds every in
       let plans = a.by.plans ∙ plans-same ∙ sym b.by.plans in
-      let timelines = a.by.timelines ∙ map-range-same (line_before net a.made net.run.rounds) (line_before net b.made net.run.rounds) 0 (length net.node_names) (λ n least below. lines-same net network arrivals a.made b.made net.run.rounds n every (omega arith)) ∙ sym b.by.timelines in
+      let timelines = a.by.timelines ∙ map-range-same (line_before net a.made net.run.rounds) (line_before net b.made net.run.rounds) 0 (length net.node_names) (λ n least below. lines-same net network enters a.made b.made net.run.rounds n every (omega arith)) ∙ sym b.by.timelines in
       let links = a.by.links ∙ ap (λ (p : ℕ → ℕ → Passed). map (link_totals net p (end_of_run net)) (range_with_len 0 (length net.link_names))) past ∙ sym b.by.links in
-      let all = a.by.all ∙ ap (λ (p : ℕ → ℕ → Passed). totals net (arriving_of arrivals) p (end_of_run net)) past ∙ sym b.by.all in
+      let all = a.by.all ∙ ap (λ (p : ℕ → ℕ → Passed). totals net (arriving_by enters) p (end_of_run net)) past ∙ sym b.by.all in
       λ i. record { plans = plans i; timelines = timelines i; links = links i; totals = all i }

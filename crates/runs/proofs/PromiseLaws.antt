@@ -1,7 +1,6 @@
 -- What every run keeps.
 use Rattle.std.proofs.Common.{◌≡◌, ℕ, ◌<◌, List, All, length, sym, ap, subst, ◌∙◌, arith}
 use Rattle.std.proofs.lemmas.Nat.{div_below}
-use Rattle.arrivals.specs.Amounts.{Amounts}
 use Rattle.control_flow.specs.Greens.{IsLawful as IsLawfulLine, standing}
 use Rattle.control_flow.specs.declared.greens.Green.{Green}
 use Rattle.histories.specs.Histories.{IsLawful}
@@ -17,19 +16,19 @@ use Rattle.runs.specs.declared.records.RunRecord.{RunRecord}
 use Rattle.runs.proofs.Lines.{AllKeep, last-is, lawful-after, safe, shows}
 use Rattle.runs.proofs.PlanLaws.{all-least, all-named, all-planned, never-older}
 
-module _ (net : Net) (network : IsNetwork net) (arrivals : Amounts) (h : List ℕ) (lawful : IsLawful net h) (run : RunRecord) (is : IsRun net arrivals h run) (keep : AllKeep net is.made net.run.rounds) where
+module _ (net : Net) (network : IsNetwork net) (enters : ℕ → ℕ → ℕ) (h : List ℕ) (lawful : IsLawful net h) (run : RunRecord) (is : IsRun net enters h run) (keep : AllKeep net is.made net.run.rounds) where
   line-is : (node : ℕ) → node < length net.node_names → last_line run node ≡ line_before net is.made net.run.rounds node
-  line-is node below = last-is net arrivals is.heard is.made run is.by node below
+  line-is node below = last-is net enters is.heard is.made run is.by node below
 
   lawful-line : (node : ℕ) → node < length net.node_names → IsLawfulLine (plan_at net node) (last_line run node)
   lawful-line node below = subst (IsLawfulLine (plan_at net node)) (sym (line-is node below)) (lawful-after net network is.made net.run.rounds keep net.run.rounds (network.outline.run.rounds.0) (omega arith) node below)
 
-  pub kept : KeepsPromises net arrivals h is.made run
+  pub kept : KeepsPromises net enters h is.made run
   kept = record {
-    named = subst (All (NamesVersions net h)) (sym is.by.plans) (all-named net network arrivals h lawful is.heard is.made is.by.commits is.along);
-    newer = subst NeverOlder (sym is.by.plans) (never-older net network arrivals h lawful is.heard is.made is.by.commits is.along);
-    planned = subst (All (IsPlannedFrom net arrivals is.made)) (sym is.by.plans) (all-planned net network arrivals h lawful is.heard is.made is.by.commits is.along);
-    least = subst (All (λ (p : PlanRecord). IsLeast p.instance p.answer)) (sym is.by.plans) (all-least net network arrivals h lawful is.heard is.made is.by.commits is.along);
+    named = subst (All (NamesVersions net h)) (sym is.by.plans) (all-named net network enters h lawful is.heard is.made is.by.commits is.along);
+    newer = subst NeverOlder (sym is.by.plans) (never-older net network enters h lawful is.heard is.made is.by.commits is.along);
+    planned = subst (All (IsPlannedFrom net enters is.made)) (sym is.by.plans) (all-planned net network enters h lawful is.heard is.made is.by.commits is.along);
+    least = subst (All (λ (p : PlanRecord). IsLeast p.instance p.answer)) (sym is.by.plans) (all-least net network enters h lawful is.heard is.made is.by.commits is.along);
     lawful = lawful-line;
     safe = safe net network (last_line run) lawful-line;
     greens = λ second node before below. ap (λ (l : List Green). standing l second) (line-is node below) ∙ shows net network is.made net.run.rounds keep net.run.rounds (omega arith) second node below (div_below second net.run.step net.run.rounds network.outline.run.step.0 before);

@@ -3,7 +3,6 @@ use Rattle.std.proofs.Common.{◌≡◌, ℕ, ◌+◌, ◌*◌, ◌<◌, ◌≤�
 use Rattle.std.proofs.lemmas.Bool.{cases_lt}
 use Rattle.std.proofs.lemmas.List.{get_or_append_left, get_or_push, length_push}
 use Rattle.std.proofs.lemmas.Nat.{div_below}
-use Rattle.arrivals.specs.Amounts.{Amounts}
 use Rattle.board_model.specs.declared.boards.Heard.{Heard}
 use Rattle.control_flow.specs.Greens.{end_of, standing}
 use Rattle.intersection_actor.specs.Acting.{Acting}
@@ -11,13 +10,12 @@ use Rattle.intersection_actor.specs.Commits.{Commitment, record_of}
 use Rattle.intersection_actor.specs.Rounds.{IsNew, IsOf}
 use Rattle.intersection_actor.specs.declared.records.Want.TheVariants.{Done}
 use Rattle.net_numbers.specs.Numbers.{Net}
-use Rattle.net_simulator.specs.Arriving.{arriving_of}
 use Rattle.net_simulator.specs.Flow.{Passed, past_of}
 use Rattle.net_simulator.specs.Senses.{sense}
 use Rattle.net_simulator.specs.Sums.{link_totals, totals}
 use Rattle.net_simulator.specs.Worlds.{Keeps, WorldState, Stands, standing_by}
 use Rattle.road_net.specs.Network.{IsNetwork}
-use Rattle.runs.specs.Runs.{AllCommit, line_before, sensed_in, shown_by}
+use Rattle.runs.specs.Runs.{AllCommit, arriving_by, line_before, sensed_in, shown_by}
 use Rattle.runs.proofs.Keep.{all-keep}
 use Rattle.runs.proofs.Lines.{shows}
 use Rattle.runs.proofs.Past.{map-range-same, past-at-nodes}
@@ -58,20 +56,20 @@ pub records-same : (heard seen : ℕ → ℕ → List Heard) (made other : ℕ �
 records-same heard seen made other n r h m = map-range-same (λ s. record_of n s (heard s n) (made s n)) (λ s. record_of n s (seen s n) (other s n)) 0 r (λ s least less. ap (λ (x : List Heard). record_of n s x (made s n)) (h s (omega arith)) ∙ ap (record_of n s (seen s n)) (m s (omega arith)))
 
 -- the lines before a round show what the world moved by
-module _ (net : Net) (network : IsNetwork net) (arrivals : Amounts) (round : ℕ) (heard : ℕ → ℕ → List Heard) (made : ℕ → ℕ → Commitment) (most : round ≤ net.run.rounds) (commits : AllCommit net arrivals heard made round) where
+module _ (net : Net) (network : IsNetwork net) (enters : ℕ → ℕ → ℕ) (round : ℕ) (heard : ℕ → ℕ → List Heard) (made : ℕ → ℕ → Commitment) (most : round ≤ net.run.rounds) (commits : AllCommit net enters heard made round) where
   pub before-shows : (x node : ℕ) → x < round * net.run.step → node < length net.node_names → standing (line_before net made round node) x ≡ shown_by net made x node
-  before-shows x node less below = shows net network made round (all-keep net network arrivals heard made round most commits) round (omega arith) x node below (div_below x net.run.step round network.outline.run.step.0 less)
+  before-shows x node less below = shows net network made round (all-keep net network enters heard made round most commits) round (omega arith) x node below (div_below x net.run.step round network.outline.run.step.0 less)
 
-  pub before-stands : (world : WorldState) → world.second ≡ round * net.run.step → Stands net (arriving_of arrivals) (shown_by net made) world → Stands net (arriving_of arrivals) (standing_by (line_before net made round)) world
-  before-stands world second stands = stands-same net network (arriving_of arrivals) (shown_by net made) (standing_by (line_before net made round)) world
+  pub before-stands : (world : WorldState) → world.second ≡ round * net.run.step → Stands net (arriving_by enters) (shown_by net made) world → Stands net (arriving_by enters) (standing_by (line_before net made round)) world
+  before-stands world second stands = stands-same net network (arriving_by enters) (shown_by net made) (standing_by (line_before net made round)) world
       (λ x node less below. sym (before-shows x node (omega (arith, second)) below)) stands
 
   -- what a node senses of such a world
   pub sense-is : (world : WorldState) → world.second ≡ round * net.run.step → (n : ℕ)
-      → sense net (past_of net (arriving_of arrivals) (standing_by (line_before net made round)) world.second) world.second n ≡ sensed_in net arrivals made round n
+      → sense net (past_of net (arriving_by enters) (standing_by (line_before net made round)) world.second) world.second n ≡ sensed_in net enters made round n
   sense-is world second n =
-      ap (λ s. sense net (past_of net (arriving_of arrivals) (standing_by (line_before net made round)) s) s n) second
-      ∙ ap (λ (p : ℕ → ℕ → Passed). sense net p (round * net.run.step) n) (past-at-nodes net network (arriving_of arrivals) (standing_by (line_before net made round)) (shown_by net made) (round * net.run.step) (λ x node less below. before-shows x node less below))
+      ap (λ s. sense net (past_of net (arriving_by enters) (standing_by (line_before net made round)) s) s n) second
+      ∙ ap (λ (p : ℕ → ℕ → Passed). sense net p (round * net.run.step) n) (past-at-nodes net network (arriving_by enters) (standing_by (line_before net made round)) (shown_by net made) (round * net.run.step) (λ x node less below. before-shows x node less below))
 
 pub zero-times : (s : ℕ) → 0 ≡ 0 * s
 zero-times s = omega arith

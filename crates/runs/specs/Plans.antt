@@ -1,6 +1,5 @@
 -- The plan records of a run by themselves.
 use Rattle.std.specs.Prelude.{◌≡◌, ℕ, ◌*◌, ◌<◌, ◌≤◌, List, Contains, Some, length, map, slice_index}
-use Rattle.arrivals.specs.Amounts.{Amounts}
 use Rattle.board_model.specs.declared.boards.Heard.{Heard}
 use Rattle.clusters.specs.Platoons.{ArePlatoonsOf}
 use Rattle.clusters.specs.Sound.{cluster_lists}
@@ -44,11 +43,11 @@ heard_by net made plan = map (λ (u : Used). hearing net made u.link u.version) 
 -- The instance of a plan is that of just the versions that it names: it has the phases of the node, the head that the node's line
 -- has when the round begins, and the clusters of the window of the platoons that are expected from what the node senses then and
 -- from the forecasts of those versions.
-pub record IsPlannedFrom (net : Net) (arrivals : Amounts) (made : ℕ → ℕ → Commitment) (plan : PlanRecord) : Type 0 where
+pub record IsPlannedFrom (net : Net) (enters : ℕ → ℕ → ℕ) (made : ℕ → ℕ → Commitment) (plan : PlanRecord) : Type 0 where
   pub head : Head
   pub platoons : List (List Platoon)
   pub window : Window
   pub at : head_at (plan_at net plan.node) (line_before net made plan.round plan.node) (plan.round * net.run.step) ≡ Some head
-  pub expected : ArePlatoonsOf net plan.node (sensed_in net arrivals made plan.round plan.node) (heard_by net made plan) platoons
+  pub expected : ArePlatoonsOf net plan.node (sensed_in net enters made plan.round plan.node) (heard_by net made plan) platoons
   pub taken : IsWindow platoons window
   pub instance : plan.instance ≡ record { plan = plan_at net plan.node; head = head; lists = cluster_lists window.lists }

@@ -1,6 +1,5 @@
 -- What every run keeps.
 use Rattle.std.specs.Prelude.{◌≡◌, ℕ, ◌<◌, List, [], All, length, slice_index_or}
-use Rattle.arrivals.specs.Amounts.{Amounts}
 use Rattle.control_flow.specs.Greens.{IsLawful, standing}
 use Rattle.control_flow.specs.declared.greens.Green.{Green}
 use Rattle.intersection_actor.specs.Commits.{Commitment}
@@ -23,16 +22,16 @@ last_line run node = slice_index_or run.timelines node []
 -- no sequence of that instance has less delay, and there is no plan only where no sequence is feasible;
 -- the last lines are lawful, no two links in conflict are ever green together, and in each second of the run the last lines show
 -- the greens, with the same begin, by which the world moved.
-pub record KeepsPromises (net : Net) (arrivals : Amounts) (history : List ℕ) (made : ℕ → ℕ → Commitment) (run : RunRecord) : Type 0 where
+pub record KeepsPromises (net : Net) (enters : ℕ → ℕ → ℕ) (history : List ℕ) (made : ℕ → ℕ → Commitment) (run : RunRecord) : Type 0 where
   pub named : All (NamesVersions net history) run.plans
   pub newer : NeverOlder run.plans
-  pub planned : All (IsPlannedFrom net arrivals made) run.plans
+  pub planned : All (IsPlannedFrom net enters made) run.plans
   pub least : All (λ plan. IsLeast plan.instance plan.answer) run.plans
   pub lawful : (node : ℕ) → node < length net.node_names → IsLawful (plan_at net node) (last_line run node)
   pub safe : IsSafe net (last_line run)
   pub greens : (second node : ℕ) → second < end_of_run net → node < length net.node_names → standing (last_line run node) second ≡ shown_by net made second node
 
 -- the run of a history, with all that it keeps
-pub record IsKeptRun (net : Net) (arrivals : Amounts) (history : List ℕ) (record_of_run : RunRecord) : Type 0 where
-  pub run : IsRun net arrivals history record_of_run
-  pub kept : KeepsPromises net arrivals history run.made record_of_run
+pub record IsKeptRun (net : Net) (enters : ℕ → ℕ → ℕ) (history : List ℕ) (record_of_run : RunRecord) : Type 0 where
+  pub run : IsRun net enters history record_of_run
+  pub kept : KeepsPromises net enters history run.made record_of_run

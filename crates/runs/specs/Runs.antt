@@ -1,7 +1,6 @@
 -- A run: what each node makes in each round, from what it senses and hears, and the record of it.
 use Rattle.std.specs.Prelude.{◌≡◌, ℕ, zero, suc, ◌*◌, ◌/◌, ◌<◌, List, [], Option, Contains, length, map, slice_index}
 use Rattle.std.specs.List.{flat_map, range_with_len}
-use Rattle.arrivals.specs.Amounts.{Amounts}
 use Rattle.board_model.specs.declared.boards.Heard.{Heard}
 use Rattle.board_model.specs.declared.forecasts.Row.{Row}
 use Rattle.clusters.specs.Inflow.{IsHeardOf}
@@ -17,7 +16,6 @@ use Rattle.intersection_actor.specs.Rounds.{first_head}
 use Rattle.intersection_actor.specs.declared.records.PlanRecord.{PlanRecord}
 use Rattle.net_numbers.specs.Numbers.{Net}
 use Rattle.net_numbers.specs.Outline.{plan_at}
-use Rattle.net_simulator.specs.Arriving.{arriving_of}
 use Rattle.net_simulator.specs.Flow.{Passed, past_of}
 use Rattle.net_simulator.specs.Senses.{sense}
 use Rattle.net_simulator.specs.Sums.{link_totals, totals}
@@ -25,7 +23,8 @@ use Rattle.outflow.specs.Outflow.{departures, told_forecast}
 use Rattle.road_net.specs.declared.senses.Sensed.{Sensed}
 use Rattle.runs.specs.declared.records.RunRecord.{RunRecord}
 
--- Below, `made round node` is the commit of a node in a round, and `heard round node` what the node has heard in it.
+-- Below, `enters link second` is what enters a link in a second, `made round node` is the commit of a node in a round, and
+-- `heard round node` what the node has heard in it.
 
 -- the line of a node before a round: at first the ring turns from second 0, and then it is that of the commit of the round before
 abbrev pub line_before : Net → (ℕ → ℕ → Commitment) → ℕ → ℕ → List Green
@@ -36,13 +35,17 @@ line_before net made (suc round) node = (made round node).line
 abbrev pub shown_by : Net → (ℕ → ℕ → Commitment) → ℕ → ℕ → Option (ℕ × ℕ)
 shown_by net made x node = standing (made (x / net.run.step) node).line x
 
+-- what arrives in a second at a link, where `enters link second` is what enters it
+abbrev pub arriving_by : (ℕ → ℕ → ℕ) → ℕ → ℕ → ℕ
+arriving_by enters second link = enters link second
+
 -- what passed the links in the first n seconds, under these lines
-abbrev pub past_by : Net → Amounts → (ℕ → ℕ → Commitment) → ℕ → ℕ → ℕ → Passed
-past_by net arrivals made n = past_of net (arriving_of arrivals) (shown_by net made) n
+abbrev pub past_by : Net → (ℕ → ℕ → ℕ) → (ℕ → ℕ → Commitment) → ℕ → ℕ → ℕ → Passed
+past_by net enters made n = past_of net (arriving_by enters) (shown_by net made) n
 
 -- what a node senses when a round begins
-abbrev pub sensed_in : Net → Amounts → (ℕ → ℕ → Commitment) → ℕ → ℕ → Sensed
-sensed_in net arrivals made round node = sense net (past_by net arrivals made (round * net.run.step)) (round * net.run.step) node
+abbrev pub sensed_in : Net → (ℕ → ℕ → ℕ) → (ℕ → ℕ → Commitment) → ℕ → ℕ → Sensed
+sensed_in net enters made round node = sense net (past_by net enters made (round * net.run.step)) (round * net.run.step) node
 
 -- what a commit of a round tells on a link
 abbrev pub told_in : Net → ℕ → ℕ → Commitment → List Row
@@ -60,13 +63,13 @@ hearing net made link version = record { link = link; version = version; forecas
 
 -- A node commits in a round: it has heard each link on which it hears another node, in their order, and its commit is made from
 -- its line before the round, from what it senses when the round begins, and from what it has heard.
-pub record Commits (net : Net) (arrivals : Amounts) (heard : ℕ → ℕ → List Heard) (made : ℕ → ℕ → Commitment) (round node : ℕ) : Type 0 where
+pub record Commits (net : Net) (enters : ℕ → ℕ → ℕ) (heard : ℕ → ℕ → List Heard) (made : ℕ → ℕ → Commitment) (round node : ℕ) : Type 0 where
   pub links : IsHeardOf net node (heard round node)
-  pub commit : IsCommit net node round (line_before net made round node) (sensed_in net arrivals made round node) (heard round node) (made round node)
+  pub commit : IsCommit net node round (line_before net made round node) (sensed_in net enters made round node) (heard round node) (made round node)
 
 -- each node of the network commits in each of the first `rounds` rounds
-abbrev pub AllCommit : Net → Amounts → (ℕ → ℕ → List Heard) → (ℕ → ℕ → Commitment) → ℕ → Type 0
-AllCommit net arrivals heard made rounds = (round node : ℕ) → round < rounds → node < length net.node_names → Commits net arrivals heard made round node
+abbrev pub AllCommit : Net → (ℕ → ℕ → ℕ) → (ℕ → ℕ → List Heard) → (ℕ → ℕ → Commitment) → ℕ → Type 0
+AllCommit net enters heard made rounds = (round node : ℕ) → round < rounds → node < length net.node_names → Commits net enters heard made round node
 
 -- the plan records of a round by node, and those of the first `rounds` rounds, one after another
 abbrev pub plans_in : Net → (ℕ → ℕ → List Heard) → (ℕ → ℕ → Commitment) → ℕ → List PlanRecord
@@ -81,12 +84,12 @@ end_of_run net = net.run.rounds * net.run.step
 
 -- The record of a run in which the nodes hear this: they commit in all rounds; it has their plan records by round and node, the
 -- last line of each node, and what the world has counted of each link and in all when the last round is over.
-pub record IsRunBy (net : Net) (arrivals : Amounts) (heard : ℕ → ℕ → List Heard) (made : ℕ → ℕ → Commitment) (run : RunRecord) : Type 0 where
-  pub commits : AllCommit net arrivals heard made net.run.rounds
+pub record IsRunBy (net : Net) (enters : ℕ → ℕ → ℕ) (heard : ℕ → ℕ → List Heard) (made : ℕ → ℕ → Commitment) (run : RunRecord) : Type 0 where
+  pub commits : AllCommit net enters heard made net.run.rounds
   pub plans : run.plans ≡ plans_of net heard made net.run.rounds
   pub timelines : run.timelines ≡ map (line_before net made net.run.rounds) (range_with_len 0 (length net.node_names))
-  pub links : run.links ≡ map (link_totals net (past_by net arrivals made (end_of_run net)) (end_of_run net)) (range_with_len 0 (length net.link_names))
-  pub all : run.totals ≡ totals net (arriving_of arrivals) (past_by net arrivals made (end_of_run net)) (end_of_run net)
+  pub links : run.links ≡ map (link_totals net (past_by net enters made (end_of_run net)) (end_of_run net)) (range_with_len 0 (length net.link_names))
+  pub all : run.totals ≡ totals net (arriving_by enters) (past_by net enters made (end_of_run net)) (end_of_run net)
 
 -- The nodes hear along a history: at each place where a node reads a link, it hears the version that the link has there, with the
 -- forecast that was published as that version.
@@ -95,8 +98,8 @@ HearAlong net history heard made = (place link : ℕ) → place < length history
     → Contains (heard (round_at (board_steps net) history place) (slice_index history place)) (hearing net made link (version_at (board_steps net) history link place))
 
 -- The run of a history: its record is that of a run in which the nodes hear along the history.
-pub record IsRun (net : Net) (arrivals : Amounts) (history : List ℕ) (run : RunRecord) : Type 0 where
+pub record IsRun (net : Net) (enters : ℕ → ℕ → ℕ) (history : List ℕ) (run : RunRecord) : Type 0 where
   pub heard : ℕ → ℕ → List Heard
   pub made : ℕ → ℕ → Commitment
-  pub by : IsRunBy net arrivals heard made run
+  pub by : IsRunBy net enters heard made run
   pub along : HearAlong net history heard made

@@ -1,6 +1,5 @@
 //! What every run keeps.
 ghost use Rattle.std.specs.Prelude.{◌≡◌, ℕ, List};
-ghost use Rattle.arrivals.specs.Amounts.{Amounts};
 ghost use Rattle.histories.specs.Histories.{IsLawful};
 ghost use Rattle.runs.specs.Promises.{KeepsPromises};
 ghost use Rattle.runs.specs.Runs.{IsRun};
@@ -16,21 +15,21 @@ use road_net::Network;
 ///
 /// docs/RULES.md, "Run".
 pub fn law_of_runs(net: &Network)
-    ensures kept { (arrivals : Amounts) (history : List ℕ) (record_of_run : RunRecord) → IsLawful net.now history
-        → (run : IsRun net.now arrivals history record_of_run)
-        → KeepsPromises net.now arrivals history run.made record_of_run }
-    ensures whole { (arrivals : Amounts) (history : List ℕ) (record_of_run : RunRecord) → IsLawful net.now history
-        → IsRun net.now arrivals history record_of_run → IsComplete net.now record_of_run }
+    ensures kept { (enters : ℕ → ℕ → ℕ) (history : List ℕ) (record_of_run : RunRecord) → IsLawful net.now history
+        → (run : IsRun net.now enters history record_of_run)
+        → KeepsPromises net.now enters history run.made record_of_run }
+    ensures whole { (enters : ℕ → ℕ → ℕ) (history : List ℕ) (record_of_run : RunRecord) → IsLawful net.now history
+        → IsRun net.now enters history record_of_run → IsComplete net.now record_of_run }
 {
     let _nodes = net.nodes();
 }
 
-/// A lawful history has one run: two records of it are the same.
+/// A lawful history has one run for what enters the links in each second: two records of it are the same.
 ///
 /// docs/RULES.md, "Run".
 pub fn law_of_one_run(net: &Network)
-    ensures { (arrivals : Amounts) (history : List ℕ) (one other : RunRecord) → IsLawful net.now history
-        → IsRun net.now arrivals history one → IsRun net.now arrivals history other → one ≡ other }
+    ensures { (enters : ℕ → ℕ → ℕ) (history : List ℕ) (one other : RunRecord) → IsLawful net.now history
+        → IsRun net.now enters history one → IsRun net.now enters history other → one ≡ other }
 {
     let _nodes = net.nodes();
 }

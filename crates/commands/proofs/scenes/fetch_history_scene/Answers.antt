@@ -1,4 +1,4 @@
-use Rattle.std.proofs.Common.{subst, ◌∙◌}
+use Rattle.std.proofs.Common.{subst}
 use Rattle.arrivals.specs.Amounts.{entering}
 use Rattle.outside_world.specs.Shelf.{ShelfState}
 use Rattle.commands.specs.Stops.{StopsAt}

@@ -1,3 +1,4 @@
+use Rattle.arrivals.specs.Amounts.{entering}
 use Rattle.network_jobs.proofs.Telling.{told}
 use Rattle.network_jobs.proofs.rounds.play.Goals as goal
 
@@ -6,4 +7,4 @@ returns g c =
     let boards = c.in_ok-boards in
     let ran = c.in_ok-run in
     let logs = c.in_ok-logs in
-    told c.args.net.now c.args.arrivals.now boards.boards.links ran.passes.items logs.logs.items ran.run' logs.ensures ran.ensures.lawful ran.ensures.run
+    told c.args.net.now (entering c.args.arrivals.now) boards.boards.links ran.passes.items logs.logs.items ran.run' logs.ensures ran.ensures.lawful ran.ensures.run

@@ -14,7 +14,7 @@ write_report-requires-clause-whole g c =
     let told = c.in_ok-logged in
     let merged = merge-of told.logged.logs.items in
     let ran = told.ensures merged.history merged.merge in
-    c.law_of_runs.ensures.whole ran.arrivals merged.history told.logged.run ran.lawful ran.kept.run
+    c.law_of_runs.ensures.whole (entering c.args.arrivals.now) merged.history told.logged.run ran.lawful ran.kept.run
 
 pub returns : goal.returns
 returns g c =

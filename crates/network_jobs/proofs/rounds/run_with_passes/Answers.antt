@@ -1,4 +1,5 @@
 use Rattle.std.proofs.Common.{◌≡◌, ◌++◌, ◌∙◌, List, length, take, drop, sym, subst}
+use Rattle.arrivals.specs.Amounts.{entering}
 use Rattle.board_rule.specs.Passes.{PassView, calls_in}
 use Rattle.node_rounds.specs.Calls.{IsRunOfCalls, MergeToLawful}
 use Rattle.node_rounds.proofs.Slices.{put-back}
@@ -16,4 +17,4 @@ returns-clause-run g c =
     let played = c.run_rounds.new.passes in
     let dealt = c.args.passes in
     let back : take dealt.len (played ++ drop (length played) dealt.items) ≡ played = put-back dealt.len played dealt.items dealt.ok.0 (c.run_rounds.ensures.passes.count ∙ sym c.requires.all.count) in
-    subst (λ (passes : List PassView). IsRunOfCalls c.args.net.now c.args.arrivals.now (calls_in passes) c.in_ok-run.run') (sym back) c.in_ok-run.ensures.run
+    subst (λ (passes : List PassView). IsRunOfCalls c.args.net.now (entering c.args.arrivals.now) (calls_in passes) c.in_ok-run.run') (sym back) c.in_ok-run.ensures.run
