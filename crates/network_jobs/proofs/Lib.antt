@@ -1,4 +1,5 @@
 pub mod Delays
 pub mod Missed
 pub mod Planned
+pub mod Replays
 pub mod Telling

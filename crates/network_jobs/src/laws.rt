@@ -1,10 +1,14 @@
-//! What an instance that was planned in a run is to the other commands.
-ghost use Rattle.std.specs.Prelude.{ℕ, List};
+//! What the text that one command writes is to the other commands: an instance that was planned in a run, and the report of a run.
+ghost use Rattle.std.specs.Prelude.{◌≡◌, ℕ, List};
 ghost use Rattle.dp_certificate.specs.Certificates.{Claim};
 ghost use Rattle.schedule_meaning.specs.Instances.{Problem};
-ghost use Rattle.commands.specs.Texts.{AllSaid, InstanceText, Reads};
-ghost use Rattle.commands.specs.Commands.{Certify, CertifyBound, Instance, IsAcceptedText, IsTextOf, texts_of};
+ghost use Rattle.commands.specs.Texts.{AllSaid, HistoryText, InstanceText, IsTextFor, Reads};
+ghost use Rattle.commands.specs.Commands.{Certify, CertifyBound, Instance, IsAcceptedText, IsTextOf, Net, Replay, Turns, texts_of};
 ghost use Rattle.commands.specs.Headline.{AgreesWith};
+
+use delay_report::law_of_reports;
+use road_net::Network;
+use runs::law_of_one_run;
 
 /// Of every plan that was committed: from the text that `instance` writes of it, `certify` and `certify_bound` write a certificate
 /// that `check` accepts, and whose answer agrees with the plan.
@@ -22,3 +26,23 @@ pub fn law_of_instances()
         → IsTextOf (CertifyBound file) (p, tt) certificate
         → (c : Claim) × IsAcceptedText certificate c × AgreesWith c.answer text.plan.answer }
 {}
+
+/// From the report that `net`, `turns` or `replay` wrote, `replay` writes the same bytes: with the network and what enters it as they
+/// were, and the report as the text of the history.
+///
+/// docs/FORMATS.md, "Words".
+pub fn law_of_replays(net: &Network)
+    ensures net { (file arr hist : List ℕ) (enters : ℕ → ℕ → ℕ) (history bytes again : List ℕ)
+        → IsTextOf (Net file arr) (net.now, (enters, tt)) bytes → IsTextFor (HistoryText net.now) bytes history
+        → IsTextOf (Replay file arr hist) (net.now, (enters, (history, tt))) again → again ≡ bytes }
+    ensures turns { (file arr hist : List ℕ) (enters : ℕ → ℕ → ℕ) (history bytes again : List ℕ)
+        → IsTextOf (Turns file arr) (net.now, (enters, tt)) bytes → IsTextFor (HistoryText net.now) bytes history
+        → IsTextOf (Replay file arr hist) (net.now, (enters, (history, tt))) again → again ≡ bytes }
+    ensures replay { (file arr hist : List ℕ) (enters : ℕ → ℕ → ℕ) (given history bytes again : List ℕ)
+        → IsTextOf (Replay file arr hist) (net.now, (enters, (given, tt))) bytes
+        → IsTextFor (HistoryText net.now) bytes history
+        → IsTextOf (Replay file arr hist) (net.now, (enters, (history, tt))) again → again ≡ bytes }
+{
+    law_of_one_run(net);
+    law_of_reports(net);
+}

@@ -15,7 +15,7 @@ mod turns;
 
 pub use grid::grid_job;
 pub use instance::instance_job;
-pub use laws::law_of_instances;
+pub use laws::{law_of_instances, law_of_replays};
 pub use net::net_job;
 pub use replay::replay_job;
 pub use turns::turns_job;
