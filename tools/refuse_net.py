@@ -14,18 +14,16 @@ they may, 1 where any does not, and 2 where they can't be made; a line on standa
 what is wrong.
 """
 
-import argparse
 import os
 import shutil
 import struct
 import subprocess
-import sys
 import tempfile
 from concurrent.futures import ThreadPoolExecutor
 from itertools import chain, count, islice
 from pathlib import Path
 
-from run_cases import Malformed, ended, shown
+from run_cases import Malformed, end, ended, parser_of, shown
 
 LIBRARY = r"""
 #define _GNU_SOURCE
@@ -211,26 +209,10 @@ def wrong_ends(runs, way, jobs):
 
 
 def main():
-    parser = argparse.ArgumentParser(
-        description=__doc__, formatter_class=argparse.RawDescriptionHelpFormatter
-    )
-    parser.add_argument("--program", required=True, metavar="PATH", help="the program to run")
-    parser.add_argument(
-        "--jobs", type=int, default=os.cpu_count(), metavar="N", help="runs side by side"
-    )
-    parser.add_argument(
-        "--seconds", type=float, default=60, metavar="N", help="the time of one run, 60 if left out"
-    )
+    parser = parser_of(__doc__)
     parser.add_argument("network", metavar="NET", help="the network's file")
     parser.add_argument("arrivals", metavar="ARR", help="the arrivals' file")
-    options = parser.parse_args()
-    if options.jobs < 1 or not options.seconds > 0:
-        parser.error("--jobs and --seconds are above 0")
-    try:
-        sys.exit(1 if refused(options) else 0)
-    except (Malformed, OSError) as fault:
-        print(f"refuse_net: {fault}", file=sys.stderr)
-        sys.exit(2)
+    end(parser, refused)
 
 
 def refused(options):

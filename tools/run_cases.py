@@ -134,31 +134,42 @@ def shown(value):
     return text if len(text) <= 200 else text[:200] + ".."
 
 
-def main():
+def parser_of(about):
+    """A parser of words with those that say how a program is run."""
     parser = argparse.ArgumentParser(
-        description=__doc__, formatter_class=argparse.RawDescriptionHelpFormatter
+        description=about, formatter_class=argparse.RawDescriptionHelpFormatter
     )
     parser.add_argument("--program", required=True, metavar="PATH", help="the program to run")
-    parser.add_argument(
-        "--bad-prefix",
-        action="store_true",
-        help="leave out what follows `signal: bad K` on standard error, on both sides",
-    )
     parser.add_argument(
         "--jobs", type=int, default=os.cpu_count(), metavar="N", help="runs side by side"
     )
     parser.add_argument(
         "--seconds", type=float, default=60, metavar="N", help="the time of one run, 60 if left out"
     )
-    parser.add_argument("folders", nargs="+", metavar="FOLDER", help="a case, or a folder of cases")
+    return parser
+
+
+def end(parser, work):
+    """Ends with 0 where the work finds nothing wrong, with 1 where it does, and with 2 where it can't be done."""
     options = parser.parse_args()
     if options.jobs < 1 or not options.seconds > 0:
         parser.error("--jobs and --seconds are above 0")
     try:
-        sys.exit(1 if compared(options) else 0)
+        sys.exit(1 if work(options) else 0)
     except (Malformed, OSError) as fault:
-        print(f"run_cases: {fault}", file=sys.stderr)
+        print(f"{Path(sys.argv[0]).stem}: {fault}", file=sys.stderr)
         sys.exit(2)
+
+
+def main():
+    parser = parser_of(__doc__)
+    parser.add_argument(
+        "--bad-prefix",
+        action="store_true",
+        help="leave out what follows `signal: bad K` on standard error, on both sides",
+    )
+    parser.add_argument("folders", nargs="+", metavar="FOLDER", help="a case, or a folder of cases")
+    end(parser, compared)
 
 
 def compared(options):
