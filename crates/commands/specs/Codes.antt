@@ -4,7 +4,7 @@ use Rattle.std.specs.Fmt.{decimal}
 use Rattle.phase_plan.specs.declared.Field.{Field}
 use Rattle.phase_plan.specs.declared.Field.TheVariants.{Least, Greatest, Yellow, Clear, Loss, Wait}
 use Rattle.phase_plan.specs.declared.PlanFault.{PlanFault}
-use Rattle.phase_plan.specs.declared.PlanFault.TheVariants.{Count, Bound}
+use Rattle.phase_plan.specs.declared.PlanFault.TheVariants.{Count, Bound, Skips}
 use Rattle.schedule_meaning.specs.declared.faults.InstanceFault.{InstanceFault}
 use Rattle.schedule_meaning.specs.declared.faults.InstanceFault.TheVariants.{HeadPhase, HeadTime, ListCount, ClusterBound, Order, Many}
 use Rattle.schedule_meaning.specs.declared.texts.TextFault.TheVariants.{Line, Plan, Instance, NoMemory}
@@ -36,6 +36,7 @@ field_name Wait = codes "wait"
 abbrev pub plan_code : PlanFault → List ℕ
 plan_code (Count n) = codes "plan count"
 plan_code (Bound phase field) = codes "plan " ++ decimal phase ++ 32 ∷ field_name field
+plan_code Skips = codes "plan skips"
 
 -- the code of a fault of the instance: of a cluster its phase, from 0, and its place in the phase's list, from 1
 abbrev pub instance_code : InstanceFault → List ℕ

@@ -74,6 +74,7 @@ fn push_plan_code(line: &mut Vec<u8>, fault: PlanFault) -> Result<(), AllocError
             push_one(line, b"plan ", u64::from(phase))?;
             line.extend_from_slice(field_name(field))
         }
+        PlanFault::Skips => line.extend_from_slice(b"plan skips"),
     }
 }
 

@@ -6,4 +6,5 @@ pub mod RowLaws
 pub mod SequenceLaws
 pub mod ServingLaws
 pub mod SpliceLaws
+pub mod TurningLaws
 mod WorkedRows

@@ -1,128 +1,33 @@
 -- The timelines of servings and of no plan are lawful, begin with the green of the head, and end late enough.
-use Rattle.std.proofs.Common.{◌≡◌, ℕ, zero, suc, ◌+◌, ◌-◌, ◌<◌, ◌≤◌, Bool, true, false, cond, ltb, List, [], ◌∷◌, ◌++◌, length, All, get_or, drop, refl, sym, ap, subst, ◌∙◌, inl, inr, arith, append_assoc, length-append}
+use Rattle.std.proofs.Common.{◌≡◌, ℕ, ◌+◌, ◌-◌, ◌<◌, ◌≤◌, Bool, true, false, cond, List, [], ◌∷◌, ◌++◌, length, All, get_or, drop, refl, sym, ap, subst, ◌∙◌, inl, inr, arith, append_assoc, length-append}
 use Rattle.std.specs.List.{range_with_len}
 use Rattle.std.proofs.lemmas.List.{drop_more, drop_all, get_or-append-add}
-use Rattle.std.proofs.lemmas.Bool.{cases_lt, cond_below, cond_above, cond_both, ltb-true, ltb-false}
-use Rattle.std.proofs.lemmas.List.Elements.{All-nil, All-cons, All-head, All-tail, All-append, All-weaker}
-use Rattle.phase_plan.specs.Phases.{IsPlan, next_phase, passed_numbers, phase_at, passing, switch_time}
+use Rattle.std.proofs.lemmas.Bool.{cases_lt, cond_both}
+use Rattle.std.proofs.lemmas.List.Elements.{All-nil, All-cons, All-head, All-tail, All-append}
+use Rattle.phase_plan.specs.Phases.{IsMarkedAt, IsPlan, between, is_unmarked_at, passed_numbers, phase_at, passing, switch_time}
 use Rattle.phase_plan.specs.declared.Phase.{Phase}
 use Rattle.switch_rules.specs.Serving.{IsHead, earliest_end, earliest_green, head_after}
 use Rattle.switch_rules.specs.declared.Head.{Head}
 use Rattle.switch_rules.specs.declared.Served.{Served}
 use Rattle.control_flow.specs.declared.greens.Green.{Green}
-use Rattle.control_flow.specs.Greens.{no_green, row_at, end_of, IsGreen, IsLawful, GoesOn, BeginBy}
-use Rattle.control_flow.specs.Timelines.{IsServingOf, AreServings, IsGreenOf, HasGreens, shortest_greens, begin_after, last_end, left_for, green_after, turning, turned, line_of, rotation_of}
-use Rattle.control_flow.proofs.RowLaws.{lawful-nil, lawful-cons, end_of-last}
-use Rattle.foundation.proofs.RangeLaws.{range-more}
-use Rattle.phase_plan.proofs.RingLaws.{IsWalk, phase-bounds, next_phase-below, walk-passed}
-use Rattle.control_flow.proofs.RingLaws.{begin_after-append, begin_after-later, begin_after-passed}
+use Rattle.control_flow.specs.Greens.{no_green, row_at, IsGreen, IsLawful, BeginBy}
+use Rattle.control_flow.specs.Timelines.{IsServingOf, AreServings, IsGreenOf, HasGreens, shortest_greens, begin_after, last_end, left_for, turned, line_of, rotation_of}
+use Rattle.control_flow.proofs.RowLaws.{lawful-cons, end_of-last}
+use Rattle.phase_plan.proofs.RingLaws.{IsWalk, passes-marked, phase-bounds, unmarked, unmarked-first, walk-passed}
+use Rattle.control_flow.proofs.RingLaws.{begin_after-later, begin_after-passed}
+use Rattle.control_flow.proofs.TurningLaws.{IsLineFrom, turned-by, turned-line}
 use Rattle.control_flow.proofs.ServingLaws.{IsAnyServing, IsServingOf-keeps, IsServingOf-head}
 
--- what the timelines from a head have in common
-pub record IsLineFrom (plan : List Phase) (head : Head) (until : ℕ) (rows : List Green) : Type 0 where
-  pub lawful : IsLawful plan rows
-  pub begin : GoesOn head rows
-  pub end : until < end_of rows
-
--- a green of the ring after a row
-
-green_after-green : (plan : List Phase) (s to : ℕ) → IsPlan plan → IsGreen plan (green_after plan s to)
-green_after-green plan s to p =
-    let below = next_phase-below plan s p in
-    let times = phase-bounds plan (next_phase plan s) p below in
-    record { phase = below; least = omega arith; greatest = omega (arith, times.greatest) }
-
-alone : (plan : List Phase) (row : Green) → IsGreen plan row → IsLawful plan (row ∷ [])
-alone plan row green = lawful-cons plan row [] green (λ h. absurd (omega arith)) (lawful-nil plan)
-
-turning-lawful : (plan : List Phase) (until most : ℕ) (row : Green) → IsPlan plan → IsGreen plan row → IsLawful plan (row ∷ turning plan most until row.phase row.to)
-turning-lawful plan until zero row p green = alone plan row green
-turning-lawful plan until (suc most) row p green =
-    let next = green_after plan row.phase row.to in
-    let later = turning-lawful plan until most next p (green_after-green plan row.phase row.to p) in
-    cond_both (ltb until row.to) [] (next ∷ turning plan most until next.phase next.to) (λ rows. IsLawful plan (row ∷ rows))
-    (λ e. alone plan row green)
-    (λ e. lawful-cons plan row (next ∷ turning plan most until next.phase next.to) green (λ h. record { phase = refl; begins = omega arith }) later)
-
-green_after-later : (plan : List Phase) (s to : ℕ) → IsPlan plan → to + 1 ≤ (green_after plan s to).to
-green_after-later plan s to p = let times = phase-bounds plan (next_phase plan s) p (next_phase-below plan s p) in omega (arith, times.least)
-
-turning-end : (plan : List Phase) (until most : ℕ) (row : Green) → IsPlan plan → until + 1 ≤ most + row.to → until < end_of (row ∷ turning plan most until row.phase row.to)
-turning-end plan until zero row p enough = omega arith
-turning-end plan until (suc most) row p enough =
-    let next = green_after plan row.phase row.to in
-    let later = green_after-later plan row.phase row.to p in
-    let others = turning-end plan until most next p (omega (arith, later)) in
-    cond_both (ltb until row.to) [] (next ∷ turning plan most until next.phase next.to) (λ rows. until < end_of (row ∷ rows))
-    (λ e. ltb-true until row.to e)
-    (λ e. others)
-
-turning-by : (plan : List Phase) (until most s to : ℕ) → IsPlan plan → s < length plan → BeginBy (until + 20) (turning plan most until s to)
-turning-by plan until zero s to p h = All-nil (λ (row : Green). row.from ≤ until + 20)
-turning-by plan until (suc most) s to p h =
-    let next = green_after plan s to in
-    let times = phase-bounds plan s p h in
-    let others = turning-by plan until most next.phase next.to p (next_phase-below plan s p) in
-    cond_both (ltb until to) [] (next ∷ turning plan most until next.phase next.to) (BeginBy (until + 20))
-    (λ e. All-nil (λ (row : Green). row.from ≤ until + 20))
-    (λ e. let over = ltb-false until to e in All-cons (λ (row : Green). row.from ≤ until + 20) next (turning plan most until next.phase next.to) (omega (arith, times.yellow, times.clear, over)) others)
-
--- enough greens are enough
-turning-enough : (plan : List Phase) (until m n s to : ℕ) → IsPlan plan → until + 1 ≤ m + to → until + 1 ≤ n + to → turning plan m until s to ≡ turning plan n until s to
-turning-enough plan until zero zero s to p a b = refl
-turning-enough plan until zero (suc n) s to p a b = cond_below until to [] (green_after plan s to ∷ turning plan n until (green_after plan s to).phase (green_after plan s to).to) (omega arith)
-turning-enough plan until (suc m) zero s to p a b = sym (cond_below until to [] (green_after plan s to ∷ turning plan m until (green_after plan s to).phase (green_after plan s to).to) (omega arith))
-turning-enough plan until (suc m) (suc n) s to p a b =
-    let next = green_after plan s to in
-    let later = green_after-later plan s to p in
-    let same = turning-enough plan until m n next.phase next.to p (omega (arith, later)) (omega (arith, later)) in
-    ap (λ (rows : List Green). cond (ltb until to) [] (next ∷ rows)) same
-
--- the next green of the ring, where the row does not end after `until`
-pub turning-step : (plan : List Phase) (until s to : ℕ) → IsPlan plan → to ≤ until
-    → turning plan (until + 1 - to) until s to ≡ green_after plan s to ∷ turning plan (until + 1 - (green_after plan s to).to) until (green_after plan s to).phase (green_after plan s to).to
-turning-step plan until s to p h =
-    let next = green_after plan s to in
-    let m = until + 1 - to in
-    let later = green_after-later plan s to p in
-    turning-enough plan until m (suc m) s to p (omega arith) (omega arith)
-    ∙ sym (cond_above until to [] (next ∷ turning plan m until next.phase next.to) (next ∷ turning plan m until next.phase next.to) h refl)
-    ∙ ap (λ (rows : List Green). next ∷ rows) (turning-enough plan until m (until + 1 - next.to) next.phase next.to p (omega (arith, later)) (omega arith))
-
--- the begin of the turning
-pub turned-is : (plan : List Phase) (head : Head) (to until : ℕ) → IsPlan plan
-    → turned plan head to until ≡ record { phase = head.phase; from = head.since; to = to } ∷ turning plan (until + 1 - to) until head.phase to
-turned-is plan head to until p =
-    let row : Green = record { phase = head.phase; from = head.since; to = to } in
-    ap (λ (rows : List Green). row ∷ rows) (turning-enough plan until (until + 1) (until + 1 - to) head.phase to p (omega arith) (omega arith))
-
--- a green of a head that is held up to a second within its bounds
-turned-line : (plan : List Phase) (head : Head) (to until : ℕ) → IsPlan plan → IsHead plan head → head.at ≤ 104000 → head.since + (phase_at plan head.phase).least ≤ to
-    → to ≤ head.since + (phase_at plan head.phase).greatest → head.at ≤ to → IsLineFrom plan head until (turned plan head to until)
-turned-line plan head to until p h reach least greatest spent =
-    let row : Green = record { phase = head.phase; from = head.since; to = to } in
-    let green : IsGreen plan row = record { phase = h.phase; least = least; greatest = greatest } in
-    record {
-      lawful = turning-lawful plan until (until + 1) row p green;
-      begin = record { some = omega arith; phase = refl; begin = refl; spent = spent };
-      end = turning-end plan until (until + 1) row p (omega arith);
-    }
-
-turned-by : (plan : List Phase) (head : Head) (to until n : ℕ) → IsPlan plan → head.phase < length plan → head.since ≤ n → until + 20 ≤ n → BeginBy n (turned plan head to until)
-turned-by plan head to until n p h since last =
-    let row : Green = record { phase = head.phase; from = head.since; to = to } in
-    let more = λ (r : Green) (e : r.from ≤ until + 20). let weaker : r.from ≤ n = omega arith in weaker in
-    All-cons (λ (r : Green). r.from ≤ n) row (turning plan (until + 1) until head.phase to) since
-    (All-weaker (λ (r : Green). r.from ≤ until + 20) (λ (r : Green). r.from ≤ n) more (turning plan (until + 1) until head.phase to) (turning-by plan until (until + 1) head.phase to p h))
+-- the timeline of no plan
 
 pub rotation_of-line : (plan : List Phase) (head : Head) (until : ℕ) → IsPlan plan → IsHead plan head → head.at ≤ 104000 → IsLineFrom plan head until (rotation_of plan head until)
 rotation_of-line plan head until p h reach =
     let times = phase-bounds plan head.phase p h.phase in
-    turned-line plan head (earliest_end plan head) until p h reach (omega arith) (omega (arith, h.within, times.greatest)) (omega arith)
+    turned-line plan (is_unmarked_at plan) p (passes-marked plan) head (earliest_end plan head) until h reach (omega arith) (omega (arith, h.within, times.greatest)) (omega arith)
 
 -- where its rows begin
 pub rotation_of-by : (plan : List Phase) (head : Head) (until n : ℕ) → IsPlan plan → IsHead plan head → head.since ≤ n → until + 20 ≤ n → BeginBy n (rotation_of plan head until)
-rotation_of-by plan head until n p h since last = turned-by plan head (earliest_end plan head) until n p h.phase since last
+rotation_of-by plan head until n p h since last = turned-by plan (is_unmarked_at plan) p (passes-marked plan) head (earliest_end plan head) until n h.phase since last
 
 -- the greens that the ring passes, up to a second at which the wanted green can begin
 
@@ -139,11 +44,11 @@ pub record IsRest (plan : List Phase) (j b : ℕ) (rest : List Green) : Type 0 w
   pub phase : (row_at rest 0).phase ≡ j
   pub begins : b ≤ (row_at rest 0).from
 
-shortest-lawful : (plan : List Phase) (ks : List ℕ) (row : Green) (j b : ℕ) (rest : List Green) → IsPlan plan → IsGreen plan row → IsWalk plan row.phase ks j
+shortest-lawful : (plan : List Phase) (ks : List ℕ) (row : Green) (j b : ℕ) (rest : List Green) → IsPlan plan → IsGreen plan row → IsWalk (IsMarkedAt plan) plan row.phase ks j
     → begin_after plan (row.to + (phase_at plan row.phase).yellow + (phase_at plan row.phase).clear) ks ≤ b → IsRest plan j b rest
     → IsLawful plan (row ∷ shortest_greens plan (row.to + (phase_at plan row.phase).yellow + (phase_at plan row.phase).clear) ks ++ rest)
 shortest-lawful plan [] row j b rest p green walk time others =
-    lawful-cons plan row rest green (λ h. record { phase = others.phase ∙ walk; begins = omega (arith, others.begins) }) others.lawful
+    lawful-cons plan row rest green (λ h. record { passed = subst (λ k. All (IsMarkedAt plan) (between plan row.phase k)) (sym others.phase) walk; begins = omega (arith, others.begins) }) others.lawful
 shortest-lawful plan (k ∷ ks) row j b rest p green walk time others =
     let from = row.to + (phase_at plan row.phase).yellow + (phase_at plan row.phase).clear in
     let first : Green = record { phase = k; from = from; to = from + (phase_at plan k).least } in
@@ -152,7 +57,7 @@ shortest-lawful plan (k ∷ ks) row j b rest p green walk time others =
     let same : from + passing (phase_at plan k) ≡ first.to + (phase_at plan k).yellow + (phase_at plan k).clear = omega arith in
     let short : begin_after plan (first.to + (phase_at plan k).yellow + (phase_at plan k).clear) ks ≤ b = omega (arith, ap (λ t. begin_after plan t ks) same) in
     let later = shortest-lawful plan ks first j b rest p next walk.2 short others in
-    lawful-cons plan row (first ∷ shortest_greens plan (from + passing (phase_at plan k)) ks ++ rest) green (λ h. record { phase = walk.1; begins = omega arith })
+    lawful-cons plan row (first ∷ shortest_greens plan (from + passing (phase_at plan k)) ks ++ rest) green (λ h. record { passed = walk.1; begins = omega arith })
     (rw same later)
 
 -- a green that goes on
@@ -197,7 +102,7 @@ pub line_of-line : (plan : List Phase) (ks : List ℕ) (ss : List Served) (head 
     → IsLineFrom plan head until (line_of plan head ks ss until)
 line_of-line plan [] [] head until p h reach servings =
     let times = phase-bounds plan head.phase p h.phase in
-    turned-line plan head (head.since + (phase_at plan head.phase).greatest) until p h reach (omega (arith, times.greatest)) (omega arith) h.within
+    turned-line plan (is_unmarked_at plan) p (passes-marked plan) head (head.since + (phase_at plan head.phase).greatest) until h reach (omega (arith, times.greatest)) (omega arith) h.within
 line_of-line plan [] (s ∷ ss) head until p h reach servings = absurd servings
 line_of-line plan (k ∷ ks) [] head until p h reach servings = absurd servings
 line_of-line plan (k ∷ ks) (s ∷ ss) head until p h reach servings =
@@ -225,7 +130,7 @@ left-by plan head k b n rest h below earliest since early others =
 
 pub line_of-by : (plan : List Phase) (ks : List ℕ) (ss : List Served) (head : Head) (until n : ℕ) → IsPlan plan → IsHead plan head → AreServings plan head ks ss
     → head.since ≤ n → until + 20 ≤ n → All (λ (s : Served). s.green ≤ n) ss → BeginBy n (line_of plan head ks ss until)
-line_of-by plan [] ss head until n p h servings since last greens = turned-by plan head (head.since + (phase_at plan head.phase).greatest) until n p h.phase since last
+line_of-by plan [] ss head until n p h servings since last greens = turned-by plan (is_unmarked_at plan) p (passes-marked plan) head (head.since + (phase_at plan head.phase).greatest) until n h.phase since last
 line_of-by plan (k ∷ ks) [] head until n p h servings since last greens = absurd servings
 line_of-by plan (k ∷ ks) (s ∷ ss) head until n p h servings since last greens =
     let one = servings.0 in
@@ -282,19 +187,34 @@ shortest-append plan from [] ls = refl
 shortest-append plan from (k ∷ ks) ls =
     ap (λ (rows : List Green). record { phase = k; from = from; to = from + (phase_at plan k).least } ∷ rows) (shortest-append plan (from + passing (phase_at plan k)) ks ls)
 
-pub shortest-more : (plan : List Phase) (from low k at : ℕ) (p : Phase) (old rows : List Green) → low ≤ k → rows ≡ old ++ shortest_greens plan from (range_with_len low (k - low)) → at ≡ begin_after plan from (range_with_len low (k - low))
-    → p ≡ phase_at plan k → rows ++ record { phase = k; from = at; to = at + p.least } ∷ [] ≡ old ++ shortest_greens plan from (range_with_len low (k + 1 - low))
-shortest-more plan from low k at p old rows h so_far behind times =
-    let ks = range_with_len low (k - low) in
-    let row = λ (b : ℕ) (q : Phase). let r : Green = record { phase = k; from = b; to = b + q.least } in r in
-    ap (λ (rs : List Green). rs ++ row at p ∷ []) so_far
-    ∙ append_assoc old (shortest_greens plan from ks) (row at p ∷ [])
-    ∙ ap (λ (b : ℕ). old ++ (shortest_greens plan from ks ++ row b p ∷ [])) behind
-    ∙ ap (λ (q : Phase). old ++ (shortest_greens plan from ks ++ row (begin_after plan from ks) q ∷ [])) times
-    ∙ ap (λ (rs : List Green). old ++ rs) (sym (ap (shortest_greens plan from) (range-more low k h) ∙ shortest-append plan from ks (k ∷ [])))
+-- an unmarked phase gets its green, where those from it on were still to come
+pub shortest-step : (plan : List Phase) (k high at : ℕ) (p : Phase) (rows whole : List Green) → k < high → p ≡ phase_at plan k → p.skip ≡ false
+    → rows ++ shortest_greens plan at (unmarked plan (range_with_len k (high - k))) ≡ whole
+    → (rows ++ record { phase = k; from = at; to = at + p.least } ∷ []) ++ shortest_greens plan (at + p.least + p.yellow + p.clear) (unmarked plan (range_with_len (k + 1) (high - (k + 1)))) ≡ whole
+shortest-step plan k high at p rows whole h times mark so_far =
+    let rest = unmarked plan (range_with_len (k + 1) (high - (k + 1))) in
+    let row = λ (q : Phase). let r : Green = record { phase = k; from = at; to = at + q.least } in r in
+    let same : at + p.least + p.yellow + p.clear ≡ at + passing p = omega arith in
+    append_assoc rows (row p ∷ []) (shortest_greens plan (at + p.least + p.yellow + p.clear) rest)
+    ∙ ap (λ (b : ℕ). rows ++ row p ∷ shortest_greens plan b rest) same
+    ∙ ap (λ (q : Phase). rows ++ row q ∷ shortest_greens plan (at + passing q) rest) times
+    ∙ ap (λ (ks : List ℕ). rows ++ shortest_greens plan at ks) (sym (unmarked-first plan k high false h (ap (λ (q : Phase). q.skip) (sym times) ∙ mark)))
+    ∙ so_far
 
-pub behind-more : (plan : List Phase) (from low k : ℕ) → low ≤ k → begin_after plan from (range_with_len low (k + 1 - low)) ≡ begin_after plan from (range_with_len low (k - low)) + passing (phase_at plan k)
-behind-more plan from low k h = ap (begin_after plan from) (range-more low k h) ∙ begin_after-append plan from (range_with_len low (k - low)) (k ∷ [])
+pub behind-step : (plan : List Phase) (k high at whole : ℕ) (p : Phase) → k < high → p ≡ phase_at plan k → p.skip ≡ false → begin_after plan at (unmarked plan (range_with_len k (high - k))) ≡ whole
+    → begin_after plan (at + p.least + p.yellow + p.clear) (unmarked plan (range_with_len (k + 1) (high - (k + 1)))) ≡ whole
+behind-step plan k high at whole p h times mark so_far =
+    let rest = unmarked plan (range_with_len (k + 1) (high - (k + 1))) in
+    let same : at + p.least + p.yellow + p.clear ≡ at + passing p = omega arith in
+    ap (λ (b : ℕ). begin_after plan b rest) same
+    ∙ ap (λ (q : Phase). begin_after plan (at + passing q) rest) times
+    ∙ ap (begin_after plan at) (sym (unmarked-first plan k high false h (ap (λ (q : Phase). q.skip) (sym times) ∙ mark)))
+    ∙ so_far
+
+-- a marked one is left out
+pub marked-step : (plan : List Phase) (k high : ℕ) (p : Phase) → k < high → p ≡ phase_at plan k → p.skip ≡ true
+    → unmarked plan (range_with_len (k + 1) (high - (k + 1))) ≡ unmarked plan (range_with_len k (high - k))
+marked-step plan k high p h times mark = sym (unmarked-first plan k high true h (ap (λ (q : Phase). q.skip) (sym times) ∙ mark))
 
 -- greens of the phases up to the end of the ring, and then of those from its begin
 pub shortest-both : (plan : List Phase) (from behind : ℕ) (ks ls : List ℕ) (old rows whole : List Green) → rows ≡ old ++ shortest_greens plan from ks → behind ≡ begin_after plan from ks → whole ≡ rows ++ shortest_greens plan behind ls
@@ -305,14 +225,6 @@ shortest-both plan from behind ks ls old rows whole first at second =
     ∙ ap (λ (rs : List Green). rs ++ shortest_greens plan (begin_after plan from ks) ls) first
     ∙ append_assoc old (shortest_greens plan from ks) (shortest_greens plan (begin_after plan from ks) ls)
     ∙ ap (λ (rs : List Green). old ++ rs) (sym (shortest-append plan from ks ls))
-
-pub turning-more : (plan : List Phase) (until s to : ℕ) (next : Green) (rows whole : List Green) → IsPlan plan → to ≤ until → next ≡ green_after plan s to
-    → rows ++ turning plan (until + 1 - to) until s to ≡ whole → (rows ++ next ∷ []) ++ turning plan (until + 1 - next.to) until next.phase next.to ≡ whole
-turning-more plan until s to next rows whole p h is so_far =
-    append_assoc rows (next ∷ []) (turning plan (until + 1 - next.to) until next.phase next.to)
-    ∙ ap (λ (g : Green). rows ++ g ∷ turning plan (until + 1 - g.to) until g.phase g.to) is
-    ∙ ap (λ (rs : List Green). rows ++ rs) (sym (turning-step plan until s to p h))
-    ∙ so_far
 
 -- the loop over the servings
 
@@ -374,8 +286,8 @@ line-left plan head phases served index until rows more whole h below left_is so
 
 -- the last green is held
 pub line-over : (plan : List Phase) (head : Head) (p : Phase) (phases : List ℕ) (served : List Served) (index until : ℕ) (rows whole : List Green) → length phases ≤ index → p ≡ phase_at plan head.phase
-    → rows ++ line_of plan head (drop index phases) (drop index served) until ≡ whole → rows ++ turned plan head (head.since + p.greatest) until ≡ whole
+    → rows ++ line_of plan head (drop index phases) (drop index served) until ≡ whole → rows ++ turned plan (is_unmarked_at plan) head (head.since + p.greatest) until ≡ whole
 line-over plan head p phases served index until rows whole over times so_far =
-    ap (λ (q : Phase). rows ++ turned plan head (head.since + q.greatest) until) times
+    ap (λ (q : Phase). rows ++ turned plan (is_unmarked_at plan) head (head.since + q.greatest) until) times
     ∙ ap (λ (ks : List ℕ). rows ++ line_of plan head ks (drop index served) until) (sym (drop_all index phases over))
     ∙ so_far

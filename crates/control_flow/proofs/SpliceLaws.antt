@@ -4,7 +4,7 @@ use Rattle.std.specs.Option.{option_map}
 use Rattle.std.specs.List.{list_any}
 use Rattle.std.proofs.lemmas.Bool.{cases_lt, cases_Bool, cond_below, cond_above, cond_both, and_from, and_left, and_right, lt-ltb, le-leb, lt-leb, leb-false}
 use Rattle.std.proofs.lemmas.List.Elements.{All-nil, All-cons, All-head, All-tail, All-append, All-weaker}
-use Rattle.phase_plan.specs.Phases.{IsPlan, phase_at}
+use Rattle.phase_plan.specs.Phases.{IsMarkedAt, IsPlan, between, phase_at}
 use Rattle.phase_plan.specs.declared.Phase.{Phase}
 use Rattle.switch_rules.specs.declared.Head.{Head}
 use Rattle.control_flow.specs.declared.greens.Green.{Green}
@@ -114,7 +114,7 @@ first-of-splice plan before (r ∷ rs) now row first rest p lawful e same =
           let is : r ≡ row = cc in
           let from : first.from ≡ r.from = same.from ∙ sym (ap (λ (g : Green). g.from) is) in
           let phase : first.phase ≡ r.phase = same.phase ∙ sym (ap (λ (g : Green). g.phase) is) in
-          let new : Follows plan before first = record { phase = phase ∙ follows.phase; begins = omega (arith, from, follows.begins) } in
+          let new : Follows plan before first = record { passed = subst (λ k. All (IsMarkedAt plan) (between plan before.phase k)) (sym phase) follows.passed; begins = omega (arith, from, follows.begins) } in
           rw (kept-none r first rs from) new
       | inr h ↦
           let past = past-row plan r rs now row first p others e same h in

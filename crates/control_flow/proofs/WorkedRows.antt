@@ -1,7 +1,7 @@
 -- Small timelines, worked out by hand and computed here from the definitions.
 use Rattle.std.proofs.Common.{◌≡◌, ℕ, true, false, List, [], ◌∷◌, Some, None, Ok, refl}
 use Rattle.phase_plan.specs.declared.Phase.{Phase}
-use Rattle.phase_plan.specs.Phases.{passed_numbers}
+use Rattle.phase_plan.specs.Phases.{passed_numbers, switch_time}
 use Rattle.switch_rules.specs.Serving.{head_after, serving}
 use Rattle.switch_rules.specs.declared.Cluster.{Cluster}
 use Rattle.switch_rules.specs.declared.Head.{Head}
@@ -12,7 +12,7 @@ use Rattle.control_flow.specs.Greens.{green_at, standing, colour_at, head_at, sp
 use Rattle.control_flow.specs.Timelines.{line_of, rotation_of}
 
 abbrev usual : Phase
-usual = record { least = 5; greatest = 30; yellow = 3; clear = 2; loss = 2; wait = 120 }
+usual = record { least = 5; greatest = 30; yellow = 3; clear = 2; loss = 2; wait = 120; skip = false }
 
 abbrev two : List Phase
 two = usual ∷ usual ∷ []
@@ -139,6 +139,40 @@ round_fit = refl
 
 round : line_of three (head 1 10 12) (1 ∷ []) (round_served ∷ []) 60 ≡ green 1 10 35 ∷ green 2 40 45 ∷ green 0 50 55 ∷ green 1 60 90 ∷ []
 round = refl
+
+-- the ring leaves out a marked phase
+
+abbrev marked : List Phase
+marked = usual ∷ record usual { skip = true } ∷ usual ∷ []
+
+switch_past : switch_time marked 0 2 ≡ 5
+switch_past = refl
+
+switch_to : switch_time marked 0 1 ≡ 5
+switch_to = refl
+
+switch_round : switch_time marked 0 0 ≡ 15
+switch_round = refl
+
+switch_round_to : switch_time marked 2 1 ≡ 15
+switch_round_to = refl
+
+switch_round_from : switch_time marked 1 1 ≡ 25
+switch_round_from = refl
+
+turns_past : rotation_of marked (head 0 0 0) 20 ≡ green 0 0 5 ∷ green 2 10 15 ∷ green 0 20 25 ∷ []
+turns_past = refl
+
+-- a head in a marked phase: the ring turns from there to the next unmarked one
+turns_from_marked : rotation_of marked (head 1 0 0) 20 ≡ green 1 0 5 ∷ green 2 10 15 ∷ green 0 20 25 ∷ []
+turns_from_marked = refl
+
+-- a cluster of a marked phase has its green, and the ring passes the others after it
+passed_to_marked : passed_numbers marked 0 1 ≡ []
+passed_to_marked = refl
+
+passed_from_marked : passed_numbers marked 1 1 ≡ 2 ∷ 0 ∷ []
+passed_from_marked = refl
 
 -- with no plan
 

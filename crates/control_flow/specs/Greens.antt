@@ -2,7 +2,7 @@
 use Rattle.std.specs.Prelude.{◌≡◌, ℕ, ◌+◌, ◌<◌, ◌≤◌, List, length, slice_index_or, All, find, Bool, IsTrue, ◌==◌, ◌&&◌, nat_le, nat_lt, true, if◌then◌else◌, Option, [], ◌∷◌, ◌++◌}
 use Rattle.std.specs.List.{list_any}
 use Rattle.std.specs.Option.{option_map}
-use Rattle.phase_plan.specs.Phases.{next_phase, phase_at}
+use Rattle.phase_plan.specs.Phases.{IsMarkedAt, between, phase_at}
 use Rattle.phase_plan.specs.declared.Phase.{Phase}
 use Rattle.switch_rules.specs.declared.Head.{Head}
 use Rattle.control_flow.specs.declared.greens.Green.{Green}
@@ -34,9 +34,10 @@ pub record IsGreen (plan : List Phase) (row : Green) : Type 0 where
   pub least : row.from + (phase_at plan row.phase).least ≤ row.to
   pub greatest : row.to ≤ row.from + (phase_at plan row.phase).greatest
 
--- the row after a row is of the next phase of the ring, and begins after yellow and all-red at the earliest
+-- all phases between that of a row and that of the row after it, going up the ring, are marked, and the row after it begins
+-- after yellow and all-red at the earliest
 pub record Follows (plan : List Phase) (row next : Green) : Type 0 where
-  pub phase : next.phase ≡ next_phase plan row.phase
+  pub passed : All (IsMarkedAt plan) (between plan row.phase next.phase)
   pub begins : row.to + (phase_at plan row.phase).yellow + (phase_at plan row.phase).clear ≤ next.from
 
 -- a lawful timeline: each row is a green of the plan, and each but the first follows the row before it

@@ -1,6 +1,6 @@
 -- The timeline of a plan of servings, and that of no plan.
-use Rattle.std.specs.Prelude.{◌≡◌, ℕ, zero, suc, ◌+◌, ◌-◌, ◌<◌, ◌≤◌, max, min, nat_lt, if◌then◌else◌, List, [], ◌∷◌, ◌++◌, length, Ok}
-use Rattle.phase_plan.specs.Phases.{next_phase, passed_numbers, phase_at, passing, switch_time}
+use Rattle.std.specs.Prelude.{◌≡◌, ℕ, zero, suc, Bool, ◌+◌, ◌-◌, ◌<◌, ◌≤◌, max, min, nat_lt, if◌then◌else◌, List, [], ◌∷◌, ◌++◌, length, Ok}
+use Rattle.phase_plan.specs.Phases.{first_up, is_unmarked_at, passed_numbers, phase_at, passing, switch_time}
 use Rattle.phase_plan.specs.declared.Phase.{Phase}
 use Rattle.switch_rules.specs.Serving.{IsCluster, earliest_end, head_after, serving}
 use Rattle.switch_rules.specs.declared.Head.{Head}
@@ -57,34 +57,36 @@ abbrev pub left_for : List Phase → Head → ℕ → List ℕ → List Green
 left_for plan head to ks =
     record { phase = head.phase; from = head.since; to = to } ∷ shortest_greens plan (to + (phase_at plan head.phase).yellow + (phase_at plan head.phase).clear) ks
 
--- the green after one of phase s up to this second: of the next phase of the ring, as early as it may be, of its least
--- length
-abbrev pub green_after : List Phase → ℕ → ℕ → Green
-green_after plan s to =
-    let k = next_phase plan s in
+-- the green after one of phase s up to this second: of the first phase up the ring at which it stops by this test, as early
+-- as it may be, of its least length
+abbrev pub green_after : List Phase → (ℕ → Bool) → ℕ → ℕ → Green
+green_after plan stops s to =
+    let k = first_up plan stops s in
     let from = to + (phase_at plan s).yellow + (phase_at plan s).clear in
     record { phase = k; from = from; to = from + (phase_at plan k).least }
 
 -- the ring turns after a green of phase s up to this second, until a green ends after `until`; at most this many greens
-abbrev pub turning : List Phase → ℕ → ℕ → ℕ → ℕ → List Green
-turning plan zero until s to = []
-turning plan (suc most) until s to =
+abbrev pub turning : List Phase → (ℕ → Bool) → ℕ → ℕ → ℕ → ℕ → List Green
+turning plan stops zero until s to = []
+turning plan stops (suc most) until s to =
     if nat_lt until to then []
-    else green_after plan s to ∷ turning plan most until (green_after plan s to).phase (green_after plan s to).to
+    else green_after plan stops s to ∷ turning plan stops most until (green_after plan stops s to).phase (green_after plan stops s to).to
 
 -- the green of a head up to this second, and then the ring turns until a green ends after `until`
-abbrev pub turned : List Phase → Head → ℕ → ℕ → List Green
-turned plan head to until = record { phase = head.phase; from = head.since; to = to } ∷ turning plan (until + 1) until head.phase to
+abbrev pub turned : List Phase → (ℕ → Bool) → Head → ℕ → ℕ → List Green
+turned plan stops head to until =
+    record { phase = head.phase; from = head.since; to = to } ∷ turning plan stops (until + 1) until head.phase to
 
 -- the timeline of servings from a head: a green that goes on is one row; a green that is left for a new one ends as late
--- as it may, and the ring passes to the new one; the last green is held as long as it may, and then the ring turns
+-- as it may, and the ring passes to the new one; the last green is held as long as it may, and then the ring turns, stopping
+-- at unmarked phases
 abbrev pub line_of : List Phase → Head → List ℕ → List Served → ℕ → List Green
-line_of plan head [] served until = turned plan head (head.since + (phase_at plan head.phase).greatest) until
-line_of plan head (k ∷ ks) [] until = turned plan head (head.since + (phase_at plan head.phase).greatest) until
+line_of plan head [] served until = turned plan (is_unmarked_at plan) head (head.since + (phase_at plan head.phase).greatest) until
+line_of plan head (k ∷ ks) [] until = turned plan (is_unmarked_at plan) head (head.since + (phase_at plan head.phase).greatest) until
 line_of plan head (k ∷ ks) (s ∷ ss) until =
     if s.kept then line_of plan (head_after k s) ks ss until
     else left_for plan head (last_end plan head k s.green) (passed_numbers plan head.phase k) ++ line_of plan (head_after k s) ks ss until
 
--- the timeline with no plan: the green of the head ends as soon as it may, and then the ring turns
+-- the timeline with no plan: the green of the head ends as soon as it may, and then the ring turns in the same way
 abbrev pub rotation_of : List Phase → Head → ℕ → List Green
-rotation_of plan head until = turned plan head (earliest_end plan head) until
+rotation_of plan head until = turned plan (is_unmarked_at plan) head (earliest_end plan head) until

@@ -1,8 +1,8 @@
 //! The timeline of a plan of servings, and that of no plan.
 
-ghost use Rattle.std.specs.Prelude.{◌≡◌, ℕ, ◌+◌, ◌-◌, ◌<◌, ◌≤◌, ◌++◌, length, All, OnOk, IfOk};
+ghost use Rattle.std.specs.Prelude.{◌≡◌, ℕ, ◌+◌, ◌-◌, ◌<◌, ◌≤◌, ◌++◌, filter, length, All, OnOk, IfOk};
 ghost use Rattle.std.specs.List.{range_with_len};
-ghost use Rattle.phase_plan.specs.Phases.{IsPlan, passed_numbers};
+ghost use Rattle.phase_plan.specs.Phases.{IsPlan, is_unmarked_at, passed_numbers};
 ghost use Rattle.switch_rules.specs.Bounds.{latest_time};
 ghost use Rattle.switch_rules.specs.Serving.{IsHead, earliest_green};
 ghost use Rattle.control_flow.specs.Greens.{AreApart, BeginBy, GoesOn, IsLawful, end_of};
@@ -159,8 +159,8 @@ fn pass(
     Ok(())
 }
 
-/// Adds greens of the phases from `low` up to `high`, each of its least length, from `from` on; the second at which the
-/// next green can begin.
+/// Adds greens of the unmarked phases from `low` up to `high`, each of its least length, from `from` on; the second at
+/// which the next green can begin.
 fn add_shortest(
     plan: &PhasePlan,
     low: u8,
@@ -173,13 +173,17 @@ fn add_shortest(
     requires high { high ≤ length plan.now }
     requires from { from ≤ 106000 }
     ensures rows { OnOk result (rows.new.items
-        ≡ rows.old.items ++ shortest_greens plan.now from (range_with_len low (high - low))) }
-    ensures behind { IfOk result (λ next. next ≡ begin_after plan.now from (range_with_len low (high - low))) }
+        ≡ rows.old.items ++ shortest_greens plan.now from (filter (is_unmarked_at plan.now) (range_with_len low (high - low)))) }
+    ensures behind { IfOk result (λ next. next
+        ≡ begin_after plan.now from (filter (is_unmarked_at plan.now) (range_with_len low (high - low)))) }
     ensures bounds { IfOk result (λ next. next ≤ from + 560) }
 {
     let mut from = from;
     for phase in low..high {
         let times = plan.phase(phase);
+        if times.skip {
+            continue;
+        }
         let to = from + times.least;
         rows.push(Green { phase, from, to })?;
         from = to + times.yellow + times.clear;
@@ -200,7 +204,7 @@ fn turn(
     requires phase { head.now.phase < length plan.now }
     requires to { to ≤ 105000 }
     requires until { until ≤ latest_time }
-    ensures { OnOk result (rows.new.items ≡ rows.old.items ++ turned plan.now head.now to until) }
+    ensures { OnOk result (rows.new.items ≡ rows.old.items ++ turned plan.now (is_unmarked_at plan.now) head.now to until) }
 {
     let mut last = Green {
         phase: head.phase,
@@ -215,22 +219,18 @@ fn turn(
     Ok(())
 }
 
-/// The green of the next phase of the ring after a row, as early as it may be, of its least length.
+/// The green of the first unmarked phase up the ring after a row, as early as it may be, of its least length.
 fn green_after(plan: &PhasePlan, row: &Green) -> Green
     requires plan { IsPlan plan.now }
     requires phase { row.now.phase < length plan.now }
     requires to { row.now.to ≤ latest_time }
-    ensures value { result ≡ green_after plan.now row.now.phase row.now.to }
+    ensures value { result ≡ green_after plan.now (is_unmarked_at plan.now) row.now.phase row.now.to }
     ensures phase { result.phase < length plan.now }
     ensures later { row.now.to < result.to }
     ensures bounds { result.to ≤ 105000 }
 {
     let times = plan.phase(row.phase);
-    let phase = if row.phase + 1 < plan.count() {
-        row.phase + 1
-    } else {
-        0
-    };
+    let phase = plan.next(row.phase);
     let from = row.to + times.yellow + times.clear;
     Green {
         phase,

@@ -1,5 +1,5 @@
 -- What a network file says: its table, as `toml` reads it, and the draft that it stands for.
-use Rattle.std.specs.Prelude.{codes, ℕ, ◌-◌, ◌^◌, nat_lt, ℤ, pos, negsuc, Bool, true, ◌&&◌, if◌then◌else◌, List, [], ◌∷◌, Option, Some, None}
+use Rattle.std.specs.Prelude.{false, codes, ℕ, ◌-◌, ◌^◌, nat_lt, ℤ, pos, negsuc, Bool, true, ◌&&◌, if◌then◌else◌, List, [], ◌∷◌, Option, Some, None}
 use Rattle.std.specs.List.{list_any}
 use Rattle.std.specs.Str.{bytes_eq}
 use Rattle.toml.specs.Data.{Data, Items, no_items, item, Members, no_members, member, get_member, as_str, as_integer, as_array, as_table}
@@ -111,7 +111,7 @@ phase_form d = do
   loss ← number_at (codes "loss") ms
   wait ← number_at (codes "wait") ms
   links ← list_at (codes "links") ms
-  Some (record { phase = record { least = least; greatest = greatest; yellow = yellow; clear = clear; loss = loss; wait = wait }; links = links })
+  Some (record { phase = record { least = least; greatest = greatest; yellow = yellow; clear = clear; loss = loss; wait = wait; skip = false }; links = links })
 
 -- a phase with the names of its links
 unfoldable pub phase_of : Data → Option DraftPhase

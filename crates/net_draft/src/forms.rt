@@ -76,6 +76,7 @@ pub(crate) fn phase_form(value: &Value) -> Option<(Phase, &[Value])>
         clear: number_at(table, "clear")?,
         loss: number_at(table, "loss")?,
         wait: number_at(table, "wait")?,
+        skip: false,
     };
     let links = list_at(table, "links")?;
     Some((phase, links))

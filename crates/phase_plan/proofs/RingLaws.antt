@@ -1,50 +1,193 @@
 -- The ring: which phases it passes, and how long that takes.
-use Rattle.std.proofs.Common.{◌≡◌, ℕ, zero, suc, ◌+◌, ◌-◌, ◌<◌, ◌≤◌, ltb, List, [], ◌∷◌, ◌++◌, length, map, sum_by, refl, sym, ap, ◌∙◌, arith}
+use Rattle.std.proofs.Common.{◌≡◌, ℕ, zero, suc, ◌+◌, ◌-◌, ◌<◌, ◌≤◌, ◌≢◌, ltb, Bool, true, false, not, cond, List, [], ◌∷◌, ◌++◌, length, map, filter, count_by, sum_by, get_or, All, refl, sym, ap, subst, ◌∙◌, inl, inr, arith}
 use Rattle.std.specs.List.{range_with_len}
-use Rattle.std.proofs.lemmas.Bool.{cond_below, cond_above, cond_both, ltb-true}
-use Rattle.std.proofs.lemmas.List.{map-append}
-use Rattle.std.proofs.lemmas.List.Sums.{sum_by-append}
-use Rattle.std.proofs.lemmas.List.Elements.{All-get_or}
-use Rattle.phase_plan.specs.Phases.{IsPhase, IsPlan, next_phase, no_phase, passed_numbers, passing, phase_at}
+use Rattle.std.proofs.lemmas.Bool.{cases_lt, cond_below, cond_above, cond_both, ltb-true, ltb-false}
+use Rattle.std.proofs.lemmas.List.{get_or-append-add, get_or_append_left, length-append, map-append}
+use Rattle.std.proofs.lemmas.List.Sums.{sum_by-append, sum_by-cons}
+use Rattle.std.proofs.lemmas.List.Elements.{All-append, All-cons, All-get_or, All-head, All-nil, All-tail, filter-append}
+use Rattle.phase_plan.specs.Phases.{IsMarkedAt, IsPhase, IsPlan, between, first_up, is_unmarked, is_unmarked_at, no_phase, passed_numbers, passing, phase_at, stops_between}
 use Rattle.phase_plan.specs.declared.Phase.{Phase}
 
 -- the phases of a plan are within their bounds
 pub phase-bounds : (plan : List Phase) (k : ℕ) → IsPlan plan → k < length plan → IsPhase (phase_at plan k)
 phase-bounds plan k p h = All-get_or IsPhase plan k no_phase h p.phases
 
-pub next_phase-below : (plan : List Phase) (s : ℕ) → IsPlan plan → next_phase plan s < length plan
-next_phase-below plan s p = cond_both (ltb (s + 1) (length plan)) (s + 1) 0 (λ k. k < length plan) (λ e. ltb-true (s + 1) (length plan) e) (λ e. omega (arith, p.count))
+-- what holds of the phases between two
 
--- from phase s the ring goes through these phases, and then to phase j
-abbrev pub IsWalk : List Phase → ℕ → List ℕ → ℕ → Type 0
-IsWalk plan s [] j = j ≡ next_phase plan s
-IsWalk plan s (k ∷ ks) j = (k < length plan) × (k ≡ next_phase plan s) × IsWalk plan k ks j
+all-range : (P : ℕ → Type 0) (a n : ℕ) → ((k : ℕ) → a ≤ k → k < a + n → P k) → All P (range_with_len a n)
+all-range P a zero h = All-nil P
+all-range P a (suc n) h =
+    All-cons P a (range_with_len (a + 1) n) (h a (omega arith) (omega arith)) (all-range P (a + 1) n (λ k low high. h k (omega arith) (omega arith)))
 
-walk-up : (plan : List Phase) (s count j : ℕ) → s + 1 + count ≡ j → j < length plan → IsWalk plan s (range_with_len (s + 1) count) j
-walk-up plan s zero j e h =
-    let same : j ≡ s + 1 = omega arith in
-    let below : s + 1 < length plan = omega arith in
-    same ∙ cond_below (s + 1) (length plan) (s + 1) 0 below
-walk-up plan s (suc count) j e h =
-    let below : s + 1 < length plan = omega arith in
-    (below, cond_below (s + 1) (length plan) (s + 1) 0 below, walk-up plan (s + 1) count j (omega arith) h)
+range-all : (P : ℕ → Type 0) (a n : ℕ) → All P (range_with_len a n) → (k : ℕ) → a ≤ k → k < a + n → P k
+range-all P a zero h k low high = absurd (omega arith)
+range-all P a (suc n) h k low high = elim (cases_lt a k) [
+  | inl lt ↦ range-all P (a + 1) n (All-tail P a (range_with_len (a + 1) n) h) k (omega arith) (omega arith)
+  | inr le ↦ let e : a ≡ k = omega arith in subst P e (All-head P a (range_with_len (a + 1) n) h)
+]
 
-walk-start : (plan : List Phase) (s j : ℕ) → s + 1 ≡ length plan → j < length plan → IsWalk plan s (range_with_len 0 j) j
-walk-start plan s zero e h = cond_above (s + 1) (length plan) (s + 1) 0 0 (omega arith) refl
-walk-start plan s (suc j) e h = (omega arith, cond_above (s + 1) (length plan) (s + 1) 0 0 (omega arith) refl, walk-up plan 0 j (suc j) (omega arith) h)
+all-left : (P : ℕ → Type 0) (xs ys : List ℕ) → All P (xs ++ ys) → All P xs
+all-left P xs ys h k d lt = subst P (get_or_append_left xs ys d k lt) (h k d (omega (arith, length-append xs ys)))
 
-walk-round : (plan : List Phase) (s count j : ℕ) → s + 1 + count ≡ length plan → j < length plan → IsWalk plan s (range_with_len (s + 1) count ++ range_with_len 0 j) j
-walk-round plan s zero j e h = walk-start plan s j (omega arith) h
-walk-round plan s (suc count) j e h =
-    let below : s + 1 < length plan = omega arith in
-    (below, cond_below (s + 1) (length plan) (s + 1) 0 below, walk-round plan (s + 1) count j (omega arith) h)
+all-right : (P : ℕ → Type 0) (xs ys : List ℕ) → All P (xs ++ ys) → All P ys
+all-right P xs ys h k d lt = subst P (get_or-append-add xs ys k d) (h (length xs + k) d (omega (arith, length-append xs ys)))
+
+all-between : (P : ℕ → Type 0) (plan : List Phase) (s j : ℕ) → (s < j → (k : ℕ) → s < k → k < j → P k) → (j ≤ s → (k : ℕ) → s < k → k < length plan → P k)
+    → (j ≤ s → (k : ℕ) → k < j → P k) → All P (between plan s j)
+all-between P plan s j up high low =
+    let above = range_with_len (s + 1) (length plan - (s + 1)) in
+    cond_both (ltb s j) (range_with_len (s + 1) (j - (s + 1))) (above ++ range_with_len 0 j) (All P)
+    (λ e. let lt = ltb-true s j e in all-range P (s + 1) (j - (s + 1)) (λ k a b. up lt k (omega arith) (omega (arith, lt))))
+    (λ e.
+    let le = ltb-false s j e in
+    All-append P above (range_with_len 0 j) (all-range P (s + 1) (length plan - (s + 1)) (λ k a b. high le k (omega arith) (omega arith)))
+    (all-range P 0 j (λ k a b. low le k (omega arith))))
+
+others-all : (P : ℕ → Type 0) (plan : List Phase) (s : ℕ) → s < length plan → All P (between plan s s) → (k : ℕ) → k < length plan → k ≢ s → P k
+others-all P plan s h all k below other =
+    let up = range_with_len (s + 1) (length plan - (s + 1)) in
+    let both : List ℕ = up ++ range_with_len 0 s in
+    let all_both : All P both = subst (All P) (sym (cond_above s s (range_with_len (s + 1) (s - (s + 1))) both both (omega arith) refl)) all in
+    elim (cases_lt k s) [
+      | inl lt ↦ range-all P 0 s (all-right P up (range_with_len 0 s) all_both) k (omega arith) (omega arith)
+      | inr le ↦
+          let apart : s < k = elim (cases_lt s k) [ inl x ↦ x | inr x ↦ absurd (other (omega arith)) ] in
+          range-all P (s + 1) (length plan - (s + 1)) (all-left P up (range_with_len 0 s) all_both) k (omega arith) (omega arith)
+    ]
+
+-- the phases at which the ring stops by a test, where P holds of those at which it does not
+
+-- from phase s through these phases, and then to phase j, P holds of all between one and the next
+abbrev pub IsWalk : (ℕ → Type 0) → List Phase → ℕ → List ℕ → ℕ → Type 0
+IsWalk P plan s [] j = All P (between plan s j)
+IsWalk P plan s (k ∷ ks) j = (k < length plan) × All P (between plan s k) × IsWalk P plan k ks j
+
+-- the first phase at which the ring stops
+pub record IsFirstUp (P : ℕ → Type 0) (plan : List Phase) (s k : ℕ) : Type 0 where
+  pub below : k < length plan
+  pub passed : All P (between plan s k)
+
+module _ (P : ℕ → Type 0) (plan : List Phase) (stops : ℕ → Bool) (free : (k : ℕ) → stops k ≡ false → P k) where
+  free-more : (low a : ℕ) → ((k : ℕ) → low ≤ k → k < a → P k) → stops a ≡ false → (k : ℕ) → low ≤ k → k < a + 1 → P k
+  free-more low a before e k above below = elim (cases_lt k a) [
+    | inl lt ↦ before k above lt
+    | inr le ↦ let same : a ≡ k = omega arith in subst P same (free a e)
+  ]
+
+  -- up the ring, where it stops at none after s and before a
+  walk-up : (s a n j : ℕ) → s < a → a + n ≡ j → j < length plan → ((k : ℕ) → s + 1 ≤ k → k < a → P k) → IsWalk P plan s (filter stops (range_with_len a n)) j
+  walk-up s a zero j lt e h before =
+      all-between P plan s j (λ x k low high. before k (omega arith) (omega arith)) (λ x. absurd (omega arith)) (λ x. absurd (omega arith))
+  walk-up s a (suc n) j lt e h before =
+      let rest = filter stops (range_with_len (a + 1) n) in
+      cond_both (stops a) (a ∷ rest) rest (λ ks. IsWalk P plan s ks j)
+      (λ u. (
+        omega arith,
+        all-between P plan s a (λ x k low high. before k (omega arith) high) (λ x. absurd (omega arith)) (λ x. absurd (omega arith)),
+        walk-up a (a + 1) n j (omega arith) (omega arith) h (λ k low high. absurd (omega arith)),
+      ))
+      (λ u. walk-up s (a + 1) n j (omega arith) (omega arith) h (free-more (s + 1) a before u))
+
+  -- from the begin of the ring, where it stops at none after s and none below b
+  walk-start : (s b m j : ℕ) → b + m ≡ j → j ≤ s → s < length plan → ((k : ℕ) → s < k → k < length plan → P k) → ((k : ℕ) → 0 ≤ k → k < b → P k)
+      → IsWalk P plan s (filter stops (range_with_len b m)) j
+  walk-start s b zero j e le h high low =
+      all-between P plan s j (λ x. absurd (omega arith)) (λ x k above below. high k above below) (λ x k below. low k (omega arith) (omega arith))
+  walk-start s b (suc m) j e le h high low =
+      let rest = filter stops (range_with_len (b + 1) m) in
+      cond_both (stops b) (b ∷ rest) rest (λ ks. IsWalk P plan s ks j)
+      (λ u. (
+        omega arith,
+        all-between P plan s b (λ x. absurd (omega arith)) (λ x k above below. high k above below) (λ x k below. low k (omega arith) below),
+        walk-up b (b + 1) m j (omega arith) (omega arith) (omega arith) (λ k above below. absurd (omega arith)),
+      ))
+      (λ u. walk-start s (b + 1) m j (omega arith) le h high (free-more 0 b low u))
+
+  -- up to the end of the ring and from its begin, where it stops at none after s and before a
+  walk-round : (s a n j : ℕ) → s < a → a + n ≡ length plan → j ≤ s → ((k : ℕ) → s + 1 ≤ k → k < a → P k)
+      → IsWalk P plan s (filter stops (range_with_len a n ++ range_with_len 0 j)) j
+  walk-round s a zero j lt e le before = walk-start s 0 j j (omega arith) le (omega arith) (λ k above below. before k (omega arith) (omega arith)) (λ k above below. absurd (omega arith))
+  walk-round s a (suc n) j lt e le before =
+      let rest = filter stops (range_with_len (a + 1) n ++ range_with_len 0 j) in
+      cond_both (stops a) (a ∷ rest) rest (λ ks. IsWalk P plan s ks j)
+      (λ u. (
+        omega arith,
+        all-between P plan s a (λ x k low high. before k (omega arith) high) (λ x. absurd (omega arith)) (λ x. absurd (omega arith)),
+        walk-round a (a + 1) n j (omega arith) (omega arith) (omega arith) (λ k low high. absurd (omega arith)),
+      ))
+      (λ u. walk-round s (a + 1) n j (omega arith) (omega arith) le (free-more (s + 1) a before u))
+
+  -- the ring goes through those at which it stops
+  pub walk-stops : (s j : ℕ) → s < length plan → j < length plan → IsWalk P plan s (stops_between plan stops s j) j
+  walk-stops s j hs hj =
+      let up = range_with_len (s + 1) (j - (s + 1)) in
+      let round : List ℕ = range_with_len (s + 1) (length plan - (s + 1)) ++ range_with_len 0 j in
+      cond_both (ltb s j) up round (λ ks. IsWalk P plan s (filter stops ks) j)
+      (λ e. let below = ltb-true s j e in walk-up s (s + 1) (j - (s + 1)) j (omega arith) (omega (arith, below)) hj (λ k low high. absurd (omega arith)))
+      (λ e. let above = ltb-false s j e in walk-round s (s + 1) (length plan - (s + 1)) j (omega arith) (omega arith) above (λ k low high. absurd (omega arith)))
+
+  -- where it stops at some other phase than s
+  pub first-stop : (s : ℕ) → s < length plan → (All P (between plan s s) → ⊥) → IsFirstUp P plan s (first_up plan stops s)
+  first-stop s h some = by (stops_between plan stops s s) refl (walk-stops s s h h)
+    where
+      by : (ks : List ℕ) → stops_between plan stops s s ≡ ks → IsWalk P plan s ks s → IsFirstUp P plan s (first_up plan stops s)
+      by [] e walk = absurd (some walk)
+      by (k ∷ ks) e walk = let is : k ≡ first_up plan stops s = ap (λ (ns : List ℕ). get_or ns 0 0) (sym e) in subst (IsFirstUp P plan s) is (record { below = walk.0; passed = walk.1 })
+
+-- a plan has unmarked phases besides each
+
+none-counted : (p : Phase → Bool) (xs : List Phase) → ((k : ℕ) → k < length xs → p (phase_at xs k) ≡ false) → count_by p xs ≡ 0
+none-counted p [] h = refl
+none-counted p (x ∷ xs) h =
+    let here = h 0 (omega arith) in
+    omega (arith, sum_by-cons (λ y. cond (p y) 1 0) x xs, ap {B = ℕ} (λ b. cond b 1 0) here, none-counted p xs (λ k lt. h (suc k) (omega arith)))
+
+one-counted : (p : Phase → Bool) (xs : List Phase) (s : ℕ) → ((k : ℕ) → k < length xs → k ≢ s → p (phase_at xs k) ≡ false) → count_by p xs ≤ 1
+one-counted p [] s h = omega arith
+one-counted p (x ∷ xs) zero h =
+    let none = none-counted p xs (λ k lt. h (suc k) (omega arith) (λ e. omega arith)) in
+    let most : cond (p x) 1 0 ≤ 1 = cond_both (p x) 1 0 (λ n. n ≤ 1) (λ _. omega arith) (λ _. omega arith) in
+    omega (arith, sum_by-cons (λ y. cond (p y) 1 0) x xs, none, most)
+one-counted p (x ∷ xs) (suc s) h =
+    let here = h 0 (omega arith) (λ e. omega arith) in
+    omega (arith, sum_by-cons (λ y. cond (p y) 1 0) x xs, ap {B = ℕ} (λ b. cond b 1 0) here, one-counted p xs s (λ k lt other. h (suc k) (omega arith) (λ e. other (omega arith))))
+
+some-unmarked : (plan : List Phase) (s : ℕ) → IsPlan plan → s < length plan → All (IsMarkedAt plan) (between plan s s) → ⊥
+some-unmarked plan s p h all =
+    let few = one-counted is_unmarked plan s (λ k below other. ap not (others-all (IsMarkedAt plan) plan s h all k below other)) in
+    omega (arith, few, p.ring)
+
+-- a ring that passes over marked phases alone: it stops at all unmarked ones, and maybe at others
+abbrev pub PassesMarked : List Phase → (ℕ → Bool) → Type 0
+PassesMarked plan stops = (k : ℕ) → stops k ≡ false → IsMarkedAt plan k
+
+-- one that stops at the unmarked phases alone
+pub passes-marked : (plan : List Phase) → PassesMarked plan (is_unmarked_at plan)
+passes-marked plan k e = by (phase_at plan k).skip e
+  where
+    by : (b : Bool) → not b ≡ false → b ≡ true
+    by true e = refl
+    by false e = absurd cc
+
+-- the first phase at which such a ring stops
+pub first-up : (plan : List Phase) (stops : ℕ → Bool) (s : ℕ) → IsPlan plan → PassesMarked plan stops → s < length plan → IsFirstUp (IsMarkedAt plan) plan s (first_up plan stops s)
+first-up plan stops s p passes h = first-stop (IsMarkedAt plan) plan stops passes s h (some-unmarked plan s p h)
 
 -- the ring goes through the phases that it passes
-pub walk-passed : (plan : List Phase) (s j : ℕ) → s < length plan → j < length plan → IsWalk plan s (passed_numbers plan s j) j
-walk-passed plan s j hs hj =
-    cond_both (ltb s j) (range_with_len (s + 1) (j - (s + 1))) (range_with_len (s + 1) (length plan - (s + 1)) ++ range_with_len 0 j) (λ ks. IsWalk plan s ks j)
-    (λ e. let below = ltb-true s j e in walk-up plan s (j - (s + 1)) j (omega arith) hj)
-    (λ e. walk-round plan s (length plan - (s + 1)) j (omega arith) hj)
+pub walk-passed : (plan : List Phase) (s j : ℕ) → s < length plan → j < length plan → IsWalk (IsMarkedAt plan) plan s (passed_numbers plan s j) j
+walk-passed plan s j = walk-stops (IsMarkedAt plan) plan (is_unmarked_at plan) (passes-marked plan) s j
+
+-- the unmarked ones of these numbers
+abbrev pub unmarked : List Phase → List ℕ → List ℕ
+unmarked plan ks = filter (is_unmarked_at plan) ks
+
+-- those from a phase on are the phase, where it is unmarked, and those after it
+pub unmarked-first : (plan : List Phase) (k high : ℕ) (mark : Bool) → k < high → (phase_at plan k).skip ≡ mark
+    → unmarked plan (range_with_len k (high - k)) ≡ cond (not mark) (k ∷ unmarked plan (range_with_len (k + 1) (high - (k + 1)))) (unmarked plan (range_with_len (k + 1) (high - (k + 1))))
+unmarked-first plan k high mark h is =
+    let rest = unmarked plan (range_with_len (k + 1) (high - (k + 1))) in
+    let e : high - k ≡ suc (high - (k + 1)) = omega arith in
+    ap (λ (n : ℕ). unmarked plan (range_with_len k n)) e ∙ ap (λ (b : Bool). cond (not b) (k ∷ rest) rest) is
 
 -- how long the ring takes
 
@@ -57,15 +200,18 @@ time_at-append plan ks ls =
     ap (sum_by passing) (map-append (λ k. phase_at plan k) ks ls) ∙ sum_by-append passing (map (λ k. phase_at plan k) ks) (map (λ k. phase_at plan k) ls)
 
 -- up to a later phase
-pub passed-up : (plan : List Phase) (s j : ℕ) → s < j → time_at plan (passed_numbers plan s j) ≡ time_at plan (range_with_len (s + 1) (j - (s + 1)))
-passed-up plan s j h = ap (time_at plan) (sym (cond_below s j (range_with_len (s + 1) (j - (s + 1))) (range_with_len (s + 1) (length plan - (s + 1)) ++ range_with_len 0 j) h))
+pub passed-up : (plan : List Phase) (s j : ℕ) → s < j → time_at plan (passed_numbers plan s j) ≡ time_at plan (unmarked plan (range_with_len (s + 1) (j - (s + 1))))
+passed-up plan s j h =
+    ap (λ (ks : List ℕ). time_at plan (unmarked plan ks)) (sym (cond_below s j (range_with_len (s + 1) (j - (s + 1))) (range_with_len (s + 1) (length plan - (s + 1)) ++ range_with_len 0 j) h))
 
 -- up to the end of the ring, and from its begin
-pub passed-round : (plan : List Phase) (s j : ℕ) → j ≤ s → time_at plan (passed_numbers plan s j) ≡ time_at plan (range_with_len (s + 1) (length plan - (s + 1))) + time_at plan (range_with_len 0 (j - 0))
+pub passed-round : (plan : List Phase) (s j : ℕ) → j ≤ s → time_at plan (passed_numbers plan s j)
+    ≡ time_at plan (unmarked plan (range_with_len (s + 1) (length plan - (s + 1)))) + time_at plan (unmarked plan (range_with_len 0 (j - 0)))
 passed-round plan s j h =
     let up = range_with_len (s + 1) (length plan - (s + 1)) in
     let both : List ℕ = up ++ range_with_len 0 j in
     let same : j ≡ j - 0 = omega arith in
-    ap (time_at plan) (sym (cond_above s j (range_with_len (s + 1) (j - (s + 1))) both both h refl))
-    ∙ ap (λ n. time_at plan (up ++ range_with_len 0 n)) same
-    ∙ time_at-append plan up (range_with_len 0 (j - 0))
+    ap (λ (ks : List ℕ). time_at plan (unmarked plan ks)) (sym (cond_above s j (range_with_len (s + 1) (j - (s + 1))) both both h refl))
+    ∙ ap (λ n. time_at plan (unmarked plan (up ++ range_with_len 0 n))) same
+    ∙ ap (time_at plan) (filter-append (is_unmarked_at plan) up (range_with_len 0 (j - 0)))
+    ∙ time_at-append plan (unmarked plan up) (unmarked plan (range_with_len 0 (j - 0)))

@@ -1,11 +1,11 @@
 -- The phases of an intersection: their bounds, the ring, and why phases are no plan.
-use Rattle.std.specs.Prelude.{◌≡◌, ℕ, ◌+◌, ◌-◌, ◌<◌, ◌≤◌, ◌⊎◌, List, [], ◌++◌, length, All, map, sum_by, slice_index_or, nat_lt, if◌then◌else◌}
+use Rattle.std.specs.Prelude.{◌≡◌, ℕ, ◌+◌, ◌-◌, ◌<◌, ◌≤◌, ◌⊎◌, Bool, true, false, not, List, [], ◌++◌, length, All, map, filter, count_by, sum_by, slice_index, slice_index_or, nat_lt, if◌then◌else◌}
 use Rattle.std.specs.List.{range_with_len}
 use Rattle.foundation.specs.Firsts.{IsFirstAt, IsFirstOfRanks}
 use Rattle.phase_plan.specs.declared.Phase.{Phase}
 use Rattle.phase_plan.specs.declared.Field.{Field}
 use Rattle.phase_plan.specs.declared.PlanFault.{PlanFault}
-use Rattle.phase_plan.specs.declared.PlanFault.TheVariants.{Count, Bound}
+use Rattle.phase_plan.specs.declared.PlanFault.TheVariants.{Count, Bound, Skips}
 use Rattle.phase_plan.specs.declared.Field.TheVariants.{Least, Greatest, Yellow, Clear, Loss, Wait}
 
 -- the bounds of each time of a phase, in seconds
@@ -26,32 +26,57 @@ pub record IsPhase (p : Phase) : Type 0 where
   pub loss : IsInBounds p Loss
   pub wait : IsInBounds p Wait
 
--- two to four phases, each in bounds
+-- whether a phase has no mark `skip`
+abbrev pub is_unmarked : Phase → Bool
+is_unmarked p = not p.skip
+
+-- two to four phases, each in bounds, at least two of them unmarked
 pub record IsPlan (plan : List Phase) : Type 0 where
   pub count : (2 ≤ length plan) × (length plan ≤ 4)
   pub phases : All IsPhase plan
+  pub ring : 2 ≤ count_by is_unmarked plan
 
 -- what stands where a plan has no phase
 abbrev pub no_phase : Phase
-no_phase = record { least = 0; greatest = 0; yellow = 0; clear = 0; loss = 0; wait = 0 }
+no_phase = record { least = 0; greatest = 0; yellow = 0; clear = 0; loss = 0; wait = 0; skip = false }
 
 -- the phase with this number
 abbrev pub phase_at : List Phase → ℕ → Phase
 phase_at plan k = slice_index_or plan k no_phase
 
--- the phase that follows phase s on the ring
-abbrev pub next_phase : List Phase → ℕ → ℕ
-next_phase plan s = if nat_lt (s + 1) (length plan) then s + 1 else 0
+-- the phase with this number is marked
+abbrev pub IsMarkedAt : List Phase → ℕ → Type 0
+IsMarkedAt plan k = (phase_at plan k).skip ≡ true
+
+-- whether the phase with this number is unmarked: the ring stops there
+abbrev pub is_unmarked_at : List Phase → ℕ → Bool
+is_unmarked_at plan k = is_unmarked (phase_at plan k)
 
 -- the numbers of the phases strictly between s and j, going up the ring from s; those of all others where j is s
+abbrev pub between : List Phase → ℕ → ℕ → List ℕ
+between plan s j = if nat_lt s j then range_with_len (s + 1) (j - (s + 1)) else range_with_len (s + 1) (length plan - (s + 1)) ++ range_with_len 0 j
+
+-- those between at which the ring stops, where it stops by this test
+abbrev pub stops_between : List Phase → (ℕ → Bool) → ℕ → ℕ → List ℕ
+stops_between plan stops s j = filter stops (between plan s j)
+
+-- the first phase up the ring from s at which it stops by this test
+abbrev pub first_up : List Phase → (ℕ → Bool) → ℕ → ℕ
+first_up plan stops s = slice_index (stops_between plan stops s s) 0
+
+-- the first unmarked phase up the ring from s
+abbrev pub next_phase : List Phase → ℕ → ℕ
+next_phase plan s = first_up plan (is_unmarked_at plan) s
+
+-- the numbers of the unmarked phases between s and j
 abbrev pub passed_numbers : List Phase → ℕ → ℕ → List ℕ
-passed_numbers plan s j = if nat_lt s j then range_with_len (s + 1) (j - (s + 1)) else range_with_len (s + 1) (length plan - (s + 1)) ++ range_with_len 0 j
+passed_numbers plan s j = stops_between plan (is_unmarked_at plan) s j
 
 -- the phases with these numbers
 abbrev pub passed : List Phase → ℕ → ℕ → List Phase
 passed plan s j = map (λ k. phase_at plan k) (passed_numbers plan s j)
 
--- how long the ring stays at a phase that it only passes
+-- how long the ring stays at an unmarked phase that it passes
 abbrev pub passing : Phase → ℕ
 passing p = p.least + p.yellow + p.clear
 
@@ -87,7 +112,9 @@ rank Wait = 5
 abbrev pub IsFirstFault : Phase → Field → Type 0
 IsFirstFault p field = IsFirstOfRanks rank (IsInBounds p) field
 
--- why these phases are no plan: their number, or else the first phase and then the first field out of bounds
+-- why these phases are no plan: their number, or else the first phase and then the first field out of bounds, or else that
+-- fewer than two are unmarked
 abbrev pub IsPlanFault : List Phase → PlanFault → Type 0
 IsPlanFault plan (Count n) = (n ≡ length plan) × ((length plan < 2) ⊎ (4 < length plan))
 IsPlanFault plan (Bound k field) = (2 ≤ length plan) × (length plan ≤ 4) × IsFirstAt IsPhase (λ p. IsFirstFault p field) plan k
+IsPlanFault plan Skips = (2 ≤ length plan) × (length plan ≤ 4) × All IsPhase plan × (count_by is_unmarked plan < 2)

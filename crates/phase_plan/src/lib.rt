@@ -1,16 +1,16 @@
 //! The signal phases of an intersection: their bounds, and the time that a change of phase takes.
 #![tactic(auto)]
 
-ghost use Rattle.std.specs.Prelude.{◌≡◌, ◌+◌, ◌-◌, ◌*◌, ◌<◌, ◌≤◌, length, map, sum_by, IfNone, IfSome};
+ghost use Rattle.std.specs.Prelude.{◌≡◌, ◌+◌, ◌-◌, ◌*◌, ◌<◌, ◌≤◌, length, map, filter, count_by, sum_by, slice_get, if◌then◌else◌, IfNone, IfSome};
 ghost use Rattle.std.specs.List.{range_with_len};
 ghost use Rattle.phase_plan.specs.Phases as spec;
-ghost use Rattle.phase_plan.specs.Phases.{IsPhase, IsPlan, IsFirstFault, AreSwitchTimes, AreSwitchTimesFrom, greatest_switch_time, passing, phase_at};
+ghost use Rattle.phase_plan.specs.Phases.{IsPhase, IsPlan, IsFirstFault, AreSwitchTimes, AreSwitchTimesFrom, greatest_switch_time, is_unmarked, is_unmarked_at, passing, phase_at};
 
 use foundation::threads::CrossesThreads;
 use std::alloc::{AllocError, Global};
 use std::marker::Model;
 
-/// The times of one phase, in whole seconds.
+/// The times of one phase, in whole seconds, and its mark.
 ///
 /// docs/RULES.md, "Phases".
 #[derive(Debug, Clone, Copy, PartialEq, Eq)]
@@ -27,6 +27,9 @@ pub struct Phase {
     pub loss: u32,
     /// The longest time that a cluster of the phase may wait, 1 to 3600.
     pub wait: u32,
+    /// The mark of a phase that the ring leaves out: it is green only where one of its clusters is
+    /// served, or where it is the head's.
+    pub skip: bool,
 }
 
 impl Phase {
@@ -65,9 +68,12 @@ pub enum PlanFault {
     Count(u32),
     /// The first phase, from 0, and its first field that is out of bounds.
     Bound { phase: u8, field: Field },
+    /// Fewer than two phases are unmarked.
+    Skips,
 }
 
-/// Phases that an intersection serves in a fixed ring, 2 to 4 of them, each within its bounds.
+/// Phases that an intersection serves in a fixed ring, 2 to 4 of them, each within its bounds, at
+/// least two of them unmarked.
 /// Contracts see it as the list of its phases. The switch times are kept beside them.
 ///
 /// docs/RULES.md, "Phases".
@@ -100,13 +106,14 @@ impl CrossesThreads for PlanFault {}
 impl CrossesThreads for PhasePlan {}
 
 impl PhasePlan {
-    ghost use Rattle.std.specs.Prelude.{◌≡◌, ◌<◌, ◌≤◌, ◌^◌, IfOk, IfErr, OnErr, length, vec_len};
-    ghost use Rattle.phase_plan.specs.Phases.{IsPlan, IsPlanFault, IsPhase, greatest_switch_time, phase_at, switch_time};
+    ghost use Rattle.std.specs.Prelude.{◌≡◌, ◌<◌, ◌≤◌, ◌^◌, All, IfOk, IfErr, OnErr, length, vec_len};
+    ghost use Rattle.phase_plan.specs.Phases.{IsPlan, IsPlanFault, IsPhase, IsMarkedAt, between, greatest_switch_time, next_phase, phase_at, switch_time};
 
-    /// The plan of these phases, fewer than 2^32, where there are 2 to 4 of them and each is within its bounds.
+    /// The plan of these phases, fewer than 2^32, where there are 2 to 4 of them, each is within its
+    /// bounds, and at least two are unmarked.
     ///
     /// The fault is the number of phases, or else the first phase that is out of bounds, with the
-    /// first of its fields that is.
+    /// first of its fields that is, or else that fewer than two are unmarked.
     ///
     /// docs/RULES.md, "Phases".
     pub fn new(phases: Vec<Phase>) -> Result<PhasePlan, PlanFault>
@@ -125,6 +132,9 @@ impl PhasePlan {
                     field,
                 });
             }
+        }
+        if count_unmarked(&phases) < 2 {
+            return Err(PlanFault::Skips);
         }
         Ok(PhasePlan {
             switch_times: switch_times(&phases),
@@ -176,7 +186,7 @@ impl PhasePlan {
 
     /// The seconds from the end of a green of phase `s` to the begin of a green of phase `j`, at the
     /// least: the yellow and clear time of `s`, and a least green with its yellow and clear time
-    /// for each phase that the ring passes on the way. Both numbers are below the count of phases. At most 440.
+    /// for each unmarked phase between. Both numbers are below the count of phases. At most 440.
     ///
     /// docs/RULES.md, "Ring and switch time".
     pub fn switch_time(&self, s: u8, j: u8) -> u32
@@ -187,6 +197,25 @@ impl PhasePlan {
     {
         self.switch_times[s as usize][j as usize]
     }
+
+    /// The first unmarked phase up the ring from phase `s`, which is below the count of phases.
+    ///
+    /// docs/RULES.md, "Ring and switch time".
+    pub fn next(&self, s: u8) -> u8
+        requires { s < length self.now }
+        ensures value { result ≡ next_phase self.now s }
+        ensures bounds { result < length self.now }
+        ensures passed { All (IsMarkedAt self.now) (between self.now s result) }
+    {
+        next_phase(&self.phases, s as usize) as u8
+    }
+}
+
+/// How many phases are unmarked.
+fn count_unmarked(phases: &[Phase]) -> usize
+    ensures { result ≡ count_by is_unmarked phases.now }
+{
+    phases.iter().filter(|phase| !phase.skip).count()
 }
 
 /// The first field of the phase that is out of bounds.
@@ -258,13 +287,50 @@ fn passing_time(phases: &[Phase], low: usize, high: usize) -> u32
     requires plan { IsPlan phases.now }
     requires low { low ≤ high }
     requires high { high ≤ length phases.now }
-    ensures value { result ≡ sum_by passing (map (λ k. phase_at phases.now k) (range_with_len low (high - low))) }
+    ensures value { result ≡ sum_by passing (map (λ k. phase_at phases.now k) (filter (is_unmarked_at phases.now) (range_with_len low (high - low)))) }
     ensures bounds { result ≤ 140 * (high - low) }
 {
     let mut total = 0;
     for k in low..high {
-        let phase = &phases[k];
-        total += phase.least + phase.yellow + phase.clear;
+        total += passing(&phases[k]);
     }
     total
+}
+
+/// The seconds that the ring takes to pass the phase: none where it is marked.
+fn passing(phase: &Phase) -> u32
+    requires { IsPhase phase.now }
+    ensures value { result ≡ (if is_unmarked phase.now then spec.passing phase.now else 0) }
+    ensures bounds { result ≤ 140 }
+{
+    if phase.skip {
+        0
+    } else {
+        phase.least + phase.yellow + phase.clear
+    }
+}
+
+/// The first unmarked phase up the ring from phase `s`.
+fn next_phase(phases: &[Phase], s: usize) -> usize
+    requires { s < length phases.now }
+    ensures { result ≡ spec.next_phase phases.now s }
+{
+    match first_unmarked(phases, s + 1, phases.len()) {
+        Some(k) => k,
+        None => first_unmarked(phases, 0, s).unwrap_or(0),
+    }
+}
+
+/// The first unmarked phase from `low` up to `high`.
+fn first_unmarked(phases: &[Phase], low: usize, high: usize) -> Option<usize>
+    requires low { low ≤ high }
+    requires high { high ≤ length phases.now }
+    ensures { result ≡ slice_get (filter (is_unmarked_at phases.now) (range_with_len low (high - low))) 0 }
+{
+    for k in low..high {
+        if !phases[k].skip {
+            return Some(k);
+        }
+    }
+    None
 }

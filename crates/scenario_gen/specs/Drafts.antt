@@ -1,5 +1,5 @@
 -- The network of a square grid, by names.
-use Rattle.std.specs.Prelude.{codes, ℕ, List, [], ◌∷◌, ◌++◌, Option, Some, None, map}
+use Rattle.std.specs.Prelude.{codes, ℕ, false, List, [], ◌∷◌, ◌++◌, Option, Some, None, map}
 use Rattle.std.specs.Fmt.{decimal}
 use Rattle.std.specs.List.{flat_map}
 use Rattle.std.specs.Option.{option_map}
@@ -44,7 +44,7 @@ link side r = record { name = road_name r; from = option_map node_name (begin_of
 
 -- the phases of each node are alike, but for the links that they serve
 abbrev pub usual : Phase
-usual = record { least = 5; greatest = 40; yellow = 3; clear = 2; loss = 2; wait = 300 }
+usual = record { least = 5; greatest = 40; yellow = 3; clear = 2; loss = 2; wait = 300; skip = false }
 
 abbrev pub phase : List Road → DraftPhase
 phase served = record { phase = usual; links = map road_name served }

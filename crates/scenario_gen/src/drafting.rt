@@ -22,6 +22,7 @@ const USUAL: Phase = Phase {
     clear: 2,
     loss: 2,
     wait: 300,
+    skip: false,
 };
 
 /// The share of those who go straight on, in thousandths.

@@ -18,7 +18,7 @@ use Rattle.schedule_meaning.proofs.Choosing.{search-best}
 
 -- a phase whose clusters may wait so long
 abbrev waiting_at_most : ℕ → Phase
-waiting_at_most wait = record { least = 5; greatest = 30; yellow = 3; clear = 2; loss = 2; wait = wait }
+waiting_at_most wait = record { least = 5; greatest = 30; yellow = 3; clear = 2; loss = 2; wait = wait; skip = false }
 
 abbrev usual : Phase
 usual = waiting_at_most 120
@@ -236,7 +236,7 @@ anew-too_long = refl
 -- in a switch the least green, the yellow and the clear time are the old phase's, loss and greatest green the new one's
 
 abbrev slow : Phase
-slow = record { least = 7; greatest = 20; yellow = 4; clear = 2; loss = 1; wait = 9 }
+slow = record { least = 7; greatest = 20; yellow = 4; clear = 2; loss = 1; wait = 9; skip = false }
 
 unlike-switch : serving (slow ∷ usual ∷ []) (head 0 0 0) 1 (cluster 1000 0 28)
     ≡ Ok (record { green = 13; start = 15; finish = 43; cost = 15000; kept = false }, head 1 13 43)

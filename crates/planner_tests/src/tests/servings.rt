@@ -31,6 +31,7 @@ const PHASE: Phase = Phase {
     clear: 2,
     loss: 2,
     wait: 120,
+    skip: false,
 };
 
 // How the first cluster of a phase is served from the head, or why it is not.

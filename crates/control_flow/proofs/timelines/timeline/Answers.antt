@@ -5,7 +5,8 @@ use Rattle.control_flow.specs.Timelines.{line_of, HasGreens}
 use Rattle.control_flow.proofs.ServingLaws.{IsServingOf-keeps, IsServingOf-head}
 use Rattle.control_flow.proofs.ApartLaws.{are-apart}
 use Rattle.control_flow.proofs.OrderLaws.{order-lawful}
-use Rattle.control_flow.proofs.MakingLaws.{IsLineFrom, line_of-line, line_of-by, line_of-greens, next-serving, line-kept, line-left, line-over}
+use Rattle.control_flow.proofs.TurningLaws.{IsLineFrom}
+use Rattle.control_flow.proofs.MakingLaws.{line_of-line, line_of-by, line_of-greens, next-serving, line-kept, line-left, line-over}
 use Rattle.control_flow.proofs.timelines.timeline.Goals as goal
 use Rattle.control_flow.proofs.timelines.timeline.Goals.{then-not-next+in_ok-leave, else-not-next}
 

@@ -1,0 +1,131 @@
+-- The turning of a ring that stops at all unmarked phases, and maybe at others: it is lawful, and ends late enough.
+use Rattle.std.proofs.Common.{◌≡◌, ℕ, zero, suc, ◌+◌, ◌-◌, ◌<◌, ◌≤◌, Bool, cond, ltb, List, [], ◌∷◌, ◌++◌, length, refl, sym, ap, ◌∙◌, arith, append_assoc}
+use Rattle.std.proofs.lemmas.Bool.{cond_below, cond_above, cond_both, ltb-true, ltb-false}
+use Rattle.std.proofs.lemmas.List.Elements.{All-nil, All-cons, All-weaker}
+use Rattle.phase_plan.specs.Phases.{IsPlan, first_up, phase_at}
+use Rattle.phase_plan.specs.declared.Phase.{Phase}
+use Rattle.phase_plan.proofs.RingLaws.{PassesMarked, first-up, phase-bounds}
+use Rattle.switch_rules.specs.Serving.{IsHead}
+use Rattle.switch_rules.specs.declared.Head.{Head}
+use Rattle.control_flow.specs.declared.greens.Green.{Green}
+use Rattle.control_flow.specs.Greens.{end_of, IsGreen, IsLawful, GoesOn, BeginBy}
+use Rattle.control_flow.specs.Timelines.{green_after, turning, turned}
+use Rattle.control_flow.proofs.RowLaws.{lawful-nil, lawful-cons}
+
+-- what the timelines from a head have in common
+pub record IsLineFrom (plan : List Phase) (head : Head) (until : ℕ) (rows : List Green) : Type 0 where
+  pub lawful : IsLawful plan rows
+  pub begin : GoesOn head rows
+  pub end : until < end_of rows
+
+alone : (plan : List Phase) (row : Green) → IsGreen plan row → IsLawful plan (row ∷ [])
+alone plan row green = lawful-cons plan row [] green (λ h. absurd (omega arith)) (lawful-nil plan)
+
+module _ (plan : List Phase) (stops : ℕ → Bool) (p : IsPlan plan) (passes : PassesMarked plan stops) where
+  -- a green of the ring after a row
+
+  first-below : (s : ℕ) → s < length plan → first_up plan stops s < length plan
+  first-below s h = (first-up plan stops s p passes h).below
+
+  green_after-green : (s to : ℕ) → s < length plan → IsGreen plan (green_after plan stops s to)
+  green_after-green s to h =
+      let below = first-below s h in
+      let times = phase-bounds plan (first_up plan stops s) p below in
+      record { phase = below; least = omega arith; greatest = omega (arith, times.greatest) }
+
+  green_after-later : (s to : ℕ) → s < length plan → to + 1 ≤ (green_after plan stops s to).to
+  green_after-later s to h = let times = phase-bounds plan (first_up plan stops s) p (first-below s h) in omega (arith, times.least)
+
+  turning-lawful : (until most : ℕ) (row : Green) → IsGreen plan row → IsLawful plan (row ∷ turning plan stops most until row.phase row.to)
+  turning-lawful until zero row green = alone plan row green
+  turning-lawful until (suc most) row green =
+      let next = green_after plan stops row.phase row.to in
+      let later = turning-lawful until most next (green_after-green row.phase row.to green.phase) in
+      cond_both (ltb until row.to) [] (next ∷ turning plan stops most until next.phase next.to) (λ rows. IsLawful plan (row ∷ rows))
+      (λ e. alone plan row green)
+      (λ e.
+      lawful-cons plan row (next ∷ turning plan stops most until next.phase next.to) green (λ h. record { passed = (first-up plan stops row.phase p passes green.phase).passed; begins = omega arith })
+      later)
+
+  turning-end : (until most : ℕ) (row : Green) → row.phase < length plan → until + 1 ≤ most + row.to → until < end_of (row ∷ turning plan stops most until row.phase row.to)
+  turning-end until zero row h enough = omega arith
+  turning-end until (suc most) row h enough =
+      let next = green_after plan stops row.phase row.to in
+      let later = green_after-later row.phase row.to h in
+      let others = turning-end until most next (first-below row.phase h) (omega (arith, later)) in
+      cond_both (ltb until row.to) [] (next ∷ turning plan stops most until next.phase next.to) (λ rows. until < end_of (row ∷ rows))
+      (λ e. ltb-true until row.to e)
+      (λ e. others)
+
+  turning-by : (until most s to : ℕ) → s < length plan → BeginBy (until + 20) (turning plan stops most until s to)
+  turning-by until zero s to h = All-nil (λ (row : Green). row.from ≤ until + 20)
+  turning-by until (suc most) s to h =
+      let next = green_after plan stops s to in
+      let times = phase-bounds plan s p h in
+      let others = turning-by until most next.phase next.to (first-below s h) in
+      cond_both (ltb until to) [] (next ∷ turning plan stops most until next.phase next.to) (BeginBy (until + 20))
+      (λ e. All-nil (λ (row : Green). row.from ≤ until + 20))
+      (λ e.
+      let over = ltb-false until to e in
+      All-cons (λ (row : Green). row.from ≤ until + 20) next (turning plan stops most until next.phase next.to) (omega (arith, times.yellow, times.clear, over)) others)
+
+  -- enough greens are enough
+  turning-enough : (until m n s to : ℕ) → s < length plan → until + 1 ≤ m + to → until + 1 ≤ n + to → turning plan stops m until s to ≡ turning plan stops n until s to
+  turning-enough until zero zero s to h a b = refl
+  turning-enough until zero (suc n) s to h a b =
+      let next = green_after plan stops s to in
+      cond_below until to [] (next ∷ turning plan stops n until next.phase next.to) (omega arith)
+  turning-enough until (suc m) zero s to h a b =
+      let next = green_after plan stops s to in
+      sym (cond_below until to [] (next ∷ turning plan stops m until next.phase next.to) (omega arith))
+  turning-enough until (suc m) (suc n) s to h a b =
+      let next = green_after plan stops s to in
+      let later = green_after-later s to h in
+      let same = turning-enough until m n next.phase next.to (first-below s h) (omega (arith, later)) (omega (arith, later)) in
+      ap (λ (rows : List Green). cond (ltb until to) [] (next ∷ rows)) same
+
+  -- the next green of the ring, where the row does not end after `until`
+  turning-step : (until s to : ℕ) → s < length plan → to ≤ until
+      → turning plan stops (until + 1 - to) until s to
+      ≡ green_after plan stops s to ∷ turning plan stops (until + 1 - (green_after plan stops s to).to) until (green_after plan stops s to).phase (green_after plan stops s to).to
+  turning-step until s to below h =
+      let next = green_after plan stops s to in
+      let m = until + 1 - to in
+      let later = green_after-later s to below in
+      turning-enough until m (suc m) s to below (omega arith) (omega arith)
+      ∙ sym (cond_above until to [] (next ∷ turning plan stops m until next.phase next.to) (next ∷ turning plan stops m until next.phase next.to) h refl)
+      ∙ ap (λ (rows : List Green). next ∷ rows) (turning-enough until m (until + 1 - next.to) next.phase next.to (first-below s below) (omega (arith, later)) (omega arith))
+
+  pub turning-more : (until s to : ℕ) (next : Green) (rows whole : List Green) → s < length plan → to ≤ until → next ≡ green_after plan stops s to
+      → rows ++ turning plan stops (until + 1 - to) until s to ≡ whole → (rows ++ next ∷ []) ++ turning plan stops (until + 1 - next.to) until next.phase next.to ≡ whole
+  turning-more until s to next rows whole below h is so_far =
+      append_assoc rows (next ∷ []) (turning plan stops (until + 1 - next.to) until next.phase next.to)
+      ∙ ap (λ (g : Green). rows ++ g ∷ turning plan stops (until + 1 - g.to) until g.phase g.to) is
+      ∙ ap (λ (rs : List Green). rows ++ rs) (sym (turning-step until s to below h))
+      ∙ so_far
+
+  -- the begin of the turning
+  pub turned-is : (head : Head) (to until : ℕ) → head.phase < length plan
+      → turned plan stops head to until ≡ record { phase = head.phase; from = head.since; to = to } ∷ turning plan stops (until + 1 - to) until head.phase to
+  turned-is head to until h =
+      let row : Green = record { phase = head.phase; from = head.since; to = to } in
+      ap (λ (rows : List Green). row ∷ rows) (turning-enough until (until + 1) (until + 1 - to) head.phase to h (omega arith) (omega arith))
+
+  -- a green of a head that is held up to a second within its bounds
+  pub turned-line : (head : Head) (to until : ℕ) → IsHead plan head → head.at ≤ 104000 → head.since + (phase_at plan head.phase).least ≤ to → to ≤ head.since + (phase_at plan head.phase).greatest
+      → head.at ≤ to → IsLineFrom plan head until (turned plan stops head to until)
+  turned-line head to until h reach least greatest spent =
+      let row : Green = record { phase = head.phase; from = head.since; to = to } in
+      let green : IsGreen plan row = record { phase = h.phase; least = least; greatest = greatest } in
+      record {
+        lawful = turning-lawful until (until + 1) row green;
+        begin = record { some = omega arith; phase = refl; begin = refl; spent = spent };
+        end = turning-end until (until + 1) row h.phase (omega arith);
+      }
+
+  pub turned-by : (head : Head) (to until n : ℕ) → head.phase < length plan → head.since ≤ n → until + 20 ≤ n → BeginBy n (turned plan stops head to until)
+  turned-by head to until n h since last =
+      let row : Green = record { phase = head.phase; from = head.since; to = to } in
+      let rows = turning plan stops (until + 1) until head.phase to in
+      let more = λ (r : Green) (e : r.from ≤ until + 20). let weaker : r.from ≤ n = omega arith in weaker in
+      All-cons (λ (r : Green). r.from ≤ n) row rows since (All-weaker (λ (r : Green). r.from ≤ until + 20) (λ (r : Green). r.from ≤ n) more rows (turning-by until (until + 1) head.phase to h))
