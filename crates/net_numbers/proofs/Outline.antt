@@ -120,7 +120,7 @@ module _ (d : Draft) (net : Net) (bounds : IsBounded d) (nodes_differ : AreDisti
     link_names = rw is.names (All-map IsName (λ l. l.name) d.links (All-weaker IsBoundedLink (λ l. IsName l.name) (λ l ok. ok.own.name) d.links bounds.links));
     links_differ = rw is.names links_differ;
     plan_count = rw (is.plans, length-map) (sym node_total);
-    plans = rw is.plans (All-map IsPlan plan_of d.nodes (All-weaker IsBoundedNode (λ n. IsPlan (plan_of n)) (λ n ok. IsPlan-from_bounds n.phases ok.own.count.0 ok.own.count.1 ok.phases) d.nodes bounds.nodes));
+    plans = rw is.plans (All-map IsPlan plan_of d.nodes (All-weaker IsBoundedNode (λ n. IsPlan (plan_of n)) (λ n ok. IsPlan-from_bounds n.phases ok.own.count.0 ok.own.count.1 ok.own.ring ok.phases) d.nodes bounds.nodes));
     phases_count = each-length (phases_of (link_names d)) d.nodes net.phase_links is.phase_links ∙ sym node_total;
     phase_counts = outline-phases;
     phase_links = rw is.names (each-All (phases_of (link_names d)) IsBoundedNode (All (ArePhaseLinks (length (link_names d)))) (phases-bounds (link_names d)) d.nodes net.phase_links bounds.nodes is.phase_links);

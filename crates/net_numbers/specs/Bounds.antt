@@ -1,6 +1,6 @@
 -- The bounds of what stands in a draft.
-use Rattle.std.specs.Prelude.{◌≡◌, ℕ, ◌≤◌, ◌⊎◌, List, length, All}
-use Rattle.phase_plan.specs.Phases.{IsPhase}
+use Rattle.std.specs.Prelude.{◌≡◌, ℕ, ◌≤◌, ◌⊎◌, List, length, count_by, All}
+use Rattle.phase_plan.specs.Phases.{IsPhase, is_unmarked}
 use Rattle.net_draft.specs.declared.drafts.Run.{Run}
 use Rattle.net_draft.specs.declared.drafts.Draft.{Draft}
 use Rattle.net_draft.specs.declared.drafts.DraftNode.{DraftNode}
@@ -30,10 +30,11 @@ pub record IsBoundedPhase (p : DraftPhase) : Type 0 where
   pub phase : IsPhase p.phase
   pub links : length p.links ≤ 16
 
--- the bounds of a node itself, its phases apart
+-- the bounds of a node itself, the times of its phases apart
 pub record HasNodeBounds (n : DraftNode) : Type 0 where
   pub name : IsName n.name
   pub count : (2 ≤ length n.phases) × (length n.phases ≤ 4)
+  pub ring : 2 ≤ count_by (λ p. is_unmarked p.phase) n.phases
 
 -- a node with its phases
 pub record IsBoundedNode (n : DraftNode) : Type 0 where

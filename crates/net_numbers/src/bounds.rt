@@ -1,6 +1,7 @@
 //! The bounds of what stands in a draft.
-ghost use Rattle.std.specs.Prelude.{◌≡◌, ◌≤◌, ◌↔◌, OnOk, IfErr, IsTrue, All, length};
+ghost use Rattle.std.specs.Prelude.{◌≡◌, ◌≤◌, ◌↔◌, OnOk, IfErr, IsTrue, All, length, count_by};
 ghost use Rattle.foundation.specs.Firsts.{IsFirstAt, IsFirstNot, FromOne};
+ghost use Rattle.phase_plan.specs.Phases.{is_unmarked};
 ghost use Rattle.net_numbers.specs.Outcome.{Checks};
 ghost use Rattle.net_numbers.specs.FirstFaults.{IsNodeFault, IsLinkFault, FailsBounds, Refuses};
 ghost use Rattle.net_numbers.specs.Bounds.{IsNameByte, IsName, IsRun, HasCounts, HasNodeBounds, HasLinkBounds, IsBoundedPhase, IsBoundedNode, IsBoundedTurn, IsBoundedLink, IsBounded};
@@ -77,11 +78,20 @@ fn check_node(node: &DraftNode, item: u32) -> Result<(), NetFault>
     check_phases(node.phases.as_slice(), item)
 }
 
-/// Whether the name and the number of phases of a node are as they may be.
+/// Whether the name and the number of phases of a node are as they may be, and at least two of them are unmarked.
 fn has_node_bounds(node: &DraftNode) -> bool
     ensures { IsTrue result ↔ HasNodeBounds node.now }
 {
-    is_name(node.name.as_str()) && (2..=4).contains(&node.phases.len())
+    is_name(node.name.as_str())
+        && (2..=4).contains(&node.phases.len())
+        && count_unmarked(node.phases.as_slice()) >= 2
+}
+
+/// How many of the phases are unmarked.
+fn count_unmarked(phases: &[DraftPhase]) -> usize
+    ensures { result ≡ count_by (λ p. is_unmarked p.phase) phases.now }
+{
+    phases.iter().filter(|phase| !phase.phase.skip).count()
 }
 
 /// Tests each phase, and names the first that is out of its bounds.

@@ -1,7 +1,8 @@
 //! Numbers for the names of a draft.
-ghost use Rattle.std.specs.Prelude.{◌≡◌, ◌≤◌, ◌<◌, IfOk, IfErr, IfSome, All, Contains, length, map, position};
+ghost use Rattle.std.specs.Prelude.{◌≡◌, ◌≤◌, ◌<◌, IfOk, IfErr, IfSome, All, Contains, length, map, position, count_by};
 ghost use Rattle.foundation.specs.Firsts.{IsFirstAt, IsFirstNot, FromOne};
 ghost use Rattle.foundation.specs.Options.{each};
+ghost use Rattle.phase_plan.specs.Phases.{is_unmarked};
 ghost use Rattle.net_numbers.specs.Bounds.{IsBoundedNode, IsBoundedPhase, IsBounded};
 ghost use Rattle.net_numbers.specs.FirstFaults.{IsKnownPhase, IsKnownNode, HasKnownEnds, IsKnownTurn, IsKnownLink, IsKnownConflict, IsUnknownInNode, IsUnknownInLink, FailsNumbers, Refuses};
 ghost use Rattle.net_numbers.specs.Outcome.{Makes, Lists};
@@ -354,6 +355,7 @@ fn plans(alloc: Global, nodes: &[DraftNode]) -> Result<Vec<PhasePlan>, AllocErro
 fn plan(alloc: Global, phases: &[DraftPhase]) -> Result<PhasePlan, AllocError>
     requires some { 2 ≤ length phases.now }
     requires few { length phases.now ≤ 4 }
+    requires ring { 2 ≤ count_by (λ p. is_unmarked p.phase) phases.now }
     requires bounds { All IsBoundedPhase phases.now }
     ensures { IfOk result (λ plan. plan ≡ map (λ p. p.phase) phases.now) }
 {

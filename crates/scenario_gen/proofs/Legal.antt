@@ -1,6 +1,6 @@
 -- A test that tells of a draft whether it stands for a network.
 use Rattle.std.proofs.Common.{◌≡◌, ◌≢◌, ℕ, zero, suc, ◌<◌, ◌≤◌, Bool, true, false, not, ◌&&◌, ◌||◌, ◌==◌, List, [], ◌∷◌, length, get_or, Option, Some, None, All, refl, sym, ap, ◌∙◌, subst, inl, inr, arith, rules}
-use Rattle.std.specs.Prelude.{position, slice_index_or, sum_by, is_some, nat_le, nat_lt}
+use Rattle.std.specs.Prelude.{position, slice_index_or, sum_by, count_by, is_some, nat_le, nat_lt}
 use Rattle.std.specs.List.{list_all, list_any}
 use Rattle.std.specs.Str.{bytes_eq}
 use Rattle.std.proofs.lemmas.Bool.{and_parts, or_cases, or_parts, leb-true, ltb-true, eqb-true, eqb-false, not-true, false≢true, true≢false, cases_lt}
@@ -8,7 +8,7 @@ use Rattle.std.proofs.lemmas.List.Elements.{All-weaker}
 use Rattle.std.proofs.lemmas.List.Sums.{AllPass-from_list_all}
 use Rattle.std.proofs.lemmas.Slice.Eq.{bytes_eq-Decides}
 use Rattle.phase_plan.specs.declared.Phase.{Phase}
-use Rattle.phase_plan.specs.Phases.{IsPhase}
+use Rattle.phase_plan.specs.Phases.{IsPhase, is_unmarked}
 use Rattle.net_draft.specs.declared.drafts.Draft.{Draft}
 use Rattle.net_draft.specs.declared.drafts.DraftNode.{DraftNode}
 use Rattle.net_draft.specs.declared.drafts.DraftPhase.{DraftPhase}
@@ -117,15 +117,17 @@ draft-phase-by p e =
     record { phase = phase-by p.phase h.0; links = leb-true (length p.links) 16 h.1 }
 
 abbrev is_draft_node : DraftNode → Bool
-is_draft_node n = is_name n.name && (within 2 (length n.phases) 4 && list_all is_draft_phase n.phases)
+is_draft_node n = is_name n.name && (within 2 (length n.phases) 4 && (nat_le 2 (count_by (λ (p : DraftPhase). is_unmarked p.phase) n.phases) && list_all is_draft_phase n.phases))
 
 draft-node-by : (n : DraftNode) → is_draft_node n ≡ true → IsBoundedNode n
 draft-node-by n e =
     let name = and_parts (is_name n.name) _ e in
-    let rest = and_parts (within 2 (length n.phases) 4) (list_all is_draft_phase n.phases) name.1 in
+    let unmarked = count_by (λ (p : DraftPhase). is_unmarked p.phase) n.phases in
+    let count = and_parts (within 2 (length n.phases) 4) _ name.1 in
+    let ring = and_parts (nat_le 2 unmarked) (list_all is_draft_phase n.phases) count.1 in
     record {
-      own = record { name = name-by n.name name.0; count = within-by 2 (length n.phases) 4 rest.0 };
-      phases = all-by is_draft_phase IsBoundedPhase draft-phase-by n.phases rest.1;
+      own = record { name = name-by n.name name.0; count = within-by 2 (length n.phases) 4 count.0; ring = leb-true 2 unmarked ring.0 };
+      phases = all-by is_draft_phase IsBoundedPhase draft-phase-by n.phases ring.1;
     }
 
 abbrev is_draft_link : DraftLink → Bool
