@@ -16,6 +16,7 @@ use Rattle.schedule_meaning.specs.declared.planners.Answer.TheVariants.{Plan, No
 use Rattle.dp_certificate.specs.Certificates.{Claim, IsCertificate, IsEntry}
 use Rattle.dp_certificate.specs.Numbers.{sequence_of}
 use Rattle.dp_certificate.specs.declared.Entry.{Entry}
+use Rattle.certificate_form.specs.Lengths.{entry_bytes, text_bytes}
 use Rattle.certificate_form.specs.CertificateText.{HasText, IsWritableAnswer, after_space, answer_line, certificate_text, entry_line}
 use Rattle.text_lines.proofs.LineLaws.{digits-byte, digits-long, written_line}
 use Rattle.certificate_form.proofs.WritingLaws.{entry_is, text_parts}
@@ -32,14 +33,13 @@ counts-le phases counts few small =
     space-le (get_or (take phases counts) i d) 2 (length-decimal-le 2 (get_or (take phases counts) i d) (omega arith) (omega (arith, same, small i)) (omega (arith, same, small i))) in
     omega (arith, length-flat_map after_space (take phases counts), sum_by-le (λ n. length (after_space n)) 3 (take phases counts) each, length-take phases counts)
 
-added : (counts phase since at delay : ℕ) → counts ≤ 12 → phase ≤ 1 → since ≤ 6 → at ≤ 6 → delay ≤ 13 → 5 + (counts + suc (phase + suc (since + suc (at + suc (delay + 1))))) ≤ 48
+added : (counts phase since at delay : ℕ) → counts ≤ 12 → phase ≤ 1 → since ≤ 6 → at ≤ 6 → delay ≤ 13 → 5 + (counts + suc (phase + suc (since + suc (at + suc (delay + 1))))) ≤ entry_bytes
 added counts phase since at delay a b c d e = omega arith
 
 lengths : (w c p s t d : List ℕ) → length (w ++ (c ++ (32 ∷ (p ++ 32 ∷ (s ++ 32 ∷ (t ++ 32 ∷ (d ++ 10 ∷ []))))))) ≡ length w + (length c + suc (length p + suc (length s + suc (length t + suc (length d + 1)))))
 lengths w c p s t d = simp length-append
 
--- an entry's line has at most 48 bytes
-entry-le : (p : Problem) (e : Entry) → IsInstance p → IsEntry p e → length (entry_line (length p.plan) e) ≤ 48
+entry-le : (p : Problem) (e : Entry) → IsInstance p → IsEntry p e → length (entry_line (length p.plan) e) ≤ entry_bytes
 entry-le p e lawful within =
     let plan : length p.plan ≤ 4 = lawful.plan.count.1 in
     let phase = within.head.phase in
@@ -58,9 +58,9 @@ entry-le p e lawful within =
           (length-decimal-le 13 e.delay (omega arith) (omega arith) (omega arith)),
     )
 
-entries-le : (p : Problem) (es : List Entry) → IsInstance p → All (IsEntry p) es → length (flat_map (entry_line (length p.plan)) es) ≤ length es * 48
+entries-le : (p : Problem) (es : List Entry) → IsInstance p → All (IsEntry p) es → length (flat_map (entry_line (length p.plan)) es) ≤ length es * entry_bytes
 entries-le p es lawful all =
-    omega (arith, length-flat_map (entry_line (length p.plan)) es, sum_by-le (λ e. length (entry_line (length p.plan) e)) 48 es (λ i d inside. entry-le p _ lawful (all i d inside)))
+    omega (arith, length-flat_map (entry_line (length p.plan)) es, sum_by-le (λ e. length (entry_line (length p.plan) e)) entry_bytes es (λ i d inside. entry-le p _ lawful (all i d inside)))
 
 -- an answer's line has at most 28 bytes and 4 for each place
 answer-le : (a : Answer) → IsWritableAnswer a → length (answer_line a) ≤ 4 * length (sequence_of a) + 28
@@ -77,8 +77,7 @@ answer-le (Plan ks d) fits =
     )
 answer-le NoPlan fits = lit≤ tt
 
--- a certificate's text has at most 48 bytes for each entry and 4 for each place of the answer's sequence, and 3,000
-pub text-le : (c : Claim) → IsCertificate c → HasText c → length (certificate_text c) ≤ 48 * length c.entries + 4 * length (sequence_of c.answer) + 3000
+pub text-le : (c : Claim) → IsCertificate c → HasText c → length (certificate_text c) ≤ text_bytes (length c.entries) (length (sequence_of c.answer))
 text-le c lawful fits =
     let p = c.problem in
     let front = codes "certificate 1\n" ++ instance_text p.plan p.head p.lists in

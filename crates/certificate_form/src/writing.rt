@@ -7,6 +7,7 @@ ghost use Rattle.instance_form.specs.InstanceText as form;
 ghost use Rattle.dp_certificate.specs.Certificates.{IsCertificate};
 ghost use Rattle.dp_certificate.specs.Numbers.{sequence_of};
 ghost use Rattle.certificate_form.specs.Answers.{IsCertificateText};
+ghost use Rattle.certificate_form.specs.Lengths.{text_bytes};
 ghost use Rattle.outside_world.specs.Sink.{Breaks, Gains};
 ghost use Rattle.certificate_form.specs.CertificateText.{HasText, IsWritableAnswer, after_space, answer_line, certificate_text, entry_back, entry_front, entry_line};
 
@@ -15,6 +16,9 @@ use outside_world::{Failed, Sink};
 use schedule_meaning::{Answer, Instance, write_instance};
 use std::alloc::{AllocError, Global};
 use text_lines::{Line, push_number, push_numbers};
+
+/// How many bytes the line of an entry has at the most; `specs/Lengths.antt` has it for contracts.
+const ENTRY_BYTES: usize = 48;
 
 /// How many entries a part has at the most.
 const PART: usize = 512;
@@ -32,11 +36,11 @@ pub fn write_certificate(alloc: Global, c: &Certificate) -> Result<Vec<u8>, Allo
     ensures lawful { IsCertificate c.now }
     ensures is_text { IfOk result (λ text. IsCertificateText text.items c.now) }
     ensures short { IfOk result (λ text. length text.items
-        ≤ 48 * length c.now.entries + 4 * length (sequence_of c.now.answer) + 3000) }
+        ≤ text_bytes (length c.now.entries) (length (sequence_of c.now.answer))) }
 {
     let entries = c.entries();
     let phases = usize::from(c.instance().plan().count());
-    let mut text = Vec::with_capacity(alloc, 48 * entries.len() + 10_000)?;
+    let mut text = Vec::with_capacity(alloc, ENTRY_BYTES * entries.len() + 10_000)?;
     write_front(alloc, c.instance(), &mut text)?;
     write_tail(phases, c.answer(), entries, &mut text)?;
     Ok(text)
@@ -100,7 +104,7 @@ pub fn law_of_certificate_text(c: &Certificate)
     ensures lawful { IsCertificate c.now }
     ensures is_text { HasText c.now }
     ensures short { length (certificate_text c.now)
-        ≤ 48 * length c.now.entries + 4 * length (sequence_of c.now.answer) + 3000 }
+        ≤ text_bytes (length c.now.entries) (length (sequence_of c.now.answer)) }
 {
     law_of_instance(c.instance());
     law_of_answer(c.answer());

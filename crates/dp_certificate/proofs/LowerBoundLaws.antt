@@ -4,6 +4,7 @@ use Rattle.std.specs.List.{range_with_len, sum_by}
 use Rattle.std.proofs.Math.Nat.{add-mul, mul-add, mul-le-mul_left}
 use Rattle.std.proofs.lemmas.List.{get_or_default, take_all}
 use Rattle.std.proofs.lemmas.List.Sums.{sum_by_more}
+use Rattle.switch_rules.specs.Bounds.{greatest_size, latest_arrival}
 use Rattle.switch_rules.specs.declared.Cluster.{Cluster}
 use Rattle.schedule_meaning.specs.Instances.{Problem, IsSpaced, cluster_at, no_cluster}
 use Rattle.dp_certificate.specs.Proves.{wait_until}
@@ -47,7 +48,7 @@ pub upward-all : (list : List Cluster) (index from size weight : ℕ) → length
 upward-all list index from size weight all h t later = omega (arith, h t later, ap (sum_by (wait_until t)) (take_all index list (omega (arith, all))))
 
 -- what one weighs
-pub heavy : (size arr : ℕ) → size ≤ 20000000 → arr ≤ 100000 → size * arr ≤ 2000000000000
+pub heavy : (size arr : ℕ) → size ≤ greatest_size → arr ≤ latest_arrival → size * arr ≤ greatest_size * latest_arrival
 heavy size arr few early = omega (arith, mul-le-mul_left size early, few)
 
 -- one more phase

@@ -1,5 +1,6 @@
 -- What is left at the least, as a line over the seconds between two arrivals.
 use Rattle.std.specs.Prelude.{◌≡◌, ℕ, ◌+◌, ◌*◌, ◌≤◌}
+use Rattle.switch_rules.specs.Bounds.{greatest_size, latest_arrival, latest_time, most_clusters}
 use Rattle.schedule_meaning.specs.Instances.{Problem}
 use Rattle.dp_certificate.specs.Proves.{rest_of}
 use Rattle.dp_certificate.specs.declared.lower_bound.LinearCost.{LinearCost}
@@ -7,15 +8,15 @@ use Rattle.dp_certificate.specs.declared.lower_bound.RemainingCost.{RemainingCos
 
 -- what is left of one phase costs no more for each second: 40 clusters of the greatest size
 abbrev pub most_steepness : ℕ
-most_steepness = 800000000
+most_steepness = greatest_size * most_clusters
 
 -- nor does it weigh more: such clusters, each by the latest arrival
 abbrev pub most_weight : ℕ
-most_weight = 80000000000000
+most_weight = most_steepness * latest_arrival
 
 -- what is left of four phases costs no more by the latest time
 abbrev pub most_rest : ℕ
-most_rest = 332800000000000
+most_rest = most_steepness * 4 * latest_time
 
 -- at each second of the line what it says is the cost
 abbrev pub IsLinear : (ℕ → ℕ) → LinearCost → Type 0

@@ -4,6 +4,7 @@ use Rattle.std.proofs.lemmas.Bool.{ne_eqb}
 use Rattle.std.proofs.lemmas.List.Sums.{sum_by-cons}
 use Rattle.std.proofs.lemmas.Option.{slice_get_within}
 use Rattle.phase_plan.specs.Phases.{no_phase}
+use Rattle.switch_rules.specs.Bounds.{greatest_cost, latest_time}
 use Rattle.switch_rules.specs.Serving.{IsHead}
 use Rattle.schedule_meaning.specs.Instances.{Problem, IsInstance, list_at, counts_of}
 use Rattle.schedule_meaning.proofs.Sequences.{get_or-counts, under-way-start}
@@ -17,9 +18,9 @@ pub record IsStage (p : Problem) (served : ℕ) (s : Stage) : Type 0 where
   pub counts : (k : ℕ) → get_or s.counts k 0 ≤ length (list_at p.lists k)
   pub total : sum s.counts ≡ served
   pub head : IsHead p.plan s.head
-  pub reach : s.head.at ≤ 104000
+  pub reach : s.head.at ≤ latest_time
   pub fresh : s.head.fresh ≡ ((served == 0) && p.head.fresh)
-  pub delay : s.delay ≤ 72000000000 * served
+  pub delay : s.delay ≤ greatest_cost * served
 
 -- a step keeps the bounds
 pub stage-after-bounds : (p : Problem) → IsInstance p → (n : ℕ) (s t : Stage) (k : ℕ) → IsStage p n s → stage_after p s k ≡ Some t → IsStage p (n + 1) t

@@ -7,18 +7,19 @@ use Rattle.dp_certificate.specs.declared.Entry.{Entry}
 use Rattle.dp_certificate.specs.Certificates.{Claim, IsCertificate}
 use Rattle.dp_certificate.specs.Proves.{Proves}
 use Rattle.certificate_form.specs.Answers as cert
+use Rattle.certificate_form.specs.Lengths.{text_bytes}
 use Rattle.certificate_form.specs.CertificateText.{HasText, certificate_text}
 use Rattle.commands.specs.Commands.{IsAcceptedText}
 use Rattle.commands.specs.Limits.{most_bytes}
 
 -- this many entries and places make a text within the limit
-few-bytes : (bytes entries places : ℕ) → bytes ≤ 48 * entries + 4 * places + 3000 → entries ≤ most_entries → places ≤ most_clusters → bytes ≤ most_bytes
+few-bytes : (bytes entries places : ℕ) → bytes ≤ text_bytes entries places → entries ≤ most_entries → places ≤ most_clusters → bytes ≤ most_bytes
 few-bytes bytes entries places short few small = omega arith
 
 -- a certificate's text is accepted, where the certificate is small and proves its answer
 pub accepted : (bytes : List ℕ) (c : Claim) (places : ℕ)
     → ((d e : Claim) → HasText d → HasText e → certificate_text d ≡ certificate_text e → d ≡ e)
-    → length bytes ≤ 48 * length c.entries + 4 * places + 3000 → length c.entries ≤ most_entries → places ≤ most_clusters
+    → length bytes ≤ text_bytes (length c.entries) places → length c.entries ≤ most_entries → places ≤ most_clusters
     → IsCertificate c → cert.IsCertificateText bytes c → Proves c → IsAcceptedText bytes c
 accepted bytes c places one short few small lawful spells proves = record {
   short = few-bytes (length bytes) (length c.entries) places short few small;
@@ -42,7 +43,7 @@ written IsTable p c same table best is_accepted = (
 -- the same of a small certificate that proves its answer
 pub written-accepted : (IsTable : Problem → List Entry → Type 0) (p : Problem) (c : Claim) (places : ℕ)
     → ((d e : Claim) → HasText d → HasText e → certificate_text d ≡ certificate_text e → d ≡ e)
-    → length (certificate_text c) ≤ 48 * length c.entries + 4 * places + 3000 → (length c.entries ≤ most_entries) × (places ≤ most_clusters)
+    → length (certificate_text c) ≤ text_bytes (length c.entries) places → (length c.entries ≤ most_entries) × (places ≤ most_clusters)
     → IsCertificate c → cert.IsCertificateText (certificate_text c) c → Proves c → c.problem ≡ p → IsTable p c.entries → IsBest p c.answer
     → (d : Claim) × (d.problem ≡ p) × IsTable d.problem d.entries × IsBest d.problem d.answer × (certificate_text c ≡ certificate_text d) × IsAcceptedText (certificate_text c) d
 written-accepted IsTable p c places one short few lawful spells proves same table best =

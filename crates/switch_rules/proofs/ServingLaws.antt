@@ -4,6 +4,7 @@ use Rattle.std.proofs.lemmas.Bool.{cond_both, and_parts, eqb-true, leb-true, leb
 use Rattle.std.proofs.lemmas.Nat.{mul-le}
 use Rattle.phase_plan.specs.Phases.{IsPhase, phase_at}
 use Rattle.phase_plan.specs.declared.Phase.{Phase}
+use Rattle.switch_rules.specs.Bounds.{greatest_size}
 use Rattle.switch_rules.specs.Serving.{IsHead, IsCluster, IsServing, IsTimed, start_in_green, goes_on, earliest_green, head_after, served_from, serving}
 use Rattle.switch_rules.specs.declared.Head.{Head}
 use Rattle.switch_rules.specs.declared.Cluster.{Cluster}
@@ -52,7 +53,7 @@ module _ (plan : List Phase) (head : Head) (k : ℕ) (c : Cluster) (s : Served) 
         bounds = record {
           head = record { phase = below; begun = omega arith; within = omega (arith, whole, greatest) };
           finish = omega (arith, in_time, bounds.arr, bounds.len, times.wait);
-          cost = mul-le c.size (start - c.arr) 20000000 3600 bounds.size.1 (omega (arith, in_time, times.wait));
+          cost = mul-le c.size (start - c.arr) greatest_size 3600 bounds.size.1 (omega (arith, in_time, times.wait));
         };
         behind = refl;
         stood = stands.stood;

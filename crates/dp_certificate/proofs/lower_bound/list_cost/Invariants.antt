@@ -1,4 +1,5 @@
 use Rattle.std.proofs.Common.{◌*◌, ◌<◌, ◌≤◌, length}
+use Rattle.switch_rules.specs.Bounds.{greatest_size, latest_arrival}
 use Rattle.schedule_meaning.specs.Instances.{cluster_at}
 use Rattle.dp_certificate.proofs.LowerBoundLaws.{IsUpward}
 use Rattle.dp_certificate.proofs.lower_bound.list_cost.Given as goal
@@ -9,6 +10,6 @@ invariant-loop-cluster l = record {
   low : l.from ≤ l.at;
   rise : l.cluster-index < length l.list → l.from ≤ (cluster_at l.list l.cluster-index).arr;
   is : IsUpward l.list l.cluster-index l.from l.steepness l.weight;
-  steepness : l.steepness ≤ 20000000 * l.cluster-index;
-  weight : l.weight ≤ 2000000000000 * l.cluster-index;
+  steepness : l.steepness ≤ greatest_size * l.cluster-index;
+  weight : l.weight ≤ greatest_size * latest_arrival * l.cluster-index;
 }
