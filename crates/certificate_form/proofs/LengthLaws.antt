@@ -33,7 +33,7 @@ counts-le phases counts few small =
     space-le (get_or (take phases counts) i d) 2 (length-decimal-le 2 (get_or (take phases counts) i d) (omega arith) (omega (arith, same, small i)) (omega (arith, same, small i))) in
     omega (arith, length-flat_map after_space (take phases counts), sum_by-le (λ n. length (after_space n)) 3 (take phases counts) each, length-take phases counts)
 
-added : (counts phase since at delay : ℕ) → counts ≤ 12 → phase ≤ 1 → since ≤ 6 → at ≤ 6 → delay ≤ 13 → 5 + (counts + suc (phase + suc (since + suc (at + suc (delay + 1))))) ≤ entry_bytes
+added : (counts phase since at delay : ℕ) → counts ≤ 12 → phase ≤ 1 → since ≤ 6 → at ≤ 6 → delay ≤ 14 → 5 + (counts + suc (phase + suc (since + suc (at + suc (delay + 1))))) ≤ entry_bytes
 added counts phase since at delay a b c d e = omega arith
 
 lengths : (w c p s t d : List ℕ) → length (w ++ (c ++ (32 ∷ (p ++ 32 ∷ (s ++ 32 ∷ (t ++ 32 ∷ (d ++ 10 ∷ []))))))) ≡ length w + (length c + suc (length p + suc (length s + suc (length t + suc (length d + 1)))))
@@ -55,7 +55,7 @@ entry-le p e lawful within =
           (length-decimal-le 1 e.phase (omega arith) (omega arith) (omega arith))
           (length-decimal-le 6 e.since (omega arith) (omega arith) (omega arith))
           (length-decimal-le 6 e.at (omega arith) (omega arith) (omega arith))
-          (length-decimal-le 13 e.delay (omega arith) (omega arith) (omega arith)),
+          (length-decimal-le 14 e.delay (omega arith) (omega arith) (omega arith)),
     )
 
 entries-le : (p : Problem) (es : List Entry) → IsInstance p → All (IsEntry p) es → length (flat_map (entry_line (length p.plan)) es) ≤ length es * entry_bytes

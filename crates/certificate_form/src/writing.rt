@@ -18,7 +18,7 @@ use std::alloc::{AllocError, Global};
 use text_lines::{Line, push_number, push_numbers};
 
 /// How many bytes the line of an entry has at the most; `specs/Lengths.antt` has it for contracts.
-const ENTRY_BYTES: usize = 48;
+const ENTRY_BYTES: usize = 49;
 
 /// How many entries a part has at the most.
 const PART: usize = 512;
@@ -27,7 +27,7 @@ const PART: usize = 512;
 const PART_CAPACITY: usize = 106 * PART + 4;
 
 /// The one text of a certificate, which `read_certificate` reads as that certificate where it has fewer than 2^32
-/// bytes: 48 for each entry at the most, 4 for each place of the answer's sequence, and 3,000. `Err`: out of memory.
+/// bytes: 49 for each entry at the most, 4 for each place of the answer's sequence, and 3,500. `Err`: out of memory.
 ///
 /// docs/FORMATS.md, "Certificate text".
 #[tactic(auto, using(crate::proofs::WritingLaws::text_parts))]

@@ -117,6 +117,7 @@ platoon-cluster look now first end streams h early short lt le filled =
     let most : whole_of (map (part_of first end) streams) ≤ 900000 * length streams = whole-few streams first end h.small (omega arith) in
     record {
       size = (omega (arith, whole-some streams first end lt long), omega (arith, most, h.few));
+      load = (omega arith, omega arith);
       arr = omega arith;
       len = (omega arith, omega arith);
     }

@@ -27,12 +27,14 @@ part_of first end s = record { link = s.link; amounts = slice_range s.amounts fi
 abbrev pub whole_of : List Part → ℕ
 whole_of parts = sum_by (λ part. sum part.amounts) parts
 
--- the platoon from this second on, before the second `end`: a part of each stream, and their sum as its size
+-- the platoon from this second on, before the second `end`: a part of each stream, and their sum as its size and its load
 abbrev pub platoon_within : ℕ → List Part → ℕ → ℕ → Platoon
-platoon_within now streams first end = record {
-  cluster = record { size = whole_of (map (part_of first end) streams); arr = now + first; len = end - first };
-  parts = map (part_of first end) streams;
-}
+platoon_within now streams first end =
+    let parts = map (part_of first end) streams in
+    record {
+      cluster = record { size = whole_of parts; load = whole_of parts; arr = now + first; len = end - first };
+      parts = parts;
+    }
 
 -- the platoon of a run
 abbrev pub platoon_of : ℕ → List Part → List ℕ → Platoon

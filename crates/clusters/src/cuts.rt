@@ -127,6 +127,7 @@ fn platoon(
     }
     let cluster = Cluster {
         size,
+        load: size,
         arr: now + first as u32,
         len: (end - first) as u32,
     };

@@ -21,7 +21,7 @@ abbrev three : List Phase
 three = usual ∷ usual ∷ usual ∷ []
 
 abbrev cluster : ℕ → ℕ → ℕ → Cluster
-cluster size arr len = record { size = size; arr = arr; len = len }
+cluster size arr len = record { size = size; load = size; arr = arr; len = len }
 
 abbrev head : ℕ → ℕ → ℕ → Head
 head phase since at = record { phase = phase; since = since; at = at; fresh = false }

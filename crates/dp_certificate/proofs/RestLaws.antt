@@ -27,7 +27,7 @@ use Rattle.dp_certificate.proofs.Stages.{behind, some-same, step-begins, from-be
 pub record Leads (t : ℕ) (c : Cluster) (r : Served × Head) : Type 0 where
   pub later : t ≤ r.1.at
   pub stale : r.1.fresh ≡ false
-  pub cost : c.size * (t - c.arr) ≤ r.0.cost
+  pub cost : c.load * (t - c.arr) ≤ r.0.cost
 
 -- of all that a serving may be
 abbrev pub Leading : ℕ → Cluster → Result (Served × Head) Unfit → Type 0
@@ -35,11 +35,11 @@ Leading t c o = (r : Served × Head) → o ≡ Ok r → Leads t c r
 
 served-from-leads : (p : Phase) (k : ℕ) (c : Cluster) (green start : ℕ) (kept : Bool) (t : ℕ) → t ≤ start → Leading t c (served_from p k c green start kept)
 served-from-leads p k c green start kept t h r e =
-    let x : Served × Head = (record { green = green; start = start; finish = start + c.len; cost = c.size * (start - c.arr); kept = kept }, record { phase = k; since = green; at = start + c.len; fresh = false }) in
+    let x : Served × Head = (record { green = green; start = start; finish = start + c.len; cost = c.load * (start - c.arr); kept = kept }, record { phase = k; since = green; at = start + c.len; fresh = false }) in
     let y : Result (Served × Head) Unfit = Ok x in
     let long = cond-ok (nat_lt (green + p.greatest) (start + c.len)) TooLong (cond (nat_lt p.wait (start - c.arr)) (Err TooLate) y) r e in
     let late = cond-ok (nat_lt p.wait (start - c.arr)) TooLate y r long.1 in
-    let leads : Leads t c x = record { later = omega arith; stale = refl; cost = mul-le-mul_left c.size (let less : t - c.arr ≤ start - c.arr = omega arith in less) } in
+    let leads : Leads t c x = record { later = omega arith; stale = refl; cost = mul-le-mul_left c.load (let less : t - c.arr ≤ start - c.arr = omega arith in less) } in
     subst (Leads t c) (ok-same x r y refl late.1) leads
 
 -- every fit serving starts no earlier than the head's time
@@ -65,7 +65,7 @@ left_cost p counts t k = sum_by (wait_until t) (left_of p counts k)
 waits-longer : (t u : ℕ) → t ≤ u → (cs : List Cluster) → sum_by (wait_until t) cs ≤ sum_by (wait_until u) cs
 waits-longer t u h [] = omega arith
 waits-longer t u h (c ∷ cs) =
-    let here : wait_until t c ≤ wait_until u c = mul-le-mul_left c.size (let less : t - c.arr ≤ u - c.arr = omega arith in less) in
+    let here : wait_until t c ≤ wait_until u c = mul-le-mul_left c.load (let less : t - c.arr ≤ u - c.arr = omega arith in less) in
     omega (arith, sum_by-cons (wait_until t) c cs, sum_by-cons (wait_until u) c cs, waits-longer t u h cs)
 
 -- a cluster that stands at an index, with what it costs
@@ -175,7 +175,7 @@ none-wait : (t : ℕ) (cs : List Cluster) → ((k : ℕ) → k < length cs → t
 none-wait t [] late = refl
 none-wait t (c ∷ cs) late =
     let first : t ≤ c.arr = late 0 (omega arith) in
-    let none : wait_until t c ≡ 0 = ap (λ n. c.size * n) (let e : t - c.arr ≡ 0 = omega arith in e) ∙ mul-zero c.size in
+    let none : wait_until t c ≡ 0 = ap (λ n. c.load * n) (let e : t - c.arr ≡ 0 = omega arith in e) ∙ mul-zero c.load in
     omega (arith, none, sum_by-cons (wait_until t) c cs, none-wait t cs (λ k h. late (suc k) (omega arith)))
 
 -- after the first that arrives from t on, none waits until t

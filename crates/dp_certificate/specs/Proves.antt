@@ -20,7 +20,7 @@ stage_of_entry p e = record { counts = e.counts; head = head_of e ((sum e.counts
 
 -- what one cluster costs that waits until t
 abbrev pub wait_until : ℕ → Cluster → ℕ
-wait_until t c = c.size * (t - c.arr)
+wait_until t c = c.load * (t - c.arr)
 
 -- what the clusters that are not yet served cost at the least, when the green is free at t: each waits until then
 abbrev pub rest_of : Problem → List ℕ → ℕ → ℕ

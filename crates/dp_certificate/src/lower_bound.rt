@@ -11,13 +11,13 @@ use super::Entry;
 use schedule_meaning::Instance;
 use switch_rules::{Cluster, LATEST_TIME};
 
-/// From one second up to another, what each second costs: a steepness for each second, less a weight.
+/// From one second up to another, what each second costs: a steepness for each second, less a offset.
 #[derive(Clone, Copy)]
 struct LinearCost {
     from: u32,
     to: u32,
     steepness: u64,
-    weight: u64,
+    offset: u64,
 }
 
 /// What clusters cost at the least that are not yet served, for the counts that were last asked for: found anew only
@@ -49,7 +49,7 @@ impl RemainingCost {
                 from: 1,
                 to: 0,
                 steepness: 0,
-                weight: 0,
+                offset: 0,
             },
         }
     }
@@ -83,12 +83,12 @@ impl RemainingCost {
         ensures remaining { IsRemainingCost i.now self.new }
     {
         if self.counts == *counts && self.line.from <= at && at <= self.line.to {
-            return self.line.steepness * u64::from(at) - self.line.weight;
+            return self.line.steepness * u64::from(at) - self.line.offset;
         }
         let line = linear_cost(i, counts, at);
         self.counts = *counts;
         self.line = line;
-        line.steepness * u64::from(at) - line.weight
+        line.steepness * u64::from(at) - line.offset
     }
 }
 
@@ -103,7 +103,7 @@ pub fn rest_of(i: &Instance, counts: &[u8; 4], at: u32) -> u64
     ensures bounds { result ≤ most_rest }
 {
     let line = linear_cost(i, counts, at);
-    line.steepness * u64::from(at) - line.weight
+    line.steepness * u64::from(at) - line.offset
 }
 
 /// What is left of all phases, at this second and at those round it between which no cluster begins to wait.
@@ -119,7 +119,7 @@ fn linear_cost(i: &Instance, counts: &[u8; 4], at: u32) -> LinearCost
         from: 0,
         to: LATEST_TIME,
         steepness: 0,
-        weight: 0,
+        offset: 0,
     };
     for phase in 0..i.plan().count() {
         let served = usize::from(counts[phase as usize]);
@@ -128,7 +128,7 @@ fn linear_cost(i: &Instance, counts: &[u8; 4], at: u32) -> LinearCost
             from: line.from.max(other.from),
             to: line.to.min(other.to),
             steepness: line.steepness + other.steepness,
-            weight: line.weight + other.weight,
+            offset: line.offset + other.offset,
         };
     }
     line
@@ -147,24 +147,24 @@ fn list_cost(list: &[Cluster], at: u32) -> LinearCost
 {
     let mut from = 0;
     let mut steepness = 0;
-    let mut weight = 0;
+    let mut offset = 0;
     for cluster in list {
         if cluster.arr >= at {
             return LinearCost {
                 from,
                 to: cluster.arr,
                 steepness,
-                weight,
+                offset,
             };
         }
         from = cluster.arr;
-        steepness += u64::from(cluster.size);
-        weight += u64::from(cluster.size) * u64::from(cluster.arr);
+        steepness += u64::from(cluster.load);
+        offset += u64::from(cluster.load) * u64::from(cluster.arr);
     }
     LinearCost {
         from,
         to: LATEST_TIME,
         steepness,
-        weight,
+        offset,
     }
 }

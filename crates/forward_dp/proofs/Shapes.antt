@@ -21,7 +21,7 @@ from-shapes : (times : Phase) (head : Head) (k : ℕ) (c : Cluster) (green start
     → (kept ≡ false → ((start - c.arr ≡ 0) × (green ≡ c.arr)) ⊎ ((times.loss ≤ start - c.arr) × (green + times.loss ≡ start)))
     → Shapes times head k c (served_from times k c green start kept)
 from-shapes times head k c green start kept arrived on anew r e =
-    let x : Served × Head = (record { green = green; start = start; finish = start + c.len; cost = c.size * (start - c.arr); kept = kept }, record { phase = k; since = green; at = start + c.len; fresh = false }) in
+    let x : Served × Head = (record { green = green; start = start; finish = start + c.len; cost = c.load * (start - c.arr); kept = kept }, record { phase = k; since = green; at = start + c.len; fresh = false }) in
     let y : Result (Served × Head) Unfit = Ok x in
     let long = cond-ok (nat_lt (green + times.greatest) (start + c.len)) TooLong (cond (nat_lt times.wait (start - c.arr)) (Err TooLate) y) r e in
     let late = cond-ok (nat_lt times.wait (start - c.arr)) TooLate y r long.1 in

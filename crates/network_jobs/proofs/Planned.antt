@@ -56,7 +56,7 @@ phase_fits p h = record {
 }
 
 cluster_fits : (c : Cluster) → IsCluster c → IsWritableCluster c
-cluster_fits c h = record { size = omega (arith, h.size); arr = omega (arith, h.arr); len = omega (arith, h.len) }
+cluster_fits c h = record { size = omega (arith, h.size); load = omega (arith, h.size, h.load); arr = omega (arith, h.arr); len = omega (arith, h.len) }
 
 has_text : (p : Problem) → IsInstance p → HasText p.plan p.head p.lists
 has_text p h = record {

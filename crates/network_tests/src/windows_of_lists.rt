@@ -35,6 +35,7 @@ fn platoon(alloc: Global, arr: u32) -> Platoon
 {
     let cluster = Cluster {
         size: 1000,
+        load: 1000,
         arr,
         len: 1,
     };

@@ -38,7 +38,7 @@ pub record IsDeparting (head : Head) (c : Cluster) (s : Served) : Type 0 where
 module _ (head : Head) (k : ℕ) (c : Cluster) (s : Served) (next : Head) where
   departs-from : (p : Phase) (green start : ℕ) (kept : Bool) → head.at ≤ start → c.arr ≤ start → served_from p k c green start kept ≡ Ok (s, next) → IsDeparting head c s
   departs-from p green start kept later arrived =
-      let served : Served = record { green = green; start = start; finish = start + c.len; cost = c.size * (start - c.arr); kept = kept } in
+      let served : Served = record { green = green; start = start; finish = start + c.len; cost = c.load * (start - c.arr); kept = kept } in
       cond_both (ltb (green + p.greatest) (start + c.len)) _ _ (λ r. r ≡ Ok (s, next) → IsDeparting head c s)
       (λ long e. let impossible : IsDeparting head c s = cc in impossible)
       (λ short. cond_both (ltb p.wait (start - c.arr)) _ _ (λ r. r ≡ Ok (s, next) → IsDeparting head c s)

@@ -1,5 +1,5 @@
 -- Small schedules, worked out by hand and computed here from the definitions.
-use Rattle.std.proofs.Common.{◌≡◌, ℕ, true, false, List, [], ◌∷◌, length, Some, None, Ok, Err, refl, ◌∙◌}
+use Rattle.std.proofs.Common.{◌≡◌, ℕ, ◌+◌, true, false, List, [], ◌∷◌, length, Some, None, Ok, Err, refl, ◌∙◌}
 use Rattle.phase_plan.specs.Phases.{switch_time}
 use Rattle.phase_plan.specs.declared.Phase.{Phase}
 use Rattle.switch_rules.specs.Serving.{serving}
@@ -23,8 +23,12 @@ waiting_at_most wait = record { least = 5; greatest = 30; yellow = 3; clear = 2;
 abbrev usual : Phase
 usual = waiting_at_most 120
 
+abbrev loaded : ℕ → ℕ → ℕ → ℕ → Cluster
+loaded size load arr len = record { size = size; load = load; arr = arr; len = len }
+
+-- its load is its size
 abbrev cluster : ℕ → ℕ → ℕ → Cluster
-cluster size arr len = record { size = size; arr = arr; len = len }
+cluster size arr len = loaded size size arr len
 
 -- a green that goes on: its phase, since when, and up to when its time is spent
 abbrev head : ℕ → ℕ → ℕ → Head
@@ -108,6 +112,20 @@ crossing-left_out = refl
 
 crossing-too_many : timed crossing (0 ∷ 1 ∷ 1 ∷ []) ≡ None
 crossing-too_many = refl
+
+-- the same clusters where a second of the other one's wait counts twenty times: the other one goes first
+
+abbrev weighted : Problem
+weighted = two_phases (loaded 4000 4000 0 8 ∷ []) (loaded 2000 40000 3 4 ∷ [])
+
+weighted-standing_first : delay_of weighted (0 ∷ 1 ∷ []) ≡ Some 480000
+weighted-standing_first = refl
+
+weighted-other_first : delay_of weighted (1 ∷ 0 ∷ []) ≡ Some (360000 + 92000)
+weighted-other_first = refl
+
+weighted-found : found weighted ≡ Plan (1 ∷ 0 ∷ []) 452000
+weighted-found = refl
 
 -- two orders of one delay: the lexicographically first is the best
 

@@ -16,7 +16,7 @@ use phase_plan::PhasePlan;
 use std::alloc::{AllocError, Global};
 use std::marker::Model;
 use switch_rules::{
-    Cluster, GREATEST_SIZE, Head, LATEST_ARRIVAL, MOST_CLUSTERS, MOST_ORDERS, ways,
+    Cluster, GREATEST_SIZE, GREATEST_WEIGHT, Head, LATEST_ARRIVAL, MOST_CLUSTERS, MOST_ORDERS, ways,
 };
 
 /// What one intersection plans: its phases, its signal head, and the clusters of each phase in the
@@ -202,6 +202,7 @@ fn is_in_bounds(cluster: &Cluster) -> bool
     ensures { IsTrue result ↔ IsCluster cluster.now }
 {
     (1..=GREATEST_SIZE).contains(&cluster.size)
+        && (cluster.size..=GREATEST_WEIGHT * cluster.size).contains(&cluster.load)
         && cluster.arr <= LATEST_ARRIVAL
         && (1..=240).contains(&cluster.len)
 }

@@ -4,11 +4,15 @@ use Rattle.std.proofs.lemmas.Bool.{cond_both, and_parts, eqb-true, leb-true, leb
 use Rattle.std.proofs.lemmas.Nat.{mul-le}
 use Rattle.phase_plan.specs.Phases.{IsPhase, phase_at}
 use Rattle.phase_plan.specs.declared.Phase.{Phase}
-use Rattle.switch_rules.specs.Bounds.{greatest_size}
+use Rattle.switch_rules.specs.Bounds.{greatest_load}
 use Rattle.switch_rules.specs.Serving.{IsHead, IsCluster, IsServing, IsTimed, start_in_green, goes_on, earliest_green, head_after, served_from, serving}
 use Rattle.switch_rules.specs.declared.Head.{Head}
 use Rattle.switch_rules.specs.declared.Cluster.{Cluster}
 use Rattle.switch_rules.specs.declared.Served.{Served}
+
+-- no load is greater
+pub load_within : (c : Cluster) → IsCluster c → c.load ≤ greatest_load
+load_within c h = omega (arith, h.size, h.load)
 
 -- a fit serving of a cluster of phase k from a head, and the head after it: its times and bounds, and how its green stands
 -- to that of the head, which goes on, or ends before a new one begins
@@ -29,7 +33,7 @@ module _ (plan : List Phase) (head : Head) (k : ℕ) (c : Cluster) (s : Served) 
   from-start : (p : Phase) (green start : ℕ) (kept : Bool) → p ≡ phase_at plan k → k < length plan → IsPhase p → IsCluster c → head.at ≤ start → green ≤ start → c.arr ≤ start → IsGreenAfter plan head k green kept
       → served_from p k c green start kept ≡ Ok (s, next) → IsFitServing plan head k c s next
   from-start p green start kept same below times bounds later in_green arrived stands =
-      let served : Served = record { green = green; start = start; finish = start + c.len; cost = c.size * (start - c.arr); kept = kept } in
+      let served : Served = record { green = green; start = start; finish = start + c.len; cost = c.load * (start - c.arr); kept = kept } in
       cond_both (ltb (green + p.greatest) (start + c.len)) _ _ (λ r. r ≡ Ok (s, next) → IsFitServing plan head k c s next)
       (λ long e. let impossible : IsFitServing plan head k c s next = cc in impossible)
       (λ short. cond_both (ltb p.wait (start - c.arr)) _ _ (λ r. r ≡ Ok (s, next) → IsFitServing plan head k c s next)
@@ -53,7 +57,7 @@ module _ (plan : List Phase) (head : Head) (k : ℕ) (c : Cluster) (s : Served) 
         bounds = record {
           head = record { phase = below; begun = omega arith; within = omega (arith, whole, greatest) };
           finish = omega (arith, in_time, bounds.arr, bounds.len, times.wait);
-          cost = mul-le c.size (start - c.arr) greatest_size 3600 bounds.size.1 (omega (arith, in_time, times.wait));
+          cost = mul-le c.load (start - c.arr) greatest_load 3600 (load_within c bounds) (omega (arith, in_time, times.wait));
         };
         behind = refl;
         stood = stands.stood;

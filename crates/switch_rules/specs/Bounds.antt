@@ -13,13 +13,21 @@ latest_arrival = 100000
 abbrev pub greatest_size : ℕ
 greatest_size = 20000000
 
+-- no link has a greater weight
+abbrev pub greatest_weight : ℕ
+greatest_weight = 20
+
+-- no cluster has a greater load
+abbrev pub greatest_load : ℕ
+greatest_load = 400000000
+
 -- by this second every fit serving has ended
 abbrev pub latest_finish : ℕ
 latest_finish = 103840
 
--- no fit serving costs more: 20,000 vehicles that wait for an hour
+-- no fit serving costs more: the greatest load that waits for an hour
 abbrev pub greatest_cost : ℕ
-greatest_cost = 72000000000
+greatest_cost = 1440000000000
 
 -- an instance has no more clusters
 abbrev pub most_clusters : ℕ
@@ -27,7 +35,7 @@ most_clusters = 40
 
 -- nor do its servings cost more together
 abbrev pub greatest_delay : ℕ
-greatest_delay = 2880000000000
+greatest_delay = 57600000000000
 
 -- a table has no more entries: one for each place of each order, and the first
 abbrev pub most_entries : ℕ

@@ -19,7 +19,7 @@ counts_of lists = map length lists
 
 -- what stands where a list has no cluster
 abbrev pub no_cluster : Cluster
-no_cluster = record { size = 0; arr = 0; len = 0 }
+no_cluster = record { size = 0; load = 0; arr = 0; len = 0 }
 
 -- the cluster at index k of a list, from 0
 abbrev pub cluster_at : List Cluster → ℕ → Cluster

@@ -2,7 +2,7 @@
 use Rattle.std.specs.Prelude.{◌≡◌, ℕ, ◌+◌, ◌-◌, ◌*◌, ◌<◌, ◌≤◌, Bool, true, false, ◌&&◌, ◌==◌, nat_lt, nat_le, max, if◌then◌else◌, List, length, Result, Ok, Err}
 use Rattle.phase_plan.specs.Phases.{phase_at, switch_time}
 use Rattle.phase_plan.specs.declared.Phase.{Phase}
-use Rattle.switch_rules.specs.Bounds.{greatest_cost, greatest_size, latest_arrival, latest_finish}
+use Rattle.switch_rules.specs.Bounds.{greatest_cost, greatest_size, greatest_weight, latest_arrival, latest_finish}
 use Rattle.switch_rules.specs.declared.Head.{Head}
 use Rattle.switch_rules.specs.declared.Cluster.{Cluster}
 use Rattle.switch_rules.specs.declared.Served.{Served}
@@ -18,6 +18,7 @@ pub record IsHead (plan : List Phase) (head : Head) : Type 0 where
 -- a cluster within its bounds
 pub record IsCluster (c : Cluster) : Type 0 where
   pub size : (1 ≤ c.size) × (c.size ≤ greatest_size)
+  pub load : (c.size ≤ c.load) × (c.load ≤ greatest_weight * c.size)
   pub arr : c.arr ≤ latest_arrival
   pub len : (1 ≤ c.len) × (c.len ≤ 240)
 
@@ -43,7 +44,7 @@ abbrev pub served_from : Phase → ℕ → Cluster → ℕ → ℕ → Bool → 
 served_from p j c green start kept =
     if nat_lt (green + p.greatest) (start + c.len) then Err TooLong
     else (if nat_lt p.wait (start - c.arr) then Err TooLate
-    else Ok (record { green = green; start = start; finish = start + c.len; cost = c.size * (start - c.arr); kept = kept }, record { phase = j; since = green; at = start + c.len; fresh = false }))
+    else Ok (record { green = green; start = start; finish = start + c.len; cost = c.load * (start - c.arr); kept = kept }, record { phase = j; since = green; at = start + c.len; fresh = false }))
 
 -- a cluster of phase j in a new green: after the start-up loss where it waits already, and else as it arrives
 abbrev pub served_anew : Phase → ℕ → Cluster → ℕ → Result (Served × Head) Unfit

@@ -15,6 +15,11 @@ pub const LATEST_ARRIVAL: u32 = 100_000;
 /// docs/RULES.md, "Clusters".
 pub const GREATEST_SIZE: u32 = 20_000_000;
 
+/// The greatest weight of a link, by which a cluster's load is at most so many times its size.
+///
+/// docs/RULES.md, "Clusters".
+pub const GREATEST_WEIGHT: u32 = 20;
+
 /// The greatest number of clusters in an instance.
 ///
 /// docs/RULES.md, "Instance".
@@ -25,7 +30,8 @@ pub const MOST_CLUSTERS: u32 = 40;
 /// docs/RULES.md, "Instance".
 pub const MOST_ORDERS: u32 = 50_000;
 
-/// The greatest delay of an instance's servings together, in thousandths of a vehicle times seconds.
+/// The greatest weighted delay of an instance's servings together, in thousandths of a vehicle times weight times
+/// seconds.
 ///
 /// docs/RULES.md, "Sequence, feasibility, delay".
-pub const GREATEST_DELAY: u64 = 2_880_000_000_000;
+pub const GREATEST_DELAY: u64 = 57_600_000_000_000;

@@ -2,7 +2,7 @@
 #![tactic(auto)]
 
 ghost use Rattle.std.specs.Prelude.{◌≡◌, ◌+◌, ◌^◌, ◌<◌, ◌≤◌, length, IfOk, min, sum};
-ghost use Rattle.switch_rules.specs.Bounds.{latest_time, most_orders};
+ghost use Rattle.switch_rules.specs.Bounds.{greatest_cost, latest_time, most_orders};
 ghost use Rattle.switch_rules.specs.Orders.{orders, choose, mixtures};
 ghost use Rattle.phase_plan.specs.Phases.{IsPhase};
 ghost use Rattle.switch_rules.specs.Serving.{IsHead, IsCluster, IsServing, IsTimed, earliest_end, head_after, serving, served_from, start_in_green};
@@ -10,7 +10,7 @@ ghost use Rattle.switch_rules.specs.Serving.{IsHead, IsCluster, IsServing, IsTim
 mod bounds;
 
 pub use bounds::{
-    GREATEST_DELAY, GREATEST_SIZE, LATEST_ARRIVAL, LATEST_TIME, MOST_CLUSTERS, MOST_ORDERS,
+    GREATEST_DELAY, GREATEST_SIZE, GREATEST_WEIGHT, LATEST_ARRIVAL, LATEST_TIME, MOST_CLUSTERS, MOST_ORDERS,
 };
 use foundation::steps::Steps;
 use foundation::threads::CrossesThreads;
@@ -24,6 +24,8 @@ use std::sync::ledger::Ledger;
 pub struct Cluster {
     /// Thousandths of a vehicle, 1 to 20,000,000.
     pub size: u32,
+    /// What a second of its wait costs: each part of its size by the weight of its link, `size` to 20 times `size`.
+    pub load: u32,
     /// The second at which the first of them arrives, 0 to 100,000.
     pub arr: u32,
     /// How many seconds they take, 1 to 240.
@@ -57,7 +59,7 @@ pub struct Served {
     pub start: u32,
     /// The second after its last vehicle has left.
     pub finish: u32,
-    /// Its delay, in thousandths of a vehicle times seconds.
+    /// Its weighted delay: its load by the seconds that it waits, in thousandths of a vehicle times weight times seconds.
     pub cost: u64,
     /// Whether the green of the head before it went on.
     pub kept: bool,
@@ -159,6 +161,7 @@ fn start_in_green(times: &Phase, head: &Head, cluster: &Cluster) -> u32
 }
 
 /// The cluster served from this start in this green, or why that cannot be.
+#[tactic(auto, using(crate::proofs::ServingLaws::load_within))]
 fn served_from(
     times: &Phase,
     phase: u8,
@@ -172,7 +175,8 @@ fn served_from(
     requires green { green ≤ start }
     requires start { start ≤ 110000 }
     requires arrived { cluster.now.arr ≤ start }
-    ensures { result ≡ served_from times.now phase cluster.now green start kept }
+    ensures value { result ≡ served_from times.now phase cluster.now green start kept }
+    ensures cost { IfOk result (λ s. s.0.cost ≤ greatest_cost) }
 {
     let finish = start + cluster.len;
     let waited = start - cluster.arr;
@@ -186,7 +190,7 @@ fn served_from(
         green,
         start,
         finish,
-        cost: u64::from(cluster.size) * u64::from(waited),
+        cost: u64::from(cluster.load) * u64::from(waited),
         kept,
     };
     let head = Head {

@@ -25,7 +25,7 @@ loop-phase-preserved c =
       from = omega (arith, c.max.ensures, c.loop-phase.invariant.from, c.list_cost-other.ensures.from);
       to = omega (arith, c.min.ensures, c.loop-phase.invariant.to, c.list_cost-other.ensures.to);
       is = λ t low high.
-          lines-more c.args.i.now c.args.counts.now c.loop-phase.phase t _ _ line.steepness line.weight other.steepness other.weight
+          lines-more c.args.i.now c.args.counts.now c.loop-phase.phase t _ _ line.steepness line.offset other.steepness other.offset
           (c.loop-phase.invariant.is t (omega (arith, c.max.ensures, low)) (omega (arith, c.min.ensures, high)))
           (c.list_cost-other.ensures.line t (omega (arith, c.max.ensures, low)) (omega (arith, c.min.ensures, high)))
           refl
@@ -34,6 +34,6 @@ loop-phase-preserved c =
           ∙ ap (λ n. sum_by (wait_until t) (drop n (list_at c.args.i.now.lists c.loop-phase.phase))) c.from-served.ensures);
       small = record {
         steepness = omega (arith, c.loop-phase.invariant.small.steepness, c.list_cost-other.ensures.small.steepness);
-        weight = omega (arith, c.loop-phase.invariant.small.weight, c.list_cost-other.ensures.small.weight);
+        offset = omega (arith, c.loop-phase.invariant.small.offset, c.list_cost-other.ensures.small.offset);
       };
     }

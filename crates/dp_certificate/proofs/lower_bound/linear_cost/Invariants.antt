@@ -9,6 +9,6 @@ abbrev pub invariant-loop-phase : goal.invariant-loop-phase
 invariant-loop-phase l = record {
   from : l.line.from ≤ l.at;
   to : l.at ≤ l.line.to;
-  is : (t : ℕ) → l.line.from ≤ t → t ≤ l.line.to → sum_by (left_cost l.i l.counts t) (range_with_len 0 l.phase) + l.line.weight ≡ l.line.steepness * t;
+  is : (t : ℕ) → l.line.from ≤ t → t ≤ l.line.to → sum_by (left_cost l.i l.counts t) (range_with_len 0 l.phase) + l.line.offset ≡ l.line.steepness * t;
   small : IsShallow l.phase l.line;
 }

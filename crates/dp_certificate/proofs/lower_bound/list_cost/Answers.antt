@@ -1,11 +1,11 @@
 use Rattle.std.proofs.Common.{arith}
 use Rattle.schedule_meaning.specs.Instances.{no_cluster}
-use Rattle.dp_certificate.proofs.LowerBoundLaws.{heavy, upward-late, upward-more, upward-rise}
+use Rattle.dp_certificate.proofs.LowerBoundLaws.{offset-le, upward-late, upward-more, upward-rise}
 use Rattle.dp_certificate.proofs.lower_bound.list_cost.Goals as goal
 
 pub returns-then-cluster-at-clause-line : goal.returns-then-cluster-at-clause-line
 returns-then-cluster-at-clause-line c =
-    upward-late c.args.list.now c.loop-cluster.cluster-index c.loop-cluster.from c.loop-cluster.steepness c.loop-cluster.weight no_cluster c.requires.spaced c.loop-cluster-test.true c.loop-cluster.invariant.is
+    upward-late c.args.list.now c.loop-cluster.cluster-index c.loop-cluster.from c.loop-cluster.steepness c.loop-cluster.offset no_cluster c.requires.spaced c.loop-cluster-test.true c.loop-cluster.invariant.is
 
 pub loop-cluster-preserved : goal.loop-cluster-preserved
 loop-cluster-preserved c =
@@ -15,8 +15,8 @@ loop-cluster-preserved c =
     record {
       low = omega (arith, c.if-cluster-at.false);
       rise = upward-rise list index no_cluster c.requires.spaced c.loop-cluster-test.true;
-      is = upward-more list index c.loop-cluster.from c.loop-cluster.steepness c.loop-cluster.weight c.from-steepness.result c.from.result c.from-in-loop-cluster.result no_cluster c.loop-cluster-test.true (c.loop-cluster.invariant.rise c.loop-cluster-test.true) c.loop-cluster.invariant.is
+      is = upward-more list index c.loop-cluster.from c.loop-cluster.steepness c.loop-cluster.offset c.from-steepness.result c.from.result c.from-in-loop-cluster.result no_cluster c.loop-cluster-test.true (c.loop-cluster.invariant.rise c.loop-cluster-test.true) c.loop-cluster.invariant.is
           c.from-steepness.ensures c.from.ensures c.from-in-loop-cluster.ensures;
-      steepness = omega (arith, c.loop-cluster.invariant.steepness, c.from-steepness.ensures, cluster.size);
-      weight = omega (arith, c.loop-cluster.invariant.weight, heavy c.from.result c.from-in-loop-cluster.result (omega (arith, c.from.ensures, cluster.size)) (omega (arith, c.from-in-loop-cluster.ensures, cluster.arr)));
+      steepness = omega (arith, c.loop-cluster.invariant.steepness, c.from-steepness.ensures, cluster.size, cluster.load);
+      offset = omega (arith, c.loop-cluster.invariant.offset, offset-le c.from.result c.from-in-loop-cluster.result (omega (arith, c.from.ensures, cluster.size, cluster.load)) (omega (arith, c.from-in-loop-cluster.ensures, cluster.arr)));
     }
