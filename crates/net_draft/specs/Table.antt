@@ -1,8 +1,8 @@
 -- What a network file says: its table, as `toml` reads it, and the draft that it stands for.
-use Rattle.std.specs.Prelude.{false, codes, ℕ, ◌-◌, ◌^◌, nat_lt, ℤ, pos, negsuc, Bool, true, ◌&&◌, if◌then◌else◌, List, [], ◌∷◌, Option, Some, None}
+use Rattle.std.specs.Prelude.{◌≡◌, codes, ℕ, ◌-◌, ◌^◌, nat_lt, ℤ, pos, negsuc, Bool, true, false, ◌&&◌, if◌then◌else◌, List, [], ◌∷◌, Option, Some, None, is_some, IfSome}
 use Rattle.std.specs.List.{list_any}
 use Rattle.std.specs.Str.{bytes_eq}
-use Rattle.toml.specs.Data.{Data, Items, no_items, item, Members, no_members, member, get_member, as_str, as_integer, as_array, as_table}
+use Rattle.toml.specs.Data.{Data, Items, no_items, item, Members, no_members, member, get_member, as_str, as_integer, as_bool, as_array, as_table}
 use Rattle.foundation.specs.Options.{◌>>=◌, each}
 use Rattle.phase_plan.specs.declared.Phase.{Phase}
 use Rattle.net_draft.specs.declared.drafts.Run.{Run}
@@ -69,6 +69,37 @@ text_if (Some d) = do
 unfoldable pub optional_text_at : List ℕ → Members → Option (Option (List ℕ))
 optional_text_at key ms = text_if (get_member key ms)
 
+-- a truth value that may be absent, where the file need not be complete; an absent one is false
+abbrev pub flag_if : Bool → Option Data → Option Bool
+flag_if complete None = if complete then None else Some false
+flag_if complete (Some d) = as_bool d
+
+-- the truth value at a key that may be so absent
+unfoldable pub flag_at : Bool → List ℕ → Members → Option Bool
+flag_at complete key ms = flag_if complete (get_member key ms)
+
+-- a weight that may be absent, where the file need not be complete; an absent one is 1
+abbrev pub weight_if : Bool → Option Data → Option ℕ
+weight_if complete None = if complete then None else Some 1
+weight_if complete (Some d) = do
+  z ← as_integer d
+  Some (field_of z)
+
+-- the weight at a key that may be so absent
+unfoldable pub weight_at : Bool → List ℕ → Members → Option ℕ
+weight_at complete key ms = weight_if complete (get_member key ms)
+
+-- a whole number that may be absent
+abbrev pub number_if : Option Data → Option (Option ℕ)
+number_if None = Some None
+number_if (Some d) = do
+  z ← as_integer d
+  Some (Some (field_of z))
+
+-- the whole number at a key that may be absent
+unfoldable pub optional_number_at : List ℕ → Members → Option (Option ℕ)
+optional_number_at key ms = number_if (get_member key ms)
+
 -- an array that may be absent; an absent one is empty
 abbrev pub list_if : Option Data → Option (List Data)
 list_if None = Some []
@@ -92,16 +123,16 @@ run_of ms = do
 
 -- the keys of a phase
 unfoldable pub phase_keys : List (List ℕ)
-phase_keys = codes "least" ∷ codes "greatest" ∷ codes "yellow" ∷ codes "clear" ∷ codes "loss" ∷ codes "wait" ∷ codes "links" ∷ []
+phase_keys = codes "least" ∷ codes "greatest" ∷ codes "yellow" ∷ codes "clear" ∷ codes "loss" ∷ codes "wait" ∷ codes "links" ∷ codes "skip" ∷ []
 
 -- a phase as it stands in the file, the names of its links not yet read
 pub record PhaseForm : Type 0 where
   pub phase : Phase
   pub links : List Data
 
--- the own form of a phase
-unfoldable pub phase_form : Data → Option PhaseForm
-phase_form d = do
+-- the own form of a phase, in a file that must be complete or need not
+unfoldable pub phase_form : Bool → Data → Option PhaseForm
+phase_form complete d = do
   ms ← as_table d
   ms ← only phase_keys ms
   least ← number_at (codes "least") ms
@@ -110,13 +141,14 @@ phase_form d = do
   clear ← number_at (codes "clear") ms
   loss ← number_at (codes "loss") ms
   wait ← number_at (codes "wait") ms
+  skip ← flag_at complete (codes "skip") ms
   links ← list_at (codes "links") ms
-  Some (record { phase = record { least = least; greatest = greatest; yellow = yellow; clear = clear; loss = loss; wait = wait; skip = false }; links = links })
+  Some (record { phase = record { least = least; greatest = greatest; yellow = yellow; clear = clear; loss = loss; wait = wait; skip = skip }; links = links })
 
 -- a phase with the names of its links
-unfoldable pub phase_of : Data → Option DraftPhase
-phase_of d = do
-  form ← phase_form d
+unfoldable pub phase_of : Bool → Data → Option DraftPhase
+phase_of complete d = do
+  form ← phase_form complete d
   links ← each as_str form.links
   Some (record { phase = form.phase; links = links })
 
@@ -135,10 +167,10 @@ node_form d = do
   Some (record { name = name; phases = phases })
 
 -- a node with its phases
-unfoldable pub node_of : Data → Option DraftNode
-node_of d = do
+unfoldable pub node_of : Bool → Data → Option DraftNode
+node_of complete d = do
   node ← node_form d
-  phases ← each phase_of node.phases
+  phases ← each (phase_of complete) node.phases
   Some (record { name = node.name; phases = phases })
 
 -- a turn
@@ -157,27 +189,33 @@ pub record LinkForm : Type 0 where
   pub to : Option (List ℕ)
   pub travel : ℕ
   pub sat : ℕ
+  pub weight : ℕ
   pub turns : List Data
 
--- the own form of a link
-unfoldable pub link_form : Data → Option LinkForm
-link_form d = do
+-- the keys of a link
+unfoldable pub link_keys : List (List ℕ)
+link_keys = codes "name" ∷ codes "from" ∷ codes "to" ∷ codes "travel" ∷ codes "sat" ∷ codes "weight" ∷ codes "turn" ∷ []
+
+-- the own form of a link, in such a file
+unfoldable pub link_form : Bool → Data → Option LinkForm
+link_form complete d = do
   ms ← as_table d
-  ms ← only (codes "name" ∷ codes "from" ∷ codes "to" ∷ codes "travel" ∷ codes "sat" ∷ codes "turn" ∷ []) ms
+  ms ← only link_keys ms
   name ← text_at (codes "name") ms
   travel ← number_at (codes "travel") ms
   sat ← number_at (codes "sat") ms
+  weight ← weight_at complete (codes "weight") ms
   from ← optional_text_at (codes "from") ms
   to ← optional_text_at (codes "to") ms
   turns ← optional_list_at (codes "turn") ms
-  Some (record { name = name; from = from; to = to; travel = travel; sat = sat; turns = turns })
+  Some (record { name = name; from = from; to = to; travel = travel; sat = sat; weight = weight; turns = turns })
 
 -- a link with its turns
-unfoldable pub link_of : Data → Option DraftLink
-link_of d = do
-  link ← link_form d
+unfoldable pub link_of : Bool → Data → Option DraftLink
+link_of complete d = do
+  link ← link_form complete d
   turns ← each turn_of link.turns
-  Some (record { name = link.name; from = link.from; to = link.to; travel = link.travel; sat = link.sat; turns = turns })
+  Some (record { name = link.name; from = link.from; to = link.to; travel = link.travel; sat = link.sat; weight = link.weight; turns = turns })
 
 -- a conflict
 unfoldable pub conflict_of : Data → Option DraftConflict
@@ -190,27 +228,42 @@ conflict_of d = do
 
 -- the table of the whole file, the tables in it not yet read
 pub record TopForm : Type 0 where
+  pub version : Option ℕ
   pub run : Members
   pub nodes : List Data
   pub links : List Data
   pub conflicts : List Data
 
+-- a file that says its version must be complete
+abbrev pub is_complete : TopForm → Bool
+is_complete top = is_some top.version
+
 -- the own form of the whole file
 unfoldable pub top_form : Members → Option TopForm
 top_form ms = do
-  ms ← only (codes "run" ∷ codes "node" ∷ codes "link" ∷ codes "conflict" ∷ []) ms
+  ms ← only (codes "run" ∷ codes "node" ∷ codes "link" ∷ codes "conflict" ∷ codes "version" ∷ []) ms
+  version ← optional_number_at (codes "version") ms
   run ← table_at (codes "run") ms
   nodes ← list_at (codes "node") ms
   links ← list_at (codes "link") ms
   conflicts ← optional_list_at (codes "conflict") ms
-  Some (record { run = run; nodes = nodes; links = links; conflicts = conflicts })
+  Some (record { version = version; run = run; nodes = nodes; links = links; conflicts = conflicts })
 
 -- the draft that the file's table stands for
 unfoldable pub draft_of : Members → Option Draft
 draft_of ms = do
   top ← top_form ms
   run ← run_of top.run
-  nodes ← each node_of top.nodes
-  links ← each link_of top.links
+  nodes ← each (node_of (is_complete top)) top.nodes
+  links ← each (link_of (is_complete top)) top.links
   conflicts ← each conflict_of top.conflicts
   Some (record { run = run; nodes = nodes; links = links; conflicts = conflicts })
+
+-- the file has no version, or it is 2
+abbrev pub IsKnown : Option ℕ → Type 0
+IsKnown None = Unit {0}
+IsKnown (Some version) = version ≡ 2
+
+-- the version of the file, where it has one, is known
+abbrev pub HasKnownVersion : Members → Type 0
+HasKnownVersion ms = IfSome (top_form ms) (λ top. IsKnown top.version)

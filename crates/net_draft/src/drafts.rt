@@ -51,7 +51,7 @@ pub struct DraftNode {
 /// A phase of a node, and the links that it serves.
 #[derive(Drop)]
 pub struct DraftPhase {
-    /// Its six times, in seconds; the bounds stand at the fields of `Phase`.
+    /// Its six times, in seconds, and its mark; the bounds stand at the fields of `Phase`.
     pub phase: Phase,
     /// The names of the links that are green in it, at most 16. Each ends at the node.
     pub links: Items<Text>,
@@ -71,6 +71,8 @@ pub struct DraftLink {
     pub travel: u32,
     /// The most that leaves it in a second, in thousandths of a vehicle, 1 to 5000.
     pub sat: u32,
+    /// How much a vehicle on it counts in the delay of a plan, 1 to 20; 1 where the file does not say it.
+    pub weight: u32,
     /// Where its vehicles turn at its end: at most 16 turns, none where it leaves the network or the
     /// file has no array of them. Their shares add up to 1000 where it ends at a node.
     pub turns: Items<DraftTurn>,

@@ -7,7 +7,8 @@ ghost use Rattle.net_draft.specs.Table as spec;
 
 use crate::drafts::Run;
 use crate::values::{
-    list_at, number_at, only, optional_list_at, optional_text_at, table_at, text_at,
+    flag_at, list_at, number_at, only, optional_list_at, optional_number_at, optional_text_at,
+    table_at, text_at, weight_at,
 };
 use phase_plan::Phase;
 use toml::{Table, Value};
@@ -15,6 +16,7 @@ use toml::{Table, Value};
 /// The table of the whole file.
 #[derive(Drop)]
 pub(crate) struct TopForm<'a> {
+    pub(crate) version: Option<u32>,
     pub(crate) run: &'a Table,
     pub(crate) nodes: &'a [Value],
     pub(crate) links: &'a [Value],
@@ -25,10 +27,12 @@ pub(crate) struct TopForm<'a> {
 #[tactic(auto, unfolding(crate::specs::Table::top_form))]
 pub(crate) fn top_form(table: &Table) -> Option<TopForm>
     ensures { MatchOption result (spec.top_form (table_view table.now) ≡ None)
-        (λ top. spec.top_form (table_view table.now) ≡ Some (record { run = table_view top.run.now; nodes = map view top.nodes.now; links = map view top.links.now; conflicts = map view top.conflicts.now })) }
+        (λ top. spec.top_form (table_view table.now) ≡ Some (record { version = top.version; run = table_view top.run.now; nodes = map view top.nodes.now; links = map view top.links.now; conflicts = map view top.conflicts.now })) }
 {
-    let table = only(table, &["run", "node", "link", "conflict"])?;
+    let keys = ["run", "node", "link", "conflict", "version"];
+    let table = only(table, &keys)?;
     Some(TopForm {
+        version: optional_number_at(table, "version")?,
         run: table_at(table, "run")?,
         nodes: list_at(table, "node")?,
         links: list_at(table, "link")?,
@@ -62,11 +66,11 @@ pub(crate) fn node_form(value: &Value) -> Option<(&str, &[Value])>
     Some((name, phases))
 }
 
-/// The own form of a phase: its times, and the names of its links.
+/// The own form of a phase: its times and mark, and the names of its links. In a file that must be complete the mark is there.
 #[tactic(auto, unfolding(crate::specs::Table::phase_form))]
-pub(crate) fn phase_form(value: &Value) -> Option<(Phase, &[Value])>
-    ensures { MatchOption result (spec.phase_form (view value.now) ≡ None)
-        (λ form. spec.phase_form (view value.now) ≡ Some (record { phase = form.0; links = map view form.1.now })) }
+pub(crate) fn phase_form(value: &Value, complete: bool) -> Option<(Phase, &[Value])>
+    ensures { MatchOption result (spec.phase_form complete (view value.now) ≡ None)
+        (λ form. spec.phase_form complete (view value.now) ≡ Some (record { phase = form.0; links = map view form.1.now })) }
 {
     let table = only_phase_keys(value.as_table()?)?;
     let phase = Phase {
@@ -76,7 +80,7 @@ pub(crate) fn phase_form(value: &Value) -> Option<(Phase, &[Value])>
         clear: number_at(table, "clear")?,
         loss: number_at(table, "loss")?,
         wait: number_at(table, "wait")?,
-        skip: false,
+        skip: flag_at(table, "skip", complete)?,
     };
     let links = list_at(table, "links")?;
     Some((phase, links))
@@ -88,7 +92,7 @@ fn only_phase_keys(table: &Table) -> Option<&Table>
     ensures { option_map (λ table. table_view table.now) result ≡ spec.only spec.phase_keys (table_view table.now) }
 {
     let keys = [
-        "least", "greatest", "yellow", "clear", "loss", "wait", "links",
+        "least", "greatest", "yellow", "clear", "loss", "wait", "links", "skip",
     ];
     only(table, &keys)
 }
@@ -101,25 +105,35 @@ pub(crate) struct LinkForm<'a> {
     pub(crate) to: Option<&'a str>,
     pub(crate) travel: u32,
     pub(crate) sat: u32,
+    pub(crate) weight: u32,
     pub(crate) turns: &'a [Value],
 }
 
-/// The own form of a link.
+/// The own form of a link. In a file that must be complete its weight is there.
 #[tactic(auto, unfolding(crate::specs::Table::link_form))]
-pub(crate) fn link_form(value: &Value) -> Option<LinkForm>
-    ensures { MatchOption result (spec.link_form (view value.now) ≡ None)
-        (λ link. spec.link_form (view value.now) ≡ Some (record { name = link.name.now; from = option_copied link.from; to = option_copied link.to; travel = link.travel; sat = link.sat; turns = map view link.turns.now })) }
+pub(crate) fn link_form(value: &Value, complete: bool) -> Option<LinkForm>
+    ensures { MatchOption result (spec.link_form complete (view value.now) ≡ None)
+        (λ link. spec.link_form complete (view value.now) ≡ Some (record { name = link.name.now; from = option_copied link.from; to = option_copied link.to; travel = link.travel; sat = link.sat; weight = link.weight; turns = map view link.turns.now })) }
 {
-    let keys = ["name", "from", "to", "travel", "sat", "turn"];
-    let table = only(value.as_table()?, &keys)?;
+    let table = only_link_keys(value.as_table()?)?;
     Some(LinkForm {
         name: text_at(table, "name")?,
         travel: number_at(table, "travel")?,
         sat: number_at(table, "sat")?,
+        weight: weight_at(table, "weight", complete)?,
         from: optional_text_at(table, "from")?,
         to: optional_text_at(table, "to")?,
         turns: optional_list_at(table, "turn")?,
     })
+}
+
+/// The table, where it has no key beside those of a link.
+#[tactic(auto, unfolding(crate::specs::Table::link_keys))]
+fn only_link_keys(table: &Table) -> Option<&Table>
+    ensures { option_map (λ table. table_view table.now) result ≡ spec.only spec.link_keys (table_view table.now) }
+{
+    let keys = ["name", "from", "to", "travel", "sat", "weight", "turn"];
+    only(table, &keys)
 }
 
 /// The own form of a turn: the name of its exit, and its share.

@@ -1,5 +1,5 @@
 //! How the draft is read from the table of a network file.
-ghost use Rattle.std.specs.Prelude.{◌≡◌, ℕ, Option, option_map, option_copied, IfOk, IfErr, map};
+ghost use Rattle.std.specs.Prelude.{◌≡◌, ◌↔◌, ℕ, Bool, IsTrue, Option, option_map, option_copied, IfOk, IfErr, map};
 ghost use Rattle.toml.specs.Data.{Data, as_str};
 ghost use Rattle.toml.specs.View.{view, table_view};
 ghost use Rattle.foundation.specs.Options.{each};
@@ -8,6 +8,7 @@ ghost use Rattle.net_draft.specs.Faults.{Misses, Blames};
 ghost use Rattle.net_draft.specs.FirstShape.{IsShapeFault, ordinal};
 ghost use Rattle.net_draft.specs.Reading.{IsFaultAmong, IsNodeAtFault, IsPhaseAtFault, IsLinkAtFault, IsTurnAtFault, IsConflictAtFault};
 ghost use Rattle.net_draft.specs.Table as spec;
+ghost use Rattle.net_draft.specs.Table.{HasKnownVersion};
 
 use crate::drafts::{Draft, DraftConflict, DraftLink, DraftNode, DraftPhase, DraftTurn};
 use crate::faults::{NetFault, Place, Section};
@@ -35,15 +36,31 @@ pub fn read_draft(alloc: Global, table: &Table) -> Result<Draft, NetFault>
     let Some(run) = run_of(top.run) else {
         return Err(shape(Section::Run, 0, 0));
     };
-    let nodes = read_all(alloc, top.nodes, 0)?;
-    let links = read_all(alloc, top.links, 0)?;
-    let conflicts = read_all(alloc, top.conflicts, 0)?;
+    let complete = top.version.is_some();
+    let nodes = read_all(alloc, top.nodes, 0, complete)?;
+    let links = read_all(alloc, top.links, 0, complete)?;
+    let conflicts = read_all(alloc, top.conflicts, 0, complete)?;
     Ok(Draft {
         run,
         nodes: Items::from_vec(nodes),
         links: Items::from_vec(links),
         conflicts: Items::from_vec(conflicts),
     })
+}
+
+/// The one version that a network file may say.
+const KNOWN_VERSION: u32 = 2;
+
+/// Whether the table of a network file has no version, or one that is known. One whose own form is at fault has none.
+///
+/// docs/FORMATS.md, "Network file".
+pub fn has_known_version(table: &Table) -> bool
+    ensures { IsTrue result ↔ HasKnownVersion (table_view table.now) }
+{
+    match top_form(table) {
+        Some(top) => top.version.is_none_or(|version| version == KNOWN_VERSION),
+        None => true,
+    }
 }
 
 /// The fault `Shape` at this place.
@@ -55,27 +72,38 @@ fn shape(part: Section, item: u32, sub: u32) -> NetFault
 
 /// A table that stands in an array of the file.
 trait Element: Sized + Drop {
-    /// What the table stands for.
-    ghost reading: { Data → Option Self };
+    /// What the table stands for, in a file that must be complete or need not.
+    ghost reading: { Bool → Data → Option Self };
 
-    /// Where the table that is not read is at fault: in the table of an item, with its number, at a place.
-    ghost at_fault: { ℕ → ℕ → Data → Place → Type 0 };
+    /// Where the table that is not read is at fault, in such a file: in the table of an item, with its number, at a place.
+    ghost at_fault: { Bool → ℕ → ℕ → Data → Place → Type 0 };
 
     /// Reads the table with this number, from 1, of an array. The item is that of the node or link with the array, and 0
     /// where the array stands in the table of the whole file.
-    fn read(alloc: Global, value: &Value, item: u32, number: u32) -> Result<Self, NetFault>
-        ensures ok { IfOk result (λ element. reading (view value.now) ≡ Some element) }
-        ensures first { IfErr result (λ fault. Blames fault (at_fault item number (view value.now))) };
+    fn read(
+        alloc: Global,
+        value: &Value,
+        item: u32,
+        number: u32,
+        complete: bool,
+    ) -> Result<Self, NetFault>
+        ensures ok { IfOk result (λ element. reading complete (view value.now) ≡ Some element) }
+        ensures first { IfErr result (λ fault. Blames fault (at_fault complete item number (view value.now))) };
 }
 
 /// The elements of an array, in order, in the table of this item.
-fn read_all<T: Element>(alloc: Global, values: &[Value], item: u32) -> Result<Vec<T>, NetFault>
-    ensures ok { IfOk result (λ all. each T.reading (map view values.now) ≡ Some all.items) }
-    ensures first { IfErr result (λ fault. Blames fault (IsFaultAmong T.reading T.at_fault item (map view values.now))) }
+fn read_all<T: Element>(
+    alloc: Global,
+    values: &[Value],
+    item: u32,
+    complete: bool,
+) -> Result<Vec<T>, NetFault>
+    ensures ok { IfOk result (λ all. each (T.reading complete) (map view values.now) ≡ Some all.items) }
+    ensures first { IfErr result (λ fault. Blames fault (IsFaultAmong (T.reading complete) (T.at_fault complete) item (map view values.now))) }
 {
     let mut all = Vec::new(alloc);
     for (index, value) in values.iter().enumerate() {
-        let element = T::read(alloc, value, item, ordinal(index))?;
+        let element = T::read(alloc, value, item, ordinal(index), complete)?;
         all.push(element)?;
     }
     Ok(all)
@@ -94,11 +122,17 @@ impl Element for DraftNode {
     ghost at_fault = { IsNodeAtFault };
 
     #[tactic(auto, unfolding(crate::specs::Table::node_of))]
-    fn read(alloc: Global, value: &Value, item: u32, number: u32) -> Result<DraftNode, NetFault> {
+    fn read(
+        alloc: Global,
+        value: &Value,
+        item: u32,
+        number: u32,
+        complete: bool,
+    ) -> Result<DraftNode, NetFault> {
         let Some((name, phases)) = node_form(value) else {
             return Err(shape(Section::Node, number, 0));
         };
-        let phases = read_all(alloc, phases, number)?;
+        let phases = read_all(alloc, phases, number, complete)?;
         let name = copy_text(alloc, name)?;
         Ok(DraftNode {
             name,
@@ -113,8 +147,14 @@ impl Element for DraftPhase {
     ghost at_fault = { IsPhaseAtFault };
 
     #[tactic(auto, unfolding(crate::specs::Table::phase_of))]
-    fn read(alloc: Global, value: &Value, item: u32, number: u32) -> Result<DraftPhase, NetFault> {
-        let Some((phase, links)) = phase_form(value) else {
+    fn read(
+        alloc: Global,
+        value: &Value,
+        item: u32,
+        number: u32,
+        complete: bool,
+    ) -> Result<DraftPhase, NetFault> {
+        let Some((phase, links)) = phase_form(value, complete) else {
             return Err(shape(Section::Phase, item, number));
         };
         let Some(links) = texts_of(alloc, links)? else {
@@ -133,28 +173,41 @@ impl Element for DraftLink {
     ghost at_fault = { IsLinkAtFault };
 
     #[tactic(auto, unfolding(crate::specs::Table::link_of))]
-    fn read(alloc: Global, value: &Value, item: u32, number: u32) -> Result<DraftLink, NetFault> {
-        let Some(link) = link_form(value) else {
+    fn read(
+        alloc: Global,
+        value: &Value,
+        item: u32,
+        number: u32,
+        complete: bool,
+    ) -> Result<DraftLink, NetFault> {
+        let Some(link) = link_form(value, complete) else {
             return Err(shape(Section::Link, number, 0));
         };
-        let turns = read_all(alloc, link.turns, number)?;
+        let turns = read_all(alloc, link.turns, number, complete)?;
         Ok(DraftLink {
             name: copy_text(alloc, link.name)?,
             from: copy_optional_text(alloc, link.from)?,
             to: copy_optional_text(alloc, link.to)?,
             travel: link.travel,
             sat: link.sat,
+            weight: link.weight,
             turns: Items::from_vec(turns),
         })
     }
 }
 
 impl Element for DraftTurn {
-    ghost reading = { spec.turn_of };
+    ghost reading = { λ _. spec.turn_of };
 
     ghost at_fault = { IsTurnAtFault };
 
-    fn read(alloc: Global, value: &Value, item: u32, number: u32) -> Result<DraftTurn, NetFault> {
+    fn read(
+        alloc: Global,
+        value: &Value,
+        item: u32,
+        number: u32,
+        complete: bool,
+    ) -> Result<DraftTurn, NetFault> {
         let Some((exit, share)) = turn_form(value) else {
             return Err(shape(Section::Turn, item, number));
         };
@@ -164,7 +217,7 @@ impl Element for DraftTurn {
 }
 
 impl Element for DraftConflict {
-    ghost reading = { spec.conflict_of };
+    ghost reading = { λ _. spec.conflict_of };
 
     ghost at_fault = { IsConflictAtFault };
 
@@ -173,6 +226,7 @@ impl Element for DraftConflict {
         value: &Value,
         item: u32,
         number: u32,
+        complete: bool,
     ) -> Result<DraftConflict, NetFault> {
         let Some((a, b)) = conflict_form(value) else {
             return Err(shape(Section::Conflict, number, 0));

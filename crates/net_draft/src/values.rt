@@ -35,6 +35,41 @@ fn field_of(number: i64) -> u32
     }
 }
 
+/// The whole number at a key that may be absent.
+#[tactic(auto, unfolding(crate::specs::Table::optional_number_at))]
+pub(crate) fn optional_number_at(table: &Table, key: &str) -> Option<Option<u32>>
+    ensures { result ≡ spec.optional_number_at key.now (table_view table.now) }
+{
+    match member(table, key) {
+        Some(value) => Some(Some(field_of(value.as_integer()?))),
+        None => Some(None),
+    }
+}
+
+/// The weight at a key; an absent one is 1, where the file need not be complete.
+#[tactic(auto, unfolding(crate::specs::Table::weight_at))]
+pub(crate) fn weight_at(table: &Table, key: &str, complete: bool) -> Option<u32>
+    ensures { result ≡ spec.weight_at complete key.now (table_view table.now) }
+{
+    match member(table, key) {
+        Some(value) => Some(field_of(value.as_integer()?)),
+        None if complete => None,
+        None => Some(1),
+    }
+}
+
+/// The truth value at a key; an absent one is false, where the file need not be complete.
+#[tactic(auto, unfolding(crate::specs::Table::flag_at))]
+pub(crate) fn flag_at(table: &Table, key: &str, complete: bool) -> Option<bool>
+    ensures { result ≡ spec.flag_at complete key.now (table_view table.now) }
+{
+    match member(table, key) {
+        Some(value) => value.as_bool(),
+        None if complete => None,
+        None => Some(false),
+    }
+}
+
 /// The text at a key.
 #[tactic(auto, unfolding(crate::specs::Table::text_at))]
 pub(crate) fn text_at<'a>(table: &'a Table, key: &str) -> Option<&'a str>
