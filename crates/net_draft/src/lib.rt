@@ -9,4 +9,4 @@ mod values;
 
 pub use drafts::{Draft, DraftConflict, DraftLink, DraftNode, DraftPhase, DraftTurn, Run};
 pub use faults::{NetFault, Place, Section};
-pub use tables::read_draft;
+pub use tables::{has_known_version, read_draft};

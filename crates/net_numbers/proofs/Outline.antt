@@ -50,7 +50,7 @@ module _ (nodes links : List (List ℕ)) (phase_links : List (List (List ℕ))) 
       let (from, comes, rest) = bind-some (number_if nodes x.from) _ l is in
       let (to, ends, more) = bind-some (number_if nodes x.to) _ l rest in
       let (link, its, last) = bind-some (number_of links x.name) _ l more in
-      rw (← same_Some _ _ last) (record { from = number_if-within nodes x.from from comes; to = number_if-within nodes x.to to ends; travel = bounds.own.travel; sat = bounds.own.sat })
+      rw (← same_Some _ _ last) (record { from = number_if-within nodes x.from from comes; to = number_if-within nodes x.to to ends; travel = bounds.own.travel; sat = bounds.own.sat; weight = bounds.own.weight })
 
   -- its phase
   road-phase : (x : DraftLink) (l : Link) (k : ℕ) → number_of links x.name ≡ Some k → link_of nodes links phase_links x ≡ Some l → l.phase ≡ phase_of phase_links k l.to
@@ -86,7 +86,7 @@ abbrev no_node : DraftNode
 no_node = record { name = []; phases = [] }
 
 abbrev no_draft_link : DraftLink
-no_draft_link = record { name = []; from = None; to = None; travel = 0; sat = 0; turns = [] }
+no_draft_link = record { name = []; from = None; to = None; travel = 0; sat = 0; weight = 0; turns = [] }
 
 module _ (d : Draft) (net : Net) (bounds : IsBounded d) (nodes_differ : AreDistinct (node_names d)) (links_differ : AreDistinct (link_names d)) (is : IsNumbered d net) where
   node_total : length net.node_names ≡ length d.nodes

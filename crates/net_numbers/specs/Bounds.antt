@@ -50,6 +50,7 @@ pub record HasLinkBounds (l : DraftLink) : Type 0 where
   pub name : IsName l.name
   pub travel : (1 ≤ l.travel) × (l.travel ≤ 120)
   pub sat : (1 ≤ l.sat) × (l.sat ≤ 5000)
+  pub weight : (1 ≤ l.weight) × (l.weight ≤ 20)
   pub count : length l.turns ≤ 16
 
 -- a link with its turns

@@ -26,7 +26,7 @@ pub record Net : Type 0 where
 
 -- what stands where there is no link
 abbrev pub no_link : Link
-no_link = record { from = None; to = None; travel = 0; sat = 0; phase = 0 }
+no_link = record { from = None; to = None; travel = 0; sat = 0; weight = 0; phase = 0 }
 
 -- no two names are the same
 abbrev pub AreDistinct : List (List ℕ) → Type 0
@@ -62,7 +62,7 @@ link_of nodes links phase_links l = do
   from ← number_if nodes l.from
   to ← number_if nodes l.to
   link ← number_of links l.name
-  Some (record { from = from; to = to; travel = l.travel; sat = l.sat; phase = phase_of phase_links link to })
+  Some (record { from = from; to = to; travel = l.travel; sat = l.sat; weight = l.weight; phase = phase_of phase_links link to })
 
 -- a turn by numbers
 unfoldable pub turn_of : List (List ℕ) → DraftTurn → Option Turn

@@ -41,6 +41,7 @@ pub record IsLink (nodes : ℕ) (l : Link) : Type 0 where
   pub to : IfSome l.to (λ n. n < nodes)
   pub travel : (1 ≤ l.travel) × (l.travel ≤ 120)
   pub sat : (1 ≤ l.sat) × (l.sat ≤ 5000)
+  pub weight : (1 ≤ l.weight) × (l.weight ≤ 20)
 
 -- turns into a network of this number of links
 pub record AreTurns (links : ℕ) (turns : List Turn) : Type 0 where

@@ -146,6 +146,7 @@ fn has_link_bounds(link: &DraftLink) -> bool
     is_name(link.name.as_str())
         && (1..=120).contains(&link.travel)
         && (1..=5000).contains(&link.sat)
+        && (1..=20).contains(&link.weight)
         && link.turns.len() <= 16
 }
 

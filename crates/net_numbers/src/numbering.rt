@@ -236,6 +236,7 @@ fn road(names: &Tables, link: &DraftLink, place: Place) -> Result<Link, NetFault
         to,
         travel: link.travel,
         sat: link.sat,
+        weight: link.weight,
         phase: phase_of(names.phase_links, number, to),
     })
 }

@@ -14,6 +14,8 @@ pub struct Link {
     pub travel: u32,
     /// The most that leaves it in a second, in thousandths of a vehicle, 1 to 5000.
     pub sat: u32,
+    /// How much a vehicle on it counts in the delay of a plan, 1 to 20.
+    pub weight: u32,
     /// Its phase at the node where it ends; 0 where it ends at no node.
     pub phase: u8,
 }

@@ -45,12 +45,9 @@ module _ (d : Draft) where
   IsDraftFault-joins net is _ h = absurd h
 
 module _ (bytes : List ℕ) (table : Members) (utf8 : IsUtf8 bytes) (toml : parse_document bytes ≡ Some table) where
-  Drafts-fault : (fault : NetFault) → Misses fault (draft_of table ≡ None) → Blames fault (λ place. IsShapeFault table place.part place.item place.sub) → Drafts bytes (Err fault)
+  -- what reading the text's table answers where that stands for no draft
+  pub Drafts-fault : (fault : NetFault) → Misses fault (draft_of table ≡ None) → Blames fault (λ place. IsShapeFault table place.part place.item place.sub) → Drafts bytes (Err fault)
   Drafts-fault NoMemory none first = tt
   Drafts-fault (Shape place) none first = record { utf8 = utf8; table = table; toml = toml; form = none; first = first }
   Drafts-fault _ none first = absurd first
 
-  -- what reading the text's table answers
-  pub Drafts-read : (result : Result Draft NetFault) → IfOk result (λ draft. draft_of table ≡ Some draft) → IfErr result (λ fault. Misses fault (draft_of table ≡ None)) → IfErr result (λ fault. Blames fault (λ place. IsShapeFault table place.part place.item place.sub)) → Drafts bytes result
-  Drafts-read (Ok draft) is none first = record { utf8 = utf8; table = table; toml = toml; form = is }
-  Drafts-read (Err fault) is none first = Drafts-fault fault none first

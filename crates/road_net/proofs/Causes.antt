@@ -1,15 +1,15 @@
 -- Why a text is refused.
-use Rattle.std.proofs.Common.{◌≡◌, ℕ, List, Result, Ok, Err, IfErr, ap, ◌∙◌, sym, subst}
+use Rattle.std.proofs.Common.{◌≡◌, ℕ, List, Result, Ok, Err, IfErr, ap, ◌∙◌, sym, subst, inl, inr}
 use Rattle.std.proofs.lemmas.Option.{same_Some, none-some}
 use Rattle.net_draft.specs.Faults.{Unless}
-use Rattle.net_draft.specs.Table.{draft_of}
+use Rattle.net_draft.specs.Table.{draft_of, HasKnownVersion}
 use Rattle.net_draft.specs.declared.drafts.Draft.{Draft}
 use Rattle.net_draft.specs.declared.faults.NetFault.{NetFault}
-use Rattle.net_draft.specs.declared.faults.NetFault.TheVariants.{NoMemory, NotToml, Shape}
+use Rattle.net_draft.specs.declared.faults.NetFault.TheVariants.{NoMemory, NotToml, Shape, Bound, Twice, Unknown, Ends, Crowd, Shares, Phaseless, Clash}
 use Rattle.net_numbers.specs.Numbers.{Net}
 use Rattle.net_numbers.specs.FirstFaults.{Refuses}
 use Rattle.road_net.specs.FirstFaults.{IsDraftFault}
-use Rattle.road_net.specs.Network.{IsNetworkOf, IsDraftText, IsNetworkText, IsCause}
+use Rattle.road_net.specs.Network.{IsNetworkOf, IsDraftText, IsNetworkText, IsCause, HasNoNetwork}
 use Rattle.road_net.specs.Stored.{Drafts}
 
 module _ (bytes : List ℕ) where
@@ -18,6 +18,7 @@ module _ (bytes : List ℕ) where
   IsCause-drafts NoMemory h = tt
   IsCause-drafts NotToml h = h
   IsCause-drafts (Shape place) h = h
+  IsCause-drafts (Bound place) h = inl h
   IsCause-drafts _ h = absurd h
 
   -- a text with a draft that stands for no network
@@ -25,6 +26,7 @@ module _ (bytes : List ℕ) where
   IsCause-draft draft NoMemory its h first = tt
   IsCause-draft draft NotToml its h first = absurd h
   IsCause-draft draft (Shape place) its h first = absurd h
+  IsCause-draft draft (Bound place) its h first = inr (record { draft = draft; text = its; network = h; first = first })
   IsCause-draft draft _ its h first = record { draft = draft; text = its; network = h; first = first }
 
   -- what building the draft's network answers
@@ -36,9 +38,23 @@ module _ (bytes : List ℕ) where
   one_draft : (a b : Draft) → IsDraftText bytes a → IsDraftText bytes b → a ≡ b
   one_draft a b first second = same_Some a b (sym first.form ∙ ap draft_of (same_Some first.table second.table (sym first.toml ∙ second.toml)) ∙ second.form)
 
+  -- one that has a draft which stands for no network has none
+  none-drafted : (fault : NetFault) → HasNoNetwork bytes fault → (net : Net) → IsNetworkText bytes net → ⊥
+  none-drafted fault h net it = h.network net (subst (λ d. IsNetworkOf d net) (one_draft it.draft h.draft it.text h.text) it.network)
+
   -- a text that is refused with a cause has no network
   pub IsCause-none : (fault : NetFault) → IsCause bytes fault → Unless fault ((net : Net) → IsNetworkText bytes net → ⊥)
   IsCause-none NoMemory h = tt
   IsCause-none NotToml h = λ net it. none-some _ (sym (h it.text.utf8) ∙ it.text.toml)
   IsCause-none (Shape place) h = λ net it. none-some _ (sym h.form ∙ ap draft_of (same_Some h.table it.text.table (sym h.toml ∙ it.text.toml)) ∙ it.text.form)
-  IsCause-none _ h = λ net it. h.network net (subst (λ d. IsNetworkOf d net) (one_draft it.draft h.draft it.text h.text) it.network)
+  IsCause-none (Bound place) h = elim h [
+    | inl other ↦ λ net it. other.version (subst HasKnownVersion (same_Some it.text.table other.table (sym it.text.toml ∙ other.toml)) it.text.version)
+    | inr drafted ↦ none-drafted (Bound place) drafted
+  ]
+  IsCause-none (Twice place) h = none-drafted (Twice place) h
+  IsCause-none (Unknown place) h = none-drafted (Unknown place) h
+  IsCause-none (Ends l) h = none-drafted (Ends l) h
+  IsCause-none (Crowd n) h = none-drafted (Crowd n) h
+  IsCause-none (Shares l) h = none-drafted (Shares l) h
+  IsCause-none (Phaseless l) h = none-drafted (Phaseless l) h
+  IsCause-none (Clash a b) h = none-drafted (Clash a b) h

@@ -3,7 +3,7 @@ use Rattle.std.specs.Prelude.{◌≡◌, ℕ, ◌<◌, ◌≤◌, List, [], None
 use Rattle.foundation.specs.Firsts.{IsFirstWithout}
 use Rattle.toml.specs.Parse.{parse_document}
 use Rattle.net_draft.specs.declared.faults.NetFault.{NetFault}
-use Rattle.net_draft.specs.declared.faults.NetFault.TheVariants.{NoMemory, NotToml, Shape, Clash}
+use Rattle.net_draft.specs.declared.faults.NetFault.TheVariants.{NoMemory, NotToml, Shape, Bound, Clash}
 use Rattle.net_draft.specs.declared.drafts.Draft.{Draft}
 use Rattle.net_numbers.specs.declared.numbering.Parts.{Parts}
 use Rattle.road_net.specs.declared.NodeLinks.{NodeLinks}
@@ -13,7 +13,7 @@ use Rattle.net_numbers.specs.Numbers.{Net}
 use Rattle.net_numbers.specs.Parts.{net_of}
 use Rattle.road_net.specs.FirstFaults.{IsJoinFault}
 use Rattle.road_net.specs.Joins.{AreByNode, conflict_at}
-use Rattle.road_net.specs.Network.{IsNetwork, IsJoined, IsDraftText, HasNoDraft}
+use Rattle.road_net.specs.Network.{IsNetwork, IsJoined, IsDraftText, HasNoDraft, HasOtherVersion}
 
 -- a network with the lists of links of each node
 pub record IsStored (parts : Parts) (entry_links exit_links : List (List ℕ)) : Type 0 where
@@ -37,6 +37,7 @@ Drafts bytes (Ok draft) = IsDraftText bytes draft
 Drafts bytes (Err NoMemory) = Unit {0}
 Drafts bytes (Err NotToml) = IsUtf8 bytes → parse_document bytes ≡ None
 Drafts bytes (Err (Shape place)) = HasNoDraft bytes place
+Drafts bytes (Err (Bound place)) = HasOtherVersion bytes place
 Drafts bytes (Err _) = ⊥
 
 -- A test of all numbers below the count answers Ok where the fact holds of each. A fault is out of memory, or the one that

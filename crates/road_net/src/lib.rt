@@ -299,7 +299,7 @@ fn node_links(alloc: Global, parts: &Parts) -> Result<NodeLinks, NetFault>
 /// The network of a text, which is read as TOML. The text has fewer than 2^32 bytes.
 ///
 /// The fault is out of memory, `NotToml` where the text is no UTF-8 or no TOML, `Shape` of the first table that has
-/// not the form of its place, and else that of `build`.
+/// not the form of its place, `Bound` of the whole table where it says a version other than 2, and else that of `build`.
 ///
 /// docs/FORMATS.md, "Network file".
 pub fn read_network(alloc: Global, bytes: &[u8]) -> Result<Network, NetFault>
@@ -311,6 +311,13 @@ pub fn read_network(alloc: Global, bytes: &[u8]) -> Result<Network, NetFault>
     let draft = parse_draft(alloc, bytes)?;
     build(alloc, draft)
 }
+
+/// A version that is not known is a bound of the table of the whole file.
+const OTHER_VERSION: NetFault = NetFault::Bound(Place {
+    part: Section::Top,
+    item: 0,
+    sub: 0,
+});
 
 /// The draft of a text. The text's table is given back before the network is built.
 fn parse_draft(alloc: Global, bytes: &[u8]) -> Result<Draft, NetFault>
@@ -326,5 +333,9 @@ fn parse_draft(alloc: Global, bytes: &[u8]) -> Result<Draft, NetFault>
             return Err(NetFault::NotToml);
         }
     };
-    net_draft::read_draft(alloc, &table)
+    let draft = net_draft::read_draft(alloc, &table)?;
+    if !net_draft::has_known_version(&table) {
+        return Err(OTHER_VERSION);
+    }
+    Ok(draft)
 }

@@ -131,16 +131,17 @@ draft-node-by n e =
     }
 
 abbrev is_draft_link : DraftLink → Bool
-is_draft_link l = is_name l.name && (within 1 l.travel 120 && (within 1 l.sat 5000 && (nat_le (length l.turns) 16 && list_all (λ (t : DraftTurn). nat_le t.share 1000) l.turns)))
+is_draft_link l = is_name l.name && (within 1 l.travel 120 && (within 1 l.sat 5000 && (within 1 l.weight 20 && (nat_le (length l.turns) 16 && list_all (λ (t : DraftTurn). nat_le t.share 1000) l.turns))))
 
 draft-link-by : (l : DraftLink) → is_draft_link l ≡ true → IsBoundedLink l
 draft-link-by l e =
     let name = and_parts (is_name l.name) _ e in
     let travel = and_parts (within 1 l.travel 120) _ name.1 in
     let sat = and_parts (within 1 l.sat 5000) _ travel.1 in
-    let count = and_parts (nat_le (length l.turns) 16) _ sat.1 in
+    let weight = and_parts (within 1 l.weight 20) _ sat.1 in
+    let count = and_parts (nat_le (length l.turns) 16) _ weight.1 in
     record {
-      own = record { name = name-by l.name name.0; travel = within-by 1 l.travel 120 travel.0; sat = within-by 1 l.sat 5000 sat.0; count = leb-true (length l.turns) 16 count.0 };
+      own = record { name = name-by l.name name.0; travel = within-by 1 l.travel 120 travel.0; sat = within-by 1 l.sat 5000 sat.0; weight = within-by 1 l.weight 20 weight.0; count = leb-true (length l.turns) 16 count.0 };
       turns = all-by (λ (t : DraftTurn). nat_le t.share 1000) IsBoundedTurn (λ t h. leb-true t.share 1000 h) l.turns count.1;
     }
 

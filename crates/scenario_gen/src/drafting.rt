@@ -150,6 +150,7 @@ fn link(alloc: Global, side: u32, road: Road) -> Result<DraftLink, AllocError>
         to,
         travel: 15,
         sat: 500,
+        weight: 1,
         turns,
     })
 }
