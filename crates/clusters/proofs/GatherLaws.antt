@@ -14,7 +14,7 @@ use Rattle.clusters.proofs.ListLaws.{get_or-push-at, get_or-push-other, length-p
 use Rattle.clusters.proofs.CutLaws.{filled-append, filled-none}
 
 -- The runs of the seconds before `from`, and their platoons.
-pub record IsGathering (gap most now : ℕ) (series : List ℕ) (streams : List Part) (platoons : List Platoon) (from : ℕ) : Type 0 where
+pub record IsGathering (load : Part → ℕ) (gap most now : ℕ) (series : List ℕ) (streams : List Part) (platoons : List Platoon) (from : ℕ) : Type 0 where
   pub runs : List (List ℕ)
   pub within : from ≤ length series
   pub all : concat runs ≡ filled_from series 0 from
@@ -24,11 +24,11 @@ pub record IsGathering (gap most now : ℕ) (series : List ℕ) (streams : List 
   pub closed : (k x : ℕ) → k + 1 ≡ length runs → from ≤ x → 1 ≤ get_or series x 0 → CannotJoin gap most (run_at runs k) x
   pub ends_before : (k : ℕ) → k + 1 ≡ length runs → last_of (run_at runs k) < from
   pub few : length runs ≤ from
-  pub made : platoons ≡ map (platoon_of now streams) runs
+  pub made : platoons ≡ map (platoon_of load now streams) runs
 
-pub gathering-none : (gap most now : ℕ) (series : List ℕ) (streams : List Part) → IsGathering gap most now series streams [] 0
+pub gathering-none : (load : Part → ℕ) (gap most now : ℕ) (series : List ℕ) (streams : List Part) → IsGathering load gap most now series streams [] 0
 unfolding filled_from
-gathering-none gap most now series streams = record {
+gathering-none load gap most now series streams = record {
   runs = [];
   within = omega arith;
   all = refl;
@@ -46,10 +46,10 @@ before-later gap most series from end runs le h =
     All-weaker (IsRunBefore gap most series from) (IsRunBefore gap most series end)
     (λ run r. record { shape = r.shape; filled = r.filled; order = r.order; before = omega (arith, r.before) }) runs h
 
-pub gathering-more : (gap most now : ℕ) (series : List ℕ) (streams : List Part) (platoons more : List Platoon) (from first end : ℕ) (platoon : Platoon)
-    → IsGathering gap most now series streams platoons from → IsNext series from first → IsRunUpTo gap most series first end → IsClosed gap most series first end
-    → platoon ≡ platoon_within now streams first end → more ≡ platoons ++ platoon ∷ [] → IsGathering gap most now series streams more end
-gathering-more gap most now series streams platoons more from first end platoon h next run closed is pushed =
+pub gathering-more : (load : Part → ℕ) (gap most now : ℕ) (series : List ℕ) (streams : List Part) (platoons more : List Platoon) (from first end : ℕ) (platoon : Platoon)
+    → IsGathering load gap most now series streams platoons from → IsNext series from first → IsRunUpTo gap most series first end → IsClosed gap most series first end
+    → platoon ≡ platoon_within load now streams first end → more ≡ platoons ++ platoon ∷ [] → IsGathering load gap most now series streams more end
+gathering-more load gap most now series streams platoons more from first end platoon h next run closed is pushed =
     let r : List ℕ = filled_from series first (end - first) in
     let runs : List (List ℕ) = h.runs in
     let some : first < end = run.some in
@@ -101,13 +101,13 @@ gathering-more gap most now series streams platoons more from first end platoon 
       few = omega (arith, length-push runs r, h.few);
       made =
           pushed ∙ ap (λ ps. ps ++ platoon ∷ []) h.made
-          ∙ ap (λ p. map (platoon_of now streams) runs ++ p ∷ []) (is ∙ sym (ap (λ f. platoon_within now streams f (last_of r + 1)) run.begins ∙ ap (platoon_within now streams first) run.ends))
-          ∙ sym (map-append (platoon_of now streams) runs (r ∷ []));
+          ∙ ap (λ p. map (platoon_of load now streams) runs ++ p ∷ []) (is ∙ sym (ap (λ f. platoon_within load now streams f (last_of r + 1)) run.begins ∙ ap (platoon_within load now streams first) run.ends))
+          ∙ sym (map-append (platoon_of load now streams) runs (r ∷ []));
     }
 
-pub gathering-all : (gap most now : ℕ) (series : List ℕ) (streams : List Part) (platoons : List Platoon) (from : ℕ)
-    → IsGathering gap most now series streams platoons from → IsEmpty series from (length series) → AreGathered gap most now series streams platoons
-gathering-all gap most now series streams platoons from h empty =
+pub gathering-all : (load : Part → ℕ) (gap most now : ℕ) (series : List ℕ) (streams : List Part) (platoons : List Platoon) (from : ℕ)
+    → IsGathering load gap most now series streams platoons from → IsEmpty series from (length series) → AreGathered load gap most now series streams platoons
+gathering-all load gap most now series streams platoons from h empty =
     let le : from ≤ length series = h.within in
     let rest : filled_from series from (length series - from) ≡ [] = filled-none series from (length series - from) (λ k lo hi. empty k lo (omega arith)) in
     let whole : filled series ≡ filled_from series 0 from =

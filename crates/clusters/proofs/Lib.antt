@@ -2,6 +2,7 @@ pub mod CutLaws
 pub mod ForecastLaws
 pub mod GatherLaws
 pub mod ListLaws
+pub mod LoadLaws
 pub mod PlatoonLaws
 pub mod SeenLaws
 pub mod SmoothLaws

@@ -22,12 +22,13 @@ use Rattle.clusters.specs.declared.vehicle_groups.Platoon.{Platoon}
 use Rattle.clusters.specs.Smoothing.{smoothed, left_by}
 use Rattle.clusters.specs.Inflow.{inflow, inflow_at, leaving, sense_of, heard_forecast}
 use Rattle.clusters.specs.Cuts.{first_of, last_of, run_at, IsCut}
-use Rattle.clusters.specs.Platoons.{ArePlatoonsOf, most_of, platoons_at, part_of, platoon_of, platoon_within, streams_of, together, whole_of}
+use Rattle.clusters.specs.Platoons.{ArePlatoonsOf, most_of, platoons_at, part_of, platoon_of, platoon_within, load_of, streams_of, together, whole_of}
 use Rattle.clusters.specs.Sound.{IsPart, IsPlatoon, AreOfNode, AreOfPhase, cluster_lists, AreSpacedClusters, clusters_of}
 use Rattle.clusters.specs.Windows.{IsRising, arrivals}
-use Rattle.clusters.specs.Steps.{AreGathered, AreStreams, IsRunBefore}
+use Rattle.clusters.specs.Steps.{AreGathered, AreOfLinks, AreStreams, IsRunBefore}
 use Rattle.net_draft.specs.declared.drafts.Run.{Run}
 use Rattle.clusters.proofs.ListLaws.{get_or-push-at, get_or-push-other, length-push}
+use Rattle.clusters.proofs.LoadLaws.{IsLoading, loads-between}
 use Rattle.clusters.proofs.SmoothLaws.{left-more}
 use Rattle.clusters.proofs.TogetherLaws.{brought, length-slice_range, All-slice_range, whole-some, whole-few}
 
@@ -73,11 +74,11 @@ streams-links : (net : Net) (sensed : Sensed) (heard : List Heard) (links : List
 streams-links net sensed heard [] = refl
 streams-links net sensed heard (l ∷ links) = ap (λ ls. l ∷ ls) (streams-links net sensed heard links)
 
-links-few : (net : Net) (node phase : ℕ) → IsOutline net → node < length net.node_names → phase < length (plan_at net node) → length (phase_links_at net node phase) ≤ 16
-links-few net node phase h there exists =
+phase-links : (net : Net) (node phase : ℕ) → IsOutline net → node < length net.node_names → phase < length (plan_at net node) → ArePhaseLinks (length net.link_names) (phase_links_at net node phase)
+phase-links net node phase h there exists =
     let phases : All (ArePhaseLinks (length net.link_names)) (phases_at net node) =
     All-get_or (λ ps. All (ArePhaseLinks (length net.link_names)) ps) net.phase_links node [] (omega (arith, h.phases_count)) h.phase_links in
-    (All-get_or (ArePhaseLinks (length net.link_names)) (phases_at net node) phase [] (omega (arith, h.phase_counts node there)) phases).count
+    All-get_or (ArePhaseLinks (length net.link_names)) (phases_at net node) phase [] (omega (arith, h.phase_counts node there)) phases
 
 part-small : (net : Net) (look : ℕ) (s : Part) → IsOutline net → IsPart net look s → All (λ amount. amount ≤ 5000) s.amounts
 part-small net look s h p = All-weaker (λ amount. amount ≤ (link_at net s.link).sat) (λ amount. amount ≤ 5000) (λ amount le. omega (arith, le, sat-le net s.link h)) s.amounts p.amounts
@@ -88,15 +89,23 @@ pub streams-sound : (net : Net) (node phase : ℕ) (sensed : Sensed) (heard : Li
 streams-sound net node phase sensed heard links streams look h there exists l r e =
     let P : List Part → Type 0 = λ ss. AreStreams look ss in
     subst P (sym e) (rw r (record {
-      few = omega (arith, length-map links (λ k. let p : Part = record { link = k; amounts = leaving net sensed heard k } in p), ap length l, links-few net node phase h.outline there exists);
+      few = omega (arith, length-map links (λ k. let p : Part = record { link = k; amounts = leaving net sensed heard k } in p), ap length l, (phase-links net node phase h.outline there exists).count);
       long = All-weaker (IsPart net net.run.look) (λ s. length s.amounts ≡ net.run.look) (λ s p. p.count) (streams_of net sensed heard links) (streams-parts net sensed heard links);
       small = All-weaker (IsPart net net.run.look) (λ s. All (λ amount. amount ≤ 5000) s.amounts) (λ s p. part-small net net.run.look s h.outline p) (streams_of net sensed heard links) (streams-parts net sensed heard links);
     }))
 
+-- the streams are those of links that exist
+pub streams-exist : (net : Net) (node phase : ℕ) (sensed : Sensed) (heard : List Heard) (links : List ℕ) (streams : List Part)
+    → IsNetwork net → node < length net.node_names → phase < length (plan_at net node) → links ≡ phase_links_at net node phase
+    → streams ≡ streams_of net sensed heard links → AreOfLinks net streams
+streams-exist net node phase sensed heard links streams h there exists l e =
+    let exist : All (λ k. k < length net.link_names) links = subst (All (λ k. k < length net.link_names)) (sym l) (phase-links net node phase h.outline there exists).exist in
+    subst (AreOfLinks net) (sym e) (All-map (λ (s : Part). s.link < length net.link_names) (λ k. record { link = k; amounts = leaving net sensed heard k }) links exist)
+
 -- one platoon
-platoon-parts : (net : Net) (look now first end : ℕ) (streams : List Part) (links : List ℕ)
-    → All (IsPart net look) streams → map (λ part. part.link) streams ≡ links → end ≤ look → IsPlatoon net now links (platoon_within now streams first end)
-platoon-parts net look now first end streams links h order le = record {
+platoon-parts : (load : Part → ℕ) (net : Net) (look now first end : ℕ) (streams : List Part) (links : List ℕ)
+    → All (IsPart net look) streams → map (λ part. part.link) streams ≡ links → end ≤ look → IsPlatoon net now links (platoon_within load now streams first end)
+platoon-parts load net look now first end streams links h order le = record {
   arr = omega arith;
   order = map-map (λ part. part.link) (part_of first end) streams ∙ order;
   parts =
@@ -110,47 +119,47 @@ platoon-parts net look now first end streams links h order le = record {
   whole = refl;
 }
 
-platoon-cluster : (look now first end : ℕ) (streams : List Part) → AreStreams look streams → now ≤ 18000 → look ≤ 180 → first < end → end ≤ look
-    → 1 ≤ sum_by (brought first) streams → IsCluster (platoon_within now streams first end).cluster
-platoon-cluster look now first end streams h early short lt le filled =
+platoon-cluster : (load : Part → ℕ) (look now first end : ℕ) (streams : List Part) → AreStreams look streams → now ≤ 18000 → look ≤ 180 → first < end → end ≤ look
+    → 1 ≤ sum_by (brought first) streams → IsLoading load (map (part_of first end) streams) → IsCluster (platoon_within load now streams first end).cluster
+platoon-cluster load look now first end streams h early short lt le filled loads =
     let long : All (λ s. end ≤ length s.amounts) streams = All-weaker (λ s. length s.amounts ≡ look) (λ s. end ≤ length s.amounts) (λ s e. omega (arith, e)) streams h.long in
     let most : whole_of (map (part_of first end) streams) ≤ 900000 * length streams = whole-few streams first end h.small (omega arith) in
     record {
       size = (omega (arith, whole-some streams first end lt long), omega (arith, most, h.few));
-      load = (omega arith, omega arith);
+      load = (loads.least, loads.most);
       arr = omega arith;
       len = (omega arith, omega arith);
     }
 
 -- the platoons of runs, by their places
-platoon-at : (now : ℕ) (streams : List Part) (runs : List (List ℕ)) (k : ℕ) (d : Platoon) → k < length runs
-    → get_or (map (platoon_of now streams) runs) k d ≡ platoon_of now streams (run_at runs k)
-platoon-at now streams runs k d lt = get_or-map (platoon_of now streams) runs k [] d lt
+platoon-at : (load : Part → ℕ) (now : ℕ) (streams : List Part) (runs : List (List ℕ)) (k : ℕ) (d : Platoon) → k < length runs
+    → get_or (map (platoon_of load now streams) runs) k d ≡ platoon_of load now streams (run_at runs k)
+platoon-at load now streams runs k d lt = get_or-map (platoon_of load now streams) runs k [] d lt
 
-cluster-at : (now : ℕ) (streams : List Part) (runs : List (List ℕ)) (k : ℕ) → k < length runs
-    → cluster_at (clusters_of (map (platoon_of now streams) runs)) k ≡ (platoon_of now streams (run_at runs k)).cluster
-cluster-at now streams runs k lt =
-    let d : Platoon = platoon_of now streams [] in
-    get_or-map (λ p. p.cluster) (map (platoon_of now streams) runs) k d _ (omega (arith, length-map runs (platoon_of now streams)))
-    ∙ ap (λ p. p.cluster) (platoon-at now streams runs k d lt)
+cluster-at : (load : Part → ℕ) (now : ℕ) (streams : List Part) (runs : List (List ℕ)) (k : ℕ) → k < length runs
+    → cluster_at (clusters_of (map (platoon_of load now streams) runs)) k ≡ (platoon_of load now streams (run_at runs k)).cluster
+cluster-at load now streams runs k lt =
+    let d : Platoon = platoon_of load now streams [] in
+    get_or-map (λ p. p.cluster) (map (platoon_of load now streams) runs) k d _ (omega (arith, length-map runs (platoon_of load now streams)))
+    ∙ ap (λ p. p.cluster) (platoon-at load now streams runs k d lt)
 
-arrival-at : (now : ℕ) (streams : List Part) (runs : List (List ℕ)) (k : ℕ) → k < length runs
-    → get_or (arrivals (map (platoon_of now streams) runs)) k 0 ≡ now + first_of (run_at runs k)
-arrival-at now streams runs k lt =
-    let d : Platoon = platoon_of now streams [] in
-    get_or-map (λ p. p.cluster.arr) (map (platoon_of now streams) runs) k d 0 (omega (arith, length-map runs (platoon_of now streams)))
-    ∙ ap (λ p. p.cluster.arr) (platoon-at now streams runs k d lt)
+arrival-at : (load : Part → ℕ) (now : ℕ) (streams : List Part) (runs : List (List ℕ)) (k : ℕ) → k < length runs
+    → get_or (arrivals (map (platoon_of load now streams) runs)) k 0 ≡ now + first_of (run_at runs k)
+arrival-at load now streams runs k lt =
+    let d : Platoon = platoon_of load now streams [] in
+    get_or-map (λ p. p.cluster.arr) (map (platoon_of load now streams) runs) k d 0 (omega (arith, length-map runs (platoon_of load now streams)))
+    ∙ ap (λ p. p.cluster.arr) (platoon-at load now streams runs k d lt)
 
 each-run : (gap most : ℕ) (series : List ℕ) (runs : List (List ℕ)) (k : ℕ) → k < length runs → All (IsRunBefore gap most series (length series)) runs
     → IsRunBefore gap most series (length series) (run_at runs k)
 each-run gap most series runs k lt h = All-get_or (IsRunBefore gap most series (length series)) runs k [] lt h
 
 pub phase-made : (net : Net) (node phase : ℕ) (sensed : Sensed) (heard : List Heard) (series : List ℕ) (streams : List Part) (list : List Platoon)
-    → IsNetwork net → sensed.now ≤ 18000 → streams ≡ streams_of net sensed heard (phase_links_at net node phase) → AreStreams net.run.look streams
-    → series ≡ together streams net.run.look → AreGathered net.run.gap (most_of net node phase) sensed.now series streams list
+    → IsNetwork net → sensed.now ≤ 18000 → streams ≡ streams_of net sensed heard (phase_links_at net node phase) → AreStreams net.run.look streams → AreOfLinks net streams
+    → series ≡ together streams net.run.look → AreGathered (load_of net) net.run.gap (most_of net node phase) sensed.now series streams list
     → AreOfPhase net node phase sensed heard list
 unfolding together
-phase-made net node phase sensed heard series streams list h early are sound brings made =
+phase-made net node phase sensed heard series streams list h early are sound of_links brings made =
     let look : ℕ = net.run.look in
     let now : ℕ = sensed.now in
     let links : List ℕ = phase_links_at net node phase in
@@ -163,35 +172,36 @@ phase-made net node phase sensed heard series streams list h early are sound bri
     let order : map (λ part. part.link) streams ≡ phase_links_at net node phase = ap (map (λ (part : Part). part.link)) are ∙ streams-links net sensed heard (phase_links_at net node phase) in
     let filled : (x : ℕ) → x < net.run.look → get_or series x 0 ≡ sum_by (brought x) streams =
     λ x lt. ap (λ xs. get_or xs x 0) brings ∙ get_or-map-range_with_len (λ y. sum_by (brought y) streams) 0 net.run.look x x 0 lt (omega arith) in
-    let platoons : List Platoon = map (platoon_of now streams) runs in
-    let size : length list ≡ length made.runs = ap length made.made ∙ length-map made.runs (platoon_of sensed.now streams) in
+    let platoons : List Platoon = map (platoon_of (load_of net) now streams) runs in
+    let size : length list ≡ length made.runs = ap length made.made ∙ length-map made.runs (platoon_of (load_of net) sensed.now streams) in
     record {
       platoons = record {
         runs = made.runs;
         cut = let P : List ℕ → Type 0 = λ xs. IsCut net.run.gap (most_of net node phase) xs made.runs in let Q : List Part → Type 0 = λ ss. IsCut net.run.gap (most_of net node phase) (together ss net.run.look) made.runs in subst Q are (subst P brings made.cut);
-        each = made.made ∙ ap (λ ss. map (platoon_of sensed.now ss) made.runs) are;
+        each = made.made ∙ ap (λ ss. map (platoon_of (load_of net) sensed.now ss) made.runs) are;
       };
       parts =
           let P : List Platoon → Type 0 = All (IsPlatoon net sensed.now (phase_links_at net node phase)) in
           subst P (sym made.made)
-          (All-map (IsPlatoon net sensed.now (phase_links_at net node phase)) (platoon_of sensed.now streams) made.runs
-          (All-weaker (IsRunBefore net.run.gap (most_of net node phase) series (length series)) (λ run. IsPlatoon net sensed.now (phase_links_at net node phase) (platoon_of sensed.now streams run))
-          (λ run r. platoon-parts net net.run.look sensed.now (first_of run) (last_of run + 1) streams (phase_links_at net node phase) parts order (omega (arith, r.before, count)))
+          (All-map (IsPlatoon net sensed.now (phase_links_at net node phase)) (platoon_of (load_of net) sensed.now streams) made.runs
+          (All-weaker (IsRunBefore net.run.gap (most_of net node phase) series (length series)) (λ run. IsPlatoon net sensed.now (phase_links_at net node phase) (platoon_of (load_of net) sensed.now streams run))
+          (λ run r. platoon-parts (load_of net) net net.run.look sensed.now (first_of run) (last_of run + 1) streams (phase_links_at net node phase) parts order (omega (arith, r.before, count)))
           made.runs made.each));
       clusters =
           let P : List Platoon → Type 0 = λ ps. AreSpacedClusters (clusters_of ps) in
           subst P (sym made.made)
           (record {
             each =
-                All-map IsCluster (λ p. p.cluster) (map (platoon_of sensed.now streams) made.runs)
-                (All-map (λ p. IsCluster p.cluster) (platoon_of sensed.now streams) made.runs
-                (All-weaker (IsRunBefore net.run.gap (most_of net node phase) series (length series)) (λ run. IsCluster (platoon_of sensed.now streams run).cluster)
-                (λ run r. platoon-cluster net.run.look sensed.now (first_of run) (last_of run + 1) streams sound early short (omega (arith, r.order)) (omega (arith, r.before, count))
-                (omega (arith, r.filled, filled (first_of run) (omega (arith, r.order, r.before, count)))))
+                All-map IsCluster (λ p. p.cluster) (map (platoon_of (load_of net) sensed.now streams) made.runs)
+                (All-map (λ p. IsCluster p.cluster) (platoon_of (load_of net) sensed.now streams) made.runs
+                (All-weaker (IsRunBefore net.run.gap (most_of net node phase) series (length series)) (λ run. IsCluster (platoon_of (load_of net) sensed.now streams run).cluster)
+                (λ run r. platoon-cluster (load_of net) net.run.look sensed.now (first_of run) (last_of run + 1) streams sound early short (omega (arith, r.order)) (omega (arith, r.before, count))
+                (omega (arith, r.filled, filled (first_of run) (omega (arith, r.order, r.before, count))))
+                (loads-between net (first_of run) (last_of run + 1) streams h.outline of_links))
                 made.runs made.each));
             spaced = λ k lt.
-                let below : k + 1 < length made.runs = omega (arith, lt, length-map (map (platoon_of sensed.now streams) made.runs) (λ (p : Platoon). p.cluster), length-map made.runs (platoon_of sensed.now streams)) in
-                rw (cluster-at sensed.now streams made.runs k (omega arith), cluster-at sensed.now streams made.runs (k + 1) below)
+                let below : k + 1 < length made.runs = omega (arith, lt, length-map (map (platoon_of (load_of net) sensed.now streams) made.runs) (λ (p : Platoon). p.cluster), length-map made.runs (platoon_of (load_of net) sensed.now streams)) in
+                rw (cluster-at (load_of net) sensed.now streams made.runs k (omega arith), cluster-at (load_of net) sensed.now streams made.runs (k + 1) below)
                 (omega (arith, made.order k below, (each k (omega arith)).order));
           });
       rising = record {
@@ -200,23 +210,23 @@ phase-made net node phase sensed heard series streams list h early are sound bri
             let P : List Platoon → Type 0 = λ ps. IsStrictlyIncreasing (arrivals ps) in
             subst P (sym made.made)
             (λ k lt.
-            let below : k + 1 < length made.runs = omega (arith, lt, length-map (map (platoon_of sensed.now streams) made.runs) (λ (p : Platoon). p.cluster.arr), length-map made.runs (platoon_of sensed.now streams)) in
-            rw (arrival-at sensed.now streams made.runs k (omega arith), arrival-at sensed.now streams made.runs (k + 1) below)
+            let below : k + 1 < length made.runs = omega (arith, lt, length-map (map (platoon_of (load_of net) sensed.now streams) made.runs) (λ (p : Platoon). p.cluster.arr), length-map made.runs (platoon_of (load_of net) sensed.now streams)) in
+            rw (arrival-at (load_of net) sensed.now streams made.runs k (omega arith), arrival-at (load_of net) sensed.now streams made.runs (k + 1) below)
             (omega (arith, made.order k below, (each k (omega arith)).order)));
       };
     }
 
 pub phase-from : (net : Net) (node phase : ℕ) (sensed : Sensed) (heard : List Heard) (run : Run) (times : Phase) (plan : List Phase) (links series : List ℕ) (streams : List Part) (list : List Platoon)
     → IsNetwork net → sensed.now ≤ 18000 → run ≡ net.run → plan ≡ plan_at net node → times ≡ phase_at plan phase → links ≡ phase_links_at net node phase
-    → streams ≡ streams_of net sensed heard links → AreStreams run.look streams → series ≡ together streams run.look
-    → AreGathered run.gap (times.greatest - times.loss) sensed.now series streams list → AreOfPhase net node phase sensed heard list
-phase-from net node phase sensed heard run times plan links series streams list h early r p t l s sound brings made =
+    → streams ≡ streams_of net sensed heard links → AreStreams run.look streams → AreOfLinks net streams → series ≡ together streams run.look
+    → AreGathered (load_of net) run.gap (times.greatest - times.loss) sensed.now series streams list → AreOfPhase net node phase sensed heard list
+phase-from net node phase sensed heard run times plan links series streams list h early r p t l s sound of_links brings made =
     let look : run.look ≡ net.run.look = ap (λ (q : Run). q.look) r in
     let times_are : times ≡ phase_at (plan_at net node) phase = t ∙ ap (λ ps. phase_at ps phase) p in
     let P : ℕ → Type 0 = λ n. AreStreams n streams in
-    let Q : Run → Type 0 = λ q. AreGathered q.gap (times.greatest - times.loss) sensed.now series streams list in
-    let R : Phase → Type 0 = λ q. AreGathered net.run.gap (q.greatest - q.loss) sensed.now series streams list in
-    phase-made net node phase sensed heard series streams list h early (s ∙ ap (streams_of net sensed heard) l) (subst P look sound) (brings ∙ ap (together streams) look)
+    let Q : Run → Type 0 = λ q. AreGathered (load_of net) q.gap (times.greatest - times.loss) sensed.now series streams list in
+    let R : Phase → Type 0 = λ q. AreGathered (load_of net) net.run.gap (q.greatest - q.loss) sensed.now series streams list in
+    phase-made net node phase sensed heard series streams list h early (s ∙ ap (streams_of net sensed heard) l) (subst P look sound) of_links (brings ∙ ap (together streams) look)
     (subst R times_are (subst Q r made))
 
 -- The platoons of the first i phases.

@@ -58,20 +58,28 @@ first-in-slice xs first end lt le =
 pub stream-small : (streams : List Part) (i : ℕ) (s : Part) → AreSmall streams → i < length streams → s ≡ get_or streams i s → All (λ amount. amount ≤ 5000) s.amounts
 stream-small streams i s small lt e = let P : Part → Type 0 = λ p. All (λ amount. amount ≤ 5000) p.amounts in subst P (sym e) (All-get_or P streams i s lt small)
 
--- A platoon's size, stream by stream.
-pub record IsSizing (first end : ℕ) (streams parts : List Part) (i size : ℕ) : Type 0 where
+-- nor does it bring much in the seconds of a platoon
+pub stream-few : (streams : List Part) (i : ℕ) (s : Part) (amounts : List ℕ) (first end : ℕ) → AreSmall streams → i < length streams → s ≡ get_or streams i s → amounts ≡ s.amounts → end ≤ 180
+    → sum (slice_range amounts first end) ≤ 900000
+stream-few streams i s amounts first end small lt e same le = sum-slice_range-le amounts first end (rw same (stream-small streams i s small lt e)) le
+
+-- A platoon's size and load, stream by stream.
+pub record IsSizing (load : Part → ℕ) (first end : ℕ) (streams parts : List Part) (i size loads : ℕ) : Type 0 where
   pub made : parts ≡ map (part_of first end) (take i streams)
   pub whole : size ≡ whole_of parts
   pub fits : size ≤ 900000 * i
+  pub loads_are : loads ≡ sum_by load parts
+  pub loads_fit : loads ≤ 18000000 * i
 
-pub sizing-none : (first end : ℕ) (streams : List Part) → IsSizing first end streams [] 0 0
-sizing-none first end streams = record { made = refl; whole = refl; fits = omega arith }
+pub sizing-none : (load : Part → ℕ) (first end : ℕ) (streams : List Part) → IsSizing load first end streams [] 0 0 0
+sizing-none load first end streams = record { made = refl; whole = refl; fits = omega arith; loads_are = refl; loads_fit = omega arith }
 
-pub sizing-more : (first end : ℕ) (streams parts more : List Part) (i size sum_of_it : ℕ) (s : Part) (amounts : List ℕ)
-    → IsSizing first end streams parts i size → i < length streams → s ≡ get_or streams i s → AreSmall streams → end ≤ 180
+pub sizing-more : (load : Part → ℕ) (first end : ℕ) (streams parts more : List Part) (i size loads sum_of_it load_of_it : ℕ) (s : Part) (amounts : List ℕ)
+    → IsSizing load first end streams parts i size loads → i < length streams → s ≡ get_or streams i s → AreSmall streams → end ≤ 180
     → amounts ≡ slice_range s.amounts first end → more ≡ parts ++ record { link = s.link; amounts = amounts } ∷ [] → sum_of_it ≡ sum (slice_range s.amounts first end)
-    → IsSizing first end streams more (i + 1) (size + sum_of_it)
-sizing-more first end streams parts more i size sum_of_it s amounts h lt e small le cut pushed total =
+    → load_of_it ≡ load (record { link = s.link; amounts = amounts }) → load_of_it ≤ 20 * sum_of_it
+    → IsSizing load first end streams more (i + 1) (size + sum_of_it) (loads + load_of_it)
+sizing-more load first end streams parts more i size loads sum_of_it load_of_it s amounts h lt e small le cut pushed total counts most =
     let one : Part → List Part = λ p. p ∷ [] in
     let same : part_of first end s ≡ record { link = s.link; amounts = amounts } = ap (λ xs. let p : Part = record { link = s.link; amounts = xs } in p) (sym cut) in
     let made : more ≡ map (part_of first end) (take (i + 1) streams) =
@@ -93,6 +101,16 @@ sizing-more first end streams parts more i size sum_of_it s amounts h lt e small
             ap sum cut,
           );
       fits = omega (arith, h.fits, total, sum-slice_range-le s.amounts first end each le);
+      loads_are =
+          omega (
+            arith,
+            h.loads_are,
+            counts,
+            ap (sum_by load) pushed,
+            sum_by-append load parts (record { link = s.link; amounts = amounts } ∷ []),
+            sum_by-cons load (record { link = s.link; amounts = amounts }) [],
+          );
+      loads_fit = omega (arith, h.loads_fit, most, total, sum-slice_range-le s.amounts first end each le);
     }
 
 -- a platoon has something, and not too much

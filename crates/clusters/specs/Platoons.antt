@@ -1,10 +1,10 @@
 -- The platoons of a node: the vehicles that it expects, phase by phase, gathered into clusters.
-use Rattle.std.specs.Prelude.{◌≡◌, ℕ, ◌+◌, ◌-◌, ◌<◌, List, [], length, map, slice_index, slice_index_or, slice_range, sum, sum_by}
+use Rattle.std.specs.Prelude.{◌≡◌, ℕ, ◌+◌, ◌-◌, ◌*◌, ◌<◌, List, [], length, map, slice_index, slice_index_or, slice_range, sum, sum_by}
 use Rattle.std.specs.List.{range_with_len}
 use Rattle.board_model.specs.declared.boards.Heard.{Heard}
 use Rattle.phase_plan.specs.Phases.{phase_at}
 use Rattle.net_numbers.specs.Numbers.{Net}
-use Rattle.net_numbers.specs.Outline.{phase_links_at, plan_at}
+use Rattle.net_numbers.specs.Outline.{link_at, phase_links_at, plan_at}
 use Rattle.road_net.specs.declared.senses.Sensed.{Sensed}
 use Rattle.clusters.specs.declared.vehicle_groups.Part.{Part}
 use Rattle.clusters.specs.declared.vehicle_groups.Platoon.{Platoon}
@@ -27,24 +27,29 @@ part_of first end s = record { link = s.link; amounts = slice_range s.amounts fi
 abbrev pub whole_of : List Part → ℕ
 whole_of parts = sum_by (λ part. sum part.amounts) parts
 
--- the platoon from this second on, before the second `end`: a part of each stream, and their sum as its size and its load
-abbrev pub platoon_within : ℕ → List Part → ℕ → ℕ → Platoon
-platoon_within now streams first end =
+-- what a part counts: its amounts by the weight of its link
+abbrev pub load_of : Net → Part → ℕ
+load_of net part = (link_at net part.link).weight * sum part.amounts
+
+-- the platoon from this second on, before the second `end`: a part of each stream, their sum as its size, and what they count
+-- as its load
+abbrev pub platoon_within : (Part → ℕ) → ℕ → List Part → ℕ → ℕ → Platoon
+platoon_within load now streams first end =
     let parts = map (part_of first end) streams in
     record {
-      cluster = record { size = whole_of parts; load = whole_of parts; arr = now + first; len = end - first };
+      cluster = record { size = whole_of parts; load = sum_by load parts; arr = now + first; len = end - first };
       parts = parts;
     }
 
 -- the platoon of a run
-abbrev pub platoon_of : ℕ → List Part → List ℕ → Platoon
-platoon_of now streams run = platoon_within now streams (first_of run) (last_of run + 1)
+abbrev pub platoon_of : (Part → ℕ) → ℕ → List Part → List ℕ → Platoon
+platoon_of load now streams run = platoon_within load now streams (first_of run) (last_of run + 1)
 
 -- the platoons are those of the runs into which what the streams bring together is cut
-pub record ArePlatoons (gap most now look : ℕ) (streams : List Part) (platoons : List Platoon) : Type 0 where
+pub record ArePlatoons (load : Part → ℕ) (gap most now look : ℕ) (streams : List Part) (platoons : List Platoon) : Type 0 where
   pub runs : List (List ℕ)
   pub cut : IsCut gap most (together streams look) runs
-  pub each : platoons ≡ map (platoon_of now streams) runs
+  pub each : platoons ≡ map (platoon_of load now streams) runs
 
 -- the platoons of phase k
 abbrev pub platoons_at : List (List Platoon) → ℕ → List Platoon
@@ -58,4 +63,4 @@ most_of net node k = (phase_at (plan_at net node) k).greatest - (phase_at (plan_
 pub record ArePlatoonsOf (net : Net) (node : ℕ) (sensed : Sensed) (heard : List Heard) (lists : List (List Platoon)) : Type 0 where
   pub count : length lists ≡ length (plan_at net node)
   pub each : (k : ℕ) → k < length lists
-      → ArePlatoons net.run.gap (most_of net node k) sensed.now net.run.look (streams_of net sensed heard (phase_links_at net node k)) (platoons_at lists k)
+      → ArePlatoons (load_of net) net.run.gap (most_of net node k) sensed.now net.run.look (streams_of net sensed heard (phase_links_at net node k)) (platoons_at lists k)

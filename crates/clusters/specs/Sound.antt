@@ -11,7 +11,7 @@ use Rattle.clusters.specs.declared.vehicle_groups.Part.{Part}
 use Rattle.clusters.specs.declared.vehicle_groups.Platoon.{Platoon}
 use Rattle.board_model.specs.declared.boards.Heard.{Heard}
 use Rattle.road_net.specs.declared.senses.Sensed.{Sensed}
-use Rattle.clusters.specs.Platoons.{ArePlatoons, most_of, platoons_at, streams_of, whole_of}
+use Rattle.clusters.specs.Platoons.{ArePlatoons, load_of, most_of, platoons_at, streams_of, whole_of}
 use Rattle.clusters.specs.Windows.{IsRising}
 
 -- a part of a platoon of `len` seconds: an amount for each, at most what can leave its link in a second
@@ -52,7 +52,7 @@ pub record ArePlannable (lists : List (List Cluster)) : Type 0 where
 
 -- The platoons of a phase of a node, with what planning and forecasting ask of them. No public clause names it.
 pub record AreOfPhase (net : Net) (node phase : ℕ) (sensed : Sensed) (heard : List Heard) (list : List Platoon) : Type 0 where
-  pub platoons : ArePlatoons net.run.gap (most_of net node phase) sensed.now net.run.look (streams_of net sensed heard (phase_links_at net node phase)) list
+  pub platoons : ArePlatoons (load_of net) net.run.gap (most_of net node phase) sensed.now net.run.look (streams_of net sensed heard (phase_links_at net node phase)) list
   pub parts : All (IsPlatoon net sensed.now (phase_links_at net node phase)) list
   pub clusters : AreSpacedClusters (clusters_of list)
   pub rising : IsRising list

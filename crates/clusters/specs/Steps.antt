@@ -1,5 +1,6 @@
 -- What the steps of the work make: an inflow, and the runs of a series. No public clause names these words.
 use Rattle.std.specs.Prelude.{◌≡◌, ℕ, ◌+◌, ◌-◌, ◌<◌, ◌≤◌, ◌⊎◌, List, map, length, slice_index, sum, All, ◌==◌, if◌then◌else◌}
+use Rattle.net_numbers.specs.Numbers.{Net}
 use Rattle.clusters.specs.declared.vehicle_groups.Part.{Part}
 use Rattle.clusters.specs.declared.vehicle_groups.Platoon.{Platoon}
 use Rattle.clusters.specs.Cuts.{IsCut, IsRun, filled_from, first_of, last_of, run_at}
@@ -36,13 +37,17 @@ pub record IsRunBefore (gap most : ℕ) (series : List ℕ) (end : ℕ) (run : L
   pub before : last_of run < end
 
 -- the platoons are those of the runs of a cut, one after another
-pub record AreGathered (gap most now : ℕ) (series : List ℕ) (streams : List Part) (platoons : List Platoon) : Type 0 where
+pub record AreGathered (load : Part → ℕ) (gap most now : ℕ) (series : List ℕ) (streams : List Part) (platoons : List Platoon) : Type 0 where
   pub runs : List (List ℕ)
   pub cut : IsCut gap most series runs
   pub each : All (IsRunBefore gap most series (length series)) runs
   pub order : (k : ℕ) → k + 1 < length runs → last_of (run_at runs k) < first_of (run_at runs (k + 1))
   pub few : length runs ≤ length series
-  pub made : platoons ≡ map (platoon_of now streams) runs
+  pub made : platoons ≡ map (platoon_of load now streams) runs
+
+-- streams of links of the network
+abbrev pub AreOfLinks : Net → List Part → Type 0
+AreOfLinks net streams = All (λ s. s.link < length net.link_names) streams
 
 -- at most 16 streams of `look` seconds, none of which brings more than 5000 in one
 pub record AreStreams (look : ℕ) (streams : List Part) : Type 0 where

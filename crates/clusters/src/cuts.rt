@@ -1,10 +1,12 @@
 //! How what comes is cut into platoons.
 ghost use Rattle.std.specs.Prelude.{◌≡◌, ◌+◌, ◌*◌, ◌<◌, ◌≤◌, ◌^◌, ℕ, All, IfOk, IfNone, IfSome, length, slice_index, sum, sum_by, map, vec_len};
-ghost use Rattle.clusters.specs.Platoons.{part_of, platoon_within, together};
-ghost use Rattle.clusters.specs.Steps.{AreGathered, AreStreams, IsEmpty, IsNext, IsRunUpTo, IsClosed};
+ghost use Rattle.net_numbers.specs.Outline.{link_at};
+ghost use Rattle.clusters.specs.Platoons.{load_of, part_of, platoon_within, together};
+ghost use Rattle.clusters.specs.Steps.{AreGathered, AreOfLinks, AreStreams, IsEmpty, IsNext, IsRunUpTo, IsClosed};
 
 use crate::vehicle_groups::{Part, Platoon};
 use foundation::items::Items;
+use road_net::Network;
 use std::alloc::{AllocError, Global};
 use switch_rules::Cluster;
 
@@ -78,6 +80,7 @@ pub(crate) struct Cutting {
 /// The platoons of the streams, whose series is what they bring together.
 pub(crate) fn gather_platoons(
     alloc: Global,
+    net: &Network,
     cutting: Cutting,
     series: &[u32],
     streams: &[Part],
@@ -87,13 +90,14 @@ pub(crate) fn gather_platoons(
     requires most { (1 ≤ cutting.most) × (cutting.most ≤ 240) }
     requires look { length series.now ≤ 180 }
     requires streams { AreStreams (length series.now) streams.now }
-    ensures { IfOk result (λ platoons. AreGathered cutting.gap cutting.most cutting.now series.now streams.now platoons.items) }
+    requires links { AreOfLinks net.now streams.now }
+    ensures { IfOk result (λ platoons. AreGathered (load_of net.now) cutting.gap cutting.most cutting.now series.now streams.now platoons.items) }
 {
     let mut platoons = Vec::new(alloc);
     let mut from = 0;
     while let Some(first) = next_filled(series, from) {
         let end = run_end(series, first, cutting.gap, cutting.most);
-        platoons.push(platoon(alloc, cutting.now, streams, first, end)?)?;
+        platoons.push(platoon(alloc, net, cutting.now, streams, first, end)?)?;
         from = end;
     }
     Ok(platoons)
@@ -102,6 +106,7 @@ pub(crate) fn gather_platoons(
 /// The platoon of what the streams bring from the place `first` on, before the place `end`.
 fn platoon(
     alloc: Global,
+    net: &Network,
     now: u32,
     streams: &[Part],
     first: usize,
@@ -111,15 +116,19 @@ fn platoon(
     requires order { first ≤ end }
     requires end { end ≤ 180 }
     requires few { length streams.now ≤ 16 }
+    requires links { AreOfLinks net.now streams.now }
     requires long { All (λ s. end ≤ length s.amounts) streams.now }
     requires amounts { All (λ s. All (λ amount. amount ≤ 5000) s.amounts) streams.now }
-    ensures { IfOk result (λ platoon. platoon ≡ platoon_within now streams.now first end) }
+    ensures { IfOk result (λ platoon. platoon ≡ platoon_within (load_of net.now) now streams.now first end) }
 {
     let mut parts = Vec::with_capacity(alloc, streams.len())?;
     let mut size = 0;
+    let mut load = 0;
     for stream in streams {
         let amounts = &stream.amounts.as_slice()[first..end];
-        size += total(amounts);
+        let amount = total(amounts);
+        size += amount;
+        load += load_on(net, stream.link, amount);
         parts.push(Part {
             link: stream.link,
             amounts: Items::from_vec(Vec::from_slice(alloc, amounts)?),
@@ -127,7 +136,7 @@ fn platoon(
     }
     let cluster = Cluster {
         size,
-        load: size,
+        load,
         arr: now + first as u32,
         len: (end - first) as u32,
     };
@@ -135,6 +144,16 @@ fn platoon(
         cluster,
         parts: Items::from_vec(parts),
     })
+}
+
+/// What this amount counts on a link.
+fn load_on(net: &Network, link: u32, amount: u32) -> u32
+    requires link { link < length net.now.link_names }
+    requires few { amount ≤ 900000 }
+    ensures value { result ≡ (link_at net.now link).weight * amount }
+    ensures most { result ≤ 20 * amount }
+{
+    net.link(link).weight * amount
 }
 
 /// All these amounts.

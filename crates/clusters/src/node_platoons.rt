@@ -71,5 +71,5 @@ fn platoons_of(
         gap: run.gap,
         most: times.greatest - times.loss,
     };
-    gather_platoons(alloc, cutting, series.as_slice(), streams.as_slice())
+    gather_platoons(alloc, net, cutting, series.as_slice(), streams.as_slice())
 }

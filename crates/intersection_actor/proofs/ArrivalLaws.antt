@@ -10,7 +10,7 @@ use Rattle.net_numbers.specs.Numbers.{Net}
 use Rattle.net_numbers.specs.Outline.{phase_links_at}
 use Rattle.road_net.specs.declared.senses.Sensed.{Sensed}
 use Rattle.clusters.specs.Cuts.{IsRun, filled, filled_from}
-use Rattle.clusters.specs.Platoons.{ArePlatoons, ArePlatoonsOf, most_of, platoon_of, platoons_at, streams_of, together}
+use Rattle.clusters.specs.Platoons.{ArePlatoons, ArePlatoonsOf, load_of, most_of, platoon_of, platoons_at, streams_of, together}
 use Rattle.clusters.specs.Sound.{cluster_lists, clusters_of}
 use Rattle.clusters.specs.Windows.{IsWindow, counts_of}
 use Rattle.clusters.specs.declared.vehicle_groups.Part.{Part}
@@ -54,14 +54,14 @@ together-length streams look = length-map (range_with_len 0 look) _ ∙ length-r
 abbrev ComesBy : ℕ → Platoon → Type 0
 ComesBy second p = p.cluster.arr ≤ second
 
-list-soon : (gap most now look : ℕ) (streams : List Part) (list : List Platoon) → ArePlatoons gap most now look streams list → All (ComesBy (now + look)) list
-list-soon gap most now look streams list h =
+list-soon : (load : Part → ℕ) (gap most now look : ℕ) (streams : List Part) (list : List Platoon) → ArePlatoons load gap most now look streams list → All (ComesBy (now + look)) list
+list-soon load gap most now look streams list h =
     let n : ℕ = length (together streams look) in
     let inside : Below n (concat h.runs) = subst (Below n) (sym h.cut.all) (filled-below (together streams look)) in
     let runs : All (Below n) h.runs = runs-below n h.runs inside in
     subst (All (ComesBy (now + look))) (sym h.each)
-    (All-map (ComesBy (now + look)) (platoon_of now streams) h.runs
-    (All-from_get_or (λ run. ComesBy (now + look) (platoon_of now streams run)) h.runs [] (λ i lt.
+    (All-map (ComesBy (now + look)) (platoon_of load now streams) h.runs
+    (All-from_get_or (λ run. ComesBy (now + look) (platoon_of load now streams run)) h.runs [] (λ i lt.
     let run : List ℕ = get_or h.runs i [] in
     let is : IsRun gap most run = All-get_or (IsRun gap most) h.runs i [] lt h.cut.each in
     let below : Below n run = All-get_or (Below n) h.runs i [] lt runs in
@@ -77,7 +77,7 @@ window-soon net node sensed heard lists window are h =
     (All-from_get_or (λ list. All (λ (c : Cluster). c.arr ≤ second) (clusters_of list)) window.lists [] (λ k lt.
     let there : k < length lists = omega (arith, h.longest.front.phases, length-map window.lists (λ (list : List Platoon). length list)) in
     let all : All (ComesBy second) (platoons_at lists k) =
-    list-soon net.run.gap (most_of net node k) sensed.now net.run.look (streams_of net sensed heard (phase_links_at net node k)) (platoons_at lists k) (are.each k there) in
+    list-soon (load_of net) net.run.gap (most_of net node k) sensed.now net.run.look (streams_of net sensed heard (phase_links_at net node k)) (platoons_at lists k) (are.each k there) in
     let taken : All (ComesBy second) (platoons_at window.lists k) =
     subst (All (ComesBy second)) (sym (h.taken k)) (All-take (ComesBy second) (get_or (counts_of window.lists) k 0) (platoons_at lists k) all) in
     All-map (λ (c : Cluster). c.arr ≤ second) (λ (p : Platoon). p.cluster) (platoons_at window.lists k) taken))

@@ -100,15 +100,15 @@ module _ (gap most : ℕ) where
       second others [] s t = both others (s ∙ append-nil q) (sym t)
       second others (z ∷ zs) s t = absurd (no-longer q qs z zs (concat rs) y t (subst (IsRun gap most) s (All-head (IsRun gap most) r rs x.0)) (subst Rise s (rise-left r (concat rs) up)))
 
-same-platoons : (gap most now look : ℕ) (streams : List Part) (a b : List Platoon) → ArePlatoons gap most now look streams a → ArePlatoons gap most now look streams b → a ≡ b
-same-platoons gap most now look streams a b h g =
+same-platoons : (load : Part → ℕ) (gap most now look : ℕ) (streams : List Part) (a b : List Platoon) → ArePlatoons load gap most now look streams a → ArePlatoons load gap most now look streams b → a ≡ b
+same-platoons load gap most now look streams a b h g =
     h.each
-    ∙ ap (map (platoon_of now streams)) (same-cut gap most h.runs g.runs (h.cut.all ∙ sym g.cut.all) (subst Rise (sym h.cut.all) (filled-rise (together streams look))) (h.cut.each, h.cut.apart) (g.cut.each, g.cut.apart))
+    ∙ ap (map (platoon_of load now streams)) (same-cut gap most h.runs g.runs (h.cut.all ∙ sym g.cut.all) (subst Rise (sym h.cut.all) (filled-rise (together streams look))) (h.cut.each, h.cut.apart) (g.cut.each, g.cut.apart))
     ∙ sym g.each
 
 -- the platoons of a node are one
 pub one-expected : (net : Net) (node : ℕ) (sensed : Sensed) (heard : List Heard) (a b : List (List Platoon)) → ArePlatoonsOf net node sensed heard a → ArePlatoonsOf net node sensed heard b → a ≡ b
-one-expected net node sensed heard a b h g = ext_get_or [] a b (h.count ∙ sym g.count) (λ k inside. same-platoons _ _ _ _ _ _ _ (h.each k inside) (g.each k (omega (arith, h.count, g.count))))
+one-expected net node sensed heard a b h g = ext_get_or [] a b (h.count ∙ sym g.count) (λ k inside. same-platoons _ _ _ _ _ _ _ _ (h.each k inside) (g.each k (omega (arith, h.count, g.count))))
 
 -- counts that are no more than others anywhere, and as many in all, are the same
 same-counts : (a b : List ℕ) → length a ≡ length b → ((k : ℕ) → get_or a k 0 ≤ get_or b k 0) → sum b ≤ sum a → a ≡ b

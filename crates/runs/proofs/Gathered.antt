@@ -9,7 +9,7 @@ use Rattle.std.proofs.lemmas.List.Kept.{IsStrictlyIncreasing-filter}
 use Rattle.board_model.proofs.ForBoards.{rising-few}
 use Rattle.board_model.specs.declared.boards.Heard.{Heard}
 use Rattle.clusters.specs.Cuts.{IsCut, IsRun, filled, filled_from, first_of, last_of, run_at}
-use Rattle.clusters.specs.Platoons.{ArePlatoons, ArePlatoonsOf, most_of, platoon_of, platoons_at, streams_of, together}
+use Rattle.clusters.specs.Platoons.{ArePlatoons, ArePlatoonsOf, load_of, most_of, platoon_of, platoons_at, streams_of, together}
 use Rattle.clusters.specs.Sound.{AreOfPhase, ArePlannable, cluster_lists}
 use Rattle.clusters.specs.Steps.{AreGathered, IsRunBefore}
 use Rattle.clusters.specs.Taking.{AreFronts}
@@ -17,7 +17,7 @@ use Rattle.clusters.specs.Windows.{IsWindow, counts_of}
 use Rattle.clusters.specs.declared.vehicle_groups.Part.{Part}
 use Rattle.clusters.specs.declared.vehicle_groups.Platoon.{Platoon}
 use Rattle.clusters.specs.declared.vehicle_groups.Window.{Window}
-use Rattle.clusters.proofs.PlatoonLaws.{ArePhases, phase-made, phases-clusters, streams-sound}
+use Rattle.clusters.proofs.PlatoonLaws.{ArePhases, phase-made, phases-clusters, streams-exist, streams-sound}
 use Rattle.clusters.proofs.TakingLaws.{fronts-plannable}
 use Rattle.net_numbers.specs.Numbers.{Net}
 use Rattle.net_numbers.specs.Outline.{phase_links_at, plan_at}
@@ -101,8 +101,8 @@ module _ (gap most : ℕ) (series : List ℕ) where
         before = All-get_or (λ x. x < length series) run (length run - 1) 0 (omega arith) within;
       }
 
-  gathered : (now : ℕ) (streams : List Part) (runs : List (List ℕ)) → IsCut gap most series runs → AreGathered gap most now series streams (map (platoon_of now streams) runs)
-  gathered now streams runs cut =
+  gathered : (load : Part → ℕ) (now : ℕ) (streams : List Part) (runs : List (List ℕ)) → IsCut gap most series runs → AreGathered load gap most now series streams (map (platoon_of load now streams) runs)
+  gathered load now streams runs cut =
       let up : Rise (concat runs) = subst Rise (sym cut.all) (filled-rise series) in
       let rises : All Rise runs = rise-runs runs up in
       let within : All (All (λ x. x < length series)) runs = all-runs (λ x. x < length series) runs (subst (All (λ x. x < length series)) (sym cut.all) (filled-within series)) in
@@ -118,12 +118,13 @@ module _ (gap most : ℕ) (series : List ℕ) where
 
 module _ (net : Net) (network : IsNetwork net) (node : ℕ) (below : node < length net.node_names) (sensed : Sensed) (early : sensed.now ≤ 18000) (heard : List Heard) where
   of-phase : (k : ℕ) (list : List Platoon) → k < length (plan_at net node)
-      → ArePlatoons net.run.gap (most_of net node k) sensed.now net.run.look (streams_of net sensed heard (phase_links_at net node k)) list → AreOfPhase net node k sensed heard list
+      → ArePlatoons (load_of net) net.run.gap (most_of net node k) sensed.now net.run.look (streams_of net sensed heard (phase_links_at net node k)) list → AreOfPhase net node k sensed heard list
   of-phase k list exists are =
       let streams : List Part = streams_of net sensed heard (phase_links_at net node k) in
       phase-made net node k sensed heard (together streams net.run.look) streams list network early refl
-      (streams-sound net node k sensed heard (phase_links_at net node k) streams net.run.look network below exists refl refl refl) refl
-      (subst (AreGathered net.run.gap (most_of net node k) sensed.now (together streams net.run.look) streams) (sym are.each) (gathered net.run.gap (most_of net node k) (together streams net.run.look) sensed.now streams are.runs are.cut))
+      (streams-sound net node k sensed heard (phase_links_at net node k) streams net.run.look network below exists refl refl refl)
+      (streams-exist net node k sensed heard (phase_links_at net node k) streams network below exists refl refl) refl
+      (subst (AreGathered (load_of net) net.run.gap (most_of net node k) sensed.now (together streams net.run.look) streams) (sym are.each) (gathered net.run.gap (most_of net node k) (together streams net.run.look) (load_of net) sensed.now streams are.runs are.cut))
 
   -- so what is expected of a window can be planned
   pub plannable : (lists : List (List Platoon)) (window : Window) → ArePlatoonsOf net node sensed heard lists → IsWindow lists window → ArePlannable (cluster_lists window.lists)

@@ -1,14 +1,15 @@
+use Rattle.clusters.specs.Platoons.{load_of}
 use Rattle.clusters.proofs.GatherLaws.{gathering-none, gathering-more, gathering-all}
 use Rattle.clusters.proofs.cuts.gather_platoons.Goals as goal
 
 pub loop-first-init : goal.loop-first-init
-loop-first-init c = rw c.new-platoons.ensures.items (gathering-none c.args.cutting.gap c.args.cutting.most c.args.cutting.now c.args.series.now c.args.streams.now)
+loop-first-init c = rw c.new-platoons.ensures.items (gathering-none (load_of c.args.net.now) c.args.cutting.gap c.args.cutting.most c.args.cutting.now c.args.series.now c.args.streams.now)
 
 pub loop-first-preserved : goal.loop-first-preserved
 loop-first-preserved c =
-    gathering-more c.args.cutting.gap c.args.cutting.most c.args.cutting.now c.args.series.now c.args.streams.now c.loop-first.platoons.items c.push.new.self.items c.loop-first.from c.in-Some.first c.run_end-end.result c.in_ok-platoon.field-0
+    gathering-more (load_of c.args.net.now) c.args.cutting.gap c.args.cutting.most c.args.cutting.now c.args.series.now c.args.streams.now c.loop-first.platoons.items c.push.new.self.items c.loop-first.from c.in-Some.first c.run_end-end.result c.in_ok-platoon.field-0
     c.loop-first.invariant c.in-Some.ensures.some c.run_end-end.ensures.run c.run_end-end.ensures.closed c.in_ok-platoon.ensures c.in_ok-push.ensures.items
 
 pub returns : goal.returns
 returns c =
-    gathering-all c.args.cutting.gap c.args.cutting.most c.args.cutting.now c.args.series.now c.args.streams.now c.loop-first.platoons.items c.loop-first.from c.loop-first.invariant c.in_default.ensures.none
+    gathering-all (load_of c.args.net.now) c.args.cutting.gap c.args.cutting.most c.args.cutting.now c.args.series.now c.args.streams.now c.loop-first.platoons.items c.loop-first.from c.loop-first.invariant c.in_default.ensures.none
