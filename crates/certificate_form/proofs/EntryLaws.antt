@@ -13,7 +13,7 @@ use Rattle.std.proofs.lemmas.List.Elements.{All-from_recursion, recursion_from_A
 use Rattle.std.proofs.lemmas.Option.{same_Some}
 use Rattle.text_lines.specs.Fields.{literal_at, field_at}
 use Rattle.text_lines.proofs.Units.{literal_takes, literal_again, field_takes, field_again}
-use Rattle.instance_form.proofs.LineLaws.{then_some}
+use Rattle.instance_form.proofs.NumberLaws.{then_some}
 use Rattle.certificate_form.specs.CertificateText.{entry_line, IsWritableEntry}
 use Rattle.certificate_form.specs.Lines.{IsFrontText, entry_after_at, count_at, entry_line_at, front_at}
 use Rattle.certificate_form.specs.declared.lines.Front.{Front}

@@ -1,3 +1,4 @@
+pub mod NumberLaws
 pub mod LineLaws
 pub mod Loops
 pub mod FormLaws

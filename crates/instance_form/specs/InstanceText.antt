@@ -11,9 +11,13 @@ use Rattle.switch_rules.specs.declared.Cluster.{Cluster}
 abbrev pub count_line : ℕ → List ℕ
 count_line count = line (codes "phases" ∷ decimal count ∷ [])
 
+-- the times of a phase, in the order of its line
+abbrev pub phase_numbers : Phase → List ℕ
+phase_numbers p = p.least ∷ p.greatest ∷ p.yellow ∷ p.clear ∷ p.loss ∷ p.wait ∷ []
+
 -- the line of a phase
 abbrev pub phase_line : Phase → List ℕ
-phase_line p = line (codes "phase" ∷ map decimal (p.least ∷ p.greatest ∷ p.yellow ∷ p.clear ∷ p.loss ∷ p.wait ∷ []))
+phase_line p = line (codes "phase" ∷ map decimal (phase_numbers p))
 
 -- whether the start-up loss is not yet spent
 abbrev pub freshness : Bool → List ℕ
@@ -24,9 +28,13 @@ freshness false = codes "kept"
 abbrev pub head_line : Head → List ℕ
 head_line h = line (codes "head" ∷ decimal h.phase ∷ decimal h.since ∷ decimal h.at ∷ freshness h.fresh ∷ [])
 
+-- the numbers of a cluster, in the order of its line
+abbrev pub cluster_numbers : Cluster → List ℕ
+cluster_numbers c = c.size ∷ c.arr ∷ c.len ∷ []
+
 -- the line of a cluster of this phase
 abbrev pub cluster_line : ℕ → Cluster → List ℕ
-cluster_line phase c = line (codes "cluster" ∷ map decimal (phase ∷ c.size ∷ c.arr ∷ c.len ∷ []))
+cluster_line phase c = line (codes "cluster" ∷ map decimal (phase ∷ cluster_numbers c))
 
 -- the clusters of each phase, from this phase on
 abbrev pub cluster_lines : ℕ → List (List Cluster) → List ℕ

@@ -29,7 +29,7 @@ pub fn count_line(bytes: &[u8]) -> Option<(u8, &[u8])>
 /// A phase, and the bytes after its line.
 ///
 /// docs/FORMATS.md, "Instance text".
-#[tactic(auto, unfolding(crate::specs::Lines::phase_line_at))]
+#[tactic(auto, unfolding(crate::specs::Lines::phase_line_at, crate::specs::Lines::numbers_at))]
 pub fn phase_line(bytes: &[u8]) -> Option<(Phase, &[u8])>
     ensures exact { option_map seen result ≡ phase_line_at bytes.now }
     ensures shorter { IfSome result (λ x. length x.1.now < length bytes.now) }
@@ -55,7 +55,7 @@ pub fn phase_line(bytes: &[u8]) -> Option<(Phase, &[u8])>
 /// The head, and the bytes after its line.
 ///
 /// docs/FORMATS.md, "Instance text".
-#[tactic(auto, unfolding(crate::specs::Lines::head_line_at))]
+#[tactic(auto, unfolding(crate::specs::Lines::head_line_at, crate::specs::Lines::numbers_at))]
 pub fn head_line(bytes: &[u8]) -> Option<(Head, &[u8])>
     ensures exact { option_map seen result ≡ head_line_at bytes.now }
     ensures shorter { IfSome result (λ x. length x.1.now < length bytes.now) }
@@ -90,7 +90,7 @@ fn freshness(bytes: &[u8]) -> Option<(bool, &[u8])>
 /// A cluster of this phase, and the bytes after its line.
 ///
 /// docs/FORMATS.md, "Instance text".
-#[tactic(auto, unfolding(crate::specs::Lines::cluster_line_at))]
+#[tactic(auto, unfolding(crate::specs::Lines::cluster_line_at, crate::specs::Lines::numbers_at))]
 pub fn cluster_line(phase: u8, bytes: &[u8]) -> Option<(Cluster, &[u8])>
     ensures exact { option_map seen result ≡ cluster_line_at phase bytes.now }
     ensures shorter { IfSome result (λ x. length x.1.now < length bytes.now) }
