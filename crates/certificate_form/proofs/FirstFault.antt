@@ -90,7 +90,7 @@ fault_here bytes F R parts begins follows = faulty-here BeginsCertificate Begins
 -- ---- the first line
 
 no_phase : Phase
-no_phase = record { least = 0; greatest = 0; yellow = 0; clear = 0; loss = 0; wait = 0 }
+no_phase = record { least = 0; greatest = 0; yellow = 0; clear = 0; loss = 0; wait = 0; skip = false }
 
 no_problem : Problem
 no_problem = record { plan = no_phase ∷ no_phase ∷ []; head = record { phase = 0; since = 0; at = 0; fresh = false }; lists = [] ∷ [] ∷ [] }

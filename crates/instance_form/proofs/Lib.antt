@@ -1,7 +1,10 @@
 pub mod NumberLaws
 pub mod LineLaws
+pub mod VersionLaws
 pub mod Loops
 pub mod FormLaws
 pub mod FaultLaws
+pub mod Begins
+pub mod GoesOn
 pub mod FirstFault
 pub mod LengthLaws

@@ -1,13 +1,14 @@
--- The numbers of a line: those that are read have this text, and those with this text are read.
+-- The numbers and words of a line: those that are read have this text, and those with this text are read.
 use Rattle.std.proofs.Common.{◌≡◌, ℕ, ◌^◌, ◌<◌, ◌≤◌, List, [], ◌∷◌, ◌++◌, length, Option, Some, None, refl, sym, ap, subst, ◌∙◌, append_assoc, arith}
 use Rattle.std.specs.Char.{IsAsciiDigit}
 use Rattle.std.specs.Fmt.{decimal}
 use Rattle.std.specs.List.{AllByRecursion}
+use Rattle.std.specs.Option.{option_or, option_map}
 use Rattle.std.proofs.lemmas.Option.{same_Some}
 use Rattle.foundation.specs.Options.{◌>>=◌}
-use Rattle.text_lines.specs.Fields.{field_at}
-use Rattle.text_lines.proofs.Units.{field_takes, field_again}
-use Rattle.instance_form.specs.Lines.{separator, numbers_at}
+use Rattle.text_lines.specs.Fields.{literal_at, field_at}
+use Rattle.text_lines.proofs.Units.{literal_takes, literal_again, field_takes, field_again}
+use Rattle.instance_form.specs.Lines.{separator, numbers_at, value_at}
 
 -- a step that is there
 pub then_some : {A B P : Type 0} (o : Option A) {f : A → Option B} {y : B} → (o >>= f) ≡ Some y → ((x : A) → o ≡ Some x → f x ≡ Some y → P) → P
@@ -83,3 +84,28 @@ numbers_again (limit ∷ limits) last (n ∷ ns) rest ends wide below =
       field_again limit (separator limits last) n tail wide.0 (apart limits last ends) below.0,
       numbers_again limits last ns rest ends wide.1 below.1,
     ) refl
+
+-- ---- one of several values
+
+-- what is read has this text
+pub value_takes : {A : Type 0} (text : A → List ℕ) (xs : List A) (bytes : List ℕ) (x : A × List ℕ) → value_at text xs bytes ≡ Some x → bytes ≡ text x.0 ++ x.1
+unfolding value_at
+value_takes {A} text [] bytes x e = absurd cc
+value_takes {A} text (y ∷ ys) bytes x e = by_first (literal_at (text y) bytes) refl (value_takes text ys bytes x)
+  where
+    read : Option (List ℕ) → Option (A × List ℕ)
+    read o = option_or (option_map (λ (rest : List ℕ). (y, rest)) o) (value_at text ys bytes)
+
+    by_first : (o : Option (List ℕ)) → literal_at (text y) bytes ≡ o → (value_at text ys bytes ≡ Some x → bytes ≡ text x.0 ++ x.1) → bytes ≡ text x.0 ++ x.1
+    by_first (Some rest) h later = subst (λ (z : A × List ℕ). bytes ≡ text z.0 ++ z.1) (same_Some (y, rest) x (ap read (sym h) ∙ e)) (literal_takes (text y) bytes rest h)
+    by_first None h later = later (ap read (sym h) ∙ e)
+
+-- the first of them is read
+pub value_first : {A : Type 0} (text : A → List ℕ) (x : A) (xs : List A) (rest : List ℕ) → value_at text (x ∷ xs) (text x ++ rest) ≡ Some (x, rest)
+unfolding value_at
+value_first text x xs rest = rw (literal_again (text x) rest) refl
+
+-- and a later one where the first is not there
+pub value_later : {A : Type 0} (text : A → List ℕ) (x : A) (xs : List A) (bytes : List ℕ) (y : A × List ℕ) → literal_at (text x) bytes ≡ None → value_at text xs bytes ≡ Some y → value_at text (x ∷ xs) bytes ≡ Some y
+unfolding value_at
+value_later text x xs bytes y none later = rw none later

@@ -3,9 +3,18 @@ use Rattle.std.specs.Prelude.{◌≡◌, ℕ, ◌+◌, ◌^◌, ◌<◌, ◌≤�
 use Rattle.std.specs.List.{flat_map, concat}
 use Rattle.std.specs.Fmt.{decimal}
 pub use Rattle.text_lines.specs.Lines.{line}
+pub use Rattle.instance_form.specs.Versions.{version_of}
 use Rattle.phase_plan.specs.declared.Phase.{Phase}
 use Rattle.switch_rules.specs.declared.Head.{Head}
 use Rattle.switch_rules.specs.declared.Cluster.{Cluster}
+use Rattle.instance_form.specs.declared.form.Version.{Version}
+use Rattle.instance_form.specs.declared.form.Version.TheVariants.{One, Two, Three}
+
+-- the line that says the version
+abbrev pub first_line : Version → List ℕ
+first_line One = line (codes "instance 1" ∷ [])
+first_line Two = line (codes "instance 2" ∷ [])
+first_line Three = line (codes "instance 3" ∷ [])
 
 -- the line that says how many phases there are
 abbrev pub count_line : ℕ → List ℕ
@@ -15,9 +24,16 @@ count_line count = line (codes "phases" ∷ decimal count ∷ [])
 abbrev pub phase_numbers : Phase → List ℕ
 phase_numbers p = p.least ∷ p.greatest ∷ p.yellow ∷ p.clear ∷ p.loss ∷ p.wait ∷ []
 
--- the line of a phase
-abbrev pub phase_line : Phase → List ℕ
-phase_line p = line (codes "phase" ∷ map decimal (phase_numbers p))
+-- whether a pass of the ring may leave a phase out
+abbrev pub mark : Bool → List ℕ
+mark true = codes "skip"
+mark false = codes "ring"
+
+-- the line of a phase; version 1 does not say the mark
+abbrev pub phase_line : Version → Phase → List ℕ
+phase_line One p = line (codes "phase" ∷ map decimal (phase_numbers p))
+phase_line Two p = line (codes "phase" ∷ (map decimal (phase_numbers p) ++ mark p.skip ∷ []))
+phase_line Three p = line (codes "phase" ∷ (map decimal (phase_numbers p) ++ mark p.skip ∷ []))
 
 -- whether the start-up loss is not yet spent
 abbrev pub freshness : Bool → List ℕ
@@ -28,28 +44,34 @@ freshness false = codes "kept"
 abbrev pub head_line : Head → List ℕ
 head_line h = line (codes "head" ∷ decimal h.phase ∷ decimal h.since ∷ decimal h.at ∷ freshness h.fresh ∷ [])
 
--- the numbers of a cluster, in the order of its line
-abbrev pub cluster_numbers : Cluster → List ℕ
-cluster_numbers c = c.size ∷ c.arr ∷ c.len ∷ []
+-- the numbers of a cluster, in the order of its line; version 3 alone says the load
+abbrev pub cluster_numbers : Version → Cluster → List ℕ
+cluster_numbers One c = c.size ∷ c.arr ∷ c.len ∷ []
+cluster_numbers Two c = c.size ∷ c.arr ∷ c.len ∷ []
+cluster_numbers Three c = c.size ∷ c.load ∷ c.arr ∷ c.len ∷ []
 
 -- the line of a cluster of this phase
-abbrev pub cluster_line : ℕ → Cluster → List ℕ
-cluster_line phase c = line (codes "cluster" ∷ map decimal (phase ∷ cluster_numbers c))
+abbrev pub cluster_line : Version → ℕ → Cluster → List ℕ
+cluster_line v phase c = line (codes "cluster" ∷ map decimal (phase ∷ cluster_numbers v c))
 
 -- the clusters of each phase, from this phase on
-abbrev pub cluster_lines : ℕ → List (List Cluster) → List ℕ
-cluster_lines phase [] = []
-cluster_lines phase (list ∷ lists) = flat_map (cluster_line phase) list ++ cluster_lines (phase + 1) lists
+abbrev pub cluster_lines : Version → ℕ → List (List Cluster) → List ℕ
+cluster_lines v phase [] = []
+cluster_lines v phase (list ∷ lists) = flat_map (cluster_line v phase) list ++ cluster_lines v (phase + 1) lists
 
 -- the phases of a plan, the head and the clusters of each phase, line by line
-unfoldable pub instance_text : List Phase → Head → List (List Cluster) → List ℕ
-instance_text plan head lists = concat (
-    line (codes "instance 1" ∷ []) ∷
+unfoldable pub form_text : Version → List Phase → Head → List (List Cluster) → List ℕ
+form_text v plan head lists = concat (
+    first_line v ∷
     count_line (length plan) ∷
-    flat_map phase_line plan ∷
+    flat_map (phase_line v) plan ∷
     head_line head ∷
-    cluster_lines 0 lists ∷
+    cluster_lines v 0 lists ∷
     line (codes "end" ∷ []) ∷ [])
+
+-- the same in the least version that says them
+unfoldable pub instance_text : List Phase → Head → List (List Cluster) → List ℕ
+instance_text plan head lists = form_text (version_of plan lists) plan head lists
 
 -- the numbers of a phase, of a head and of a cluster are below their types' limits
 pub record IsWritable (p : Phase) : Type 0 where
@@ -67,6 +89,7 @@ pub record IsWritableHead (h : Head) : Type 0 where
 
 pub record IsWritableCluster (c : Cluster) : Type 0 where
   pub size : c.size < 2 ^ 32
+  pub load : c.load < 2 ^ 32
   pub arr : c.arr < 2 ^ 32
   pub len : c.len < 2 ^ 32
 

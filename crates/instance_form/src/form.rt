@@ -23,6 +23,19 @@ pub struct Form {
     pub lists: Vec<Items<Cluster>>,
 }
 
+/// Which form the lines of an instance's text have. A text has the least version that says its phases and clusters.
+///
+/// docs/FORMATS.md, "Instance text".
+#[derive(Debug, Clone, Copy, PartialEq, Eq)]
+pub enum Version {
+    /// No phase is marked, and the load of each cluster is its size.
+    One,
+    /// Some phase is marked, and the load of each cluster is its size.
+    Two,
+    /// Some cluster has another load than its size.
+    Three,
+}
+
 /// Why bytes are no instance's text.
 ///
 /// docs/FORMATS.md, "Instance text".

@@ -5,8 +5,9 @@ mod form;
 mod lines;
 mod lists;
 mod reading;
+mod versions;
 mod writing;
 
-pub use form::{Form, FormFault};
+pub use form::{Form, FormFault, Version};
 pub use reading::{law_of_instance_texts, read_form, read_front};
 pub use writing::write_form;

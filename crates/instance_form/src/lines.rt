@@ -1,12 +1,32 @@
 //! Reading one line from the front of the bytes.
 
-ghost use Rattle.std.specs.Prelude.{◌≡◌, ◌<◌, ◌≤◌, length, IfSome};
+ghost use Rattle.std.specs.Prelude.{◌≡◌, ◌+◌, ◌<◌, ◌≤◌, length, IfSome};
+ghost use Rattle.std.specs.Char.{IsAsciiDigit};
 ghost use Rattle.std.specs.Option.{option_map};
-ghost use Rattle.instance_form.specs.Lines.{seen, count_line_at, phase_line_at, freshness_at, head_line_at, cluster_line_at};
+ghost use Rattle.instance_form.specs.Lines.{seen, version_line_at, count_line_at, times_end, mark_at, phase_line_at, freshness_at, head_line_at, load_at, cluster_line_at};
 
+use crate::form::Version;
 use phase_plan::Phase;
 use switch_rules::{Cluster, Head};
 use text_lines::{field_u8, field_u32, literal};
+
+/// The version that the first line says, and the bytes after the line.
+///
+/// docs/FORMATS.md, "Instance text".
+#[tactic(auto, unfolding(crate::specs::Lines::value_at))]
+pub fn version_line(bytes: &[u8]) -> Option<(Version, &[u8])>
+    ensures exact { option_map seen result ≡ version_line_at bytes.now }
+    ensures shorter { IfSome result (λ x. length x.1.now + 11 ≤ length bytes.now) }
+{
+    if let Some(rest) = literal("instance 1\n", bytes) {
+        return Some((Version::One, rest));
+    }
+    if let Some(rest) = literal("instance 2\n", bytes) {
+        return Some((Version::Two, rest));
+    }
+    let rest = literal("instance 3\n", bytes)?;
+    Some((Version::Three, rest))
+}
 
 /// The number of phases, 2 to 4, and the bytes after its line.
 ///
@@ -30,8 +50,8 @@ pub fn count_line(bytes: &[u8]) -> Option<(u8, &[u8])>
 ///
 /// docs/FORMATS.md, "Instance text".
 #[tactic(auto, unfolding(crate::specs::Lines::phase_line_at, crate::specs::Lines::numbers_at))]
-pub fn phase_line(bytes: &[u8]) -> Option<(Phase, &[u8])>
-    ensures exact { option_map seen result ≡ phase_line_at bytes.now }
+pub fn phase_line(version: Version, bytes: &[u8]) -> Option<(Phase, &[u8])>
+    ensures exact { option_map seen result ≡ phase_line_at version bytes.now }
     ensures shorter { IfSome result (λ x. length x.1.now < length bytes.now) }
 {
     let rest = literal("phase ", bytes)?;
@@ -40,7 +60,8 @@ pub fn phase_line(bytes: &[u8]) -> Option<(Phase, &[u8])>
     let (yellow, rest) = field_u32(b' ', rest)?;
     let (clear, rest) = field_u32(b' ', rest)?;
     let (loss, rest) = field_u32(b' ', rest)?;
-    let (wait, rest) = field_u32(b'\n', rest)?;
+    let (wait, rest) = field_u32(times_end(version), rest)?;
+    let (skip, rest) = mark(version, rest)?;
     let phase = Phase {
         least,
         greatest,
@@ -48,8 +69,37 @@ pub fn phase_line(bytes: &[u8]) -> Option<(Phase, &[u8])>
         clear,
         loss,
         wait,
+        skip,
     };
     Some((phase, rest))
+}
+
+/// The byte after the times of a phase.
+fn times_end(version: Version) -> u8
+    ensures value { result ≡ times_end version }
+    ensures apart { ¬ IsAsciiDigit result }
+{
+    match version {
+        Version::One => b'\n',
+        Version::Two | Version::Three => b' ',
+    }
+}
+
+/// The mark of a phase, which version 1 does not say, and the bytes after its line.
+#[tactic(auto, unfolding(crate::specs::Lines::value_at))]
+fn mark(version: Version, bytes: &[u8]) -> Option<(bool, &[u8])>
+    ensures exact { option_map seen result ≡ mark_at version bytes.now }
+    ensures shorter { IfSome result (λ x. length x.1.now ≤ length bytes.now) }
+{
+    match version {
+        Version::One => return Some((false, bytes)),
+        Version::Two | Version::Three => {}
+    }
+    if let Some(rest) = literal("skip\n", bytes) {
+        return Some((true, rest));
+    }
+    let rest = literal("ring\n", bytes)?;
+    Some((false, rest))
 }
 
 /// The head, and the bytes after its line.
@@ -75,7 +125,7 @@ pub fn head_line(bytes: &[u8]) -> Option<(Head, &[u8])>
 }
 
 /// Whether a head is fresh, and the bytes after its line.
-#[tactic(auto, unfolding(crate::specs::Lines::freshness_at))]
+#[tactic(auto, unfolding(crate::specs::Lines::value_at))]
 fn freshness(bytes: &[u8]) -> Option<(bool, &[u8])>
     ensures exact { option_map seen result ≡ freshness_at bytes.now }
     ensures shorter { IfSome result (λ x. length x.1.now < length bytes.now) }
@@ -91,8 +141,8 @@ fn freshness(bytes: &[u8]) -> Option<(bool, &[u8])>
 ///
 /// docs/FORMATS.md, "Instance text".
 #[tactic(auto, unfolding(crate::specs::Lines::cluster_line_at, crate::specs::Lines::numbers_at))]
-pub fn cluster_line(phase: u8, bytes: &[u8]) -> Option<(Cluster, &[u8])>
-    ensures exact { option_map seen result ≡ cluster_line_at phase bytes.now }
+pub fn cluster_line(version: Version, phase: u8, bytes: &[u8]) -> Option<(Cluster, &[u8])>
+    ensures exact { option_map seen result ≡ cluster_line_at version phase bytes.now }
     ensures shorter { IfSome result (λ x. length x.1.now < length bytes.now) }
 {
     let rest = literal("cluster ", bytes)?;
@@ -101,7 +151,25 @@ pub fn cluster_line(phase: u8, bytes: &[u8]) -> Option<(Cluster, &[u8])>
         return None;
     }
     let (size, rest) = field_u32(b' ', rest)?;
+    let (load, rest) = load(version, size, rest)?;
     let (arr, rest) = field_u32(b' ', rest)?;
     let (len, rest) = field_u32(b'\n', rest)?;
-    Some((Cluster { size, arr, len }, rest))
+    let cluster = Cluster {
+        size,
+        load,
+        arr,
+        len,
+    };
+    Some((cluster, rest))
+}
+
+/// The load of a cluster of this size, which version 3 alone says, and the bytes after it.
+fn load(version: Version, size: u32, bytes: &[u8]) -> Option<(u32, &[u8])>
+    ensures exact { option_map seen result ≡ load_at version size bytes.now }
+    ensures shorter { IfSome result (λ x. length x.1.now ≤ length bytes.now) }
+{
+    match version {
+        Version::One | Version::Two => Some((size, bytes)),
+        Version::Three => field_u32(b' ', bytes),
+    }
 }

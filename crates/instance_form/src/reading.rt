@@ -7,28 +7,65 @@ ghost use Rattle.switch_rules.specs.declared.Cluster.{Cluster};
 ghost use Rattle.instance_form.specs.Answers.{HasParts, IsOutOfMemory};
 ghost use Rattle.instance_form.specs.Faults.{BeginsText, BeginsFront, IsFaultOf};
 ghost use Rattle.instance_form.specs.InstanceText.{HasText, instance_text, line_count};
-ghost use Rattle.instance_form.specs.Reading.{Gives, parts_of, opening_at, form_at};
+ghost use Rattle.instance_form.specs.Reading.{Gives, parts_of, opening_at, plan_at, closing_at, form_at};
 ghost use Rattle.instance_form.specs.Lines.{seen, head_line_at};
-ghost use Rattle.text_lines.specs.Fields.{literal_at};
+ghost use Rattle.instance_form.specs.Versions.{can_be_all, may_end};
 ghost use Rattle.std.specs.Option.{ok_or};
 
-use crate::form::{Form, FormFault};
-use crate::lines::{count_line, head_line};
+use crate::form::{Form, FormFault, Version};
+use crate::lines::{count_line, head_line, version_line};
 use crate::lists::{lists, phases};
+use crate::versions::{has_loads, has_marks};
+use foundation::items::Items;
+use phase_plan::Phase;
 use std::alloc::Global;
-use switch_rules::Head;
+use switch_rules::{Cluster, Head};
 use text_lines::literal;
 
-/// How many phases the first two lines say, 2 to 4, and the bytes after them. The first has this number.
+/// The version and the number of phases, 2 to 4, that the first two lines say, and the bytes after them. The first line
+/// has this number.
 #[tactic(auto, unfolding(crate::specs::Reading::opening_at))]
-fn opening(line: u32, bytes: &[u8]) -> Result<(u8, &[u8]), FormFault>
+fn opening(line: u32, bytes: &[u8]) -> Result<(Version, u8, &[u8]), FormFault>
     requires { line + length bytes.now ≤ 2 ^ 32 }
-    ensures exact { Gives seen result (opening_at line bytes.now) }
-    ensures bounds { IfOk result (λ x. (2 ≤ x.0) × (x.0 ≤ 4)) }
-    ensures shorter { IfOk result (λ x. length x.1.now + 11 < length bytes.now) }
+    ensures exact { Gives (λ x. (x.0, x.1, x.2.now)) result (opening_at line bytes.now) }
+    ensures bounds { IfOk result (λ x. (2 ≤ x.1) × (x.1 ≤ 4)) }
+    ensures shorter { IfOk result (λ x. length x.2.now + 11 < length bytes.now) }
 {
-    let rest = literal("instance 1\n", bytes).ok_or(FormFault::Line(line))?;
-    count_line(rest).ok_or(FormFault::Line(line + 1))
+    let (version, rest) = version_line(bytes).ok_or(FormFault::Line(line))?;
+    let (count, rest) = count_line(rest).ok_or(FormFault::Line(line + 1))?;
+    Ok((version, count, rest))
+}
+
+/// All phases, of which there are this many, the first in the line with this number, and the bytes after them.
+#[tactic(auto, unfolding(crate::specs::Reading::plan_at))]
+fn plan(
+    alloc: Global,
+    version: Version,
+    count: u8,
+    line: u32,
+    bytes: &[u8],
+) -> Result<(Vec<Phase>, &[u8]), FormFault>
+    requires some { 0 < count }
+    requires room { line + count < 2 ^ 32 }
+    ensures exact { Gives (λ x. (x.0.items, x.1.now)) result (plan_at version count line bytes.now) }
+    ensures shorter { IfOk result (λ x. length x.1.now ≤ length bytes.now) }
+{
+    let (phases, rest) = phases(alloc, version, count, line, bytes)?;
+    if can_be_all(version, &phases) {
+        Ok((phases, rest))
+    } else {
+        Err(FormFault::Line(line + u32::from(count) - 1))
+    }
+}
+
+/// Whether these can be all phases of a text: in version 2 one of them is marked.
+fn can_be_all(version: Version, phases: &[Phase]) -> bool
+    ensures { result ≡ can_be_all version phases.now }
+{
+    match version {
+        Version::One | Version::Three => true,
+        Version::Two => has_marks(phases),
+    }
 }
 
 /// The head in the line with this number, and the bytes after it.
@@ -39,12 +76,32 @@ fn head(line: u32, bytes: &[u8]) -> Result<(Head, &[u8]), FormFault>
     head_line(bytes).ok_or(FormFault::Line(line))
 }
 
-/// The bytes after the last line, which has this number.
-fn closing(line: u32, bytes: &[u8]) -> Result<&[u8], FormFault>
-    ensures exact { Gives (λ x. x.now) result (ok_or (literal_at (codes "end\n") bytes.now) line) }
+/// The bytes after the last line, which has this number, where it may follow these lists.
+#[tactic(auto, unfolding(crate::specs::Reading::closing_at))]
+fn closing<'a>(
+    version: Version,
+    lists: &[Items<Cluster>],
+    line: u32,
+    bytes: &'a [u8],
+) -> Result<&'a [u8], FormFault>
+    ensures exact { Gives (λ x. x.now) result (closing_at version lists.now line bytes.now) }
     ensures shorter { IfOk result (λ x. length x.now < length bytes.now) }
 {
-    literal("end\n", bytes).ok_or(FormFault::Line(line))
+    if may_end(version, lists) {
+        literal("end\n", bytes).ok_or(FormFault::Line(line))
+    } else {
+        Err(FormFault::Line(line))
+    }
+}
+
+/// Whether a text may end after these lists: in version 3 some cluster has another load than its size.
+fn may_end(version: Version, lists: &[Items<Cluster>]) -> bool
+    ensures { result ≡ may_end version lists.now }
+{
+    match version {
+        Version::One | Version::Two => true,
+        Version::Three => has_loads(lists),
+    }
 }
 
 /// The text at the front, whose first line has this number, the number of the line after it, and the bytes from there.
@@ -53,13 +110,13 @@ fn form_front(alloc: Global, line: u32, bytes: &[u8]) -> Result<(Form, u32, &[u8
     requires { line + length bytes.now ≤ 2 ^ 32 }
     ensures { Gives (λ x. (parts_of x.0, x.1, x.2.now)) result (form_at line bytes.now) }
 {
-    let (count, rest) = opening(line, bytes)?;
-    let (phases, rest) = phases(alloc, count, line + 2, rest)?;
+    let (version, count, rest) = opening(line, bytes)?;
+    let (phases, rest) = plan(alloc, version, count, line + 2, rest)?;
     let line = line + 2 + u32::from(count);
     let (head, rest) = head(line, rest)?;
-    let (lists, clusters, rest) = lists(alloc, count, rest)?;
+    let (lists, clusters, rest) = lists(alloc, version, count, rest)?;
     let line = line + 1 + clusters;
-    let rest = closing(line, rest)?;
+    let rest = closing(version, &lists, line, rest)?;
     let form = Form {
         phases,
         head,

@@ -2,18 +2,21 @@
 
 ghost use Rattle.std.specs.Prelude.{◌≡◌, ◌≤◌, [], ◌∷◌, ◌++◌, length, IfOk, OnOk};
 ghost use Rattle.std.specs.List.{flat_map};
-ghost use Rattle.instance_form.specs.InstanceText.{phase_line, freshness, head_line, cluster_line, cluster_lines, instance_text};
+ghost use Rattle.instance_form.specs.InstanceText.{first_line, phase_line, freshness, head_line, cluster_line, cluster_lines, form_text, instance_text};
+ghost use Rattle.instance_form.specs.Lines.{marked_end};
 
+use crate::form::Version;
+use crate::versions::version_of;
 use foundation::items::Items;
 use phase_plan::Phase;
 use std::alloc::{AllocError, Global};
 use switch_rules::{Cluster, Head};
-use text_lines::{Line, push_line};
+use text_lines::{Line, push_line, put_numbers};
 
 /// The text of these phases, this head and the clusters of each phase, whatever their numbers. `Err`: out of memory.
 ///
 /// docs/FORMATS.md, "Instance text".
-#[tactic(auto, unfolding(crate::specs::InstanceText::instance_text))]
+#[tactic(auto, unfolding(crate::specs::InstanceText::form_text, crate::specs::InstanceText::instance_text))]
 pub fn write_form(
     alloc: Global,
     phases: &[Phase],
@@ -22,28 +25,40 @@ pub fn write_form(
 ) -> Result<Vec<u8>, AllocError>
     ensures { IfOk result (λ text. text.items ≡ instance_text phases.now head.now lists.now) }
 {
-    let mut text = Vec::from_slice(alloc, b"instance 1\n")?;
+    let version = version_of(phases, lists);
+    let mut text = Vec::from_slice(alloc, first_line(version))?;
     push_line(&mut text, b"phases", &[phases.len() as u64])?;
-    write_phases(&mut text, phases)?;
+    write_phases(&mut text, version, phases)?;
     write_head(&mut text, head)?;
-    write_lists(&mut text, lists)?;
+    write_lists(&mut text, version, lists)?;
     text.extend_from_slice(b"end\n")?;
     Ok(text)
 }
 
+/// The line that says the version.
+fn first_line(version: Version) -> &'static [u8]
+    ensures { result.now ≡ first_line version }
+{
+    match version {
+        Version::One => b"instance 1\n",
+        Version::Two => b"instance 2\n",
+        Version::Three => b"instance 3\n",
+    }
+}
+
 /// Appends the lines of phases to a text.
-fn write_phases(text: &mut Vec<u8>, phases: &[Phase]) -> Result<(), AllocError>
-    ensures { OnOk result (text.new.items ≡ text.old.items ++ flat_map phase_line phases.now) }
+fn write_phases(text: &mut Vec<u8>, version: Version, phases: &[Phase]) -> Result<(), AllocError>
+    ensures { OnOk result (text.new.items ≡ text.old.items ++ flat_map (phase_line version) phases.now) }
 {
     for phase in phases {
-        write_phase(text, phase)?;
+        write_phase(text, version, phase)?;
     }
     Ok(())
 }
 
 /// Appends the line of a phase to a text.
-fn write_phase(text: &mut Vec<u8>, phase: &Phase) -> Result<(), AllocError>
-    ensures { OnOk result (text.new.items ≡ text.old.items ++ phase_line phase.now) }
+fn write_phase(text: &mut Vec<u8>, version: Version, phase: &Phase) -> Result<(), AllocError>
+    ensures { OnOk result (text.new.items ≡ text.old.items ++ phase_line version phase.now) }
 {
     let numbers = [
         u64::from(phase.least),
@@ -53,7 +68,22 @@ fn write_phase(text: &mut Vec<u8>, phase: &Phase) -> Result<(), AllocError>
         u64::from(phase.loss),
         u64::from(phase.wait),
     ];
-    push_line(text, b"phase", &numbers)
+    let mut line = Line::new();
+    line.put_word(phase_end(version, phase.skip));
+    put_numbers(&mut line, &numbers);
+    line.put_word(b"phase");
+    text.extend_from_slice(line.as_bytes())
+}
+
+/// What the line of a phase with this mark ends in.
+fn phase_end(version: Version, skip: bool) -> &'static [u8]
+    ensures value { result.now ≡ marked_end version skip }
+    ensures short { length result.now ≤ 6 }
+{
+    match version {
+        Version::One => b"\n",
+        Version::Two | Version::Three => { if skip { b" skip\n" } else { b" ring\n" } }
+    }
 }
 
 /// Appends the line of a head to a text.
@@ -78,34 +108,49 @@ fn head_end(fresh: bool) -> &'static [u8]
 }
 
 /// Appends the lines of the clusters of each phase to a text.
-fn write_lists(text: &mut Vec<u8>, lists: &[Items<Cluster>]) -> Result<(), AllocError>
-    ensures { OnOk result (text.new.items ≡ text.old.items ++ cluster_lines 0 lists.now) }
+fn write_lists(
+    text: &mut Vec<u8>,
+    version: Version,
+    lists: &[Items<Cluster>],
+) -> Result<(), AllocError>
+    ensures { OnOk result (text.new.items ≡ text.old.items ++ cluster_lines version 0 lists.now) }
 {
     for (phase, list) in lists.iter().enumerate() {
-        write_list(text, phase as u64, list.as_slice())?;
+        write_list(text, version, phase as u64, list.as_slice())?;
     }
     Ok(())
 }
 
 /// Appends the lines of the clusters of this phase to a text.
-fn write_list(text: &mut Vec<u8>, phase: u64, list: &[Cluster]) -> Result<(), AllocError>
-    ensures { OnOk result (text.new.items ≡ text.old.items ++ flat_map (cluster_line phase) list.now) }
+fn write_list(
+    text: &mut Vec<u8>,
+    version: Version,
+    phase: u64,
+    list: &[Cluster],
+) -> Result<(), AllocError>
+    ensures { OnOk result (text.new.items ≡ text.old.items ++ flat_map (cluster_line version phase) list.now) }
 {
     for cluster in list {
-        write_cluster(text, phase, cluster)?;
+        write_cluster(text, version, phase, cluster)?;
     }
     Ok(())
 }
 
 /// Appends the line of a cluster of this phase to a text.
-fn write_cluster(text: &mut Vec<u8>, phase: u64, cluster: &Cluster) -> Result<(), AllocError>
-    ensures { OnOk result (text.new.items ≡ text.old.items ++ cluster_line phase cluster.now) }
+fn write_cluster(
+    text: &mut Vec<u8>,
+    version: Version,
+    phase: u64,
+    cluster: &Cluster,
+) -> Result<(), AllocError>
+    ensures { OnOk result (text.new.items ≡ text.old.items ++ cluster_line version phase cluster.now) }
 {
-    let numbers = [
-        phase,
-        u64::from(cluster.size),
-        u64::from(cluster.arr),
-        u64::from(cluster.len),
-    ];
-    push_line(text, b"cluster", &numbers)
+    let size = u64::from(cluster.size);
+    let load = u64::from(cluster.load);
+    let arr = u64::from(cluster.arr);
+    let len = u64::from(cluster.len);
+    match version {
+        Version::One | Version::Two => push_line(text, b"cluster", &[phase, size, arr, len]),
+        Version::Three => push_line(text, b"cluster", &[phase, size, load, arr, len]),
+    }
 }

@@ -50,4 +50,3 @@ module _ (bytes : List ℕ) (table : Members) (utf8 : IsUtf8 bytes) (toml : pars
   Drafts-fault NoMemory none first = tt
   Drafts-fault (Shape place) none first = record { utf8 = utf8; table = table; toml = toml; form = none; first = first }
   Drafts-fault _ none first = absurd first
-

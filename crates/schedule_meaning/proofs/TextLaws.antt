@@ -7,7 +7,9 @@ use Rattle.std.proofs.lemmas.List.Sums.{sum-map}
 use Rattle.phase_plan.specs.declared.Phase.{Phase}
 use Rattle.switch_rules.specs.declared.Head.{Head}
 use Rattle.switch_rules.specs.declared.Cluster.{Cluster}
-use Rattle.instance_form.specs.InstanceText.{line, count_line, phase_line, head_line, cluster_line, cluster_lines, instance_text}
+use Rattle.instance_form.specs.declared.form.Version.{Version}
+use Rattle.instance_form.specs.InstanceText.{version_of, line, first_line, count_line, phase_line, head_line, cluster_numbers, cluster_line, cluster_lines, form_text, instance_text}
+use Rattle.instance_form.specs.Lengths.{most_cluster_bytes, most_other_bytes}
 use Rattle.instance_form.proofs.LengthLaws.{text-le}
 use Rattle.schedule_meaning.specs.Instances.{Problem, counts_of}
 use Rattle.schedule_meaning.specs.Texts.{IsInstanceText}
@@ -21,12 +23,12 @@ line-some : (words : List (List ℕ)) → 1 ≤ length (line words)
 line-some words = omega (arith, length-append (join_with_byte 32 words) (10 ∷ []))
 
 -- each cluster has a line, so a list is no longer than the text
-lists-le-lines : (k : ℕ) (lists : List (List Cluster)) (i : ℕ) (d : List Cluster) → i < length lists → length (get_or lists i d) ≤ length (cluster_lines k lists)
-lists-le-lines k [] i d h = absurd (omega arith)
-lists-le-lines k (list ∷ lists) zero d h =
-    omega (arith, length-append (flat_map (cluster_line k) list) (cluster_lines (k + 1) lists), longer-flat_map (cluster_line k) (λ c. line-some (codes "cluster" ∷ map decimal (k ∷ c.size ∷ c.arr ∷ c.len ∷ []))) list)
-lists-le-lines k (list ∷ lists) (suc i) d h =
-    omega (arith, length-append (flat_map (cluster_line k) list) (cluster_lines (k + 1) lists), lists-le-lines (k + 1) lists i d (omega arith))
+lists-le-lines : (v : Version) (k : ℕ) (lists : List (List Cluster)) (i : ℕ) (d : List Cluster) → i < length lists → length (get_or lists i d) ≤ length (cluster_lines v k lists)
+lists-le-lines v k [] i d h = absurd (omega arith)
+lists-le-lines v k (list ∷ lists) zero d h =
+    omega (arith, length-append (flat_map (cluster_line v k) list) (cluster_lines v (k + 1) lists), longer-flat_map (cluster_line v k) (λ c. line-some (codes "cluster" ∷ map decimal (k ∷ cluster_numbers v c))) list)
+lists-le-lines v k (list ∷ lists) (suc i) d h =
+    omega (arith, length-append (flat_map (cluster_line v k) list) (cluster_lines v (k + 1) lists), lists-le-lines v (k + 1) lists i d (omega arith))
 
 longer-concat : (before : List (List ℕ)) (xs : List ℕ) (after : List (List ℕ)) → length xs ≤ length (concat (before ++ xs ∷ after))
 longer-concat [] xs after = omega (arith, length-append xs (concat after))
@@ -36,10 +38,11 @@ below : (a b c d n : ℕ) → a ≤ b → b ≤ c → d ≡ c → d < n → a < 
 below a b c d n f g e h = omega arith
 
 pub lists-below-text : (plan : List Phase) (h : Head) (lists : List (List Cluster)) (bytes : List ℕ) → bytes ≡ instance_text plan h lists → length bytes < 2 ^ 32 → All (λ list. length list < 2 ^ 32) lists
-unfolding instance_text
+unfolding instance_text form_text
 lists-below-text plan h lists bytes e short = λ i d inside.
-    below (length (get_or lists i d)) (length (cluster_lines 0 lists)) (length (instance_text plan h lists)) (length bytes) (2 ^ 32) (lists-le-lines 0 lists i d inside)
-    (longer-concat (line (codes "instance 1" ∷ []) ∷ count_line (length plan) ∷ flat_map phase_line plan ∷ head_line h ∷ []) (cluster_lines 0 lists) (line (codes "end" ∷ []) ∷ []))
+    let v = version_of plan lists in
+    below (length (get_or lists i d)) (length (cluster_lines v 0 lists)) (length (instance_text plan h lists)) (length bytes) (2 ^ 32) (lists-le-lines v 0 lists i d inside)
+    (longer-concat (first_line v ∷ count_line (length plan) ∷ flat_map (phase_line v) plan ∷ head_line h ∷ []) (cluster_lines v 0 lists) (line (codes "end" ∷ []) ∷ []))
     (ap length e) short
 
 -- the text of an instance has fewer than 2^32 bytes
@@ -47,7 +50,7 @@ short-text : (bytes : List ℕ) (p : Problem) → IsInstanceText bytes p → sum
 short-text bytes p is_text few =
     fits (length bytes) (length (instance_text p.plan p.head p.lists)) (sum_by (λ list. length list) p.lists) (sum (counts_of p.lists)) (ap length is_text.1) (text-le p.plan p.head p.lists is_text.0) (sum-map length p.lists) few
   where
-    fits : (n m c s : ℕ) → n ≡ m → m ≤ 56 * c + 500 → s ≡ c → s ≤ 40 → n < 2 ^ 32
+    fits : (n m c s : ℕ) → n ≡ m → m ≤ most_cluster_bytes * c + most_other_bytes → s ≡ c → s ≤ 40 → n < 2 ^ 32
     fits n m c s e f g h = omega arith
 
 pub short-texts : {X E : Type 0} (bytes : X → List ℕ) (p : Problem) (r : Result X E) → IfOk r (λ x. IsInstanceText (bytes x) p) → sum (counts_of p.lists) ≤ 40 → IfOk r (λ x. length (bytes x) < 2 ^ 32)

@@ -10,7 +10,8 @@ ghost use Rattle.switch_rules.specs.Serving.{IsHead, IsCluster, IsServing, IsTim
 mod bounds;
 
 pub use bounds::{
-    GREATEST_DELAY, GREATEST_SIZE, GREATEST_WEIGHT, LATEST_ARRIVAL, LATEST_TIME, MOST_CLUSTERS, MOST_ORDERS,
+    GREATEST_DELAY, GREATEST_SIZE, GREATEST_WEIGHT, LATEST_ARRIVAL, LATEST_TIME, MOST_CLUSTERS,
+    MOST_ORDERS,
 };
 use foundation::steps::Steps;
 use foundation::threads::CrossesThreads;

@@ -13,9 +13,9 @@ loop-cluster-preserved c =
     let shorter = c.in-Some.ensures.shorter in
     let few = c.loop-cluster.invariant.few in
     record {
-      read = rw (pushed, length_push front c.in-Some.cluster) (many_go_on (cluster_line_at c.args.phase) front (length bytes) c.loop-cluster.rest.now c.in-Some.cluster c.in-Some.after.now (many_at (cluster_line_at c.args.phase) (length bytes) bytes) (omega arith) (sym c.in-Some.ensures.exact) c.loop-cluster.invariant.read);
+      read = rw (pushed, length_push front c.in-Some.cluster) (many_go_on (cluster_line_at c.args.version c.args.phase) front (length bytes) c.loop-cluster.rest.now c.in-Some.cluster c.in-Some.after.now (many_at (cluster_line_at c.args.version c.args.phase) (length bytes) bytes) (omega arith) (sym c.in-Some.ensures.exact) c.loop-cluster.invariant.read);
       few = rw (pushed, length_push front c.in-Some.cluster) (omega arith);
     }
 
 pub returns-clause-exact : goal.returns-clause-exact
-returns-clause-exact c = many_end (cluster_line_at c.args.phase) c.loop-cluster.list.items _ c.loop-cluster.rest.now _ (sym c.in_default.ensures.exact) c.loop-cluster.invariant.read
+returns-clause-exact c = many_end (cluster_line_at c.args.version c.args.phase) c.loop-cluster.list.items _ c.loop-cluster.rest.now _ (sym c.in_default.ensures.exact) c.loop-cluster.invariant.read

@@ -7,7 +7,7 @@ use Rattle.instance_form.proofs.lists.clusters.Given as goal
 -- what was read and what is still read is the whole
 abbrev pub invariant-loop-cluster : goal.invariant-loop-cluster
 invariant-loop-cluster l = record {
-  read : after l.list.items (many_at (cluster_line_at l.phase) (length l.bytes - length l.list.items) l.rest) ≡ many_at (cluster_line_at l.phase) (length l.bytes) l.bytes;
+  read : after l.list.items (many_at (cluster_line_at l.version l.phase) (length l.bytes - length l.list.items) l.rest) ≡ many_at (cluster_line_at l.version l.phase) (length l.bytes) l.bytes;
   few : length l.list.items + length l.rest ≤ length l.bytes;
 }
 

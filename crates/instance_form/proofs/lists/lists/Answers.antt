@@ -13,10 +13,10 @@ loop-phase-preserved c =
     let few = c.loop-phase.invariant.few in
     let shorter = c.in_ok-list.ensures.few in
     record {
-      read = rw pushed (lists_go_on front c.args.count c.loop-phase.phase c.loop-phase.rest.now list c.in_ok-list.after.now (lists_at c.args.count 0 c.args.bytes.now) c.loop-phase-test.true c.in_ok-list.ensures.exact c.loop-phase.invariant.read);
+      read = rw pushed (lists_go_on front c.args.version c.args.count c.loop-phase.phase c.loop-phase.rest.now list c.in_ok-list.after.now (lists_at c.args.version c.args.count 0 c.args.bytes.now) c.loop-phase-test.true c.in_ok-list.ensures.exact c.loop-phase.invariant.read);
       total = rw (pushed, sum_by_push (λ l. length l) front list) (omega arith);
       few = omega arith;
     }
 
 pub returns-clause-exact : goal.returns-clause-exact
-returns-clause-exact c = lists_end c.loop-phase.lists.items c.args.count c.loop-phase.phase c.loop-phase.rest.now _ (omega arith) c.loop-phase.invariant.read
+returns-clause-exact c = lists_end c.loop-phase.lists.items c.args.version c.args.count c.loop-phase.phase c.loop-phase.rest.now _ (omega arith) c.loop-phase.invariant.read

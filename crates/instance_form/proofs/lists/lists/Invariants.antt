@@ -6,7 +6,7 @@ use Rattle.instance_form.proofs.lists.lists.Given as goal
 -- what was read and what is still read is the whole
 abbrev pub invariant-loop-phase : goal.invariant-loop-phase
 invariant-loop-phase l = record {
-  read : after l.lists.items (lists_at (l.count - l.phase) l.phase l.rest) ≡ lists_at l.count 0 l.bytes;
+  read : after l.lists.items (lists_at l.version (l.count - l.phase) l.phase l.rest) ≡ lists_at l.version l.count 0 l.bytes;
   total : l.total ≡ sum_by (λ list. length list) l.lists.items;
   few : l.total + length l.rest ≤ length l.bytes;
 }

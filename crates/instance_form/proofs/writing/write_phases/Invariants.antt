@@ -5,4 +5,4 @@ use Rattle.instance_form.proofs.writing.write_phases.Given as goal
 
 -- the lines of the phases so far stand after what was written before
 abbrev pub invariant-loop-phase : goal.invariant-loop-phase
-invariant-loop-phase l = l.text.items ≡ l.initial.text.items ++ flat_map phase_line (take l.phase-index l.phases)
+invariant-loop-phase l = l.text.items ≡ l.initial.text.items ++ flat_map (phase_line l.version) (take l.phase-index l.phases)

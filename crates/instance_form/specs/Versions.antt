@@ -1,0 +1,39 @@
+-- Which version of the text says given phases and clusters, and what each version says of them.
+use Rattle.std.specs.Prelude.{Bool, true, not, ◌==◌, List, if◌then◌else◌}
+use Rattle.std.specs.List.{list_any}
+use Rattle.phase_plan.specs.declared.Phase.{Phase}
+use Rattle.switch_rules.specs.declared.Cluster.{Cluster}
+use Rattle.instance_form.specs.declared.form.Version.{Version}
+use Rattle.instance_form.specs.declared.form.Version.TheVariants.{One, Two, Three}
+
+-- some phase is marked
+abbrev pub has_marks : List Phase → Bool
+has_marks plan = list_any (λ p. p.skip) plan
+
+-- a cluster has another load than its size
+abbrev pub is_loaded : Cluster → Bool
+is_loaded c = not (c.load == c.size)
+
+-- some cluster of a list does
+abbrev pub has_load : List Cluster → Bool
+has_load list = list_any is_loaded list
+
+-- some cluster of these lists does
+abbrev pub has_loads : List (List Cluster) → Bool
+has_loads lists = list_any has_load lists
+
+-- the least version that says these phases and clusters
+abbrev pub version_of : List Phase → List (List Cluster) → Version
+version_of plan lists = if has_loads lists then Three else (if has_marks plan then Two else One)
+
+-- these can be all phases of a text: in version 2 one of them is marked
+abbrev pub can_be_all : Version → List Phase → Bool
+can_be_all One plan = true
+can_be_all Two plan = has_marks plan
+can_be_all Three plan = true
+
+-- a text may end after these clusters: in version 3 one of them has another load than its size
+abbrev pub may_end : Version → List (List Cluster) → Bool
+may_end One lists = true
+may_end Two lists = true
+may_end Three lists = has_loads lists
