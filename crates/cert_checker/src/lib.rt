@@ -28,7 +28,7 @@ use walk::{first_cheaper, first_open};
 pub enum Why {
     /// The claimed sequence is not feasible, with its first fault.
     Sequence(SeqFault),
-    /// The claimed sequence is feasible, but not with the claimed delay; in thousandths of a vehicle times seconds.
+    /// The claimed sequence is feasible, but not with the claimed delay; in thousandths of a vehicle times weight times seconds.
     Delay { said: u64, is: u64 },
     /// No entry has the key of the start with no delay.
     NoRoot,

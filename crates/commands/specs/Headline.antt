@@ -18,9 +18,9 @@ use Rattle.commands.specs.Summary.{summary_text}
 
 -- The run of a lawful history, where this enters each link in each second. Whatever order the intersections' board steps take in
 -- it: every plan that was committed names the versions of its neighbours' forecasts that it used, none older than one that its
--- intersection had seen; its delay is the least of all feasible sequences of exactly the clusters of the window, made from those
--- versions and from what its own detectors told; there is no plan only where no sequence is feasible; links in conflict are never
--- green together; and every signal interval keeps its bounds.
+-- intersection had seen; its weighted delay is the least of all feasible sequences of exactly the clusters of the window, made
+-- from those versions and from what its own detectors told; there is no plan only where no sequence is feasible; links in conflict
+-- are never green together; and every signal interval keeps its bounds.
 pub record IsRunOf (net : Net) (enters : ℕ → ℕ → ℕ) (history : List ℕ) (run : RunRecord) : Type 0 where
   pub lawful : IsLawful net history
   pub kept : IsKeptRun net enters history run

@@ -23,7 +23,7 @@ pub struct Entry {
     pub since: u32,
     /// The second from which on the green is free.
     pub at: u32,
-    /// A delay, in thousandths of a vehicle times seconds.
+    /// A delay, in thousandths of a vehicle times weight times seconds.
     pub delay: u64,
 }
 

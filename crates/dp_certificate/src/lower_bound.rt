@@ -93,7 +93,7 @@ impl RemainingCost {
 }
 
 /// What the clusters that are not yet served cost at the least, when the green is free at this second, at most 104,000:
-/// each waits until then. In thousandths of a vehicle times seconds.
+/// each waits until then. In thousandths of a vehicle times weight times seconds.
 ///
 /// docs/RULES.md, "Certificate".
 pub fn rest_of(i: &Instance, counts: &[u8; 4], at: u32) -> u64

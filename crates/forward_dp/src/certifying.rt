@@ -44,7 +44,7 @@ pub fn certify<L: Ledger>(
 
 /// The table with a limit, with the best answer: a certificate with an entry for each key that a fit prefix within
 /// the limit reaches, with the least delay of the prefixes that reach it. It proves its answer. The limit is the
-/// delay of a feasible sequence, in thousandths of a vehicle times seconds; with none the table is the whole one.
+/// delay of a feasible sequence, in thousandths of a vehicle times weight times seconds; with none the table is the whole one.
 ///
 /// There are at most as many servings as phases for each such key. `Err`: out of memory.
 ///

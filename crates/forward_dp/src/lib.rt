@@ -62,7 +62,7 @@ pub fn layered<L: Ledger>(
 
 /// The best answer of an instance, as `layered` gives it, by a table with a limit: no row is kept whose delay, with
 /// what the clusters that are left cost at the least, is above it. The limit is the delay of a feasible sequence, in
-/// thousandths of a vehicle times seconds; with none the table is the whole one.
+/// thousandths of a vehicle times weight times seconds; with none the table is the whole one.
 ///
 /// It takes at most as many steps, for each key that fit prefixes within the limit reach, as the instance has phases;
 /// also where it fails. `Err`: out of memory.

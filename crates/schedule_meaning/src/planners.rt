@@ -23,7 +23,7 @@ use switch_rules::{Head, serve};
 /// docs/RULES.md, "Best answer".
 #[derive(Drop)]
 pub enum Answer {
-    /// The best sequence of phases, and its delay in thousandths of a vehicle times seconds.
+    /// The best sequence of phases, and its weighted delay in thousandths of a vehicle times weight times seconds.
     Plan { sequence: Items<u8>, delay: u64 },
     /// No sequence is feasible.
     NoPlan,
@@ -35,7 +35,7 @@ impl CrossesThreads for Answer {}
 ///
 /// docs/RULES.md, "Best answer".
 pub trait Planner {
-    /// The sequence of least delay, and of several that reach it the lexicographically first; or
+    /// The sequence of least weighted delay, and of several that reach it the lexicographically first; or
     /// no plan, exactly where no sequence is feasible. `Err`: out of memory.
     fn best<L: Ledger>(
         &mut self,
