@@ -13,7 +13,8 @@ use Rattle.switch_rules.specs.declared.Head.{Head}
 use Rattle.switch_rules.specs.declared.Cluster.{Cluster}
 use Rattle.instance_form.specs.declared.form.Version.{Version}
 use Rattle.instance_form.specs.declared.form.Version.TheVariants.{One, Two, Three}
-use Rattle.instance_form.specs.Versions.{is_loaded, has_load, has_loads, can_be_all, may_end}
+use Rattle.instance_form.specs.Versions.{is_loaded, has_load, has_loads}
+use Rattle.instance_form.specs.Reading.{can_be_all, may_end}
 use Rattle.instance_form.specs.Faults.{BeginsText}
 use Rattle.instance_form.specs.InstanceText.{first_line, count_line, phase_line, head_line, cluster_line, cluster_lines, form_text, IsWritableHead}
 use Rattle.instance_form.proofs.LineLaws.{IsSaidMark, IsSaidPhase, IsSaidLoad, IsSaidCluster}

@@ -25,10 +25,10 @@ use Rattle.instance_form.specs.declared.form.Version.TheVariants.{One, Two, Thre
 use Rattle.instance_form.specs.declared.form.FormFault.{FormFault}
 use Rattle.instance_form.specs.declared.form.FormFault.TheVariants.{Line, NoMemory}
 use Rattle.instance_form.specs.Faults.{BeginsText, BeginsFront, IsFirstFault, IsFaultOf}
-use Rattle.instance_form.specs.Versions.{has_marks, can_be_all, may_end}
+use Rattle.instance_form.specs.Versions.{has_marks}
 use Rattle.instance_form.specs.InstanceText.{version_of, first_line, count_line, phase_line, head_line, cluster_line, cluster_lines, instance_text, line_count, IsWritableHead, HasText}
 use Rattle.instance_form.specs.Lines.{version_line_at, count_line_at, phase_line_at, head_line_at, cluster_line_at}
-use Rattle.instance_form.specs.Reading.{Gives, Parts, parts_of, opening_at, phases_at, plan_at, lists_at, closing_at, form_at}
+use Rattle.instance_form.specs.Reading.{Gives, Parts, parts_of, opening_at, phases_at, plan_at, lists_at, closing_at, form_at, can_be_all, may_end}
 use Rattle.instance_form.proofs.LineLaws.{IsSaidPhase, IsSaidCluster, version_takes, version_again, count_again, phase_takes, phase_again, head_takes, head_again, cluster_again}
 use Rattle.instance_form.proofs.VersionLaws.{Says, says_own}
 use Rattle.instance_form.proofs.FormLaws.{opening_takes, phases_take, plan_takes, lists_take, text_once}

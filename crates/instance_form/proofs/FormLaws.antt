@@ -17,13 +17,12 @@ use Rattle.instance_form.specs.declared.form.Form.{Form}
 use Rattle.instance_form.specs.declared.form.FormFault.{FormFault}
 use Rattle.instance_form.specs.declared.form.FormFault.TheVariants.{Line, NoMemory}
 use Rattle.instance_form.specs.declared.form.Version.{Version}
-use Rattle.instance_form.specs.Versions.{can_be_all, may_end}
 use Rattle.instance_form.specs.Lines.{version_line_at, count_line_at, phase_line_at, head_line_at, cluster_line_at}
 use Rattle.instance_form.specs.Answers.{HasParts, IsOutOfMemory}
 use Rattle.instance_form.specs.InstanceText.{version_of, first_line, count_line, phase_line, head_line, cluster_line, cluster_lines, form_text, instance_text, line_count, HasText}
 use Rattle.instance_form.proofs.LineLaws.{IsSaidPhase, IsSaidCluster, version_takes, version_again, count_takes, count_again, phase_takes, phase_again, head_takes, head_again, cluster_takes, cluster_again, cluster_other, cluster_end}
 use Rattle.instance_form.proofs.VersionLaws.{Says, text_of_version, says_own, said_has_text}
-use Rattle.instance_form.specs.Reading.{◌>>=◌, Fails, Gives, Parts, parts_of, opening_at, phases_at, plan_at, lists_at, closing_at, form_at}
+use Rattle.instance_form.specs.Reading.{◌>>=◌, Fails, Gives, Parts, parts_of, opening_at, phases_at, plan_at, lists_at, closing_at, form_at, can_be_all, may_end}
 
 -- what fails, fails whatever comes after it
 fails_along : {A B : Type 0} (e : FormFault) (read : Result A ℕ) (f : A → Result B ℕ) → Fails e read → Fails e (read >>= f)

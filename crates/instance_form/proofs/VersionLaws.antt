@@ -8,7 +8,8 @@ use Rattle.switch_rules.specs.declared.Head.{Head}
 use Rattle.switch_rules.specs.declared.Cluster.{Cluster}
 use Rattle.instance_form.specs.declared.form.Version.{Version}
 use Rattle.instance_form.specs.declared.form.Version.TheVariants.{One, Two, Three}
-use Rattle.instance_form.specs.Versions.{has_marks, has_load, has_loads, version_of, can_be_all, may_end}
+use Rattle.instance_form.specs.Versions.{has_marks, has_load, has_loads, version_of}
+use Rattle.instance_form.specs.Reading.{can_be_all, may_end}
 use Rattle.instance_form.specs.InstanceText.{form_text, instance_text, IsWritable, IsWritableHead, IsWritableCluster, HasText}
 use Rattle.instance_form.proofs.LineLaws.{IsSaidMark, IsSaidPhase, IsSaidLoad, IsSaidCluster}
 

@@ -1,5 +1,5 @@
 -- No public clause names these: reading an instance's text from the front of the bytes, with the number of the first line that is none.
-use Rattle.std.specs.Prelude.{◌≡◌, ℕ, zero, suc, ◌+◌, ◌-◌, List, [], ◌∷◌, length, sum_by, if◌then◌else◌, Result, Ok, Err, codes}
+use Rattle.std.specs.Prelude.{◌≡◌, ℕ, zero, suc, ◌+◌, ◌-◌, Bool, true, List, [], ◌∷◌, length, sum_by, if◌then◌else◌, Result, Ok, Err, codes}
 use Rattle.std.specs.Option.{ok_or}
 pub use Rattle.foundation.specs.Results.{◌>>=◌}
 use Rattle.text_lines.specs.Many.{many_at}
@@ -9,9 +9,10 @@ use Rattle.switch_rules.specs.declared.Head.{Head}
 use Rattle.switch_rules.specs.declared.Cluster.{Cluster}
 use Rattle.instance_form.specs.declared.form.Form.{Form}
 use Rattle.instance_form.specs.declared.form.Version.{Version}
+use Rattle.instance_form.specs.declared.form.Version.TheVariants.{One, Two, Three}
 use Rattle.instance_form.specs.declared.form.FormFault.{FormFault}
 use Rattle.instance_form.specs.declared.form.FormFault.TheVariants.{Line, NoMemory}
-use Rattle.instance_form.specs.Versions.{can_be_all, may_end}
+use Rattle.instance_form.specs.Versions.{has_marks, has_loads}
 use Rattle.instance_form.specs.Lines.{version_line_at, count_line_at, phase_line_at, head_line_at, cluster_line_at}
 
 -- a form without where it lies in memory
@@ -40,6 +41,12 @@ phases_at v (suc count) line bytes = do
   others ← phases_at v count (line + 1) first.1
   Ok (first.0 ∷ others.0, others.1)
 
+-- these can be all phases of a text: in version 2 one of them is marked
+abbrev pub can_be_all : Version → List Phase → Bool
+can_be_all One plan = true
+can_be_all Two plan = has_marks plan
+can_be_all Three plan = true
+
 -- the lines of all phases; the last of them is at fault where they can't be all
 unfoldable pub plan_at : Version → ℕ → ℕ → List ℕ → Result (List Phase × List ℕ) ℕ
 plan_at v count line bytes = do
@@ -60,6 +67,12 @@ opening_at line bytes = do
   version ← ok_or (version_line_at bytes) line
   count ← ok_or (count_line_at version.1) (line + 1)
   Ok (version.0, count.0, count.1)
+
+-- a text may end after these clusters: in version 3 one of them has another load than its size
+abbrev pub may_end : Version → List (List Cluster) → Bool
+may_end One lists = true
+may_end Two lists = true
+may_end Three lists = has_loads lists
 
 -- the last line, with this number, after these lists
 unfoldable pub closing_at : Version → List (List Cluster) → ℕ → List ℕ → Result (List ℕ) ℕ

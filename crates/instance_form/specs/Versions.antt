@@ -1,5 +1,5 @@
--- Which version of the text says given phases and clusters, and what each version says of them.
-use Rattle.std.specs.Prelude.{Bool, true, not, ◌==◌, List, if◌then◌else◌}
+-- Which version of the text says given phases and clusters.
+use Rattle.std.specs.Prelude.{Bool, not, ◌==◌, List, if◌then◌else◌}
 use Rattle.std.specs.List.{list_any}
 use Rattle.phase_plan.specs.declared.Phase.{Phase}
 use Rattle.switch_rules.specs.declared.Cluster.{Cluster}
@@ -25,15 +25,3 @@ has_loads lists = list_any has_load lists
 -- the least version that says these phases and clusters
 abbrev pub version_of : List Phase → List (List Cluster) → Version
 version_of plan lists = if has_loads lists then Three else (if has_marks plan then Two else One)
-
--- these can be all phases of a text: in version 2 one of them is marked
-abbrev pub can_be_all : Version → List Phase → Bool
-can_be_all One plan = true
-can_be_all Two plan = has_marks plan
-can_be_all Three plan = true
-
--- a text may end after these clusters: in version 3 one of them has another load than its size
-abbrev pub may_end : Version → List (List Cluster) → Bool
-may_end One lists = true
-may_end Two lists = true
-may_end Three lists = has_loads lists

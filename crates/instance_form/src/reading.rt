@@ -7,9 +7,8 @@ ghost use Rattle.switch_rules.specs.declared.Cluster.{Cluster};
 ghost use Rattle.instance_form.specs.Answers.{HasParts, IsOutOfMemory};
 ghost use Rattle.instance_form.specs.Faults.{BeginsText, BeginsFront, IsFaultOf};
 ghost use Rattle.instance_form.specs.InstanceText.{HasText, instance_text, line_count};
-ghost use Rattle.instance_form.specs.Reading.{Gives, parts_of, opening_at, plan_at, closing_at, form_at};
+ghost use Rattle.instance_form.specs.Reading.{Gives, parts_of, opening_at, plan_at, closing_at, form_at, can_be_all, may_end};
 ghost use Rattle.instance_form.specs.Lines.{seen, head_line_at};
-ghost use Rattle.instance_form.specs.Versions.{can_be_all, may_end};
 ghost use Rattle.std.specs.Option.{ok_or};
 
 use crate::form::{Form, FormFault, Version};
