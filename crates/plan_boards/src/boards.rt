@@ -1,23 +1,17 @@
-// The boards of all links.
-use atomic_table::{Seat, Table};
+//! The boards and their passes are made, and closed.
+ghost use Rattle.std.specs.Prelude.{◌≡◌, ◌≤◌, [], IfOk, IfErr, All, length};
+ghost use Rattle.board_rule.specs.Passes.{AreAllPasses, AreLogsOfPasses, fresh_passes};
+
 use board_model::BoardLog;
-use board_rule::{BoardRule, Stands, Terms, View};
 use foundation::threads::CrossesThreads;
-use std::alloc::Global;
+use std::alloc::{AllocError, Global};
 use std::marker::Model;
-use std::sync::atomic::AtomicU64;
 
-// A slot that is a log stands for its events.
-pub struct Whole;
-
-impl Stands<BoardLog> for Whole {
-    ghost use Rattle.std.specs.Prelude.{◌≡◌};
-
-    ghost stands = { λ slot log. log ≡ slot.events };
-}
-
-// A seat at the table.
-pub(crate) type Place = Seat<BoardLog, View>;
+/// The right of one thread to make calls on the boards. Contracts see the boards that it is of, its number, its calls left,
+/// the least stamp that it may draw next, and its own calls.
+///
+/// docs/DESIGN.md, "Shared boards".
+pub type Pass = link_boards::Pass<BoardLog>;
 
 /// The boards of all links, which threads share. Contracts see which boards they are, and how many links and passes they
 /// have.
@@ -25,24 +19,85 @@ pub(crate) type Place = Seat<BoardLog, View>;
 /// docs/DESIGN.md, "Shared boards".
 #[derive(Drop)]
 pub struct Boards {
-    // Word 0 is the next stamp; then comes for each link the turn word and the slot with the log.
-    pub(crate) table: Table<BoardLog, View, Terms, BoardRule<Whole>, Global>,
-    pub(crate) links: u32,
-    pub(crate) passes: u32,
-    // For each link, how many threads wait for its turn. It decides whether a thread is woken, and nothing else.
-    pub(crate) waiting: Vec<AtomicU64>,
+    pub(crate) shared: link_boards::Boards<BoardLog>,
 }
 
 impl Model for Boards {
-    ghost use Rattle.std.specs.Prelude.{◌≡◌, vec_len};
-    ghost use Rattle.board_rule.specs.Passes.{BoardsView, boards_view};
-    ghost use Rattle.board_rule.specs.Gathered.{AreBoards};
+    ghost use Rattle.board_rule.specs.Passes.{BoardsView};
 
     ghost Value = { BoardsView };
 
-    ghost view = { λ b. boards_view b.table.shared.table_id b.links b.passes };
-
-    ghost invariant = { λ b. AreBoards b.table.shared.table_id b.table.shared.key b.links b.passes × (vec_len b.waiting ≡ b.links) };
+    ghost view = { λ b. b.shared };
 }
 
 impl CrossesThreads for Boards {}
+
+/// Empty logs.
+fn empty_logs(alloc: Global, links: u32) -> Result<Vec<BoardLog>, AllocError>
+    ensures { IfOk result (λ v. (length v.items ≡ links) × All (λ log. log.events ≡ []) v.items) }
+{
+    let mut logs = Vec::with_capacity(alloc, links as usize)?;
+    for _ in 0..links {
+        logs.push(BoardLog::new(alloc))?;
+    }
+    Ok(logs)
+}
+
+impl Boards {
+    /// Boards with one empty log for each link, and as many passes as are asked for, with the numbers 0, 1, .., each with
+    /// this number of calls left. There are 1 to 320 links, 1 to 64 passes and 1 to 1,000,000 calls.
+    ///
+    /// `Err`: out of memory.
+    ///
+    /// docs/DESIGN.md, "Shared boards".
+    pub fn new(
+        alloc: Global,
+        links: u32,
+        passes: u32,
+        calls: u32,
+    ) -> Result<(Boards, Vec<Pass>), AllocError>
+        requires links { (1 ≤ links) × (links ≤ 320) }
+        requires passes { (1 ≤ passes) × (passes ≤ 64) }
+        requires calls { (1 ≤ calls) × (calls ≤ 1000000) }
+        ensures boards { IfOk result (λ r. (r.0.links ≡ links) × (r.0.passes ≡ passes)) }
+        ensures passes { IfOk result (λ r. r.1.items ≡ fresh_passes r.0.id calls 0 passes) }
+        ensures all { IfOk result (λ r. AreAllPasses r.0 r.1.items) }
+    {
+        let logs = empty_logs(alloc, links)?;
+        match link_boards::Boards::over(alloc, logs, passes, calls) {
+            Ok((shared, all)) => Ok((Boards { shared }, all)),
+            Err(_) => Err(AllocError),
+        }
+    }
+
+    /// These boards as those of any form.
+    ///
+    /// docs/DESIGN.md, "Shared boards".
+    pub fn shared(&self) -> &link_boards::Boards<BoardLog>
+        ensures { result.now ≡ self.now }
+    {
+        &self.shared
+    }
+
+    /// Closes the boards with all their passes, by number, into the logs of the passes' calls: one for each link, legal,
+    /// with each call once, and the calls agree with it.
+    ///
+    /// `Err`: out of memory; it gives the boards and the passes back.
+    ///
+    /// docs/DESIGN.md, "Shared boards".
+    pub fn close(
+        self,
+        alloc: Global,
+        passes: Vec<Pass>,
+    ) -> Result<Vec<BoardLog>, (Boards, Vec<Pass>, AllocError)>
+        requires { AreAllPasses self passes.items }
+        ensures ok { IfOk result (λ logs. AreLogsOfPasses self.links passes.items logs.items) }
+        ensures refused { IfErr result (λ refused. (refused.0 ≡ self) × (refused.1.items ≡ passes.items)) }
+    {
+        let Boards { shared } = self;
+        match shared.into_slots(alloc, passes) {
+            Ok(logs) => Ok(logs),
+            Err((shared, passes, error)) => Err((Boards { shared }, passes, error)),
+        }
+    }
+}

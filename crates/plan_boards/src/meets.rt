@@ -1,55 +1,18 @@
-// Passes meet, by couriers.
-ghost use Rattle.std.specs.Prelude.{◌≡◌, [], max, map, All, IsOk};
-ghost use Rattle.board_rule.specs.Views.{courier, informed};
+//! Passes meet.
+ghost use Rattle.std.specs.Prelude.{◌≡◌, max, map, All, IsOk};
 ghost use Rattle.board_rule.specs.Passes.{highest, raised};
-ghost use Rattle.board_rule.specs.Gathered.{IsCourier};
 
-use crate::boards::{Boards, Place};
-use crate::pass::Pass;
-use board_rule::{HearCourier, SendCourier};
+use crate::boards::{Boards, Pass};
+use board_model::BoardLog;
 use std::alloc::AllocError;
-use std::marker::Model;
 
 /// What passes that meet have told so far. Contracts see the boards that it is of, and what is known: the least stamp that
 /// a pass which is told of it may draw next.
 ///
 /// docs/DESIGN.md, "Shared boards".
-#[derive(Drop)]
-pub struct Meeting {
-    pub(crate) seat: Place,
-}
-
-impl Model for Meeting {
-    ghost use Rattle.board_rule.specs.Gathered.{IsCourier};
-    ghost use Rattle.plan_boards.specs.Meetings.{MeetingView, meeting_view};
-
-    ghost Value = { MeetingView };
-
-    ghost view = { λ m. meeting_view m.seat.table_id m.seat.me.0.known };
-
-    ghost invariant = { λ m. IsCourier m.seat.me };
-}
+pub type Meeting = link_boards::Meeting<BoardLog>;
 
 impl Boards {
-    // Sends a courier.
-    fn send(&self, seat: &mut Place) -> Place
-        requires table { seat.old.table_id ≡ self.now.id }
-        ensures same { (seat.new.table_id ≡ seat.old.table_id) × (seat.new.id ≡ seat.old.id) × (seat.new.me ≡ seat.old.me) }
-        ensures courier { (result.table_id ≡ self.now.id) × (result.me ≡ (courier seat.old.me.0, [])) }
-    {
-        self.table.shared.split_seat::<SendCourier>(seat)
-    }
-
-    // Hears a courier.
-    fn hear(&self, seat: &mut Place, other: Place)
-        requires table { (seat.old.table_id ≡ self.now.id) × (other.table_id ≡ self.now.id) }
-        requires courier { IsCourier other.me }
-        ensures table { (seat.new.table_id ≡ seat.old.table_id) × (seat.new.id ≡ seat.old.id) }
-        ensures heard { seat.new.me ≡ (informed seat.old.me.0 other.me.0, seat.old.me.1) }
-    {
-        self.table.shared.join_seat::<HearCourier>(seat, other);
-    }
-
     /// The meeting hears what a pass knows, which stays as it is.
     ///
     /// docs/DESIGN.md, "Shared boards".
@@ -59,8 +22,7 @@ impl Boards {
         ensures boards { meeting.new.boards ≡ meeting.old.boards }
         ensures known { meeting.new.known ≡ max meeting.old.known pass.old.known }
     {
-        let courier = self.send(&mut pass.seat);
-        self.hear(&mut meeting.seat, courier);
+        self.shared.collect(meeting, pass);
     }
 
     /// A pass hears what the meeting knows. It keeps its number, its calls and its calls left.
@@ -71,8 +33,7 @@ impl Boards {
         ensures pass { pass.new ≡ raised meeting.old.known pass.old }
         ensures meeting { meeting.new ≡ meeting.old }
     {
-        let courier = self.send(&mut meeting.seat);
-        self.hear(&mut pass.seat, courier);
+        self.shared.inform(meeting, pass);
     }
 
     /// Begins a meeting with what a pass knows. A caller whose passes are in places of their own lets the meeting hear each pass, and
@@ -84,33 +45,7 @@ impl Boards {
         ensures pass { pass.new ≡ pass.old }
         ensures meeting { (result.boards ≡ self.now.id) × (result.known ≡ pass.old.known) }
     {
-        let seat = self.send(&mut pass.seat);
-        Meeting { seat }
-    }
-
-    // The meeting hears what passes know.
-    fn hear_all(&self, meeting: &mut Meeting, passes: &mut [Pass])
-        requires meeting { meeting.old.boards ≡ self.now.id }
-        requires boards { All (λ p. p.boards ≡ self.now.id) passes.old }
-        ensures passes { passes.new ≡ passes.old }
-        ensures boards { meeting.new.boards ≡ self.now.id }
-        ensures known { meeting.new.known ≡ max meeting.old.known (highest passes.old) }
-    {
-        for i in 0..passes.len() {
-            self.collect(meeting, &mut passes[i]);
-        }
-    }
-
-    // Passes hear what the meeting knows.
-    fn tell_all(&self, meeting: &mut Meeting, passes: &mut [Pass])
-        requires meeting { meeting.old.boards ≡ self.now.id }
-        requires boards { All (λ p. p.boards ≡ self.now.id) passes.old }
-        ensures passes { passes.new ≡ map (raised meeting.old.known) passes.old }
-        ensures meeting { meeting.new ≡ meeting.old }
-    {
-        for k in 0..passes.len() {
-            self.inform(meeting, &mut passes[k]);
-        }
+        self.shared.begin_meeting(pass)
     }
 
     /// Lets passes of these boards meet: the next stamp of each is then above every stamp that one of them had drawn
@@ -122,12 +57,6 @@ impl Boards {
         ensures ok { IsOk result }
         ensures met { passes.new ≡ map (raised (highest passes.old)) passes.old }
     {
-        if passes.is_empty() {
-            return Ok(());
-        }
-        let mut meeting = self.begin_meeting(&mut passes[0]);
-        self.hear_all(&mut meeting, passes);
-        self.tell_all(&mut meeting, passes);
-        Ok(())
+        self.shared.meet(passes)
     }
 }

@@ -1,6 +1,6 @@
 use Rattle.std.proofs.Common.{◌≡◌, length, ap, ◌∙◌, arith}
 use Rattle.board_rule.specs.Passes.{highest, raised}
-use Rattle.plan_boards.specs.Meetings.{MeetingView}
+use Rattle.link_boards.specs.Meetings.{MeetingView}
 use Rattle.net_threads.specs.Tasks.{pass_of, passes_in}
 use Rattle.net_threads.proofs.Passes.{partly-boards, partly-heard}
 use Rattle.net_threads.proofs.TaskLists.{kept-actors, kept-settings, same-count}

@@ -1,0 +1,7 @@
+use Rattle.std.proofs.Common.{rules}
+use Rattle.board_rule.proofs.Draws.{draws-read}
+use Rattle.link_boards.specs.Slots.{stands_for}
+use Rattle.link_boards.proofs.boards.Boards.draw_read.Goals as goal
+
+pub fetch_add-requires : goal.fetch_add-requires
+fetch_add-requires g c = let t = c.requires.drawing in (search rules, search rules, draws-read (stands_for g.S.LinkSlot.log g.S.LinkSlot.settled) _ _ _ _ _ _ _ _ t.flies t.own t.some-left)

@@ -1,6 +1,0 @@
-use Rattle.std.proofs.Common.{rules, ◌≡◌}
-use Rattle.board_rule.proofs.Draws.{draws-read}
-use Rattle.plan_boards.proofs.boards.Boards.draw_read.Goals as goal
-
-pub fetch_add-requires : goal.fetch_add-requires
-fetch_add-requires c = let t = c.requires.drawing in (search rules, search rules, draws-read (λ slot log. log ≡ slot.events) _ _ _ _ _ _ _ _ t.flies t.own t.some-left)
