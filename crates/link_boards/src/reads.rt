@@ -197,7 +197,7 @@ impl<S: LinkSlot> Boards<S> {
         Ok(Seen {
             version,
             stamp,
-            forecast: S::finish(ready),
+            forecast: S::finish(rt, ready),
         })
     }
 }

@@ -1,0 +1,3 @@
+pub mod Closes
+pub mod Rows
+pub mod Versions

@@ -1,0 +1,4 @@
+pub mod Boards
+pub mod Slots
+pub mod Versions
+pub mod Views

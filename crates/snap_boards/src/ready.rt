@@ -1,0 +1,20 @@
+//! What a reading has when it draws its stamp.
+ghost use Rattle.std.specs.Prelude.{◌≡◌, []};
+
+use crate::told::Look;
+use board_model::Forecast;
+
+/// A look that goes on when the turn is given back, and a forecast of no row that has the capacity for what it looks at.
+pub struct Beside {
+    pub(crate) look: Look,
+    pub(crate) blank: Forecast,
+    ghost empty: { blank ≡ [] },
+}
+
+/// What a reading has when it draws its stamp: a look at the newest version; or its forecast, where no reader had a place.
+pub enum Ready {
+    /// A look, which is copied when the turn is given back.
+    Beside(Beside),
+    /// The forecast, copied under the turn.
+    Copied(Forecast),
+}
