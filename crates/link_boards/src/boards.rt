@@ -36,7 +36,7 @@ impl<S: LinkSlot> Model for Boards<S> {
     ghost invariant = { λ b. AreBoards b.table.shared.table_id b.table.shared.key b.links b.passes × (vec_len b.waiting ≡ b.links) };
 }
 
-impl<S: LinkSlot> CrossesThreads for Boards<S> {}
+impl<S: LinkSlot + Send> CrossesThreads for Boards<S> {}
 
 impl<S: LinkSlot> Boards<S> {
     ghost use Rattle.std.specs.Prelude.{◌≡◌};

@@ -26,7 +26,7 @@ impl<S: LinkSlot> Model for Pass<S> {
     ghost invariant = { λ p. IsPass p.seat.me p.number p.left };
 }
 
-impl<S: LinkSlot + Sync> CrossesThreads for Pass<S> {}
+impl<S: LinkSlot + Send + Sync> CrossesThreads for Pass<S> {}
 
 impl<S: LinkSlot> Pass<S> {
     ghost use Rattle.std.specs.Prelude.{◌≡◌};

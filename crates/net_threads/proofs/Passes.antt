@@ -11,7 +11,7 @@ use Rattle.net_threads.proofs.TaskLists.{pass-at, pass-set, same-count}
 use Rattle.net_threads.proofs.Trades.{mixed, mixed-get, mixed-step}
 
 -- d is the task at place k of `now`, and `old` are the tasks before the first change; end is their number
-module _ {P G : Type 0} (old now : List (NodeTask P G)) (k end' : ℕ) (d : NodeTask P G) (at : d ≡ get_or now k d) (actors : actors_in now ≡ actors_in old) (less : k < end') (count : end' ≡ length old) where
+module _ {P S G Ready : Type 0} (old now : List (NodeTask P S G Ready)) (k end' : ℕ) (d : NodeTask P S G Ready) (at : d ≡ get_or now k d) (actors : actors_in now ≡ actors_in old) (less : k < end') (count : end' ≡ length old) where
   abbrev all : List PassView
   all = passes_in old
 
@@ -43,7 +43,7 @@ module _ {P G : Type 0} (old now : List (NodeTask P G)) (k end' : ℕ) (d : Node
     pub partly-boards : (boards : TableId) → All (λ (p : PassView). p.boards ≡ boards) all → (pass_of d).boards ≡ boards
     partly-boards boards own = ap (λ (p : PassView). p.boards) here-partly ∙ own k (pass_of d) there
 
-    pub partly-heard : (t : NodeTask P G) → pass_of t ≡ raised known (pass_of d) → passes_in (set now k t) ≡ partly (raised known) all (k + 1)
+    pub partly-heard : (t : NodeTask P S G Ready) → pass_of t ≡ raised known (pass_of d) → passes_in (set now k t) ≡ partly (raised known) all (k + 1)
     partly-heard t is = pass-set now k d t at (raised known (pass_of d)) is ∙ ap (λ l. set l k (raised known (pass_of d))) passes ∙ partly-step (raised known) all k (pass_of d) (pass_of d) there here-partly
 
   -- where those before the place have traded their passes
@@ -51,7 +51,7 @@ module _ {P G : Type 0} (old now : List (NodeTask P G)) (k end' : ℕ) (d : Node
     long : length given ≡ length all
     long = same ∙ sym (length-map old pass_of)
 
-    pub trades-own : (passes : List PassView) (p : PassView) (t : NodeTask P G) → passes_in now ≡ mixed given all k → passes ≡ mixed all given k → p ≡ get_or passes k p → pass_of t ≡ p → passes_in (set now k t) ≡ mixed given all (k + 1)
+    pub trades-own : (passes : List PassView) (p : PassView) (t : NodeTask P S G Ready) → passes_in now ≡ mixed given all k → passes ≡ mixed all given k → p ≡ get_or passes k p → pass_of t ≡ p → passes_in (set now k t) ≡ mixed given all (k + 1)
     trades-own passes p t taken left is new =
         pass-set now k d t at p new ∙ ap (λ l. set l k p) taken
         ∙ mixed-step given all k p p long (omega (arith, there, long)) (is ∙ ap (λ l. get_or l k p) left ∙ mixed-get all given k p (sym long))

@@ -21,16 +21,16 @@ pub ok-map : {X E : Type 0} (r : Result X E) (A B : Type 0) → (IsOk r → A �
 ok-map (Ok x) A B f a = f refl a
 ok-map (Err e) A B f a = tt
 
-module _ {P G : Type 0} where
+module _ {P S G Ready : Type 0} where
   -- tasks that came back, and ended well
-  pub all-ended : (old new : List (NodeTask P G)) → AreDone HasPlayedTask old new → All (λ (t : NodeTask P G). IsOk t.ended) new → AreEach HasEnded old new
+  pub all-ended : (old new : List (NodeTask P S G Ready)) → AreDone HasPlayedTask old new → All (λ (t : NodeTask P S G Ready). IsOk t.ended) new → AreEach HasEnded old new
   all-ended old new done well = record {
     count = done.count;
     each = λ k s t inside. on-ok (get_or new k t).ended _ (done.each k s t inside).played (well k t (omega (arith, done.count, inside)));
   }
 
   -- a node that has begun may go on
-  pub may-go-on : (round : ℕ) (world : WorldState) (o m : NodeTask P G) → o.setting.boards.now.links ≡ length o.setting.net.now.link_names → CanBeginTask round world o → HasBegunTask round world o m → CanPlayTask m
+  pub may-go-on : (round : ℕ) (world : WorldState) (o m : NodeTask P S G Ready) → o.setting.boards.now.links ≡ length o.setting.net.now.link_names → CanBeginTask round world o → HasBegunTask round world o m → CanPlayTask m
   may-go-on round world o m links can has = record {
     links = subst (λ (z : Net × BoardsView). z.1.links ≡ length z.0.link_names) (λ i. ((sym has.same.net i).now, (sym has.same.boards i).now)) links;
     can = subst (λ (z : Net × BoardsView × ℕ × PassView). CanGoOn z.0 z.2 z.1 (actor_of m) z.3) (λ i. ((sym has.same.net i).now, (sym has.same.boards i).now, sym has.round_is i, sym has.pass i))
@@ -38,31 +38,31 @@ module _ {P G : Type 0} where
   }
 
   -- a node that has begun and ended a round has played it
-  pub has-played : (round : ℕ) (world : WorldState) (o m n : NodeTask P G) → CanBeginTask round world o → HasBegunTask round world o m → HasEnded m n → HasPlayedRound round world o n
+  pub has-played : (round : ℕ) (world : WorldState) (o m n : NodeTask P S G Ready) → CanBeginTask round world o → HasBegunTask round world o m → HasEnded m n → HasPlayedRound round world o n
   has-played round world o m n can has ended =
       let on : HasPlayedOn o.setting.net.now round o.setting.boards.now (actor_of m) (actor_of n) (pass_of o) (pass_of n) =
       subst (λ (z : Net × BoardsView × ℕ × PassView). HasPlayedOn z.0 z.2 z.1 (actor_of m) (actor_of n) z.3 (pass_of n)) (λ i. ((has.same.net i).now, (has.same.boards i).now, has.round_is i, has.pass i)) ended in
       on world (actor_of o) can has.begun
 
   -- the place of a task, as its setting
-  setting-at : (net : Net) (boards : BoardsView) (tasks : List (NodeTask P G)) (k : ℕ) (d : NodeTask P G) → AreTasksOf net boards tasks → k < length tasks → ((get_or tasks k d).setting.net.now ≡ net) × ((get_or tasks k d).setting.boards.now ≡ boards)
+  setting-at : (net : Net) (boards : BoardsView) (tasks : List (NodeTask P S G Ready)) (k : ℕ) (d : NodeTask P S G Ready) → AreTasksOf net boards tasks → k < length tasks → ((get_or tasks k d).setting.net.now ≡ net) × ((get_or tasks k d).setting.boards.now ≡ boards)
   setting-at net boards tasks k d of inside =
       subst (λ (s : Net × BoardsView). (s.0 ≡ net) × (s.1 ≡ boards)) (get_or-map setting_of tasks k d (setting_of d) inside) (of k (setting_of d) (omega (arith, length-map tasks setting_of)))
 
   -- what all nodes need to play, and have done, as of their tasks
-  pub can-begin : (net : Net) (boards : BoardsView) (round count : ℕ) (world : WorldState) (tasks : List (NodeTask P G)) → AreTasksOf net boards tasks → CanAllPlay net round world boards count (actors_in tasks) (passes_in tasks) → All (CanBeginTask round world) tasks
+  pub can-begin : (net : Net) (boards : BoardsView) (round count : ℕ) (world : WorldState) (tasks : List (NodeTask P S G Ready)) → AreTasksOf net boards tasks → CanAllPlay net round world boards count (actors_in tasks) (passes_in tasks) → All (CanBeginTask round world) tasks
   can-begin net boards round count world tasks of can k d inside =
       let s = setting-at net boards tasks k d of inside in
       subst (λ (z : Net × BoardsView × Acting × PassView). CanPlay z.0 round world z.1 z.2 z.3)
       (λ i. (sym s.0 i, sym s.1 i, get_or-map actor_of tasks k d (actor_of d) inside i, get_or-map pass_of tasks k d (pass_of d) inside i))
       (can.each k (actor_of d) (pass_of d) (omega (arith, length-map tasks pass_of)))
 
-  pub all-links : (net : Net) (boards : BoardsView) (tasks : List (NodeTask P G)) → AreTasksOf net boards tasks → boards.links ≡ length net.link_names → All (λ (t : NodeTask P G). t.setting.boards.now.links ≡ length t.setting.net.now.link_names) tasks
+  pub all-links : (net : Net) (boards : BoardsView) (tasks : List (NodeTask P S G Ready)) → AreTasksOf net boards tasks → boards.links ≡ length net.link_names → All (λ (t : NodeTask P S G Ready). t.setting.boards.now.links ≡ length t.setting.net.now.link_names) tasks
   all-links net boards tasks of links k d inside =
       let s = setting-at net boards tasks k d of inside in
       subst (λ (z : Net × BoardsView). z.1.links ≡ length z.0.link_names) (λ i. (sym s.0 i, sym s.1 i)) links
 
-  pub all-played : (net : Net) (boards : BoardsView) (round : ℕ) (world : WorldState) (old new : List (NodeTask P G)) → AreTasksOf net boards old → AreEach (HasPlayedRound round world) old new
+  pub all-played : (net : Net) (boards : BoardsView) (round : ℕ) (world : WorldState) (old new : List (NodeTask P S G Ready)) → AreTasksOf net boards old → AreEach (HasPlayedRound round world) old new
       → HaveAllPlayed net round world (actors_in old) (actors_in new) (passes_in old) (passes_in new)
   all-played net boards round world old new of each = record {
     actors = length-map new actor_of ∙ each.count ∙ sym (length-map old actor_of);
@@ -80,7 +80,7 @@ module _ {P G : Type 0} where
   }
 
   -- the rounds of all nodes, from their begins and ends
-  pub each-played : (round : ℕ) (world : WorldState) (old mid new : List (NodeTask P G)) → All (CanBeginTask round world) old → AreEach (HasBegunTask round world) old mid → AreEach HasEnded mid new → AreEach (HasPlayedRound round world) old new
+  pub each-played : (round : ℕ) (world : WorldState) (old mid new : List (NodeTask P S G Ready)) → All (CanBeginTask round world) old → AreEach (HasBegunTask round world) old mid → AreEach HasEnded mid new → AreEach (HasPlayedRound round world) old new
   each-played round world old mid new can begun ended = record {
     count = ended.count ∙ begun.count;
     each = λ k s t inside. let m = some-of mid k (omega (arith, begun.count, inside)) in

@@ -27,28 +27,28 @@ map-same f [] (y ∷ new) count each = absurd (omega (arith, count))
 map-same f (x ∷ old) [] count each = absurd (omega (arith, count))
 map-same f (x ∷ old) (y ∷ new) count each = λ i. each 0 x y (omega arith) i ∷ map-same f old new (omega (arith, count)) (λ k s t inside. each (suc k) s t (omega (arith, inside))) i
 
-module _ {P G : Type 0} where
-  abbrev pub setting_of : NodeTask P G → Net × BoardsView
+module _ {P S G Ready : Type 0} where
+  abbrev pub setting_of : NodeTask P S G Ready → Net × BoardsView
   setting_of task = (task.setting.net.now, task.setting.boards.now)
 
-  abbrev pub name_of : NodeTask P G → TableId × ℕ
+  abbrev pub name_of : NodeTask P S G Ready → TableId × ℕ
   name_of task = ((pass_of task).boards, (pass_of task).number)
 
-  pub names-in : (tasks : List (NodeTask P G)) → names (passes_in tasks) ≡ map name_of tasks
+  pub names-in : (tasks : List (NodeTask P S G Ready)) → names (passes_in tasks) ≡ map name_of tasks
   names-in [] = refl
   names-in (t ∷ tasks) = ap (λ l. name_of t ∷ l) (names-in tasks)
 
-  pub same-count : (old new : List (NodeTask P G)) → actors_in new ≡ actors_in old → length new ≡ length old
+  pub same-count : (old new : List (NodeTask P S G Ready)) → actors_in new ≡ actors_in old → length new ≡ length old
   same-count old new same = sym (length-map new actor_of) ∙ ap length same ∙ length-map old actor_of
 
   -- one task more
-  pub of-more : (net : Net) (boards : BoardsView) (tasks : List (NodeTask P G)) (t : NodeTask P G) → AreTasksOf net boards tasks → (t.setting.net.now ≡ net) → (t.setting.boards.now ≡ boards) → AreTasksOf net boards (tasks ++ t ∷ [])
+  pub of-more : (net : Net) (boards : BoardsView) (tasks : List (NodeTask P S G Ready)) (t : NodeTask P S G Ready) → AreTasksOf net boards tasks → (t.setting.net.now ≡ net) → (t.setting.boards.now ≡ boards) → AreTasksOf net boards (tasks ++ t ∷ [])
   of-more net boards tasks t of is at =
       subst (All (λ (s : Net × BoardsView). (s.0 ≡ net) × (s.1 ≡ boards))) (sym (map-append setting_of tasks (t ∷ [])))
       (All-append (λ (s : Net × BoardsView). (s.0 ≡ net) × (s.1 ≡ boards)) (settings_in tasks) (setting_of t ∷ []) of (All-one (λ (s : Net × BoardsView). (s.0 ≡ net) × (s.1 ≡ boards)) (setting_of t) (is, at)))
 
   -- where the task at a place, d, becomes t
-  module _ (tasks : List (NodeTask P G)) (k : ℕ) (d t : NodeTask P G) (at : d ≡ get_or tasks k d) where
+  module _ (tasks : List (NodeTask P S G Ready)) (k : ℕ) (d t : NodeTask P S G Ready) (at : d ≡ get_or tasks k d) where
     pub same-settings : IsSameTask d t → settings_in (set tasks k t) ≡ settings_in tasks
     same-settings same = map-set_same setting_of tasks k t d ((λ i. ((same.net i).now, (same.boards i).now)) ∙ ap setting_of at)
 
@@ -71,18 +71,18 @@ module _ {P G : Type 0} where
     pub pass-set : (p : PassView) → pass_of t ≡ p → passes_in (set tasks k t) ≡ set (passes_in tasks) k p
     pass-set p is = map-set pass_of tasks k t ∙ ap (set (passes_in tasks) k) is
 
-  module _ (Is : NodeTask P G → NodeTask P G → Type 0) where
-    pub none-first : (tasks : List (NodeTask P G)) → AreFirst Is 0 tasks tasks
+  module _ (Is : NodeTask P S G Ready → NodeTask P S G Ready → Type 0) where
+    pub none-first : (tasks : List (NodeTask P S G Ready)) → AreFirst Is 0 tasks tasks
     none-first tasks = record { long = refl; done = λ k s t less inside. absurd (omega arith); rest = λ k s past. refl }
 
-    pub first-more : (n : ℕ) (old now : List (NodeTask P G)) (t d : NodeTask P G) → AreFirst Is n old now → n < length old → Is (get_or old n d) t → AreFirst Is (n + 1) old (set now n t)
+    pub first-more : (n : ℕ) (old now : List (NodeTask P S G Ready)) (t d : NodeTask P S G Ready) → AreFirst Is n old now → n < length old → Is (get_or old n d) t → AreFirst Is (n + 1) old (set now n t)
     first-more n old now t d first room is = record {
       long = length-set now n t ∙ first.long;
       done = λ k s u less inside. elim (cases_eq k n) [
         | inl here ↦
             let new : get_or (set now n t) k u ≡ t = ap (λ j. get_or (set now n t) j u) here ∙ get_or-set_same now n t u (omega (arith, first.long)) in
-            let there : (e : NodeTask P G) → get_or old k s ≡ get_or old n e = λ e. ap (λ j. get_or old j s) here ∙ other old n s e room in
-            subst (λ (z : NodeTask P G × NodeTask P G). Is z.0 z.1) (λ i. (sym (there d) i, sym new i)) is
+            let there : (e : NodeTask P S G Ready) → get_or old k s ≡ get_or old n e = λ e. ap (λ j. get_or old j s) here ∙ other old n s e room in
+            subst (λ (z : NodeTask P S G Ready × NodeTask P S G Ready). Is z.0 z.1) (λ i. (sym (there d) i, sym new i)) is
         | inr off ↦
             subst (Is (get_or old k s)) (sym (get_or-set_other now n k t u off)) (first.done k s u (omega (arith, off, less)) inside)
       ];
@@ -94,5 +94,5 @@ module _ {P G : Type 0} where
         other (x ∷ xs) zero d e inside = refl
         other (x ∷ xs) (suc k) d e inside = other xs k d e (omega (arith, inside))
 
-    pub each-done : (n : ℕ) (old now : List (NodeTask P G)) → length old ≤ n → AreFirst Is n old now → AreEach Is old now
+    pub each-done : (n : ℕ) (old now : List (NodeTask P S G Ready)) → length old ≤ n → AreFirst Is n old now → AreEach Is old now
     each-done n old now all first = record { count = first.long; each = λ k s t inside. first.done k s t (omega (arith, all, inside)) inside }

@@ -4,8 +4,8 @@ ghost use Rattle.std.specs.Prelude.{◌≡◌};
 use crate::node_tasks::{Node, NodeTask};
 use board_model::Gate;
 use intersection_actor::Actor;
+use link_boards::{Boards, LinkSlot, Meeting, Pass};
 use net_simulator::World;
-use plan_boards::{Boards, Meeting, Pass};
 use schedule_meaning::Planner;
 use std::alloc::{AllocError, Global};
 use std::mem::replace;
@@ -15,13 +15,15 @@ use task_pool::TaskRunner;
 
 /// The tasks of all nodes, by node. The timelines of their actors are what the world moves by.
 #[derive(Drop)]
-pub struct NodeTasks<'a, P, G> {
-    pub(crate) all: Vec<NodeTask<'a, P, G>>,
+pub struct NodeTasks<'a, P, S: LinkSlot, G> {
+    pub(crate) all: Vec<NodeTask<'a, P, S, G>>,
+    /// The boards on which they publish and read.
+    pub(crate) boards: &'a Boards<S>,
     /// What is called before and within each board step.
     pub(crate) gate: &'a G,
 }
 
-impl<'a, P: Planner + Drop, G: Gate> NodeTasks<'a, P, G> {
+impl<'a, P: Planner + Drop, S: LinkSlot, G: Gate> NodeTasks<'a, P, S, G> {
     ghost use Rattle.std.specs.Prelude.{◌≡◌, ◌<◌, ◌≤◌, [], All, IsOk, OnOk, length, map, vec_capacity, vec_len};
     ghost use Rattle.board_rule.specs.Passes.{highest, raised};
     ghost use Rattle.node_rounds.specs.Rounds.{AreSamePasses};
@@ -61,7 +63,7 @@ impl<'a, P: Planner + Drop, G: Gate> NodeTasks<'a, P, G> {
         &mut self,
         rt: &R,
         alloc: Global,
-        runner: &mut TaskRunner<'_, NodeTask<'a, P, G>>,
+        runner: &mut TaskRunner<'_, NodeTask<'a, P, S, G>>,
     ) -> Result<(), AllocError>
         requires can { All CanPlayTask self.old.all.items }
         requires slots { runner.old ≡ vec_len self.old.all }
@@ -84,7 +86,7 @@ impl<'a, P: Planner + Drop, G: Gate> NodeTasks<'a, P, G> {
         alloc: Global,
         world: &World,
         round: u32,
-        runner: &mut TaskRunner<'_, NodeTask<'a, P, G>>,
+        runner: &mut TaskRunner<'_, NodeTask<'a, P, S, G>>,
     ) -> Result<(), AllocError>
         requires can { All (CanBeginTask round world.now) self.old.all.items }
         requires links { All (λ task. task.setting.boards.now.links ≡ length task.setting.net.now.link_names)
@@ -100,7 +102,7 @@ impl<'a, P: Planner + Drop, G: Gate> NodeTasks<'a, P, G> {
     }
 
     /// A meeting that knows all that the passes of these nodes know.
-    fn meeting(&mut self, boards: &Boards) -> Meeting
+    fn meeting(&mut self, boards: &Boards<S>) -> Meeting<S>
         requires boards { All (λ p. p.boards ≡ boards.now.id) (passes_in self.old.all.items) }
         requires some { 0 < vec_len self.old.all }
         ensures actors { actors_in self.new.all.items ≡ actors_in self.old.all.items }
@@ -117,7 +119,7 @@ impl<'a, P: Planner + Drop, G: Gate> NodeTasks<'a, P, G> {
     }
 
     /// The passes of these nodes meet.
-    pub(crate) fn meet(&mut self, boards: &Boards)
+    pub(crate) fn meet(&mut self, boards: &Boards<S>)
         requires boards { All (λ p. p.boards ≡ boards.now.id) (passes_in self.old.all.items) }
         requires some { 0 < vec_len self.old.all }
         ensures actors { actors_in self.new.all.items ≡ actors_in self.old.all.items }
@@ -132,7 +134,7 @@ impl<'a, P: Planner + Drop, G: Gate> NodeTasks<'a, P, G> {
     }
 
     /// The nodes take these passes for their own, which take the places of these.
-    pub(crate) fn trade(&mut self, passes: &mut [Pass])
+    pub(crate) fn trade(&mut self, passes: &mut [Pass<S>])
         requires { length passes.old ≡ vec_len self.old.all }
         ensures actors { actors_in self.new.all.items ≡ actors_in self.old.all.items }
         ensures passes { (passes_in self.new.all.items ≡ passes.old) × (passes.new ≡ passes_in self.old.all.items) }

@@ -4,9 +4,11 @@
 
 mod all_nodes;
 mod lights;
+mod network_ends;
 mod network_runs;
 mod node_tasks;
 mod rounds;
 mod set_up;
 
-pub use network_runs::run_rounds;
+pub use network_ends::link_ends;
+pub use network_runs::{run_rounds, run_rounds_snap};

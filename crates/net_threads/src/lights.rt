@@ -10,10 +10,11 @@ use crate::all_nodes::NodeTasks;
 use arrivals::Arrivals;
 use control_flow::green_at;
 use control_flow::greens::Green;
+use link_boards::LinkSlot;
 use net_simulator::{Lights, World};
 use road_net::Network;
 
-impl<'a, P, G> Lights for NodeTasks<'a, P, G> {
+impl<'a, P, S: LinkSlot, G> Lights for NodeTasks<'a, P, S, G> {
     ghost use Rattle.net_threads.specs.Tasks.{actors_in};
     ghost use Rattle.runs.specs.Resting.{lines_of};
 
@@ -28,10 +29,10 @@ impl<'a, P, G> Lights for NodeTasks<'a, P, G> {
 }
 
 /// The world moves by this number of seconds, as the nodes' timelines show their greens.
-pub(crate) fn move_world<'a, P, G>(
+pub(crate) fn move_world<'a, P, S: LinkSlot, G>(
     world: &mut World,
     net: &Network,
-    nodes: &NodeTasks<'a, P, G>,
+    nodes: &NodeTasks<'a, P, S, G>,
     arrivals: &Arrivals,
     seconds: u32,
 )

@@ -5,6 +5,8 @@ ghost use Rattle.board_rule.specs.Passes.{AreAllPasses, calls_in};
 ghost use Rattle.net_simulator.specs.Worlds.{Stands};
 ghost use Rattle.node_rounds.specs.Calls.{AreStepsOf, HaveCallsLeft, IsRunOfCalls, MergeToLawful};
 ghost use Rattle.runs.specs.Resting.{AreNew};
+ghost use Rattle.snap_boards.specs.Boards.{shared_of};
+ghost use Rattle.net_threads.specs.Ends.{AreEndsOf};
 ghost use Rattle.net_threads.specs.Tasks.{AreTasksOf, actors_in};
 
 use crate::all_nodes::NodeTasks;
@@ -13,11 +15,13 @@ use crate::set_up::node_tasks;
 use arrivals::Arrivals;
 use board_model::Gate;
 use histories::law_of_merged_calls;
+use link_boards::{LinkSlot, idle_passes};
 use net_simulator::World;
 use plan_boards::{Boards, Pass};
 use road_net::Network;
 use runs::{Actors, RunRecord, actors_of, empty_record, law_of_runs, record_of};
 use schedule_meaning::Planner;
+use snap_boards::{SnapBoards, SnapPass};
 use std::alloc::{AllocError, Global};
 use std::sync::Wait;
 use std::thread::{Threads, available_parallelism};
@@ -35,14 +39,14 @@ fn threads_for<R: Threads>(rt: &R, nodes: usize) -> usize {
 /// The rounds of a network before the first, whose nodes have passes of other boards for now.
 ///
 /// `Err`: out of memory.
-fn rounds_of<'a, P: Planner + Drop, G: Gate>(
+fn rounds_of<'a, P: Planner + Drop, S: LinkSlot, G: Gate>(
     alloc: Global,
     net: &'a Network,
     arrivals: &'a Arrivals,
     planners: Vec<P>,
-    boards: &'a Boards,
+    boards: &'a link_boards::Boards<S>,
     gate: &'a G,
-) -> Result<Rounds<'a, P, G>, AllocError>
+) -> Result<Rounds<'a, P, S, G>, AllocError>
     requires planners { vec_len planners ≡ length net.now.node_names }
     ensures refs { IfOk result (λ r. (r.net.now ≡ net.now) × (r.arrivals.now ≡ arrivals.now) × (r.boards.now ≡ boards.now)) }
     ensures new { IfOk result (λ r. AreNew net.now (length net.now.node_names) (actors_in r.nodes.all.items)) }
@@ -52,7 +56,7 @@ fn rounds_of<'a, P: Planner + Drop, G: Gate>(
 {
     let Actors { all: actors } = actors_of(alloc, net)?;
     let world = World::new(alloc, net)?;
-    let (_, passes) = Boards::new(alloc, 1, net.nodes(), 1)?;
+    let passes = idle_passes(alloc, net.nodes())?;
     let all = node_tasks(alloc, net, boards, gate, actors, planners, passes)?;
     Ok(Rounds {
         alloc,
@@ -60,8 +64,53 @@ fn rounds_of<'a, P: Planner + Drop, G: Gate>(
         arrivals,
         boards,
         world,
-        nodes: NodeTasks { all, gate },
+        nodes: NodeTasks { all, boards, gate },
     })
+}
+
+/// The run of a network in threads, at boards of any form: `run_rounds` has all that is asked and promised.
+fn run_in_threads<
+    P: Planner + Send + Drop,
+    S: LinkSlot + Send,
+    R: Threads + Wait + Sync,
+    G: Gate + Sync,
+>(
+    rt: &R,
+    alloc: Global,
+    net: &Network,
+    arrivals: &Arrivals,
+    planners: Vec<P>,
+    boards: &link_boards::Boards<S>,
+    passes: &mut [link_boards::Pass<S>],
+    gate: &G,
+) -> Result<RunRecord, AllocError>
+    requires arrivals { AreArrivals net.now arrivals.now }
+    requires planners { length planners.items ≡ length net.now.node_names }
+    requires links { boards.now.links ≡ length net.now.link_names }
+    requires passes { AreAllPasses boards.now passes.old }
+    requires nodes { length passes.old ≡ length net.now.node_names }
+    requires fresh { All (λ p. p.calls ≡ []) passes.old }
+    requires left { HaveCallsLeft net.now passes.old }
+    ensures passes { AreAllPasses boards.now passes.new }
+    ensures steps { IfOk result (λ run. (node : ℕ) → AreStepsOf net.now run node (calls_in passes.new node)) }
+    ensures lawful { OnOk result (MergeToLawful net.now (calls_in passes.new)) }
+    ensures run { IfOk result (IsRunOfCalls net.now (entering arrivals.now) (calls_in passes.new)) }
+{
+    // `nodes` is called for its clause `network`.
+    let nodes = net.nodes() as usize;
+    law_of_merged_calls(net);
+    law_of_runs(net);
+    let record = empty_record(alloc, net)?;
+    let list = Vec::with_capacity(alloc, nodes)?;
+    let mut rounds = rounds_of(alloc, net, arrivals, planners, boards, gate)?;
+    let pool = TaskPool::new(alloc, nodes, threads_for(rt, nodes))?;
+    rounds.nodes.trade(passes);
+    let (mut rounds, ended) = pool.run(rt, rounds);
+    rounds.nodes.trade(passes);
+    ended?;
+    let Rounds { world, nodes, .. } = rounds;
+    let actors = nodes.into_actors(list);
+    Ok(record_of(net, actors, &world, record))
 }
 
 /// The run of a network in threads. In each round every node's part is a task of its own: it reads the boards of the links on which it
@@ -101,19 +150,57 @@ pub fn run_rounds<P: Planner + Send + Drop, R: Threads + Wait + Sync, G: Gate + 
     ensures lawful { OnOk result (MergeToLawful net.now (calls_in passes.new)) }
     ensures run { IfOk result (IsRunOfCalls net.now (entering arrivals.now) (calls_in passes.new)) }
 {
-    // `nodes` is called for its clause `network`.
-    let nodes = net.nodes() as usize;
-    law_of_merged_calls(net);
-    law_of_runs(net);
-    let record = empty_record(alloc, net)?;
-    let list = Vec::with_capacity(alloc, nodes)?;
-    let mut rounds = rounds_of(alloc, net, arrivals, planners, boards, gate)?;
-    let pool = TaskPool::new(alloc, nodes, threads_for(rt, nodes))?;
-    rounds.nodes.trade(passes);
-    let (mut rounds, ended) = pool.run(rt, rounds);
-    rounds.nodes.trade(passes);
-    ended?;
-    let Rounds { world, nodes, .. } = rounds;
-    let actors = nodes.into_actors(list);
-    Ok(record_of(net, actors, &world, record))
+    run_in_threads(
+        rt,
+        alloc,
+        net,
+        arrivals,
+        planners,
+        boards.shared(),
+        passes,
+        gate,
+    )
+}
+
+/// The run of a network in threads as `run_rounds` makes it, at boards whose forecasts are read beside the writer. Besides what is asked
+/// there, each link that comes from a node and ends at a node has these two as its writer and its reader, and every other link has no
+/// ends (`link_ends`).
+///
+/// What is promised is the same. `Err`: out of memory. Then too the passes are still all passes of these boards, by number, with the calls
+/// that were made, so that the boards can be closed. It waits for the boards and the threads.
+///
+/// docs/DESIGN.md, "Rounds in threads".
+pub fn run_rounds_snap<P: Planner + Send + Drop, R: Threads + Wait + Sync, G: Gate + Sync>(
+    rt: &R,
+    alloc: Global,
+    net: &Network,
+    arrivals: &Arrivals,
+    planners: Vec<P>,
+    boards: &SnapBoards,
+    passes: &mut [SnapPass],
+    gate: &G,
+) -> Result<RunRecord, AllocError>
+    requires arrivals { AreArrivals net.now arrivals.now }
+    requires planners { length planners.items ≡ length net.now.node_names }
+    requires links { boards.now.links ≡ length net.now.link_names }
+    requires ends { AreEndsOf net.now boards.now.ends }
+    requires passes { AreAllPasses (shared_of boards.now) passes.old }
+    requires nodes { length passes.old ≡ length net.now.node_names }
+    requires fresh { All (λ p. p.calls ≡ []) passes.old }
+    requires left { HaveCallsLeft net.now passes.old }
+    ensures passes { AreAllPasses (shared_of boards.now) passes.new }
+    ensures steps { IfOk result (λ run. (node : ℕ) → AreStepsOf net.now run node (calls_in passes.new node)) }
+    ensures lawful { OnOk result (MergeToLawful net.now (calls_in passes.new)) }
+    ensures run { IfOk result (IsRunOfCalls net.now (entering arrivals.now) (calls_in passes.new)) }
+{
+    run_in_threads(
+        rt,
+        alloc,
+        net,
+        arrivals,
+        planners,
+        boards.shared(),
+        passes,
+        gate,
+    )
 }

@@ -6,9 +6,9 @@ ghost use Rattle.net_threads.specs.Tasks.{CanBeginTask, HasBegunTask, IsSameTask
 
 use board_model::Gate;
 use intersection_actor::Actor;
+use link_boards::{Boards, LinkSlot, Meeting, Pass};
 use net_simulator::World;
 use node_rounds::{RoundSetting, begin, play};
-use plan_boards::{Boards, Meeting, Pass};
 use schedule_meaning::Planner;
 use std::alloc::AllocError;
 use std::mem::swap;
@@ -18,22 +18,22 @@ use task_pool::Task;
 
 /// A node, with what it plays by.
 #[derive(Drop)]
-pub struct Node<P> {
+pub struct Node<P, S: LinkSlot> {
     pub(crate) actor: Actor,
     pub(crate) planner: P,
-    pub(crate) pass: Pass,
+    pub(crate) pass: Pass<S>,
 }
 
 /// A node's round, as a task: it has begun, and the node plays on where the task is done.
 #[derive(Drop)]
-pub struct NodeTask<'a, P, G> {
-    pub(crate) setting: RoundSetting<'a, G>,
-    pub(crate) node: Box<Node<P>>,
+pub struct NodeTask<'a, P, S: LinkSlot, G> {
+    pub(crate) setting: RoundSetting<'a, S, G>,
+    pub(crate) node: Box<Node<P, S>>,
     /// How it ended: `Err` where memory ran out.
     pub(crate) ended: Result<(), AllocError>,
 }
 
-impl<'a, P: Planner + Drop, G: Gate> Task for NodeTask<'a, P, G> {
+impl<'a, P: Planner + Drop, S: LinkSlot, G: Gate> Task for NodeTask<'a, P, S, G> {
     ghost use Rattle.net_threads.specs.Tasks.{CanPlayTask, HasPlayedTask};
 
     ghost ready = { CanPlayTask };
@@ -58,10 +58,10 @@ impl<'a, P: Planner + Drop, G: Gate> Task for NodeTask<'a, P, G> {
 /// The node goes on with the round that it has begun.
 ///
 /// `Err`: out of memory.
-fn go_on<'a, P: Planner, R: Threads + Wait + Sync, G: Gate>(
+fn go_on<'a, P: Planner, S: LinkSlot, R: Threads + Wait + Sync, G: Gate>(
     rt: &R,
-    setting: &RoundSetting<'a, G>,
-    node: &mut Node<P>,
+    setting: &RoundSetting<'a, S, G>,
+    node: &mut Node<P, S>,
 ) -> Result<(), AllocError>
     requires links { setting.now.boards.now.links ≡ length setting.now.net.now.link_names }
     requires can { CanGoOn setting.now.net.now setting.now.round setting.now.boards.now node.old.actor node.old.pass }
@@ -78,7 +78,7 @@ fn go_on<'a, P: Planner, R: Threads + Wait + Sync, G: Gate>(
     )
 }
 
-impl<'a, P: Planner + Drop, G: Gate> NodeTask<'a, P, G> {
+impl<'a, P: Planner + Drop, S: LinkSlot, G: Gate> NodeTask<'a, P, S, G> {
     /// The node begins a round: it senses the world.
     ///
     /// `Err`: out of memory.
@@ -93,7 +93,7 @@ impl<'a, P: Planner + Drop, G: Gate> NodeTask<'a, P, G> {
     }
 
     /// A meeting that knows what the node's pass knows.
-    pub(crate) fn open_meeting(&mut self, boards: &Boards) -> Meeting
+    pub(crate) fn open_meeting(&mut self, boards: &Boards<S>) -> Meeting<S>
         requires boards { (pass_of self.old).boards ≡ boards.now.id }
         ensures actor { actor_of self.new ≡ actor_of self.old }
         ensures pass { pass_of self.new ≡ pass_of self.old }
@@ -104,7 +104,7 @@ impl<'a, P: Planner + Drop, G: Gate> NodeTask<'a, P, G> {
     }
 
     /// The node's pass tells a meeting what it knows.
-    pub(crate) fn tell(&mut self, boards: &Boards, meeting: &mut Meeting)
+    pub(crate) fn tell(&mut self, boards: &Boards<S>, meeting: &mut Meeting<S>)
         requires boards { (meeting.old.boards ≡ boards.now.id) × ((pass_of self.old).boards ≡ boards.now.id) }
         ensures actor { actor_of self.new ≡ actor_of self.old }
         ensures pass { pass_of self.new ≡ pass_of self.old }
@@ -116,7 +116,7 @@ impl<'a, P: Planner + Drop, G: Gate> NodeTask<'a, P, G> {
     }
 
     /// The node's pass hears what a meeting knows.
-    pub(crate) fn hear(&mut self, boards: &Boards, meeting: &mut Meeting)
+    pub(crate) fn hear(&mut self, boards: &Boards<S>, meeting: &mut Meeting<S>)
         requires boards { (meeting.old.boards ≡ boards.now.id) × ((pass_of self.old).boards ≡ boards.now.id) }
         ensures actor { actor_of self.new ≡ actor_of self.old }
         ensures pass { pass_of self.new ≡ raised meeting.old.known (pass_of self.old) }
@@ -127,7 +127,7 @@ impl<'a, P: Planner + Drop, G: Gate> NodeTask<'a, P, G> {
     }
 
     /// The node takes this pass for its own, which takes its place.
-    pub(crate) fn trade(&mut self, pass: &mut Pass)
+    pub(crate) fn trade(&mut self, pass: &mut Pass<S>)
         ensures actor { actor_of self.new ≡ actor_of self.old }
         ensures pass { (pass_of self.new ≡ pass.old) × (pass.new ≡ pass_of self.old) }
         ensures setting { self.new.setting ≡ self.old.setting }

@@ -6,8 +6,8 @@ use crate::lights::move_world;
 use crate::node_tasks::NodeTask;
 use arrivals::Arrivals;
 use board_model::Gate;
+use link_boards::{Boards, LinkSlot};
 use net_simulator::World;
-use plan_boards::Boards;
 use road_net::Network;
 use schedule_meaning::Planner;
 use std::alloc::{AllocError, Global};
@@ -17,16 +17,16 @@ use task_pool::{PoolJob, TaskRunner};
 
 /// The rounds of a network: its world, and the tasks of its nodes.
 #[derive(Drop)]
-pub struct Rounds<'a, P, G> {
+pub struct Rounds<'a, P, S: LinkSlot, G> {
     pub(crate) alloc: Global,
     pub(crate) net: &'a Network,
     pub(crate) arrivals: &'a Arrivals,
-    pub(crate) boards: &'a Boards,
+    pub(crate) boards: &'a Boards<S>,
     pub(crate) world: World,
-    pub(crate) nodes: NodeTasks<'a, P, G>,
+    pub(crate) nodes: NodeTasks<'a, P, S, G>,
 }
 
-impl<'a, P: Planner + Drop, G: Gate> Rounds<'a, P, G> {
+impl<'a, P: Planner + Drop, S: LinkSlot, G: Gate> Rounds<'a, P, S, G> {
     ghost use Rattle.std.specs.Prelude.{◌≡◌, ◌+◌, ◌<◌, OnOk, vec_len};
     ghost use Rattle.net_threads.specs.Rounds.{AreAt, AreOf};
 
@@ -36,7 +36,7 @@ impl<'a, P: Planner + Drop, G: Gate> Rounds<'a, P, G> {
     fn play_round<R: Threads + Wait + Sync>(
         &mut self,
         rt: &R,
-        runner: &mut TaskRunner<'_, NodeTask<'a, P, G>>,
+        runner: &mut TaskRunner<'_, NodeTask<'a, P, S, G>>,
         round: u32,
     ) -> Result<(), AllocError>
         requires at { AreAt round self.old }
@@ -62,7 +62,7 @@ impl<'a, P: Planner + Drop, G: Gate> Rounds<'a, P, G> {
     fn play_rounds<R: Threads + Wait + Sync>(
         &mut self,
         rt: &R,
-        runner: &mut TaskRunner<'_, NodeTask<'a, P, G>>,
+        runner: &mut TaskRunner<'_, NodeTask<'a, P, S, G>>,
     ) -> Result<(), AllocError>
         requires at { AreAt 0 self.old }
         requires slots { runner.old ≡ vec_len self.old.nodes.all }
@@ -78,10 +78,11 @@ impl<'a, P: Planner + Drop, G: Gate> Rounds<'a, P, G> {
     }
 }
 
-impl<'a, P: Planner + Drop, G: Gate> PoolJob<NodeTask<'a, P, G>> for Rounds<'a, P, G> {
+impl<'a, P: Planner + Drop, S: LinkSlot, G: Gate> PoolJob<NodeTask<'a, P, S, G>>
+    for Rounds<'a, P, S, G> {
     ghost use Rattle.net_threads.specs.Rounds.{CanRun, HaveRun};
 
-    type Output = (Rounds<'a, P, G>, Result<(), AllocError>);
+    type Output = (Rounds<'a, P, S, G>, Result<(), AllocError>);
 
     ghost can_run = { CanRun };
 
@@ -90,8 +91,8 @@ impl<'a, P: Planner + Drop, G: Gate> PoolJob<NodeTask<'a, P, G>> for Rounds<'a, 
     fn run<R: Threads + Wait + Sync>(
         self,
         rt: &R,
-        tasks: &mut TaskRunner<'_, NodeTask<'a, P, G>>,
-    ) -> (Rounds<'a, P, G>, Result<(), AllocError>) {
+        tasks: &mut TaskRunner<'_, NodeTask<'a, P, S, G>>,
+    ) -> (Rounds<'a, P, S, G>, Result<(), AllocError>) {
         let mut rounds = self;
         let ended = rounds.play_rounds(rt, tasks);
         (rounds, ended)

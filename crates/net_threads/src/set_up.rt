@@ -5,8 +5,8 @@ ghost use Rattle.net_threads.specs.Tasks.{AreTasksOf, actors_in};
 use crate::node_tasks::{Node, NodeTask};
 use board_model::Gate;
 use intersection_actor::Actor;
+use link_boards::{Boards, LinkSlot, Pass};
 use node_rounds::RoundSetting;
-use plan_boards::{Boards, Pass};
 use road_net::Network;
 use schedule_meaning::Planner;
 use std::alloc::{AllocError, Global};
@@ -14,12 +14,12 @@ use std::alloc::{AllocError, Global};
 /// The task of a node.
 ///
 /// `Err`: out of memory.
-fn node_task<'a, P: Planner + Drop, G: Gate>(
-    setting: RoundSetting<'a, G>,
+fn node_task<'a, P: Planner + Drop, S: LinkSlot, G: Gate>(
+    setting: RoundSetting<'a, S, G>,
     actor: Actor,
     planner: P,
-    pass: Pass,
-) -> Result<NodeTask<'a, P, G>, AllocError>
+    pass: Pass<S>,
+) -> Result<NodeTask<'a, P, S, G>, AllocError>
     ensures setting { IfOk result (λ task. task.setting ≡ setting.entry) }
     ensures actor { IfOk result (λ task. task.node.value.actor ≡ actor) }
 {
@@ -39,15 +39,15 @@ fn node_task<'a, P: Planner + Drop, G: Gate>(
 /// The tasks of nodes with these actors, each with one of these planners and passes.
 ///
 /// `Err`: out of memory.
-pub(crate) fn node_tasks<'a, P: Planner + Drop, G: Gate>(
+pub(crate) fn node_tasks<'a, P: Planner + Drop, S: LinkSlot, G: Gate>(
     alloc: Global,
     net: &'a Network,
-    boards: &'a Boards,
+    boards: &'a Boards<S>,
     gate: &'a G,
     actors: Vec<Actor>,
     planners: Vec<P>,
-    passes: Vec<Pass>,
-) -> Result<Vec<NodeTask<'a, P, G>>, AllocError>
+    passes: Vec<Pass<S>>,
+) -> Result<Vec<NodeTask<'a, P, S, G>>, AllocError>
     requires planners { vec_len planners ≡ vec_len actors }
     requires passes { vec_len passes ≡ vec_len actors }
     ensures actors { IfOk result (λ tasks. actors_in tasks.items ≡ actors.items) }

@@ -11,18 +11,18 @@ ghost use Rattle.node_rounds.specs.Nodes.{HasHeard, HasRead, HasSent, HasTold, I
 use crate::round_setting::RoundSetting;
 use board_model::{Forecast, Gate, Heard, Sent};
 use intersection_actor::{Actor, Want};
-use plan_boards::Pass;
+use link_boards::{LinkSlot, Pass};
 use std::alloc::AllocError;
 use std::sync::Wait;
 use std::thread::Threads;
 
 /// The node reads the link that it wants to read.
-fn read<'a, R: Threads + Wait + Sync, G: Gate>(
+fn read<'a, S: LinkSlot, R: Threads + Wait + Sync, G: Gate>(
     rt: &R,
-    setting: &RoundSetting<'a, G>,
+    setting: &RoundSetting<'a, S, G>,
     link: u32,
     actor: &mut Actor,
-    pass: &mut Pass,
+    pass: &mut Pass<S>,
 ) -> Result<(), AllocError>
     requires boards { pass.old.boards ≡ setting.now.boards.now.id }
     requires link { link < setting.now.boards.now.links }
@@ -44,11 +44,11 @@ fn read<'a, R: Threads + Wait + Sync, G: Gate>(
 }
 
 /// The node reads all links on which it hears another one.
-pub(crate) fn hear<'a, R: Threads + Wait + Sync, G: Gate>(
+pub(crate) fn hear<'a, S: LinkSlot, R: Threads + Wait + Sync, G: Gate>(
     rt: &R,
-    setting: &RoundSetting<'a, G>,
+    setting: &RoundSetting<'a, S, G>,
     actor: &mut Actor,
-    pass: &mut Pass,
+    pass: &mut Pass<S>,
 ) -> Result<(), AllocError>
     requires links { setting.now.boards.now.links ≡ length setting.now.net.now.link_names }
     requires boards { pass.old.boards ≡ setting.now.boards.now.id }
@@ -70,12 +70,12 @@ pub(crate) fn hear<'a, R: Threads + Wait + Sync, G: Gate>(
 }
 
 /// The pass publishes this forecast on the link.
-fn send<'a, R: Threads + Wait + Sync, G: Gate>(
+fn send<'a, S: LinkSlot, R: Threads + Wait + Sync, G: Gate>(
     rt: &R,
-    setting: &RoundSetting<'a, G>,
+    setting: &RoundSetting<'a, S, G>,
     link: u32,
     forecast: Forecast,
-    pass: &mut Pass,
+    pass: &mut Pass<S>,
 ) -> Result<Sent, AllocError>
     requires boards { pass.old.boards ≡ setting.now.boards.now.id }
     requires link { link < setting.now.boards.now.links }
@@ -91,12 +91,12 @@ fn send<'a, R: Threads + Wait + Sync, G: Gate>(
 }
 
 /// The node publishes on the link on which it wants to.
-fn publish<'a, R: Threads + Wait + Sync, G: Gate>(
+fn publish<'a, S: LinkSlot, R: Threads + Wait + Sync, G: Gate>(
     rt: &R,
-    setting: &RoundSetting<'a, G>,
+    setting: &RoundSetting<'a, S, G>,
     link: u32,
     actor: &mut Actor,
-    pass: &mut Pass,
+    pass: &mut Pass<S>,
 ) -> Result<(), AllocError>
     requires boards { pass.old.boards ≡ setting.now.boards.now.id }
     requires link { link < setting.now.boards.now.links }
@@ -117,11 +117,11 @@ fn publish<'a, R: Threads + Wait + Sync, G: Gate>(
 }
 
 /// The node publishes on all links on which it tells another one.
-pub(crate) fn tell<'a, R: Threads + Wait + Sync, G: Gate>(
+pub(crate) fn tell<'a, S: LinkSlot, R: Threads + Wait + Sync, G: Gate>(
     rt: &R,
-    setting: &RoundSetting<'a, G>,
+    setting: &RoundSetting<'a, S, G>,
     actor: &mut Actor,
-    pass: &mut Pass,
+    pass: &mut Pass<S>,
 ) -> Result<(), AllocError>
     requires links { setting.now.boards.now.links ≡ length setting.now.net.now.link_names }
     requires boards { pass.old.boards ≡ setting.now.boards.now.id }

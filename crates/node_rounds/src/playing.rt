@@ -7,8 +7,8 @@ use crate::board_steps::{hear, tell};
 use crate::round_setting::RoundSetting;
 use board_model::Gate;
 use intersection_actor::Actor;
+use link_boards::{LinkSlot, Pass};
 use net_simulator::World;
-use plan_boards::Pass;
 use schedule_meaning::Planner;
 use std::alloc::AllocError;
 use std::sync::Wait;
@@ -19,11 +19,11 @@ use std::thread::Threads;
 /// `Err`: out of memory.
 ///
 /// docs/DESIGN.md, "Rounds in threads".
-pub fn begin<'a, G: Gate>(
-    setting: &RoundSetting<'a, G>,
+pub fn begin<'a, S: LinkSlot, G: Gate>(
+    setting: &RoundSetting<'a, S, G>,
     world: &World,
     actor: &mut Actor,
-    pass: &Pass,
+    pass: &Pass<S>,
 ) -> Result<(), AllocError>
     requires can { CanPlay setting.now.net.now setting.now.round world.now setting.now.boards.now actor.old pass.now }
     ensures begun { OnOk result (HasBegun setting.now.net.now setting.now.round world.now actor.old actor.new) }
@@ -41,12 +41,12 @@ pub fn begin<'a, G: Gate>(
 /// `Err`: out of memory. The pass keeps the calls that were made.
 ///
 /// docs/DESIGN.md, "Rounds in threads".
-pub fn play<'a, P: Planner, R: Threads + Wait + Sync, G: Gate>(
+pub fn play<'a, P: Planner, S: LinkSlot, R: Threads + Wait + Sync, G: Gate>(
     rt: &R,
-    setting: &RoundSetting<'a, G>,
+    setting: &RoundSetting<'a, S, G>,
     actor: &mut Actor,
     planner: &mut P,
-    pass: &mut Pass,
+    pass: &mut Pass<S>,
 ) -> Result<(), AllocError>
     requires links { setting.now.boards.now.links ≡ length setting.now.net.now.link_names }
     requires can { CanGoOn setting.now.net.now setting.now.round setting.now.boards.now actor.old pass.old }

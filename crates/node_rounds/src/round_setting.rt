@@ -1,5 +1,5 @@
 //! What nodes play a round by.
-use plan_boards::Boards;
+use link_boards::{Boards, LinkSlot};
 use road_net::Network;
 use std::alloc::Global;
 
@@ -7,13 +7,13 @@ use std::alloc::Global;
 ///
 /// docs/DESIGN.md, "Rounds in threads".
 #[derive(Drop)]
-pub struct RoundSetting<'a, G> {
+pub struct RoundSetting<'a, S: LinkSlot, G> {
     /// Where memory comes from.
     pub alloc: Global,
     /// The network.
     pub net: &'a Network,
     /// The boards on which nodes publish and read.
-    pub boards: &'a Boards,
+    pub boards: &'a Boards<S>,
     /// What is called before and within each board step.
     pub gate: &'a G,
     /// The round's number, from 0.

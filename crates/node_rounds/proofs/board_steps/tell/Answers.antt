@@ -1,7 +1,14 @@
-use Rattle.std.proofs.Common.{subst, sym, ◌∙◌}
+use Rattle.std.proofs.Common.{refl, subst, sym, ◌∙◌}
 use Rattle.node_rounds.specs.Nodes.{HasTold}
-use Rattle.node_rounds.proofs.TellLaws.{among-more, call-left, goes-by, told-more, wants-link}
+use Rattle.node_rounds.proofs.TellLaws.{among-more, call-left, goes-by, told-more, told-none, wants-link}
 use Rattle.node_rounds.proofs.board_steps.tell.Goals as goal
+
+pub loop-link-init : goal.loop-link-init
+loop-link-init g c = record {
+  told = told-none c.args.setting.now.net.now c.args.actor.now c.args.pass.now c.requires.want;
+  of = c.requires.of;
+  same = (refl, refl);
+}
 
 pub publish-requires-clause-want : goal.publish-requires-clause-want
 publish-requires-clause-want g c κs within =

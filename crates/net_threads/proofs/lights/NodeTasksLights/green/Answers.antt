@@ -16,6 +16,6 @@ returns g c =
     let inside : node < length all = omega (arith, c.if-node-len.false, c.len.ensures, c.args.self.now.all.ok.0) in
     let there : node < length (actors_in all) = omega (arith, inside, length-map all actor_of) in
     let line : c.timeline.result.now ≡ get_or (map (λ (a : Acting). a.line) (actors_in all)) node [] =
-    c.timeline.ensures ∙ ap (λ (n : Node _). n.actor.line) c.deref.ensures ∙ ap (λ (t : NodeTask _ _). t.node.value.actor.line) c.index.ensures
+    c.timeline.ensures ∙ ap (λ (n : Node _ _ _). n.actor.line) c.deref.ensures ∙ ap (λ (t : NodeTask _ _ _ _). t.node.value.actor.line) c.index.ensures
     ∙ ap (λ (x : Acting). x.line) (sym (get_or-map actor_of all node d a inside)) ∙ sym (get_or-map (λ (x : Acting). x.line) (actors_in all) node a [] there) in
     c.green_at.ensures.value ∙ ap (λ l. green_at l c.args.second) line

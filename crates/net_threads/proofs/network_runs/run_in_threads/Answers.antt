@@ -12,7 +12,7 @@ use Rattle.node_rounds.proofs.ThreadRuns.{are-steps, is-run-of, merge-lawful}
 use Rattle.net_threads.specs.Rounds.{AreAt}
 use Rattle.net_threads.specs.Tasks.{actor_of, actors_in, pass_of, passes_in}
 use Rattle.net_threads.proofs.TaskLists.{same-count}
-use Rattle.net_threads.proofs.network_runs.run_rounds.Goals as goal
+use Rattle.net_threads.proofs.network_runs.run_in_threads.Goals as goal
 
 pub run-rounds-requires-after_bounds : goal.run-rounds-requires-after_bounds
 run-rounds-requires-after_bounds g c κs within =
