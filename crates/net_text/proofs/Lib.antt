@@ -1,0 +1,6 @@
+pub mod ItemLaws
+pub mod LinkLaws
+pub mod MemberLaws
+pub mod PhaseLaws
+pub mod TableLaws
+pub mod TopLaws

@@ -1,0 +1,76 @@
+//! What is put into a table: a value at a key.
+ghost use Rattle.std.specs.Prelude.{◌≡◌, OnOk, option_map, option_copied};
+ghost use Rattle.toml.specs.Data.{boolean, string};
+ghost use Rattle.toml.specs.View.{view, table_view};
+ghost use Rattle.net_text.specs.Members.{with_member, with_optional};
+ghost use Rattle.net_text.specs.Written.{HasNumber};
+
+use foundation::text::Text;
+use std::alloc::{AllocError, Global};
+use toml::{Table, Value};
+
+/// Puts a value at a key.
+pub(crate) fn put(
+    alloc: Global,
+    table: &mut Table,
+    key: &str,
+    value: Value,
+) -> Result<(), AllocError>
+    ensures { OnOk result (table_view table.new ≡ with_member key.now (view value) (table_view table.old)) }
+{
+    let key = String::from_str(alloc, key)?;
+    let _ = table.insert(key, value)?;
+    Ok(())
+}
+
+/// Puts a number at a key.
+pub(crate) fn put_number(
+    alloc: Global,
+    table: &mut Table,
+    key: &str,
+    number: u32,
+) -> Result<(), AllocError>
+    ensures { OnOk result (HasNumber key.now number (table_view table.old) (table_view table.new)) }
+{
+    put(alloc, table, key, Value::Integer(i64::from(number)))
+}
+
+/// Puts a truth value at a key.
+pub(crate) fn put_flag(
+    alloc: Global,
+    table: &mut Table,
+    key: &str,
+    flag: bool,
+) -> Result<(), AllocError>
+    ensures { OnOk result (table_view table.new ≡ with_member key.now (boolean flag) (table_view table.old)) }
+{
+    put(alloc, table, key, Value::Boolean(flag))
+}
+
+/// Puts a text at a key.
+pub(crate) fn put_text(
+    alloc: Global,
+    table: &mut Table,
+    key: &str,
+    text: &Text,
+) -> Result<(), AllocError>
+    ensures { OnOk result (table_view table.new ≡ with_member key.now (string text.now) (table_view table.old)) }
+{
+    let value = Value::string(alloc, text.as_str())?;
+    put(alloc, table, key, value)
+}
+
+/// Puts a text at a key, where there is one.
+pub(crate) fn put_text_if(
+    alloc: Global,
+    table: &mut Table,
+    key: &str,
+    text: &Option<Text>,
+) -> Result<(), AllocError>
+    ensures { OnOk result (table_view table.new ≡ with_optional key.now (option_map string text.now) (table_view table.old)) }
+{
+    match text {
+        Some(text) => put_text(alloc, table, key, text),
+        None => Ok(()),
+    }
+}
