@@ -1,0 +1,59 @@
+-- The draft of a network by numbers.
+use Rattle.std.specs.Prelude.{ℕ, ◌<◌, List, [], length, map, option_map, slice_index_or, All}
+use Rattle.std.specs.List.{range_with_len}
+use Rattle.phase_plan.specs.declared.Phase.{Phase}
+use Rattle.phase_plan.specs.Phases.{phase_at}
+use Rattle.net_draft.specs.declared.drafts.Draft.{Draft}
+use Rattle.net_draft.specs.declared.drafts.DraftNode.{DraftNode}
+use Rattle.net_draft.specs.declared.drafts.DraftPhase.{DraftPhase}
+use Rattle.net_draft.specs.declared.drafts.DraftLink.{DraftLink}
+use Rattle.net_draft.specs.declared.drafts.DraftTurn.{DraftTurn}
+use Rattle.net_draft.specs.declared.drafts.DraftConflict.{DraftConflict}
+use Rattle.net_numbers.specs.declared.roads.Turn.{Turn}
+use Rattle.net_numbers.specs.Numbers.{Net}
+use Rattle.net_numbers.specs.Outline.{link_at, turns_at, plan_at, phases_at}
+
+-- the name of a number
+abbrev pub name_in : List (List ℕ) → ℕ → List ℕ
+name_in names number = slice_index_or names number []
+
+-- these are numbers of the names
+abbrev pub AreNumbers : List (List ℕ) → List ℕ → Type 0
+AreNumbers names numbers = All (λ number. number < length names) numbers
+
+-- a phase of a plan, with the names of its links
+abbrev pub phase_by_names : List (List ℕ) → List Phase → List (List ℕ) → ℕ → DraftPhase
+phase_by_names names plan lists k = record { phase = phase_at plan k; links = map (name_in names) (slice_index_or lists k []) }
+
+-- the node with this number
+unfoldable pub node_by_names : Net → ℕ → DraftNode
+node_by_names net n = record { name = name_in net.node_names n; phases = map (phase_by_names net.link_names (plan_at net n) (phases_at net n)) (range_with_len 0 (length (plan_at net n))) }
+
+-- a turn
+abbrev pub turn_by_names : List (List ℕ) → Turn → DraftTurn
+turn_by_names names turn = record { exit = name_in names turn.exit; share = turn.share }
+
+-- the link with this number
+unfoldable pub link_by_names : Net → ℕ → DraftLink
+link_by_names net l = record {
+  name = name_in net.link_names l;
+  from = option_map (name_in net.node_names) (link_at net l).from;
+  to = option_map (name_in net.node_names) (link_at net l).to;
+  travel = (link_at net l).travel;
+  sat = (link_at net l).sat;
+  weight = (link_at net l).weight;
+  turns = map (turn_by_names net.link_names) (turns_at net l);
+}
+
+-- a conflict
+abbrev pub conflict_by_names : List (List ℕ) → ℕ × ℕ → DraftConflict
+conflict_by_names names pair = record { a = name_in names pair.0; b = name_in names pair.1 }
+
+-- the draft with the names of the network for its numbers
+unfoldable pub draft_by_names : Net → Draft
+draft_by_names net = record {
+  run = net.run;
+  nodes = map (node_by_names net) (range_with_len 0 (length net.node_names));
+  links = map (link_by_names net) (range_with_len 0 (length net.link_names));
+  conflicts = map (conflict_by_names net.link_names) net.conflicts;
+}
