@@ -40,9 +40,11 @@ unfolding draft_of
 top-filled d {m5 = m5} version run nodes links conflicts empty =
     let is : m5 ≡ top_members run.data_of nodes.items links.items conflicts.items = rw (conflicts.is, links.is, nodes.is, run.is, version.is, empty) refl in
     let (ms, there, read) = bind-some (as_table run.data_of) run_of d.run run.reads.read in
+    let top = top-read run.data_of nodes.items links.items conflicts.items ms there in
     subst (λ ms. AreMembersOf 5 ms d) (sym is) (record {
-      form = rw (top-read run.data_of nodes.items links.items conflicts.items ms there, read, nodes.are.read, links.are.read, conflicts.are.read) refl;
+      form = rw (top, read, nodes.are.read, links.are.read, conflicts.are.read) refl;
       version = top-version run.data_of nodes.items links.items conflicts.items;
+      known = rw top refl;
       depth = top-depth run.data_of nodes.items links.items conflicts.items run.reads.depth nodes.are.depth links.are.depth conflicts.are.depth;
     })
 

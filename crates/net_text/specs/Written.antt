@@ -3,7 +3,7 @@ use Rattle.std.specs.Prelude.{◌≡◌, ℕ, ◌^◌, ◌<◌, ◌≤◌, codes
 use Rattle.toml.specs.Data.{Data, Items, no_items, Members, no_members, integer, array, table, as_table, depth, items_depth, members_depth, get_member}
 use Rattle.toml.specs.Parse.{parse_document}
 use Rattle.foundation.specs.Options.{◌>>=◌, each}
-use Rattle.net_draft.specs.Table.{list_of, run_of, draft_of}
+use Rattle.net_draft.specs.Table.{list_of, run_of, draft_of, HasKnownVersion}
 use Rattle.net_draft.specs.declared.drafts.Run.{Run}
 use Rattle.net_draft.specs.declared.drafts.Draft.{Draft}
 use Rattle.net_text.specs.Members.{with_member, with_optional}
@@ -58,6 +58,7 @@ run_in d = as_table d >>= run_of
 pub record AreMembersOf (deep : ℕ) (ms : Members) (draft : Draft) : Type 0 where
   pub form : draft_of ms ≡ Some draft
   pub version : get_member (codes "version") ms ≡ Some (integer (pos 2))
+  pub known : HasKnownVersion ms
   pub depth : members_depth ms ≤ deep
 
 -- the text is that of the members, which are read again where they are not too deep for that
@@ -72,3 +73,4 @@ pub record IsTextOfDraft (bytes : List ℕ) (draft : Draft) : Type 0 where
   pub toml : parse_document bytes ≡ Some table
   pub form : draft_of table ≡ Some draft
   pub version : get_member (codes "version") table ≡ Some (integer (pos 2))
+  pub known : HasKnownVersion table

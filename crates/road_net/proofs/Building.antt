@@ -1,5 +1,5 @@
 -- The faults of a text and of a draft, from those of the steps that read them.
-use Rattle.std.proofs.Common.{◌≡◌, ℕ, List, None, Some, Result, Ok, Err, IfOk, IfErr}
+use Rattle.std.proofs.Common.{◌≡◌, ℕ, List, None, Some, Err}
 use Rattle.std.specs.Prelude.{IsUtf8}
 use Rattle.toml.specs.Data.{Members}
 use Rattle.toml.specs.Parse.{parse_document}

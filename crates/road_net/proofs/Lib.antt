@@ -11,3 +11,4 @@ pub mod PartsAtMost
 pub mod Serving
 pub mod Shares
 pub mod TotalLaws
+pub mod Written

@@ -10,6 +10,7 @@ ghost use Rattle.net_numbers.specs.Parts.{net_of};
 ghost use Rattle.road_net.specs.FirstFaults.{IsJoinFault, IsDraftFault};
 ghost use Rattle.road_net.specs.Network.{IsNetworkOf, IsNetworkText, IsCause};
 ghost use Rattle.road_net.specs.Stored.{IsStored, Drafts, Joins, Links};
+ghost use Rattle.road_net.specs.Upgrade.{IsUpgraded};
 
 mod joins;
 mod senses;
@@ -27,7 +28,7 @@ pub use net_numbers::{Link, Turn};
 use phase_plan::PhasePlan;
 pub use senses::{LinkSense, Sensed};
 pub use splits::{law_of_parts, part_of_turn};
-use std::alloc::Global;
+use std::alloc::{AllocError, Global};
 use std::marker::Model;
 
 /// A valid road network. Its nodes and links are numbered from 0 in the order of its file.
@@ -338,4 +339,15 @@ fn parse_draft(alloc: Global, bytes: &[u8]) -> Result<Draft, NetFault>
         return Err(OTHER_VERSION);
     }
     Ok(draft)
+}
+
+/// The network file of a network, of version 2: every mark and weight stands in it, and an array that may be absent only where
+/// it is not empty. What is read from it is this very network, with the same value of every accessor. `Err`: out of memory.
+///
+/// docs/FORMATS.md, "Network file".
+pub fn write_network(alloc: Global, net: &Network) -> Result<Vec<u8>, AllocError>
+    ensures { IfOk result (λ bytes. IsUpgraded bytes.items net.now) }
+{
+    let draft = net_names::draft_by_names(alloc, &net.parts)?;
+    net_text::draft_text(alloc, &draft)
 }
