@@ -94,9 +94,15 @@ fn open<R: Wait>(
 }
 
 /// Ends boards whose logs nobody wants. It waits for readers.
-fn abandon<R: Wait>(rt: &R, boards: Boards<SnapLog>, passes: Vec<SnapPass>) {
-    drop_passes(passes);
+fn end_boards<R: Wait>(rt: &R, boards: Boards<SnapLog>) {
     boards.take_apart(|slot| drop(slot.end(rt)));
+}
+
+/// Ends boards that memory does not suffice to close, and their passes.
+fn give_up<R: Wait>(rt: &R, boards: Boards<SnapLog>, passes: Vec<SnapPass>, error: AllocError) -> AllocError {
+    drop_passes(passes);
+    end_boards(rt, boards);
+    error
 }
 
 /// The logs of slots, for which there is capacity.
@@ -127,10 +133,7 @@ fn close_into<R: Wait>(
 {
     match boards.into_slots(alloc, passes) {
         Ok(slots) => Ok(into_logs(rt, slots, logs)),
-        Err((boards, passes, error)) => {
-            abandon(rt, boards, passes);
-            Err(error)
-        }
+        Err((boards, passes, error)) => Err(give_up(rt, boards, passes, error)),
     }
 }
 
@@ -191,10 +194,15 @@ impl SnapBoards {
         let SnapBoards { shared, ends: _ } = self;
         match Vec::with_capacity(alloc, shared.link_count()) {
             Ok(logs) => close_into(rt, alloc, shared, passes, logs),
-            Err(error) => {
-                abandon(rt, shared, passes);
-                Err(error)
-            }
+            Err(error) => Err(give_up(rt, shared, passes, error)),
         }
+    }
+
+    /// Ends boards whose logs nobody wants, for a caller whose passes are gone. It waits for readers, and takes no memory.
+    ///
+    /// docs/DESIGN.md, "Boards whose forecasts are read beside the writer".
+    pub fn abandon<R: Wait>(self, rt: &R) {
+        let SnapBoards { shared, ends: _ } = self;
+        end_boards(rt, shared);
     }
 }
