@@ -1,11 +1,13 @@
 //! A run in threads, and the history that its boards tell.
-ghost use Rattle.std.specs.Prelude.{◌≡◌, All, IfOk, [], length};
+ghost use Rattle.std.specs.Prelude.{◌≡◌, All, IfOk, OnOk, [], length};
 ghost use Rattle.arrivals.specs.Amounts.{AreArrivals, entering};
-ghost use Rattle.board_rule.specs.Passes.{AreAllPasses, AreLogsOfPasses, calls_in};
+ghost use Rattle.board_rule.specs.Passes.{AreAllPasses, calls_in};
 ghost use Rattle.delay_report.specs.Reports.{outcome_records, records_text, report_text, steps_records};
 ghost use Rattle.histories.specs.Histories.{IsLawful};
 ghost use Rattle.runs.specs.Complete.{IsComplete};
 ghost use Rattle.node_rounds.specs.Calls.{HaveCallsLeft, IsRunOfCalls, MergeToLawful};
+ghost use Rattle.net_threads.specs.Ends.{AreEndsOf};
+ghost use Rattle.snap_boards.specs.Boards.{shared_of};
 ghost use Rattle.commands.specs.Headline.{ToldHeadline};
 ghost use Rattle.network_jobs.specs.Merged.{HaveLawfulMerge, IsRunOfMerge, IsTextOfMerge};
 
@@ -14,11 +16,11 @@ use arrivals::Arrivals;
 use board_model::{BoardLog, Gate};
 use delay_report::{join_report, law_of_reports, render_outcome, render_steps};
 use histories::merge;
-use net_threads::run_rounds;
-use plan_boards::{Boards, Pass};
+use net_threads::{link_ends, run_rounds_snap};
 use pruned_dp::BoundPlanner;
 use road_net::Network;
 use runs::{RunRecord, law_of_runs};
+use snap_boards::{SnapBoards, SnapPass};
 use std::alloc::{AllocError, Global};
 use std::sync::Wait;
 use std::thread::{Threads, join};
@@ -30,16 +32,22 @@ struct LoggedRun {
     logs: Vec<BoardLog>,
 }
 
-/// New boards for the links of a network, and new passes at them, one for each node, with calls for all rounds.
-fn open_boards(alloc: Global, net: &Network) -> Result<(Boards, Vec<Pass>), AllocError>
+/// New boards for the links of a network, whose ends are its nodes, and new passes at them, one for each node, with calls for all rounds.
+fn open_boards<R: Wait>(
+    rt: &R,
+    alloc: Global,
+    net: &Network,
+) -> Result<(SnapBoards, Vec<SnapPass>), AllocError>
     ensures links { IfOk result (λ r. r.0.links ≡ length net.now.link_names) }
-    ensures all { IfOk result (λ r. AreAllPasses r.0 r.1.items) }
+    ensures ends { IfOk result (λ r. AreEndsOf net.now r.0.ends) }
+    ensures all { IfOk result (λ r. AreAllPasses (shared_of r.0) r.1.items) }
     ensures nodes { IfOk result (λ r. length r.1.items ≡ length net.now.node_names) }
     ensures fresh { IfOk result (λ r. All (λ p. p.calls ≡ []) r.1.items) }
     ensures left { IfOk result (λ r. HaveCallsLeft net.now r.1.items) }
 {
+    let ends = link_ends(alloc, net)?;
     let calls = calls_for_pass(net);
-    let (boards, passes) = Boards::new(alloc, net.links(), net.nodes(), calls)?;
+    let (boards, passes) = SnapBoards::new(rt, alloc, ends.as_slice(), net.nodes(), calls)?;
     Ok((boards, passes))
 }
 
@@ -49,23 +57,25 @@ fn run_with_passes<R: Threads + Wait + Sync, G: Gate + Sync>(
     alloc: Global,
     net: &Network,
     arrivals: &Arrivals,
-    boards: &Boards,
-    passes: Vec<Pass>,
+    boards: &SnapBoards,
+    mut passes: Vec<SnapPass>,
     gate: &G,
-) -> Result<(RunRecord, Vec<Pass>), AllocError>
+) -> (Result<RunRecord, AllocError>, Vec<SnapPass>)
     requires arrivals { AreArrivals net.now arrivals.now }
     requires links { boards.now.links ≡ length net.now.link_names }
-    requires all { AreAllPasses boards.now passes.items }
+    requires ends { AreEndsOf net.now boards.now.ends }
+    requires all { AreAllPasses (shared_of boards.now) passes.items }
     requires nodes { length passes.items ≡ length net.now.node_names }
     requires fresh { All (λ p. p.calls ≡ []) passes.items }
     requires left { HaveCallsLeft net.now passes.items }
-    ensures passes { IfOk result (λ r. AreAllPasses boards.now r.1.items) }
-    ensures lawful { IfOk result (λ r. MergeToLawful net.now (calls_in r.1.items)) }
-    ensures run { IfOk result (λ r. IsRunOfCalls net.now (entering arrivals.now) (calls_in r.1.items) r.0) }
+    ensures passes { AreAllPasses (shared_of boards.now) result.1.items }
+    ensures lawful { OnOk result.0 (MergeToLawful net.now (calls_in result.1.items)) }
+    ensures run { IfOk result.0 (IsRunOfCalls net.now (entering arrivals.now) (calls_in result.1.items)) }
 {
-    let planners = BoundPlanner::many(alloc, net.nodes() as usize)?;
-    let mut passes = passes;
-    let run = run_rounds(
+    let Ok(planners) = BoundPlanner::many(alloc, net.nodes() as usize) else {
+        return (Err(AllocError), passes);
+    };
+    let run = run_rounds_snap(
         rt,
         alloc,
         net,
@@ -74,23 +84,12 @@ fn run_with_passes<R: Threads + Wait + Sync, G: Gate + Sync>(
         boards,
         passes.as_mut_slice(),
         gate,
-    )?;
-    Ok((run, passes))
+    );
+    (run, passes)
 }
 
-/// The logs of the boards.
-fn close_boards(
-    alloc: Global,
-    boards: Boards,
-    passes: Vec<Pass>,
-) -> Result<Vec<BoardLog>, AllocError>
-    requires { AreAllPasses boards passes.items }
-    ensures { IfOk result (λ logs. AreLogsOfPasses boards.links passes.items logs.items) }
-{
-    boards.close(alloc, passes).map_err(|refused| refused.2)
-}
-
-/// The run of a network in threads, each node with a planner and a pass of its own, and the logs of the boards.
+/// The run of a network in threads, each node with a planner and a pass of its own, and the logs of the boards. The boards are closed
+/// whether the run succeeds or not.
 fn play<R: Threads + Wait + Sync, G: Gate + Sync>(
     rt: &R,
     alloc: Global,
@@ -101,9 +100,10 @@ fn play<R: Threads + Wait + Sync, G: Gate + Sync>(
     requires { AreArrivals net.now arrivals.now }
     ensures { IfOk result (λ logged. IsRunOfMerge net.now (entering arrivals.now) logged.logs.items logged.run) }
 {
-    let (boards, passes) = open_boards(alloc, net)?;
-    let (run, passes) = run_with_passes(rt, alloc, net, arrivals, &boards, passes, gate)?;
-    let logs = close_boards(alloc, boards, passes)?;
+    let (boards, passes) = open_boards(rt, alloc, net)?;
+    let (run, passes) = run_with_passes(rt, alloc, net, arrivals, &boards, passes, gate);
+    let logs = boards.close(rt, alloc, passes)?;
+    let run = run?;
     Ok(LoggedRun { run, logs })
 }
 

@@ -99,7 +99,12 @@ fn end_boards<R: Wait>(rt: &R, boards: Boards<SnapLog>) {
 }
 
 /// Ends boards that memory does not suffice to close, and their passes.
-fn give_up<R: Wait>(rt: &R, boards: Boards<SnapLog>, passes: Vec<SnapPass>, error: AllocError) -> AllocError {
+fn give_up<R: Wait>(
+    rt: &R,
+    boards: Boards<SnapLog>,
+    passes: Vec<SnapPass>,
+    error: AllocError,
+) -> AllocError {
     drop_passes(passes);
     end_boards(rt, boards);
     error

@@ -1,4 +1,5 @@
 use Rattle.std.proofs.Common.{◌≡◌, ◌++◌, ◌∙◌, List, length, take, drop, sym, subst}
+use Rattle.std.specs.Prelude.{IfOk, OnOk}
 use Rattle.arrivals.specs.Amounts.{entering}
 use Rattle.board_rule.specs.Passes.{PassView, calls_in}
 use Rattle.node_rounds.specs.Calls.{IsRunOfCalls, MergeToLawful}
@@ -7,14 +8,14 @@ use Rattle.network_jobs.proofs.rounds.run_with_passes.Goals as goal
 
 pub returns-clause-lawful : goal.returns-clause-lawful
 returns-clause-lawful g c =
-    let played = c.run_rounds.new.passes in
+    let played = c.run_rounds_snap-run.new.passes in
     let dealt = c.args.passes in
-    let back : take dealt.len (played ++ drop (length played) dealt.items) ≡ played = put-back dealt.len played dealt.items dealt.ok.0 (c.run_rounds.ensures.passes.count ∙ sym c.requires.all.count) in
-    subst (λ (passes : List PassView). MergeToLawful c.args.net.now (calls_in passes)) (sym back) c.in_ok-run.ensures.lawful
+    let back : take dealt.len (played ++ drop (length played) dealt.items) ≡ played = put-back dealt.len played dealt.items dealt.ok.0 (c.run_rounds_snap-run.ensures.passes.count ∙ sym c.requires.all.count) in
+    subst (λ (passes : List PassView). OnOk c.run_rounds_snap-run.result (MergeToLawful c.args.net.now (calls_in passes))) (sym back) c.run_rounds_snap-run.ensures.lawful
 
 pub returns-clause-run : goal.returns-clause-run
 returns-clause-run g c =
-    let played = c.run_rounds.new.passes in
+    let played = c.run_rounds_snap-run.new.passes in
     let dealt = c.args.passes in
-    let back : take dealt.len (played ++ drop (length played) dealt.items) ≡ played = put-back dealt.len played dealt.items dealt.ok.0 (c.run_rounds.ensures.passes.count ∙ sym c.requires.all.count) in
-    subst (λ (passes : List PassView). IsRunOfCalls c.args.net.now (entering c.args.arrivals.now) (calls_in passes) c.in_ok-run.run') (sym back) c.in_ok-run.ensures.run
+    let back : take dealt.len (played ++ drop (length played) dealt.items) ≡ played = put-back dealt.len played dealt.items dealt.ok.0 (c.run_rounds_snap-run.ensures.passes.count ∙ sym c.requires.all.count) in
+    subst (λ (passes : List PassView). IfOk c.run_rounds_snap-run.result (IsRunOfCalls c.args.net.now (entering c.args.arrivals.now) (calls_in passes))) (sym back) c.run_rounds_snap-run.ensures.run
