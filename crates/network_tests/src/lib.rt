@@ -1,5 +1,5 @@
-//! Tests of what no clause of a network's crates says and no command shows: splits, smoothed series, windows, and the world of the
-//! worked network second by second.
+//! Tests of what no clause of a network's crates says and no command shows: splits, smoothed series, windows, the world of the
+//! worked network second by second, and what is written of it.
 #![tactic(auto)]
 
 #[cfg(test)]
@@ -12,3 +12,5 @@ mod splits;
 mod windows_of_lists;
 #[cfg(test)]
 mod world;
+#[cfg(test)]
+mod written;
