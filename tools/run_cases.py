@@ -80,12 +80,13 @@ def replayed(program, case, told, seconds):
         return ended(program, words, copy, seconds)
 
 
-def ended(program, words, folder, seconds):
-    """How a run of the program in a folder ended, or None where it took too long."""
+def ended(program, words, folder, seconds, settings=None):
+    """How a run of the program in a folder ended, or None where it took too long. The settings are of its environment alone."""
     try:
         run = subprocess.Popen(
             [os.fsencode(program), *words],
             cwd=folder,
+            env={**os.environ, **(settings or {})},
             stdin=subprocess.DEVNULL,
             stdout=subprocess.PIPE,
             stderr=subprocess.PIPE,
