@@ -1,8 +1,9 @@
 //! Calls of the program over files and sinks in memory.
+use crate::counted::Counted;
 use board_model::OpenGate;
 use foundation::items::Items;
 use foundation::text::Text;
-use outside_world::{MemoryShelf, MemorySink};
+use outside_world::{MemoryShelf, MemorySink, SinkFail};
 use signal_cli::signal;
 use std::alloc::{AllocError, Global};
 use std::sync::Wait;
@@ -11,12 +12,43 @@ use std::thread::Threads;
 /// How many bytes may be written to each sink.
 const CAPACITY: usize = 32_000_000;
 
-/// How a call of the program ended: its exit status, and what is in `out` and `err`.
+/// The number of a fetch and those of a put to `out` and to `err` that fail, from 1. Those with the number 0 do not.
+#[derive(Debug, Clone, Copy)]
+pub(crate) struct Failing {
+    pub(crate) fetch: u32,
+    pub(crate) out: SinkFail,
+    pub(crate) err: SinkFail,
+}
+
+/// No put fails.
+pub(crate) const NO_PUT: SinkFail = SinkFail { call: 0, kept: 0 };
+
+/// Nothing fails.
+pub(crate) const NOTHING: Failing = Failing {
+    fetch: 0,
+    out: NO_PUT,
+    err: NO_PUT,
+};
+
+/// How a call of the program ended: its exit status, how often it fetched, and the sinks.
 #[derive(Drop)]
 pub(crate) struct Ending {
     pub(crate) status: u8,
-    pub(crate) out: MemorySink,
-    pub(crate) err: MemorySink,
+    pub(crate) fetches: u32,
+    pub(crate) out: Counted<MemorySink>,
+    pub(crate) err: Counted<MemorySink>,
+}
+
+impl Ending {
+    /// What was written to `out`.
+    pub(crate) fn out(&self) -> &[u8] {
+        self.out.of.bytes()
+    }
+
+    /// What was written to `err`.
+    pub(crate) fn err(&self) -> &[u8] {
+        self.err.of.bytes()
+    }
 }
 
 /// Calls the program with these words over these files.
@@ -25,14 +57,23 @@ pub(crate) fn call<R: Threads + Wait + Sync>(
     alloc: Global,
     words: &[Text],
     files: Vec<(Text, Items<u8>)>,
+    failing: Failing,
 ) -> Result<Ending, AllocError> {
-    let mut shelf = MemoryShelf::new(alloc, files, Vec::new(alloc));
-    let mut out = MemorySink::new(alloc, CAPACITY, Vec::new(alloc))?;
-    let mut err = MemorySink::new(alloc, CAPACITY, Vec::new(alloc))?;
+    let fetches = Vec::from_slice(alloc, &[failing.fetch])?;
+    let mut shelf = Counted::new(MemoryShelf::new(alloc, files, fetches));
+    let mut out = sink(alloc, failing.out)?;
+    let mut err = sink(alloc, failing.err)?;
     let status = signal(rt, alloc, words, &mut shelf, &mut out, &mut err, &OpenGate);
     Ok(Ending {
         status: status.code(),
+        fetches: shelf.calls,
         out,
         err,
     })
+}
+
+/// An empty sink of which this put fails.
+fn sink(alloc: Global, fails: SinkFail) -> Result<Counted<MemorySink>, AllocError> {
+    let fails = Vec::from_slice(alloc, &[fails])?;
+    Ok(Counted::new(MemorySink::new(alloc, CAPACITY, fails)?))
 }

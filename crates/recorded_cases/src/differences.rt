@@ -1,5 +1,5 @@
 //! What is answered otherwise than a case has it.
-use crate::calls::{Ending, call};
+use crate::calls::{Ending, Failing, NOTHING, call};
 use crate::cases::{Case, read_case};
 use foundation::items::Items;
 use foundation::text::Text;
@@ -23,13 +23,14 @@ pub(crate) fn difference<R: Files + AllocGlobal + Clone + Drop + Threads + Wait 
 }
 
 /// Calls the program with the words of a case over its files, which the case then no longer has.
-fn call_case<R: Threads + Wait + Sync>(
+pub(crate) fn call_case<R: Threads + Wait + Sync>(
     rt: &R,
     alloc: Global,
     case: &mut Case,
+    failing: Failing,
 ) -> Result<Ending, AllocError> {
     let files = mem::replace(&mut case.files, Vec::new(alloc));
-    call(rt, alloc, &case.words, files)
+    call(rt, alloc, &case.words, files, failing)
 }
 
 /// What differs in a case with a fixed answer.
@@ -38,7 +39,7 @@ fn of_answer<R: Threads + Wait + Sync>(
     alloc: Global,
     case: &mut Case,
 ) -> Result<String, AllocError> {
-    let found = call_case(rt, alloc, case)?;
+    let found = call_case(rt, alloc, case, NOTHING)?;
     differing(alloc, case, &found)
 }
 
@@ -49,9 +50,9 @@ fn of_replay<R: Threads + Wait + Sync>(
     case: &mut Case,
     replay: &mut Case,
 ) -> Result<String, AllocError> {
-    let found = call_case(rt, alloc, case)?;
-    case.out = found.out.bytes().to_vec(alloc)?;
-    turn_to_replay(alloc, replay, found.out.bytes())?;
+    let found = call_case(rt, alloc, case, NOTHING)?;
+    case.out = found.out().to_vec(alloc)?;
+    turn_to_replay(alloc, replay, found.out())?;
     let text = differing(alloc, case, &found)?;
     if text.is_empty() {
         of_answer(rt, alloc, replay)
@@ -75,14 +76,14 @@ fn turn_to_replay(alloc: Global, case: &mut Case, written: &[u8]) -> Result<(), 
 }
 
 /// What differs in an answer from that of the case.
-fn differing(alloc: Global, case: &Case, found: &Ending) -> Result<String, AllocError> {
+pub(crate) fn differing(alloc: Global, case: &Case, found: &Ending) -> Result<String, AllocError> {
     let mut text = String::new(alloc);
     let (code, wanted) = (found.status, case.status.trim());
     if format!(in alloc; "{code}")?.as_str() != wanted {
         write!(text, "status is {code} in place of {wanted}; ")?;
     }
-    add_difference(&mut text, "stdout", &case.out, found.out.bytes())?;
-    add_difference(&mut text, "stderr", &case.err, found.err.bytes())?;
+    add_difference(&mut text, "stdout", &case.out, found.out())?;
+    add_difference(&mut text, "stderr", &case.err, found.err())?;
     Ok(text)
 }
 
