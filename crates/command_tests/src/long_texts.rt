@@ -1,4 +1,4 @@
-// Certificates as long as a text may be, and longer.
+// Texts as long as a text may be, and longer.
 
 use command_calls::{NO_FAULTS, run_with_room};
 use signal_cli::Status;
@@ -16,21 +16,53 @@ const DELAY: &str = "1111111111111";
 // The bytes of the line of an entry with this delay.
 const ENTRY_LENGTH: usize = 38;
 
-// How long a certificate's text is, how `check` ends, and what stands in `out` and `err`.
-const LENGTHS: &[(usize, Status, &str, &str)] = &[
-    (100_663_295, Status::Rejected, "rejected root\n", ""),
-    (100_663_296, Status::Rejected, "rejected root\n", ""),
-    (100_663_297, Status::BadInput, "", "signal: bad 1 long\n"),
+// A command over a certificate's text, how long that is, how the command ends, and what stands in `out` and `err`.
+const LENGTHS: &[(&str, usize, Status, &str, &str)] = &[
+    (
+        "check",
+        100_663_295,
+        Status::Rejected,
+        "rejected root\n",
+        "",
+    ),
+    (
+        "check",
+        100_663_296,
+        Status::Rejected,
+        "rejected root\n",
+        "",
+    ),
+    (
+        "check",
+        100_663_297,
+        Status::BadInput,
+        "",
+        "signal: bad 1 long\n",
+    ),
+    (
+        "plan",
+        100_663_296,
+        Status::BadInput,
+        "",
+        "signal: bad 1 line 1\n",
+    ),
+    (
+        "plan",
+        100_663_297,
+        Status::BadInput,
+        "",
+        "signal: bad 1 long\n",
+    ),
 ];
 
 #[test]
 fn texts_up_to_the_limit(rt: HostRuntime) -> Result<(), Fail> {
     let alloc = rt.alloc();
-    for &(length, status, out, err) in LENGTHS {
+    for &(command, length, status, out, err) in LENGTHS {
         let text = certificate_of_length(alloc, length)?;
         assert_eq!(rt; text.len(), length);
-        let ending = run_with_room(&rt, alloc, &["check", "file"], text, NO_FAULTS, 100)?;
-        assert!(rt; ending.is(status, out, err), "{length}");
+        let ending = run_with_room(&rt, alloc, &[command, "file"], text, NO_FAULTS, 100)?;
+        assert!(rt; ending.is(status, out, err), "{command} {length}");
     }
     Ok(())
 }
