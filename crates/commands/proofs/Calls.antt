@@ -1,8 +1,9 @@
 -- Words are those of one command at most.
 use Rattle.std.proofs.Common.{rules, ◌≡◌, ℕ, List, [], ◌∷◌, true, sym, ap, ◌∙◌, arith}
+use Rattle.std.proofs.lemmas.Bool.{false≢true}
 use Rattle.std.proofs.lemmas.Fmt.{decimal_injective}
 use Rattle.std.specs.Str.{bytes_eq}
-use Rattle.commands.specs.Commands.{Call, IsCall, Certify, CertifyBound, Check, Grid, Instance, Net, Plan, Replay, Turns, words_of}
+use Rattle.commands.specs.Commands.{Call, IsCall, Certify, CertifyBound, Check, Grid, Instance, Net, Plan, Replay, Turns, Upgrade, words_of}
 
 -- the first word
 first : List (List ℕ) → List ℕ
@@ -21,6 +22,7 @@ same_word words a b is other =
 
 -- of two commands with the same words both are the same
 pub one_call : (words : List (List ℕ)) (a b : Call) → IsCall words a → IsCall words b → a ≡ b
+unfolding first
 one_call words (Plan f) (Plan g) is other = let e = is.words_are in let d = other.words_are in cc
 one_call words (Certify f) (Certify g) is other = let e = is.words_are in let d = other.words_are in cc
 one_call words (CertifyBound f) (CertifyBound g) is other = let e = is.words_are in let d = other.words_are in cc
@@ -40,4 +42,5 @@ one_call words (Grid n s r) (Grid m t q) is other =
     let side : s ≡ t = decimal_injective s t (omega (arith, is.within.1.most)) (omega (arith, other.within.1.most)) (cc) in
     let rounds : r ≡ q = decimal_injective r q (omega (arith, is.within.2.most)) (omega (arith, other.within.2.most)) (cc) in
     cc
-one_call words a b is other = let e = same_word words a b is other in absurd (cc)
+one_call words (Upgrade n) (Upgrade m) is other = let e = is.words_are in let d = other.words_are in cc
+one_call words a b is other = absurd (false≢true (same_word words a b is other))

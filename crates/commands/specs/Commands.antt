@@ -12,12 +12,13 @@ use Rattle.cert_checker.specs.Verdicts.{IsWhy}
 use Rattle.cert_checker.specs.declared.Why.{Why}
 use Rattle.histories.specs.Histories.{turn_order}
 use Rattle.net_numbers.specs.Numbers.{number_of}
+use Rattle.road_net.specs.Upgrade.{IsUpgraded}
 use Rattle.scenario_gen.specs.Grids.{AreRounds}
 use Rattle.scenario_gen.specs.Layout.{IsSide}
 use Rattle.commands.specs.Answers.{answer_text}
 use Rattle.commands.specs.Headline.{Headline, IsGridSummary, IsPlannedText, ToldHeadline}
 use Rattle.commands.specs.Limits.{most_bytes}
-use Rattle.commands.specs.Texts.{AllSaid, CertificateText, InstanceText, Next, NoMore, IsTextFor, Texts, history_texts, network_texts}
+use Rattle.commands.specs.Texts.{AllSaid, CertificateText, InstanceText, NetworkText, Next, NoMore, IsTextFor, Texts, history_texts, network_texts}
 use Rattle.commands.specs.Verdicts.{accepted_line, rejected_line}
 use Rattle.commands.specs.declared.words.Command.{Command}
 use Rattle.commands.specs.declared.words.Command.TheVariants as command
@@ -35,6 +36,7 @@ pub data Call : Type 0 where
   Net : (net arr : List ℕ) → Call
   Instance : (net arr hist node : List ℕ) → (round : ℕ) → Call
   Grid : (number side rounds : ℕ) → Call
+  Upgrade : (net : List ℕ) → Call
 
 -- the words of a command; a number stands in its one form, in decimal
 abbrev pub words_of : Call → List (List ℕ)
@@ -47,6 +49,7 @@ words_of (Replay net arr hist) = codes "replay" ∷ net ∷ arr ∷ hist ∷ []
 words_of (Net net arr) = codes "net" ∷ net ∷ arr ∷ []
 words_of (Instance net arr hist node round) = codes "instance" ∷ net ∷ arr ∷ hist ∷ node ∷ decimal round ∷ []
 words_of (Grid number side rounds) = codes "grid" ∷ decimal number ∷ decimal side ∷ decimal rounds ∷ []
+words_of (Upgrade net) = codes "upgrade" ∷ net ∷ []
 
 -- the numbers of a command are within their bounds
 abbrev pub IsWithin : Call → Type 0
@@ -70,6 +73,7 @@ texts_of (Replay net arr hist) = history_texts net arr hist
 texts_of (Net net arr) = network_texts net arr (λ network. NoMore)
 texts_of (Instance net arr hist node round) = history_texts net arr hist
 texts_of (Grid number side rounds) = NoMore
+texts_of (Upgrade net) = Next NetworkText net (λ network. NoMore)
 
 -- These bytes are a certificate's text that `check` accepts: the text is within the limit, and is the text of this certificate and no
 -- other; and the certificate proves its answer.
@@ -91,6 +95,7 @@ IsTextOf (Replay net arr hist) said bytes = Headline said.0 said.1.0 said.1.1.0 
 IsTextOf (Net net arr) said bytes = ToldHeadline said.0 said.1.0 bytes
 IsTextOf (Instance net arr hist node round) said bytes = IsPlannedText said.0 said.1.0 said.1.1.0 node round bytes
 IsTextOf (Grid number side rounds) said bytes = IsGridSummary number side rounds bytes
+IsTextOf (Upgrade net) said bytes = IsUpgraded bytes said.0
 
 -- the verdict of a command goes against its texts; only `check` judges
 abbrev pub IsAgainst : (call : Call) → AllSaid (texts_of call) → Type 0
@@ -123,3 +128,4 @@ call_of (command.Replay net arr hist) = Replay net.now arr.now hist.now
 call_of (command.Net net arr) = Net net.now arr.now
 call_of (command.Instance net arr hist node round) = Instance net.now arr.now hist.now node.now round
 call_of (command.Grid number side rounds) = Grid number side rounds
+call_of (command.Upgrade net) = Upgrade net.now

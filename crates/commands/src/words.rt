@@ -59,6 +59,10 @@ pub enum Command<'a> {
         side: u32,
         rounds: u32,
     },
+    /// Writes a network as a file of version 2.
+    Upgrade {
+        net: &'a str,
+    },
 }
 
 /// The command that the words are.
@@ -110,6 +114,9 @@ pub fn command_of(words: &[Text]) -> Option<Command<'_>>
                 rounds,
             })
         }
+        "upgrade" => Some(Command::Upgrade {
+            net: only_word(rest)?,
+        }),
         _ => None,
     }
 }

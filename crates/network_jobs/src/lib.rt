@@ -1,5 +1,5 @@
 //! The commands over a network: the report of the turn order's run, that of a history's run, that of a run in threads, the instance
-//! that a node planned in one, and the summary of a run on a grid.
+//! that a node planned in one, the summary of a run on a grid, and a network as a file of version 2.
 #![tactic(auto)]
 
 mod calls;
@@ -12,6 +12,7 @@ mod replay;
 mod rounds;
 mod summary;
 mod turns;
+mod upgrade;
 
 pub use grid::grid_job;
 pub use instance::instance_job;
@@ -19,3 +20,4 @@ pub use laws::{law_of_instances, law_of_replays};
 pub use net::net_job;
 pub use replay::replay_job;
 pub use turns::turns_job;
+pub use upgrade::upgrade_job;

@@ -11,7 +11,7 @@ use super::plan::plan_job;
 use board_model::Gate;
 use commands::{Command, Refusal, Status, command_of, refuse};
 use foundation::text::Text;
-use network_jobs::{grid_job, instance_job, net_job, replay_job, turns_job};
+use network_jobs::{grid_job, instance_job, net_job, replay_job, turns_job, upgrade_job};
 use outside_world::{Shelf, Sink};
 use std::alloc::Global;
 use std::sync::Wait;
@@ -83,5 +83,6 @@ fn run<R: Threads + Wait + Sync, S: Shelf, O: Sink, E: Sink, G: Gate + Sync>(
             side,
             rounds,
         } => grid_job(alloc, number, side, rounds, out, err),
+        Command::Upgrade { net } => upgrade_job(alloc, net, shelf, out, err),
     }
 }

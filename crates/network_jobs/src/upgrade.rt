@@ -1,0 +1,38 @@
+//! The command `upgrade NET`.
+ghost use Rattle.commands.specs.Commands.{Upgrade};
+ghost use Rattle.commands.specs.Ending.{Makes};
+ghost use Rattle.commands.specs.Outcome.{Outcome};
+
+use commands::{Made, Refusal, Status, TextPlace, end, fetch_network};
+use outside_world::{Shelf, Sink};
+use road_net::write_network;
+use std::alloc::Global;
+
+// The network in a file, as a file of version 2.
+fn make_network_text<S: Shelf>(alloc: Global, shelf: &mut S, net: &str) -> Result<Made, Refusal>
+    ensures { Makes (Upgrade net.now) (S.state shelf.old) (S.state shelf.new) result }
+{
+    let network = fetch_network(alloc, shelf, TextPlace::First, net)?;
+    let text = write_network(alloc, &network)?;
+    Ok(Made::Done(text))
+}
+
+/// The command `upgrade NET`: writes the network in the file as a file of version 2, in which every mark and weight stands. The same
+/// network is read from it.
+///
+/// Each status has its cause, and each refusal writes its line to `err`, as `signal` says.
+///
+/// docs/FORMATS.md, "Words".
+pub fn upgrade_job<S: Shelf, O: Sink, E: Sink>(
+    alloc: Global,
+    net: &str,
+    shelf: &mut S,
+    out: &mut O,
+    err: &mut E,
+) -> Status
+    ensures { Outcome (Upgrade net.now)
+        (record { shelf = S.state shelf.old; out = O.state out.old; err = E.state err.old })
+        (record { shelf = S.state shelf.new; out = O.state out.new; err = E.state err.new }) result }
+{
+    end(alloc, make_network_text(alloc, shelf, net), out, err)
+}
