@@ -1,12 +1,14 @@
 #!/usr/bin/env python3
 """Runs a program over recorded cases with memory or threads refused, and counts the runs.
 
-Each FOLDER is a case, or holds cases at any depth; if none is named, the cases of every command are
-meant. A case is as run_cases.py says. There are three ways: the Nth request for memory alone is
-refused; the Nth and all later ones are; and, where the case starts threads, the Nth start of a
-thread and all later ones are. N rises from 1 until a run meets no refusal: by 1 up to --each, and
-then by 97. A run may end with status 6, nothing on standard output and no line or `signal: no
-memory` on standard error, or else as the case has it.
+Each PLACE is a case, as run_cases.py says, a folder that holds cases at any depth, or a program of
+tests. If none is named, the cases of every command are meant, and the programs of tests that are
+built. There are three ways: the Nth request for memory alone is refused; the Nth and all later ones
+are; and, where the case starts threads, the Nth start of a thread and all later ones. N rises from
+1 until a run meets no refusal: by 1 up to --each, and then by 97. A run may end with status 6,
+nothing on standard output and no line or `signal: no memory` on standard error, or else as the case
+has it. Of a program of tests those are run whose name ends in `whichever_is_refused`, in the first
+way alone, and they have to pass.
 
 For each case and way a line says how many runs there were and how many requests the last one made;
 runs that end otherwise than they may are printed. The exit status is 0 where there is none, 1 where
@@ -31,12 +33,20 @@ from run_cases import Malformed, cases_in, end, ended, parser_of, recorded, show
 ROOT = Path(__file__).resolve().parent.parent
 EVERY_COMMAND = ROOT / "crates/recorded_cases/data/each_command"
 SOURCE = ROOT / "tools/refuse.c"
+TESTS = "whichever_is_refused"
 
 OUT_OF_MEMORY = 6
 MEMORY_LINES = (b"", b"signal: no memory\n")
 ALL_LATER = 2**63
 WAYS = ("memory at", "memory from", "threads from")
 STEP = 97
+
+
+def runnable(path):
+    program = shutil.which(os.path.abspath(path))
+    if program is None:
+        raise Malformed(f"{path} is no program that can be run")
+    return program
 
 
 def compiled(compiler, folder):
@@ -49,18 +59,84 @@ def compiled(compiler, folder):
     return library
 
 
+def ending(end):
+    status, out, err = end
+    return f"status {status}, {len(out)} bytes on standard output, {shown(err)} on standard error"
+
+
+class Case:
+    """A recorded case."""
+
+    ways = WAYS
+
+    def __init__(self, program, folder):
+        self.name, self.program, self.folder = folder.name, program, folder
+        self.words = words_in(folder / "words")
+        self.wanted = recorded(folder)
+        self.replays = words_in(folder / "replays")
+
+    def fault(self, end, runs):
+        """What is wrong with the end of a run, in a few words, or None."""
+        status, out, err = end
+        if status == OUT_OF_MEMORY and not out and err in MEMORY_LINES:
+            return None
+        if self.replays and status == 0 and not err:
+            return self.replay_fault(out, runs)
+        return None if end == self.wanted else ending(end)
+
+    def replay_fault(self, told, runs):
+        """What is wrong with a text that the second words have to write again, or None."""
+        with tempfile.NamedTemporaryFile(dir=runs.folder) as history:
+            history.write(told)
+            history.flush()
+            words = [*self.replays[:-1], os.fsencode(history.name)]
+            again = ended(self.program, words, self.folder, runs.seconds)
+        return None if again == (0, told, b"") else "a text that the second run does not write again"
+
+
+class Test:
+    """A test of a program of tests."""
+
+    ways = WAYS[:1]
+
+    def __init__(self, program, name):
+        self.name, self.program, self.folder, self.words = name, program, None, [name]
+
+    def fault(self, end, _runs):
+        """What is wrong with the end of a run, in a few words, or None."""
+        return None if end[0] == 0 else ending(end)
+
+
+def tests_of(program):
+    """The tests of a program that hold whatever is refused."""
+    listed = subprocess.run([program, "--list"], capture_output=True, text=True, check=False)
+    names = [line.removesuffix(": test") for line in listed.stdout.splitlines()]
+    return [Test(program, name) for name in names if name.endswith(TESTS)]
+
+
+def subjects(options):
+    """The cases and tests of the places that are named, or of all."""
+    places = list(map(Path, options.places)) or [
+        EVERY_COMMAND,
+        *sorted((ROOT / "crates").glob("*/out/*_tests")),
+    ]
+    program = runnable(options.program)
+    for place in places:
+        if place.is_dir():
+            yield from (Case(program, folder) for folder in cases_in(place))
+        else:
+            yield from tests_of(runnable(place))
+
+
 class Runs:
-    """The runs of a program over cases, with the library that refuses."""
+    """The runs of programs, with the library that refuses."""
 
     def __init__(self, options, folder, compiler):
-        self.program = shutil.which(os.path.abspath(options.program))
-        if self.program is None:
-            raise Malformed(f"{options.program} is no program that can be run")
-        self.seconds = options.seconds
+        self.seconds, self.each, self.jobs = options.seconds, options.each, options.jobs
         self.folder = folder
         self.library = compiled(compiler, folder)
 
-    def refused(self, case, way, number):
+    def refused(self, subject, way, number):
         """How a run ends that is refused something, and how often it asked for it."""
         what, reach = way.split()
         with tempfile.NamedTemporaryFile(dir=self.folder) as counts:
@@ -73,71 +149,50 @@ class Runs:
                 "REFUSE_FIRST": str(number),
                 "REFUSE_LAST": str(ALL_LATER if reach == "from" else number),
             }
-            end = ended(self.program, words_in(case / "words"), case, self.seconds, settings)
+            folder = subject.folder or self.folder
+            end = ended(subject.program, subject.words, folder, self.seconds, settings)
             threads, memory = struct.unpack("2Q", Path(counts.name).read_bytes())
         return end, threads if what == "threads" else memory
 
-    def starts(self, case, way):
-        """Whether a run that is refused nothing asks for what the way refuses. It has to end as the case has it."""
-        end, asked = self.refused(case, way, ALL_LATER)
-        fault = self.fault(case, end)
-        if end is not None and end[0] == OUT_OF_MEMORY:
+    def tried(self, subject, way, number):
+        """The number of a refusal, how many requests there were, and what is wrong with the run's end, or None."""
+        end, asked = self.refused(subject, way, number)
+        if end is None:
+            return number, asked, f"no answer in {self.seconds:g} seconds"
+        return number, asked, subject.fault(end, self)
+
+    def asks(self, subject, way):
+        """Whether a run that is refused nothing asks for what the way refuses. It may not end for want of memory."""
+        end, asked = self.refused(subject, way, ALL_LATER)
+        fault = "no answer" if end is None else subject.fault(end, self)
+        if fault is None and end[0] == OUT_OF_MEMORY:
             fault = "out of memory"
         if fault is not None:
-            raise Malformed(f"{case}, of which nothing is refused: {fault}")
+            raise Malformed(f"{subject.name}, of which nothing is refused: {fault}")
         if asked == 0 and way.startswith("memory"):
             raise Malformed("no memory can be refused: the program asks no library for it")
         return asked > 0
 
-    def tried(self, case, way, number):
-        """The number of a refusal, how many requests there were, and what is wrong with the run's end, or None."""
-        end, asked = self.refused(case, way, number)
-        return number, asked, self.fault(case, end)
+    def tries(self, subject, way):
+        """The runs of a subject in a way, in order and without an end."""
+        steps = chain(range(1, self.each + 1), count(self.each + 1, STEP))
+        with ThreadPoolExecutor(self.jobs) as pool:
+            while True:
+                some = islice(steps, 4 * self.jobs)
+                yield from pool.map(lambda number: self.tried(subject, way, number), some)
 
-    def fault(self, case, end):
-        """What is wrong with the end of a run, in a few words, or None."""
-        if end is None:
-            return f"no answer in {self.seconds:g} seconds"
-        status, out, err = end
-        if status == OUT_OF_MEMORY and not out and err in MEMORY_LINES:
-            return None
-        if (case / "replays").is_file() and status == 0 and not err:
-            return self.replay_fault(case, out)
-        if end == recorded(case):
-            return None
-        return f"status {status}, {len(out)} bytes on standard output, {shown(err)} on standard error"
-
-    def replay_fault(self, case, told):
-        """What is wrong with a text that the second words of the case have to write again, or None."""
-        with tempfile.NamedTemporaryFile(dir=self.folder) as history:
-            history.write(told)
-            history.flush()
-            words = [*words_in(case / "replays")[:-1], os.fsencode(history.name)]
-            again = ended(self.program, words, case, self.seconds)
-        return None if again == (0, told, b"") else "a text that the second run does not write again"
-
-
-def tries(runs, case, way, options):
-    """The runs of a case in a way, in order and without an end."""
-    steps = chain(range(1, options.each + 1), count(options.each + 1, STEP))
-    with ThreadPoolExecutor(options.jobs) as pool:
-        while True:
-            some = islice(steps, 4 * options.jobs)
-            yield from pool.map(lambda number: runs.tried(case, way, number), some)
-
-
-def wrong_ends(runs, case, way, options):
-    """Makes the runs of a case in a way; how many there are, and how many end otherwise than they may."""
-    made, wrong = 0, 0
-    for number, asked, fault in tries(runs, case, way, options):
-        made += 1
-        if fault is not None:
-            wrong += 1
-            print(f"{case.name}: {way} {number}: {fault}", flush=True)
-        if asked < number:
-            break
-    print(f"{case.name}: {way}: {made} runs, the last with {asked} requests", flush=True)
-    return made, wrong
+    def wrong_ends(self, subject, way):
+        """Makes the runs of a subject in a way; how many there are, and how many end otherwise than they may."""
+        made, wrong = 0, 0
+        for number, asked, fault in self.tries(subject, way):
+            made += 1
+            if fault is not None:
+                wrong += 1
+                print(f"{subject.name}: {way} {number}: {fault}", flush=True)
+            if asked < number:
+                break
+        print(f"{subject.name}: {way}: {made} runs, the last with {asked} requests", flush=True)
+        return made, wrong
 
 
 def main():
@@ -145,27 +200,28 @@ def main():
     parser.add_argument(
         "--each", type=int, default=2000, metavar="N", help="by 1 up to this request, 2000 if left out"
     )
-    parser.add_argument("folders", nargs="*", metavar="FOLDER", help="a case, or a folder of cases")
+    parser.add_argument(
+        "places", nargs="*", metavar="PLACE", help="a case, a folder of cases, or a program of tests"
+    )
     end(parser, refused)
 
 
 def refused(options):
-    """Makes the runs of all cases and ways, and prints how many there are; how many end otherwise than they may."""
+    """Makes the runs of all cases, tests and ways, and prints how many there are; how many end otherwise than they may."""
     compiler = shutil.which("cc")
     if compiler is None:
         print("nothing is run: there is no `cc` to build the library that refuses", file=sys.stderr)
         return 0
-    cases = [case for folder in options.folders or [EVERY_COMMAND] for case in cases_in(folder)]
-    if not cases:
-        raise Malformed("no cases: a case is a folder with a file `words`")
     made, wrong = 0, 0
     with tempfile.TemporaryDirectory() as folder:
         runs = Runs(options, Path(folder), compiler)
-        for case in cases:
-            for way in WAYS:
-                if runs.starts(case, way):
-                    more, faults = wrong_ends(runs, case, way, options)
+        for subject in subjects(options):
+            for way in subject.ways:
+                if runs.asks(subject, way):
+                    more, faults = runs.wrong_ends(subject, way)
                     made, wrong = made + more, wrong + faults
+    if made == 0:
+        raise Malformed("no cases: a case is a folder with a file `words`")
     print(f"{made} runs, {wrong} end otherwise than they may")
     return wrong
 

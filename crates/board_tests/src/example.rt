@@ -84,7 +84,7 @@ fn second_of(forecast: &Forecast) -> u32 {
 const ENTRIES: &[Entry] = &[(0, 1, 0, 0), (1, 0, 0, 22), (2, 1, 1, 0), (3, 0, 0, 23)];
 
 #[test]
-fn four_calls_of_two_passes(rt: HostRuntime) -> Result<(), Fail> {
+fn four_calls_whichever_is_refused(rt: HostRuntime) -> Result<(), Fail> {
     let alloc = rt.alloc();
     let (answers, logs) = log_of_calls(&rt, alloc)?;
     assert_eq!(rt; answers, [(0, 0), (1, 1), (1, 2), (2, 3)]);

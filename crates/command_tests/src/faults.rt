@@ -51,7 +51,7 @@ fn faulty(rt: HostRuntime) -> Result<(), Fail> {
 
 // Whichever allocation fails: the right answer, or the want of memory with nothing written.
 #[test]
-fn plans_or_wants_memory(rt: HostRuntime) {
+fn plan_whichever_is_refused(rt: HostRuntime) {
     let words = ["plan", "file"];
     let Ok(ending) = run(&rt, rt.alloc(), &words, TWO_CLUSTERS.as_bytes(), NO_FAULTS) else {
         return;
