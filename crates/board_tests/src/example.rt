@@ -19,13 +19,16 @@ pub(crate) fn one_row(alloc: Global, second: u32) -> Result<Forecast, AllocError
     Ok(forecast)
 }
 
+/// The version and the stamp of each call.
+pub(crate) type Answers = [(u32, u64); 4];
+
 /// The four calls, a reading, a publishing, a reading, and after a meeting a publishing: the version and the stamp of each.
 fn four_calls<R: Threads + Wait + Sync>(
     rt: &R,
     alloc: Global,
     passes: &mut [Pass],
     boards: &Boards,
-) -> Result<[(u32, u64); 4], AllocError>
+) -> Result<Answers, AllocError>
     requires boards { (boards.now.links ≡ 1) × (boards.now.passes ≡ 2) }
     requires passes { passes.old ≡ fresh_passes boards.now.id 10 0 2 }
     ensures { IfOk result (λ answers. AreAllPasses boards.now passes.new) }
@@ -53,18 +56,21 @@ fn four_calls<R: Threads + Wait + Sync>(
 fn log_of_calls<R: Threads + Wait + Sync>(
     rt: &R,
     alloc: Global,
-) -> Result<([(u32, u64); 4], Vec<BoardLog>), AllocError> {
+) -> Result<(Answers, Vec<BoardLog>), AllocError> {
     let (boards, mut passes) = Boards::new(alloc, 1, 2, 10)?;
     let answers = four_calls(rt, alloc, passes.as_mut_slice(), &boards)?;
     let logs = boards.close(alloc, passes).map_err(|refused| refused.2)?;
     Ok((answers, logs))
 }
 
+/// What the four calls answer.
+pub(crate) const ANSWERS: Answers = [(0, 0), (1, 1), (1, 2), (2, 3)];
+
 /// The stamp of an event, its node, and the version that was read, or 0 and the second of the row that was published.
-type Entry = (u64, u32, u32, u32);
+pub(crate) type Entry = (u64, u32, u32, u32);
 
 /// The events of a log.
-fn entries(alloc: Global, log: &BoardLog) -> Result<Vec<Entry>, AllocError> {
+pub(crate) fn entries(alloc: Global, log: &BoardLog) -> Result<Vec<Entry>, AllocError> {
     let mut entries = Vec::new(alloc);
     for event in log.events() {
         let (version, second) = match &event.kind {
@@ -77,17 +83,18 @@ fn entries(alloc: Global, log: &BoardLog) -> Result<Vec<Entry>, AllocError> {
 }
 
 /// The second of the first row, 0 where there is none.
-fn second_of(forecast: &Forecast) -> u32 {
+pub(crate) fn second_of(forecast: &Forecast) -> u32 {
     forecast.rows().first().map(|row| row.second).unwrap_or(0)
 }
 
-const ENTRIES: &[Entry] = &[(0, 1, 0, 0), (1, 0, 0, 22), (2, 1, 1, 0), (3, 0, 0, 23)];
+/// What the log then has.
+pub(crate) const ENTRIES: &[Entry] = &[(0, 1, 0, 0), (1, 0, 0, 22), (2, 1, 1, 0), (3, 0, 0, 23)];
 
 #[test]
-fn four_calls_whichever_is_refused(rt: HostRuntime) -> Result<(), Fail> {
+fn four_calls_of_two_passes(rt: HostRuntime) -> Result<(), Fail> {
     let alloc = rt.alloc();
     let (answers, logs) = log_of_calls(&rt, alloc)?;
-    assert_eq!(rt; answers, [(0, 0), (1, 1), (1, 2), (2, 3)]);
+    assert_eq!(rt; answers, ANSWERS);
     for log in &logs {
         assert!(rt; entries(alloc, log)?.as_slice() == ENTRIES);
     }

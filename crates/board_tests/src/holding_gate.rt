@@ -92,7 +92,7 @@ impl HoldingGate {
 }
 
 /// Whether a counter has this number, in some looks.
-fn reaches(counter: &AtomicU64, number: u64, looks: u32) -> bool {
+pub(crate) fn reaches(counter: &AtomicU64, number: u64, looks: u32) -> bool {
     for look in 0..looks {
         if counter.load(Ordering::SeqCst) >= number {
             return true;
