@@ -7,3 +7,5 @@ mod job;
 mod pairs;
 #[cfg(test)]
 mod rounds;
+#[cfg(test)]
+mod snap_rounds;

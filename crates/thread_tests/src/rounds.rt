@@ -18,7 +18,7 @@ use std::thread::Threads;
 use worked_network::{network_of, network_of_copies, vehicles_of_copies};
 
 /// Enough calls for each node's board steps in all rounds.
-fn calls_for(net: &Network) -> u32
+pub(crate) fn calls_for(net: &Network) -> u32
     ensures value { result ≡ net.now.run.rounds * 320 }
     ensures few { (1 ≤ result) × (result ≤ 1000000) }
 {
