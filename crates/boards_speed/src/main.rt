@@ -1,12 +1,17 @@
 //! A small program beside the product, to be timed: threads make calls on shared boards, each with a pass of its own, a
-//! publishing and a reading in turn. Its words are THREADS LINKS CALLS ROWS: the number of threads, of which the k-th uses link k,
-//! counted round the links, and makes CALLS calls; a forecast has ROWS rows. With 0 links each call is a copy of a forecast
-//! alone. It prints how many calls were made.
+//! publishing and a reading in turn. Its words are FORM THREADS LINKS CALLS ROWS: the form of the boards; the number of threads, each
+//! of which makes CALLS calls; a forecast has ROWS rows. With the form `own` the boards are `Boards`, and the k-th thread uses link k,
+//! counted round the links, for both. With `plan` and `snap` they are `Boards` and `SnapBoards`, and the k-th thread publishes on
+//! link k and reads link k - 1, as far as there are such links: so each link has one thread that publishes and one that reads. With 0
+//! links each call is a copy of a forecast alone. It prints how many calls were made.
 #![tactic(auto)]
+
+mod ends;
 
 ghost use Rattle.std.specs.Prelude.{◌≡◌, ◌<◌, ◌≤◌, All};
 ghost use denote.Param.Send.{IsSync};
 
+use crate::ends::{Ring, plan_calls, snap_calls};
 use board_model::{Forecast, OpenGate, Row};
 use plan_boards::{Boards, Pass};
 use std::alloc::{AllocError, Global};
@@ -15,9 +20,21 @@ use std::sync::Wait;
 use std::thread::Threads;
 use std::{env, thread};
 
+/// The form of the boards, and which links a thread uses.
+#[derive(Clone, Copy)]
+enum Form {
+    /// `Boards`, where each thread uses one link.
+    Own,
+    /// `Boards`, where each link has one thread that publishes and one that reads.
+    Plan,
+    /// `SnapBoards`, with these for ends.
+    Snap,
+}
+
 /// What the words say.
 #[derive(Clone, Copy)]
 struct Work {
+    form: Form,
     threads: u32,
     links: u32,
     calls: u32,
@@ -34,7 +51,11 @@ fn main(rt: HostRuntime) -> ExitCode {
     let made = if work.links == 0 {
         copies(rt.alloc(), work.calls, &template)
     } else {
-        calls_of_threads(&rt, rt.alloc(), work, &template)
+        match work.form {
+            Form::Own => calls_of_threads(&rt, rt.alloc(), work, &template),
+            Form::Plan => plan_calls(&rt, rt.alloc(), ring_of(work), &template),
+            Form::Snap => snap_calls(&rt, rt.alloc(), ring_of(work), &template),
+        }
     };
     match made {
         Ok(made) => {
@@ -45,15 +66,32 @@ fn main(rt: HostRuntime) -> ExitCode {
     }
 }
 
-/// The four numbers, brought within the bounds of boards and forecasts; none where a word is no number.
+/// The form with this name.
+fn form_of(word: &str) -> Option<Form> {
+    match word {
+        "own" => Some(Form::Own),
+        "plan" => Some(Form::Plan),
+        "snap" => Some(Form::Snap),
+        _ => None,
+    }
+}
+
+/// The threads and links by which each link has its two ends.
+fn ring_of(work: Work) -> Ring {
+    Ring::new(work.threads, work.links, work.calls)
+}
+
+/// The form and the four numbers, brought within the bounds of boards and forecasts; none where a word is no form or number.
 fn work_of_words(rt: &HostRuntime) -> Option<Work> {
     let mut args = env::args(rt).ok()?;
     let _ = args.next();
+    let form = form_of(args.next()?.as_str())?;
     let threads: u32 = args.next()?.parse().ok()?;
     let links: u32 = args.next()?.parse().ok()?;
     let calls: u32 = args.next()?.parse().ok()?;
     let rows: u32 = args.next()?.parse().ok()?;
     Some(Work {
+        form,
         threads: threads.clamp(1, 64),
         links: links.min(320),
         calls: calls.clamp(1, 1_000_000),
