@@ -1,4 +1,4 @@
-// The boards of all links.
+//! The boards of all links.
 use crate::slots::{LinkSlot, Settled};
 use atomic_table::{Seat, Table};
 use board_rule::{BoardRule, Terms, View};

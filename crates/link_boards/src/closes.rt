@@ -1,4 +1,4 @@
-// The boards are closed.
+//! The boards are closed.
 ghost use Rattle.std.specs.Prelude.{◌≡◌, ◌≤◌, ◌∷◌, ◌++◌, None, [], map, IfOk, IfErr, vec_capacity};
 ghost use Rattle.board_rule.specs.Views.{entry};
 ghost use Rattle.board_rule.specs.Passes.{AreAllPasses, AreLogsOfPasses};

@@ -1,4 +1,4 @@
-// Passes meet, by couriers.
+//! Passes meet, by couriers.
 ghost use Rattle.std.specs.Prelude.{◌≡◌, [], max, map, All, IsOk};
 ghost use Rattle.board_rule.specs.Views.{courier, informed};
 ghost use Rattle.board_rule.specs.Passes.{highest, raised};

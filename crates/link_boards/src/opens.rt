@@ -1,4 +1,4 @@
-// The boards and their passes are made.
+//! The boards and their passes are made.
 ghost use Rattle.std.specs.Prelude.{◌≡◌, ◌<◌, ◌≤◌, ◌+◌, [], IfOk, IfErr, All, length, replicate, vec_len, vec_capacity};
 ghost use Rattle.board_rule.specs.Passes.{AreAllPasses, fresh_pass, fresh_passes};
 ghost use Rattle.board_rule.specs.Gathered.{IsDealer};

@@ -1,4 +1,4 @@
-// A pass: a seat at the table, with a number and the calls left.
+//! A pass: a seat at the table, with a number and the calls left.
 use crate::boards::Place;
 use crate::slots::LinkSlot;
 use foundation::threads::CrossesThreads;

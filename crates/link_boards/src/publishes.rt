@@ -1,4 +1,4 @@
-// A publishing.
+//! A publishing.
 ghost use Rattle.std.specs.Prelude.{◌≡◌, ◌<◌, ◌≤◌, ◌+◌, IfOk, IfErr, OnErr, OnOk, MatchResult};
 ghost use Rattle.board_model.specs.Boards.{after_publish, version_of};
 ghost use Rattle.board_rule.specs.Views.{drew_publish};

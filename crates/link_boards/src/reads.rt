@@ -1,4 +1,4 @@
-// A reading.
+//! A reading.
 ghost use Rattle.std.specs.Prelude.{◌≡◌, ◌<◌, ◌≤◌, IfOk, OnErr};
 ghost use Rattle.board_model.specs.Boards.{after_read, newest, version_of};
 ghost use Rattle.board_rule.specs.Views.{drew_read};
