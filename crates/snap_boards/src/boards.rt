@@ -172,7 +172,7 @@ impl SnapBoards {
         Ok((SnapBoards { shared, ends: kept }, all))
     }
 
-    /// These boards as those of any form.
+    /// These boards as those of any form. Calls through them ask for no ends: who plays rounds there takes each link's ends itself.
     ///
     /// docs/DESIGN.md, "Shared boards".
     pub fn shared(&self) -> &Boards<SnapLog>

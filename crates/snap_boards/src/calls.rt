@@ -14,7 +14,8 @@ use std::thread::Threads;
 impl SnapBoards {
     /// Reads a link's board: answers the newest version with its forecast, and the stamp that the call drew, which is above
     /// all that the pass knew. The pass is one of these boards with calls left, the link exists, and the pass is its reader. `gate.inside`
-    /// is called once while the call holds the link's turn. It waits for the turn. The forecast is copied when the turn is given back.
+    /// is called once while the call holds the link's turn. It waits for the turn. The forecast is copied when the turn is given back, or under
+    /// the turn where no place for a reader is free.
     ///
     /// `Err`: out of memory; the pass is as it was, and the call adds no event to a log.
     ///
@@ -37,7 +38,8 @@ impl SnapBoards {
         self.read_through(rt, alloc, pass, link, gate, &OpenCopy)
     }
 
-    /// Reads a link's board as `read` does, and calls `copy.copying` once inside the copy, which goes on beside the writer.
+    /// Reads a link's board as `read` does, and calls `copy.copying` once inside the copy, which goes on beside the writer; a
+    /// copy under the turn does not call it.
     ///
     /// `Err`: out of memory; the pass is as it was, and the call adds no event to a log.
     ///
@@ -72,7 +74,8 @@ impl SnapBoards {
 
     /// Publishes a forecast on a link's board: answers the version that it became, and the stamp that the call drew, which
     /// is above all that the pass knew. The pass is one of these boards with calls left, the link exists, and the pass is its writer.
-    /// `gate.inside` is called once while the call holds the link's turn. It waits for the turn.
+    /// `gate.inside` is called once while the call holds the link's turn. It waits for the turn, and, while it holds the turn, for a
+    /// reader that still copies an older version.
     ///
     /// `Err`: out of memory; the forecast is given back, the pass is as it was, and the call adds no event to
     /// a log.

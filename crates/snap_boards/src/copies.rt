@@ -12,7 +12,7 @@ use std::sync::Wait;
 ///
 /// docs/DESIGN.md, "Boards whose forecasts are read beside the writer".
 pub trait CopyGate {
-    /// It runs once inside the copy of a reading, whose turn is given back.
+    /// It runs once inside the copy of a reading whose turn is given back.
     ///
     /// docs/DESIGN.md, "Boards whose forecasts are read beside the writer".
     fn copying<R: Wait>(&self, rt: &R);
