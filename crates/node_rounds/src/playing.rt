@@ -1,5 +1,5 @@
 //! A node's round: it begins when the node senses the world, and the node plays on from there.
-ghost use Rattle.std.specs.Prelude.{◌≡◌, ◌*◌, ◌<◌, OnOk, length};
+ghost use Rattle.std.specs.Prelude.{◌≡◌, ◌*◌, ◌<◌, OnErr, OnOk, length};
 ghost use Rattle.intersection_actor.specs.Rounds.{IsOf};
 ghost use Rattle.node_rounds.specs.Nodes.{CanGoOn, CanPlay, HasBegun, HasPlayedOn, IsSamePass};
 
@@ -16,7 +16,7 @@ use std::thread::Threads;
 
 /// A node, whose pass this is, senses the world, and its round begins.
 ///
-/// `Err`: out of memory.
+/// `Err`: out of memory; the node is as it was.
 ///
 /// docs/DESIGN.md, "Rounds in threads".
 pub fn begin<'a, S: LinkSlot, G: Gate>(
@@ -28,6 +28,7 @@ pub fn begin<'a, S: LinkSlot, G: Gate>(
     requires can { CanPlay setting.now.net.now setting.now.round world.now setting.now.boards.now actor.old pass.now }
     ensures begun { OnOk result (HasBegun setting.now.net.now setting.now.round world.now actor.old actor.new) }
     ensures of { IsOf setting.now.net.now actor.new }
+    ensures refused { OnErr result (actor.new ≡ actor.old) }
 {
     let net = setting.net;
     let sensed = world.sense(setting.alloc, net, pass.number())?;
