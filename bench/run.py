@@ -28,7 +28,7 @@ import time
 from pathlib import Path
 
 HERE = Path(__file__).resolve().parent
-INSTANCES = ("nine_and_nine.txt", "four_phases.txt", "two_clusters.txt")
+INSTANCES = ("nine_and_nine.txt", "four_phases.txt", "nine_and_nine_loads.txt", "four_phases_marks.txt", "two_clusters.txt")
 COMMANDS = ("plan", "certify", "certify_bound", "check")
 
 
