@@ -32,8 +32,13 @@ CannotJoin gap most run x = (last_of run + gap + 1 < x) ⊎ (first_of run + most
 abbrev pub run_at : List (List ℕ) → ℕ → List ℕ
 run_at runs k = slice_index_or runs k []
 
--- the runs divide the seconds that are not empty, in their order, and the first second of each next run could not have joined
-pub record IsCut (gap most : ℕ) (series : List ℕ) (runs : List (List ℕ)) : Type 0 where
+-- The runs divide the seconds that are not empty, in their order, and the first second of each next run could not have joined.
+-- A run that begins in second x spans at most `span x` seconds.
+pub record IsCutBy (gap : ℕ) (span : ℕ → ℕ) (series : List ℕ) (runs : List (List ℕ)) : Type 0 where
   pub all : concat runs ≡ filled series
-  pub each : All (IsRun gap most) runs
-  pub apart : (k : ℕ) → k + 1 < length runs → CannotJoin gap most (run_at runs k) (first_of (run_at runs (k + 1)))
+  pub each : All (λ run. IsRun gap (span (first_of run)) run) runs
+  pub apart : (k : ℕ) → k + 1 < length runs → CannotJoin gap (span (first_of (run_at runs k))) (run_at runs k) (first_of (run_at runs (k + 1)))
+
+-- the same where all runs span at most `most` seconds
+abbrev pub IsCut : ℕ → ℕ → List ℕ → List (List ℕ) → Type 0
+IsCut gap most = IsCutBy gap (λ first. most)

@@ -18,7 +18,7 @@ IsHeardOf net node heard = map (λ h. h.link) heard ≡ heard_links net node
 
 -- what stands where a link is not sensed
 abbrev pub no_sense : LinkSense
-no_sense = record { link = 0; queue = 0; coming = [] }
+no_sense = record { link = 0; queue = 0; coming = []; stood = 0 }
 
 -- what is sensed of a link
 unfoldable pub sense_of : Sensed → ℕ → LinkSense

@@ -5,4 +5,5 @@ pub mod Smoothing
 pub mod Sound
 pub mod Steps
 pub mod Taking
+pub mod UnderLoad
 pub mod Windows

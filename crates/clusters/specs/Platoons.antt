@@ -8,7 +8,7 @@ use Rattle.net_numbers.specs.Outline.{link_at, phase_links_at, plan_at}
 use Rattle.road_net.specs.declared.senses.Sensed.{Sensed}
 use Rattle.clusters.specs.declared.vehicle_groups.Part.{Part}
 use Rattle.clusters.specs.declared.vehicle_groups.Platoon.{Platoon}
-use Rattle.clusters.specs.Cuts.{IsCut, first_of, last_of}
+use Rattle.clusters.specs.Cuts.{IsCutBy, first_of, last_of}
 use Rattle.clusters.specs.Inflow.{leaving}
 
 -- what leaves each of these links
@@ -45,11 +45,15 @@ platoon_within load now streams first end =
 abbrev pub platoon_of : (Part → ℕ) → ℕ → List Part → List ℕ → Platoon
 platoon_of load now streams run = platoon_within load now streams (first_of run) (last_of run + 1)
 
--- the platoons are those of the runs into which what the streams bring together is cut
-pub record ArePlatoons (load : Part → ℕ) (gap most now look : ℕ) (streams : List Part) (platoons : List Platoon) : Type 0 where
+-- the platoons are those of the runs into which what the streams bring together is cut, with a span for the runs of each second
+pub record ArePlatoonsBy (load : Part → ℕ) (gap : ℕ) (span : ℕ → ℕ) (now look : ℕ) (streams : List Part) (platoons : List Platoon) : Type 0 where
   pub runs : List (List ℕ)
-  pub cut : IsCut gap most (together streams look) runs
+  pub cut : IsCutBy gap span (together streams look) runs
   pub each : platoons ≡ map (platoon_of load now streams) runs
+
+-- the same with one span
+abbrev pub ArePlatoons : (Part → ℕ) → ℕ → ℕ → ℕ → ℕ → List Part → List Platoon → Type 0
+ArePlatoons load gap most = ArePlatoonsBy load gap (λ first. most)
 
 -- the platoons of phase k
 abbrev pub platoons_at : List (List Platoon) → ℕ → List Platoon

@@ -8,7 +8,7 @@ mod smoothing;
 mod vehicle_groups;
 mod windows;
 
-pub use node_platoons::platoons;
+pub use node_platoons::{expected_platoons, law_without_options, platoons};
 pub use smoothing::smooth;
 pub use vehicle_groups::{Part, Platoon, Window};
 pub use windows::window;

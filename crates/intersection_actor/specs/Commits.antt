@@ -16,8 +16,8 @@ use Rattle.control_flow.specs.declared.greens.Green.{Green}
 use Rattle.net_numbers.specs.Numbers.{Net}
 use Rattle.net_numbers.specs.Outline.{plan_at}
 use Rattle.road_net.specs.declared.senses.Sensed.{Sensed}
-use Rattle.clusters.specs.Platoons.{ArePlatoonsOf}
 use Rattle.clusters.specs.Sound.{cluster_lists}
+use Rattle.clusters.specs.UnderLoad.{AreExpected}
 use Rattle.clusters.specs.Windows.{IsWindow}
 use Rattle.clusters.specs.declared.vehicle_groups.Platoon.{Platoon}
 use Rattle.clusters.specs.declared.vehicle_groups.Window.{Window}
@@ -55,7 +55,7 @@ line_for plan head NoPlan served until = rotation_of plan head until
 pub record IsCommit (net : Net) (node round : ℕ) (old : List Green) (sensed : Sensed) (heard : List Heard) (c : Commitment) : Type 0 where
   pub now : sensed.now ≡ round * net.run.step
   pub head : head_at (plan_at net node) old sensed.now ≡ Some c.head
-  pub platoons : ArePlatoonsOf net node sensed heard c.platoons
+  pub platoons : AreExpected net node c.head sensed heard c.platoons
   pub window : IsWindow c.platoons c.window
   pub problem : c.problem ≡ record { plan = plan_at net node; head = c.head; lists = cluster_lists c.window.lists }
   pub answer : IsBest c.problem c.answer

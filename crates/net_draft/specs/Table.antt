@@ -74,7 +74,7 @@ abbrev pub flag_if : Bool → Option Data → Option Bool
 flag_if complete None = if complete then None else Some false
 flag_if complete (Some d) = as_bool d
 
--- the truth value at a key that may be so absent
+-- the truth value at a key that may be absent so
 unfoldable pub flag_at : Bool → List ℕ → Members → Option Bool
 flag_at complete key ms = flag_if complete (get_member key ms)
 
@@ -85,7 +85,7 @@ weight_if complete (Some d) = do
   z ← as_integer d
   Some (field_of z)
 
--- the weight at a key that may be so absent
+-- the weight at a key that may be absent so
 unfoldable pub weight_at : Bool → List ℕ → Members → Option ℕ
 weight_at complete key ms = weight_if complete (get_member key ms)
 
@@ -111,15 +111,23 @@ list_if (Some d) = do
 unfoldable pub optional_list_at : List ℕ → Members → Option (List Data)
 optional_list_at key ms = list_if (get_member key ms)
 
--- the run of a table that has its keys and no other, each of its kind, as all tables below must
+-- the keys of a run
+unfoldable pub run_keys : List (List ℕ)
+run_keys = codes "step" ∷ codes "look" ∷ codes "gap" ∷ codes "rounds" ∷ codes "split" ∷ codes "age" ∷ codes "hold" ∷ []
+
+-- the run of a table that has its keys and no other, each of its kind, as all tables below must; `split`, `age` and `hold` may
+-- be absent in every file
 unfoldable pub run_of : Members → Option Run
 run_of ms = do
-  ms ← only (codes "step" ∷ codes "look" ∷ codes "gap" ∷ codes "rounds" ∷ []) ms
+  ms ← only run_keys ms
   step ← number_at (codes "step") ms
   look ← number_at (codes "look") ms
   gap ← number_at (codes "gap") ms
   rounds ← number_at (codes "rounds") ms
-  Some (record { step = step; look = look; gap = gap; rounds = rounds })
+  split ← flag_at false (codes "split") ms
+  age ← optional_number_at (codes "age") ms
+  hold ← optional_number_at (codes "hold") ms
+  Some (record { step = step; look = look; gap = gap; rounds = rounds; split = split; age = age; hold = hold })
 
 -- the keys of a phase
 unfoldable pub phase_keys : List (List ℕ)

@@ -17,6 +17,15 @@ pub struct Run {
     pub gap: u32,
     /// The number of rounds, 1 to 600.
     pub rounds: u32,
+    /// Whether the first cluster of the standing phase has to end in its green; false where the file does not say it
+    /// (docs/RULES.md, "Streets under load", as the two below).
+    pub split: bool,
+    /// The seconds in which the weight of a link whose queue stands grows by itself, 1 to 3600; none where the file does not
+    /// say it.
+    pub age: Option<u32>,
+    /// How many times the load counts of what the standing green can serve at once, 1 to 20; none where the file does not
+    /// say it, which is once.
+    pub hold: Option<u32>,
 }
 
 impl CrossesThreads for Run {}
@@ -29,7 +38,7 @@ impl CrossesThreads for Run {}
 /// The name of a node or link has 1 to 16 characters out of a to z, 0 to 9 and `_`.
 #[derive(Drop)]
 pub struct Draft {
-    /// The numbers of the run.
+    /// How it is run.
     pub run: Run,
     /// The nodes, 1 to 64 of them, no two with one name.
     pub nodes: Items<DraftNode>,

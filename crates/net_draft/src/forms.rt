@@ -40,18 +40,30 @@ pub(crate) fn top_form(table: &Table) -> Option<TopForm>
     })
 }
 
-/// The numbers of the run.
+/// The run.
 #[tactic(auto, unfolding(crate::specs::Table::run_of))]
 pub(crate) fn run_of(table: &Table) -> Option<Run>
     ensures { result ≡ spec.run_of (table_view table.now) }
 {
-    let table = only(table, &["step", "look", "gap", "rounds"])?;
+    let table = only_run_keys(table)?;
     Some(Run {
         step: number_at(table, "step")?,
         look: number_at(table, "look")?,
         gap: number_at(table, "gap")?,
         rounds: number_at(table, "rounds")?,
+        split: flag_at(table, "split", false)?,
+        age: optional_number_at(table, "age")?,
+        hold: optional_number_at(table, "hold")?,
     })
+}
+
+/// The table, where it has no key beside those of a run.
+#[tactic(auto, unfolding(crate::specs::Table::run_keys))]
+fn only_run_keys(table: &Table) -> Option<&Table>
+    ensures { option_map (λ table. table_view table.now) result ≡ spec.only spec.run_keys (table_view table.now) }
+{
+    let keys = ["step", "look", "gap", "rounds", "split", "age", "hold"];
+    only(table, &keys)
 }
 
 /// The own form of a node: its name and its phases.

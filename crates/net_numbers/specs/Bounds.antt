@@ -1,5 +1,5 @@
 -- The bounds of what stands in a draft.
-use Rattle.std.specs.Prelude.{◌≡◌, ℕ, ◌≤◌, ◌⊎◌, List, length, count_by, All}
+use Rattle.std.specs.Prelude.{◌≡◌, ℕ, ◌≤◌, ◌⊎◌, IfSome, List, length, count_by, All}
 use Rattle.phase_plan.specs.Phases.{IsPhase, is_unmarked}
 use Rattle.net_draft.specs.declared.drafts.Run.{Run}
 use Rattle.net_draft.specs.declared.drafts.Draft.{Draft}
@@ -24,6 +24,8 @@ pub record IsRun (run : Run) : Type 0 where
   pub within : run.step ≤ run.look
   pub gap : run.gap ≤ 10
   pub rounds : (1 ≤ run.rounds) × (run.rounds ≤ 600)
+  pub age : IfSome run.age (λ age. (1 ≤ age) × (age ≤ 3600))
+  pub hold : IfSome run.hold (λ hold. (1 ≤ hold) × (hold ≤ 20))
 
 -- a phase and how many links it names
 pub record IsBoundedPhase (p : DraftPhase) : Type 0 where

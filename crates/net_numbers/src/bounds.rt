@@ -53,6 +53,8 @@ fn is_run(run: &Run) -> bool
         && run.step <= run.look
         && run.gap <= 10
         && (1..=600).contains(&run.rounds)
+        && run.age.is_none_or(|age| (1..=3600).contains(&age))
+        && run.hold.is_none_or(|hold| (1..=20).contains(&hold))
 }
 
 /// Tests each node, and names the first fault of the first that is out of its bounds.

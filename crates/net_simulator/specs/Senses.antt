@@ -1,5 +1,5 @@
 -- What a node sees of its entry links.
-use Rattle.std.specs.Prelude.{ℕ, ◌+◌, ◌-◌, List, map, slice_index}
+use Rattle.std.specs.Prelude.{ℕ, zero, suc, ◌+◌, ◌-◌, nat_lt, if◌then◌else◌, List, map, slice_index}
 use Rattle.std.specs.List.{range_with_len}
 use Rattle.net_numbers.specs.Numbers.{Net}
 use Rattle.net_numbers.specs.Outline.{link_at}
@@ -13,9 +13,19 @@ use Rattle.net_simulator.specs.Rows.{cell}
 abbrev pub coming : Net → (ℕ → ℕ → Passed) → ℕ → ℕ → ℕ → ℕ
 coming net past n l i = (past (n + i + 1 - (link_at net l).travel) l).entered - (past (n + i - (link_at net l).travel) l).entered
 
--- what is seen of a link in second n: the queue after the second before, and what is on its way
+-- how many of the seconds before second n, back from it without a break, left a queue on a link
+unfoldable pub stood : Net → (ℕ → ℕ → Passed) → ℕ → ℕ → ℕ
+stood net past zero l = 0
+stood net past (suc n) l = if nat_lt 0 (queue net past (suc n) l) then stood net past n l + 1 else 0
+
+-- what is seen of a link in second n: the queue after the second before, what is on its way, and for how long a queue has stood
 abbrev pub link_sense : Net → (ℕ → ℕ → Passed) → ℕ → ℕ → LinkSense
-link_sense net past n l = record { link = l; queue = queue net past n l; coming = map (coming net past n l) (range_with_len 0 (link_at net l).travel) }
+link_sense net past n l = record {
+  link = l;
+  queue = queue net past n l;
+  coming = map (coming net past n l) (range_with_len 0 (link_at net l).travel);
+  stood = stood net past n l;
+}
 
 -- what a node sees in second n
 abbrev pub sense : Net → (ℕ → ℕ → Passed) → ℕ → ℕ → Sensed

@@ -14,6 +14,8 @@ pub struct LinkSense {
     /// What reaches its end in each of the next seconds, in thousandths of a vehicle: one number for each second that
     /// it takes to travel the link.
     pub coming: Items<u32>,
+    /// The seconds directly before this one, without a break, after each of which its queue was above 0.
+    pub stood: u32,
 }
 
 /// What a node sees of its entry links in one second. All amounts together are at most 2,000,000,000.

@@ -1,8 +1,8 @@
 -- The plan records of a run by themselves.
 use Rattle.std.specs.Prelude.{◌≡◌, ℕ, ◌*◌, ◌<◌, ◌≤◌, List, Contains, Some, length, map, slice_index}
 use Rattle.board_model.specs.declared.boards.Heard.{Heard}
-use Rattle.clusters.specs.Platoons.{ArePlatoonsOf}
 use Rattle.clusters.specs.Sound.{cluster_lists}
+use Rattle.clusters.specs.UnderLoad.{AreExpected}
 use Rattle.clusters.specs.Windows.{IsWindow}
 use Rattle.clusters.specs.declared.vehicle_groups.Platoon.{Platoon}
 use Rattle.clusters.specs.declared.vehicle_groups.Window.{Window}
@@ -48,6 +48,6 @@ pub record IsPlannedFrom (net : Net) (enters : ℕ → ℕ → ℕ) (made : ℕ 
   pub platoons : List (List Platoon)
   pub window : Window
   pub at : head_at (plan_at net plan.node) (line_before net made plan.round plan.node) (plan.round * net.run.step) ≡ Some head
-  pub expected : ArePlatoonsOf net plan.node (sensed_in net enters made plan.round plan.node) (heard_by net made plan) platoons
+  pub expected : AreExpected net plan.node head (sensed_in net enters made plan.round plan.node) (heard_by net made plan) platoons
   pub taken : IsWindow platoons window
   pub instance : plan.instance ≡ record { plan = plan_at net plan.node; head = head; lists = cluster_lists window.lists }
