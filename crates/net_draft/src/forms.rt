@@ -1,5 +1,5 @@
-//! The tables of a network file as they stand: each with its keys and no other, each of its kind. The tables within a table
-//! are not yet read.
+//! The tables of a network file as they stand: each with its keys and no other, each of its kind. The tables within a
+//! table are not yet read.
 ghost use Rattle.std.specs.Prelude.{◌≡◌, MatchOption, option_map, option_copied, map};
 ghost use Rattle.toml.specs.Data.{as_table};
 ghost use Rattle.toml.specs.View.{view, table_view};
@@ -27,7 +27,13 @@ pub(crate) struct TopForm<'a> {
 #[tactic(auto, unfolding(crate::specs::Table::top_form))]
 pub(crate) fn top_form(table: &Table) -> Option<TopForm>
     ensures { MatchOption result (spec.top_form (table_view table.now) ≡ None)
-        (λ top. spec.top_form (table_view table.now) ≡ Some (record { version = top.version; run = table_view top.run.now; nodes = map view top.nodes.now; links = map view top.links.now; conflicts = map view top.conflicts.now })) }
+        (λ top. spec.top_form (table_view table.now) ≡ Some (record {
+          version = top.version;
+          run = table_view top.run.now;
+          nodes = map view top.nodes.now;
+          links = map view top.links.now;
+          conflicts = map view top.conflicts.now;
+        })) }
 {
     let keys = ["run", "node", "link", "conflict", "version"];
     let table = only(table, &keys)?;
@@ -78,11 +84,13 @@ pub(crate) fn node_form(value: &Value) -> Option<(&str, &[Value])>
     Some((name, phases))
 }
 
-/// The own form of a phase: its times and mark, and the names of its links. In a file that must be complete the mark is there.
+/// The own form of a phase: its times and mark, and the names of its links. In a file that must be complete the mark is
+/// there.
 #[tactic(auto, unfolding(crate::specs::Table::phase_form))]
 pub(crate) fn phase_form(value: &Value, complete: bool) -> Option<(Phase, &[Value])>
     ensures { MatchOption result (spec.phase_form complete (view value.now) ≡ None)
-        (λ form. spec.phase_form complete (view value.now) ≡ Some (record { phase = form.0; links = map view form.1.now })) }
+        (λ form. spec.phase_form complete (view value.now)
+        ≡ Some (record { phase = form.0; links = map view form.1.now })) }
 {
     let table = only_phase_keys(value.as_table()?)?;
     let phase = Phase {
@@ -125,7 +133,15 @@ pub(crate) struct LinkForm<'a> {
 #[tactic(auto, unfolding(crate::specs::Table::link_form))]
 pub(crate) fn link_form(value: &Value, complete: bool) -> Option<LinkForm>
     ensures { MatchOption result (spec.link_form complete (view value.now) ≡ None)
-        (λ link. spec.link_form complete (view value.now) ≡ Some (record { name = link.name.now; from = option_copied link.from; to = option_copied link.to; travel = link.travel; sat = link.sat; weight = link.weight; turns = map view link.turns.now })) }
+        (λ link. spec.link_form complete (view value.now) ≡ Some (record {
+          name = link.name.now;
+          from = option_copied link.from;
+          to = option_copied link.to;
+          travel = link.travel;
+          sat = link.sat;
+          weight = link.weight;
+          turns = map view link.turns.now;
+        })) }
 {
     let table = only_link_keys(value.as_table()?)?;
     Some(LinkForm {

@@ -75,7 +75,8 @@ trait Element: Sized + Drop {
     /// What the table stands for, in a file that must be complete or need not.
     ghost reading: { Bool → Data → Option Self };
 
-    /// Where the table that is not read is at fault, in such a file: in the table of an item, with its number, at a place.
+    /// Where the table that is not read is at fault, in such a file: in the table of an item, with its number, at a
+    /// place.
     ghost at_fault: { Bool → ℕ → ℕ → Data → Place → Type 0 };
 
     /// Reads the table with this number, from 1, of an array. The item is that of the node or link with the array, and 0
@@ -99,7 +100,8 @@ fn read_all<T: Element>(
     complete: bool,
 ) -> Result<Vec<T>, NetFault>
     ensures ok { IfOk result (λ all. each (T.reading complete) (map view values.now) ≡ Some all.items) }
-    ensures first { IfErr result (λ fault. Blames fault (IsFaultAmong (T.reading complete) (T.at_fault complete) item (map view values.now))) }
+    ensures first { IfErr result (λ fault. Blames fault
+        (IsFaultAmong (T.reading complete) (T.at_fault complete) item (map view values.now))) }
 {
     let mut all = Vec::new(alloc);
     for (index, value) in values.iter().enumerate() {

@@ -127,7 +127,8 @@ pub(crate) fn optional_list_at<'a>(table: &'a Table, key: &str) -> Option<&'a [V
 /// The table, where it has no key beside these.
 #[tactic(auto, unfolding(crate::specs::Table::only))]
 pub(crate) fn only<'a>(table: &'a Table, keys: &[&str]) -> Option<&'a Table>
-    ensures { option_map (λ table. table_view table.now) result ≡ spec.only (map (λ key. key.now) keys.now) (table_view table.now) }
+    ensures { option_map (λ table. table_view table.now) result
+        ≡ spec.only (map (λ key. key.now) keys.now) (table_view table.now) }
 {
     if has_only(table, keys) {
         Some(table)

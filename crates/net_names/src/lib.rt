@@ -38,7 +38,8 @@ pub fn draft_by_names(alloc: Global, parts: &Parts) -> Result<Draft, AllocError>
 /// The nodes, in order.
 fn nodes_by_names(alloc: Global, parts: &Parts) -> Result<Vec<DraftNode>, AllocError>
     requires { IsOutline (net_of parts.now) }
-    ensures { IfOk result (λ nodes. nodes.items ≡ map (spec.node_by_names (net_of parts.now)) (range_with_len 0 (length parts.now.node_names))) }
+    ensures { IfOk result (λ nodes. nodes.items
+        ≡ map (spec.node_by_names (net_of parts.now)) (range_with_len 0 (length parts.now.node_names))) }
 {
     let mut nodes = Vec::new(alloc);
     for n in 0..parts.node_names.len() {
@@ -73,7 +74,8 @@ fn phases_by_names(
 ) -> Result<Vec<DraftPhase>, AllocError>
     requires count { length lists.now ≡ length plan.now }
     requires links { All (AreNumbers names.now) lists.now }
-    ensures { IfOk result (λ phases. phases.items ≡ map (spec.phase_by_names names.now plan.now lists.now) (range_with_len 0 (length plan.now))) }
+    ensures { IfOk result (λ phases. phases.items
+        ≡ map (spec.phase_by_names names.now plan.now lists.now) (range_with_len 0 (length plan.now))) }
 {
     let mut phases = Vec::new(alloc);
     for (k, phase) in plan.iter().enumerate() {
@@ -89,7 +91,8 @@ fn phases_by_names(
 /// The links with their turns, in order.
 fn links_by_names(alloc: Global, parts: &Parts) -> Result<Vec<DraftLink>, AllocError>
     requires { IsOutline (net_of parts.now) }
-    ensures { IfOk result (λ links. links.items ≡ map (spec.link_by_names (net_of parts.now)) (range_with_len 0 (length parts.now.link_names))) }
+    ensures { IfOk result (λ links. links.items
+        ≡ map (spec.link_by_names (net_of parts.now)) (range_with_len 0 (length parts.now.link_names))) }
 {
     let mut links = Vec::new(alloc);
     for l in 0..parts.link_names.len() {
