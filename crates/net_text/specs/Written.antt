@@ -8,7 +8,7 @@ use Rattle.net_draft.specs.declared.drafts.Run.{Run}
 use Rattle.net_draft.specs.declared.drafts.Draft.{Draft}
 use Rattle.net_text.specs.Members.{with_member, with_optional}
 
--- the data is read as this, and is not deeper than so
+-- the data is read as this, and its depth is at most `deep`
 pub record IsDataOf {X : Type 0} (f : Data → Option X) (deep : ℕ) (d : Data) (x : X) : Type 0 where
   pub read : f d ≡ Some x
   pub depth : depth d ≤ deep
@@ -54,7 +54,7 @@ pub record HasItemsIfAny {X : Type 0} (f : Data → Option X) (deep : ℕ) (key 
 abbrev pub run_in : Data → Option Run
 run_in d = as_table d >>= run_of
 
--- The members of the whole file: they stand for the draft, say version 2, and are not deeper than so.
+-- The members of the whole file: they stand for the draft, say version 2, and their depth is at most `deep`.
 pub record AreMembersOf (deep : ℕ) (ms : Members) (draft : Draft) : Type 0 where
   pub form : draft_of ms ≡ Some draft
   pub version : get_member (codes "version") ms ≡ Some (integer (pos 2))
