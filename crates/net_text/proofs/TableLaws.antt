@@ -1,25 +1,13 @@
--- The small tables of a network file: the run, a node, a turn and a conflict.
+-- The small tables of a network file: a node, a turn and a conflict.
 use Rattle.std.proofs.Common.{◌≡◌, ◌≤◌, codes, pos, true, Some, refl, sym, subst, arith}
 use Rattle.toml.specs.Data.{Members, no_members, member, integer, string, array, table, items_depth}
-use Rattle.net_draft.specs.declared.drafts.Run.{Run}
 use Rattle.net_draft.specs.declared.drafts.DraftNode.{DraftNode}
 use Rattle.net_draft.specs.declared.drafts.DraftTurn.{DraftTurn}
 use Rattle.net_draft.specs.declared.drafts.DraftConflict.{DraftConflict}
-use Rattle.net_draft.specs.Table.{only, number_at, text_at, list_at, run_of, phase_of, node_form, node_of, turn_of, conflict_of}
+use Rattle.net_draft.specs.Table.{only, number_at, text_at, list_at, phase_of, node_form, node_of, turn_of, conflict_of}
 use Rattle.net_text.specs.Members.{with_member}
-use Rattle.net_text.specs.Written.{IsDataOf, IsFilledWith, HasNumber, HasItems, run_in}
+use Rattle.net_text.specs.Written.{IsDataOf, IsFilledWith, HasNumber, HasItems}
 use Rattle.net_text.proofs.PhaseLaws.{field-fits}
-
-pub run-filled : (run : Run) {m0 m1 m2 m3 m4 : Members} → HasNumber (codes "step") run.step m0 m1 → HasNumber (codes "look") run.look m1 m2 → HasNumber (codes "gap") run.gap m2 m3 → HasNumber (codes "rounds") run.rounds m3 m4
-    → IsFilledWith run_in 1 run m0 m4
-unfolding run_of only number_at
-run-filled run {m4 = m4} step look gap rounds empty =
-    let made : Members = member (codes "gap") (integer (pos run.gap)) (member (codes "look") (integer (pos run.look)) (member (codes "rounds") (integer (pos run.rounds)) (member (codes "step") (integer (pos run.step)) no_members))) in
-    let is : m4 ≡ made = rw (rounds.is, gap.is, look.is, step.is, empty) refl in
-    subst (λ ms. IsDataOf run_in 1 (table ms) run) (sym is) (record {
-      read = λ i. Some (record { step = field-fits run.step step.fits i; look = field-fits run.look look.fits i; gap = field-fits run.gap gap.fits i; rounds = field-fits run.rounds rounds.fits i });
-      depth = omega arith;
-    })
 
 pub node-filled : (node : DraftNode) {m0 m1 m2 : Members} → m1 ≡ with_member (codes "name") (string node.name) m0 → HasItems (phase_of true) 2 (codes "phase") node.phases m1 m2 → IsFilledWith (node_of true) 4 node m0 m2
 unfolding node_of node_form only text_at list_at

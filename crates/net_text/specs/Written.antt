@@ -1,6 +1,6 @@
 -- What is written of a draft.
-use Rattle.std.specs.Prelude.{◌≡◌, ℕ, ◌^◌, ◌<◌, ◌≤◌, codes, pos, List, Option, Some, None, option_map, IsUtf8}
-use Rattle.toml.specs.Data.{Data, Items, no_items, Members, no_members, integer, array, table, as_table, depth, items_depth, members_depth, get_member}
+use Rattle.std.specs.Prelude.{◌≡◌, ℕ, ◌^◌, ◌<◌, ◌≤◌, Bool, true, false, codes, pos, List, Option, Some, None, option_map, IfSome, IsUtf8}
+use Rattle.toml.specs.Data.{Data, Items, no_items, Members, no_members, integer, boolean, string, array, table, as_table, depth, items_depth, members_depth, get_member}
 use Rattle.toml.specs.Parse.{parse_document}
 use Rattle.foundation.specs.Options.{◌>>=◌, each}
 use Rattle.net_draft.specs.Table.{list_of, run_of, draft_of, HasKnownVersion}
@@ -26,6 +26,24 @@ pub record AreItemsOf {X : Type 0} (f : Data → Option X) (deep : ℕ) (ds : It
 pub record HasNumber (key : List ℕ) (number : ℕ) (old new : Members) : Type 0 where
   pub is : new ≡ with_member key (integer (pos number)) old
   pub fits : number < 2 ^ 32
+
+-- a number was put at a key where there is one, and is a u32
+pub record HasNumberIf (key : List ℕ) (number : Option ℕ) (old new : Members) : Type 0 where
+  pub is : new ≡ with_optional key (option_map (λ n. integer (pos n)) number) old
+  pub fits : IfSome number (λ n. n < 2 ^ 32)
+
+-- a text was put at a key where there is one
+abbrev pub HasTextIf : List ℕ → Option (List ℕ) → Members → Members → Type 0
+HasTextIf key text old new = new ≡ with_optional key (option_map string text) old
+
+-- what is written of a truth value that is false where it is absent
+abbrev pub flag_data : Bool → Option Data
+flag_data false = None
+flag_data true = Some (boolean true)
+
+-- a truth value was put at a key where it is true
+abbrev pub HasFlagIfTrue : List ℕ → Bool → Members → Members → Type 0
+HasFlagIfTrue key flag old new = new ≡ with_optional key (flag_data flag) old
 
 -- data that is read as this was put at a key
 pub record HasData {X : Type 0} (f : Data → Option X) (deep : ℕ) (key : List ℕ) (x : X) (old new : Members) : Type 0 where

@@ -5,7 +5,9 @@ ghost use Rattle.toml.specs.View.{view, table_view, items_view};
 ghost use Rattle.net_draft.specs.Table as spec;
 ghost use Rattle.net_text.specs.Written.{IsDataOf, IsFilledWith, AreItemsOf, HasData, HasItems, HasItemsIfAny, run_in};
 
-use crate::puts::{put, put_flag, put_number, put_text, put_text_if};
+use crate::puts::{
+    put, put_flag, put_flag_if_true, put_number, put_number_if, put_text, put_text_if,
+};
 use foundation::items::Items;
 use foundation::text::Text;
 use net_draft::{DraftConflict, DraftLink, DraftNode, DraftPhase, DraftTurn, Run};
@@ -65,7 +67,8 @@ pub(crate) fn put_tables<T: Element>(
     key: &str,
     elements: &Items<T>,
 ) -> Result<(), AllocError>
-    ensures { OnOk result (HasItems T.reading T.deep key.now elements.now (table_view table.old) (table_view table.new)) }
+    ensures { OnOk result
+        (HasItems T.reading T.deep key.now elements.now (table_view table.old) (table_view table.new)) }
 {
     let values = tables_of(alloc, elements.as_slice())?;
     put(alloc, table, key, Value::Array(values))
@@ -78,7 +81,8 @@ pub(crate) fn put_tables_if_any<T: Element>(
     key: &str,
     elements: &Items<T>,
 ) -> Result<(), AllocError>
-    ensures { OnOk result (HasItemsIfAny T.reading T.deep key.now elements.now (table_view table.old) (table_view table.new)) }
+    ensures { OnOk result
+        (HasItemsIfAny T.reading T.deep key.now elements.now (table_view table.old) (table_view table.new)) }
 {
     if elements.as_slice().is_empty() {
         Ok(())
@@ -120,7 +124,10 @@ impl Element for Run {
         put_number(alloc, table, "step", self.step)?;
         put_number(alloc, table, "look", self.look)?;
         put_number(alloc, table, "gap", self.gap)?;
-        put_number(alloc, table, "rounds", self.rounds)
+        put_number(alloc, table, "rounds", self.rounds)?;
+        put_flag_if_true(alloc, table, "split", self.split)?;
+        put_number_if(alloc, table, "age", self.age)?;
+        put_number_if(alloc, table, "hold", self.hold)
     }
 }
 

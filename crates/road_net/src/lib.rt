@@ -341,8 +341,9 @@ fn parse_draft(alloc: Global, bytes: &[u8]) -> Result<Draft, NetFault>
     Ok(draft)
 }
 
-/// The network file of a network, of version 2: every mark and weight stands in it, and an array that may be absent only where
-/// it is not empty. What is read from it is this very network, with the same value of every accessor. `Err`: out of memory.
+/// The network file of a network, of version 2: it has every mark and weight, and of what else may be absent `split`
+/// where it is true, `age`, `hold` and the ends of links where the network has them, and an array where it is not empty.
+/// What is read from it is this very network, with the same value of every accessor. `Err`: out of memory.
 ///
 /// docs/FORMATS.md, "Network file".
 pub fn write_network(alloc: Global, net: &Network) -> Result<Vec<u8>, AllocError>
