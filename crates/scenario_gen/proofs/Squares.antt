@@ -9,7 +9,7 @@ use Rattle.scenario_gen.specs.Layout.{IsSide}
 use Rattle.scenario_gen.proofs.Legal.{HasNetwork, is_legal, legal-by}
 
 run-within : (rounds : ℕ) → AreRounds rounds → IsRun (run rounds)
-run-within rounds are = record { step = (omega arith, omega arith); look = (omega arith, omega arith); within = omega arith; gap = omega arith; rounds = (are.least, are.most) }
+run-within rounds are = record { step = (omega arith, omega arith); look = (omega arith, omega arith); within = omega arith; gap = omega arith; rounds = (are.least, are.most); age = tt; hold = tt }
 
 -- the test computes for each number of nodes a side
 legal-2 : (rounds : ℕ) → is_legal (grid_draft 2 rounds) ≡ true
