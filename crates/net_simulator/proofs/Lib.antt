@@ -2,6 +2,7 @@ pub mod FlowLaws
 pub mod Sums
 pub mod Turning
 pub mod Sound
+pub mod Standing
 pub mod Keeping
 pub mod Conserving
 pub mod Passing

@@ -23,13 +23,15 @@ use Rattle.net_simulator.specs.Arriving.{arriving_of}
 use Rattle.net_simulator.specs.Sums.{outward, arrived, gone, on_road, delay, link_totals, totals, AreFew}
 use Rattle.net_simulator.specs.Rows.{cell}
 use Rattle.net_simulator.specs.Counts.{counts_at, no_totals}
-use Rattle.net_simulator.specs.Steps.{goes, waits_at, goes_out, all_of, counted, FitsSeconds}
+use Rattle.net_simulator.specs.Steps.{goes, waits_at, goes_out, all_of, counted, stands_on, FitsSeconds}
+use Rattle.net_simulator.specs.Senses.{stood}
 use Rattle.net_simulator.specs.Worlds.{WorldState, HasShape, Keeps, Stands, standing_by}
 use Rattle.road_net.proofs.TotalLaws.{total-same, total-add, total-le, total-zero}
 use Rattle.net_simulator.proofs.Sums.{total-most, total-of}
 use Rattle.net_simulator.proofs.FlowLaws.{past-none, past-kept, history-same}
 use Rattle.net_simulator.proofs.Sound.{IsSound, Continues, goes-on, is-sound}
 use Rattle.net_simulator.proofs.Keeping.{HasBounds, phase_and_begin, waits-same, goes-same, kept-queue, keeps-next}
+use Rattle.net_simulator.proofs.Standing.{stood-none, stood-most, stood-kept, stood-next}
 use Rattle.net_simulator.proofs.Conserving.{none-lost, grown, left-entered, reached-entered, on-link, waiting-on}
 
 -- the bound on arrivals, over the links by name
@@ -209,6 +211,7 @@ pub record IsStep (net : Net) (arriving : ℕ → ℕ) (x : ℕ) (greens : List 
   pub enters-others : (l y : ℕ) → y % 128 ≢ x % 128 → cell v.recent l y ≡ cell rs1 l y
   pub remembers : (l : ℕ) → l < length net.link_names → cell v.waits l (x + 1) ≡ slice_index v.queues l
   pub remembers-others : (l y : ℕ) → y % 128 ≢ (x + 1) % 128 → cell v.waits l y ≡ cell w.waits l y
+  pub stands : (l : ℕ) → l < length net.link_names → slice_index v.stood l ≡ stands_on (slice_index v.queues l) (slice_index w.stood l)
   pub counts : (l : ℕ) → l < length net.link_names → counts_at v.counts l ≡ counted (counts_at w.counts l) (cell v.recent l x) (slice_index lv l) (slice_index v.queues l)
   pub entered : v.totals.entered ≡ w.totals.entered + total arriving (length net.link_names)
   pub left : v.totals.left ≡ w.totals.left + goes_out net lv
@@ -289,6 +292,8 @@ module _ (net : Net) (network : IsNetwork net) (arriving : ℕ → ℕ → ℕ) 
       let delays : (l : ℕ) → l < length net.link_names → (counts_at v.counts l).delay ≡ delay net Q (x + 1) l = λ l h.
       omega (arith, ap (λ (q : LinkTotals). q.delay) (step.counts l h), ap (λ (q : LinkTotals). q.delay) (stands.counts l h), keeps.queues l h, delay-next net arriving S x l (kept l)) in
       let counts : (l : ℕ) → l < length net.link_names → counts_at v.counts l ≡ link_totals net Q (x + 1) l = λ l h. same-link (counts_at v.counts l) (link_totals net Q (x + 1) l) (entered l h) (left l h) (delays l h) in
+      let standing : (l : ℕ) → l < length net.link_names → slice_index v.stood l ≡ stood net Q (x + 1) l = λ l h.
+      step.stands l h ∙ ap (λ q. stands_on q (slice_index w.stood l)) (keeps.queues l h) ∙ ap (stands_on (queue net Q (x + 1) l)) (stands.stood l h ∙ sym (stood-kept net Q before x l (kept l))) ∙ sym (stood-next net Q x l) in
       let all-entered : v.totals.entered ≡ arrived net arriving (x + 1) = omega (arith, step.entered, ap (λ (t : Totals). t.entered) stands.totals, ap (arrived net arriving) (add-one x)) in
       let all-left : v.totals.left ≡ gone net Q (x + 1) = omega (arith, step.left, ap (λ (t : Totals). t.left) stands.totals, gone-next net arriving S x lv leaves) in
       let all-on : v.totals.on ≡ on_road net Q (x + 1) = omega (arith, step.on, all-entered, all-left, whole-at net network arriving S (x + 1)) in
@@ -299,7 +304,12 @@ module _ (net : Net) (network : IsNetwork net) (arriving : ℕ → ℕ → ℕ) 
         keeps = subst (λ n. Keeps net (past_of net arriving S n) v.queues v.recent v.waits n) (sym second) keeps;
         counts = λ l h. subst (λ n. counts_at v.counts l ≡ link_totals net (past_of net arriving S n) n l) (sym second) (counts l h);
         totals = subst (λ n. v.totals ≡ totals net arriving (past_of net arriving S n) n) (sym second) (same-totals v.totals (totals net arriving Q (x + 1)) all-entered all-left all-on all-delay);
+        stood = λ l h. subst (λ n. slice_index v.stood l ≡ stood net (past_of net arriving S n) n l) (sym second) (standing l h);
       }
+
+  -- a queue has stood for no longer than the world
+  pub standing-small : w.second < 18000 → (l : ℕ) → l < length net.link_names → slice_index w.stood l < 18000
+  standing-small early l h = omega (arith, stands.stood l h, stood-most net before w.second l)
 
   -- what the first n seconds can count
   pub counts-small : (l : ℕ) → l < length net.link_names → FitsSeconds w.second (counts_at w.counts l)
@@ -320,9 +330,9 @@ unfolding history
 past-zero net arriving shown zero l = refl
 past-zero net arriving shown (suc n) l = refl
 
-pub stands-new : (net : Net) (arriving : ℕ → ℕ → ℕ) (shown : ℕ → ℕ → Option (ℕ × ℕ)) (w : WorldState) → w.second ≡ 0 → HasShape net w → ((k : ℕ) → get_or w.queues k 0 ≡ 0) → ((k : ℕ) → get_or w.recent k 0 ≡ 0) → ((k : ℕ) → get_or w.waits k 0 ≡ 0)
+pub stands-new : (net : Net) (arriving : ℕ → ℕ → ℕ) (shown : ℕ → ℕ → Option (ℕ × ℕ)) (w : WorldState) → w.second ≡ 0 → HasShape net w → ((k : ℕ) → get_or w.queues k 0 ≡ 0) → ((k : ℕ) → get_or w.recent k 0 ≡ 0) → ((k : ℕ) → get_or w.waits k 0 ≡ 0) → ((k : ℕ) → get_or w.stood k 0 ≡ 0)
     → ((k : ℕ) → counts_at w.counts k ≡ no_totals) → w.totals ≡ record { entered = 0; left = 0; on = 0; delay = 0 } → Stands net arriving shown w
-stands-new net arriving shown w at shape qs rs ws cs ts =
+stands-new net arriving shown w at shape qs rs ws ss cs ts =
     let P : ℕ → ℕ → Passed = past_of net arriving shown w.second in
     let none : (n l : ℕ) → P n l ≡ nothing = λ n l. ap (λ x. past_of net arriving shown x n l) at ∙ past-zero net arriving shown n l in
     let in-none : (n l : ℕ) → (P n l).entered ≡ 0 = λ n l. ap (λ (q : Passed). q.entered) (none n l) in
@@ -341,6 +351,7 @@ stands-new net arriving shown w at shape qs rs ws cs ts =
       };
       counts = λ l h. cs l ∙ same-link no_totals (link_totals net P w.second l) (sym (in-none w.second l)) (sym (out-none w.second l)) (sym (no-delay l));
       totals = ts ∙ same-totals (record { entered = 0; left = 0; on = 0; delay = 0 }) (totals net arriving P w.second) (sym (ap (arrived net arriving) at)) (sym left-none) (sym on-none) (sym delay-none);
+      stood = λ l h. ss l ∙ sym (ap (λ n. stood net P n l) at ∙ stood-none net P l);
     }
 
 -- a timeline counts only by what it shows in the seconds below now
@@ -353,6 +364,7 @@ stands-under net arriving shown seen w same stands =
       keeps = subst (λ h. Keeps net (passed_in h) w.queues w.recent w.waits w.second) e stands.keeps;
       counts = λ l h. subst (λ p. counts_at w.counts l ≡ link_totals net (passed_in p) w.second l) e (stands.counts l h);
       totals = subst (λ p. w.totals ≡ totals net arriving (passed_in p) w.second) e stands.totals;
+      stood = λ l h. subst (λ p. slice_index w.stood l ≡ stood net (passed_in p) w.second l) e (stands.stood l h);
     }
 
 pub zeros : {A : Type 0} (n k : ℕ) (a : A) → get_or (replicate n a) k a ≡ a

@@ -1,5 +1,5 @@
 -- What a node sees, by what a world keeps, and how much it can be.
-use Rattle.std.proofs.Common.{◌≡◌, ℕ, zero, suc, ◌+◌, ◌-◌, ◌<◌, ◌≤◌, List, [], ◌∷◌, All, AllPairs, length, get_or, map, sum_by, refl, sym, ap, subst, ◌∙◌, add-one, arith}
+use Rattle.std.proofs.Common.{◌≡◌, ℕ, zero, suc, ◌+◌, ◌-◌, ◌<◌, ◌≤◌, List, [], ◌∷◌, All, AllPairs, length, get_or, map, slice_index, sum_by, refl, sym, ap, subst, ◌∙◌, add-one, arith}
 use Rattle.std.specs.List.{range_with_len}
 use Rattle.std.specs.List.Sorted.{IsStrictlyIncreasing}
 use Rattle.std.proofs.lemmas.List.FromFn.{length-map-range_with_len, get_or-map-range_with_len, fill_by_all, sum_by-map-range_with_len_more}
@@ -17,7 +17,7 @@ use Rattle.road_net.specs.Totals.{total}
 use Rattle.net_simulator.specs.Flow.{Passed, past_of}
 use Rattle.net_simulator.specs.Rows.{cell}
 use Rattle.net_simulator.specs.Arriving.{arriving_of}
-use Rattle.net_simulator.specs.Senses.{coming, link_sense, sense, seen_by}
+use Rattle.net_simulator.specs.Senses.{coming, stood, link_sense, sense, seen_by}
 use Rattle.net_simulator.specs.Sums.{on_road}
 use Rattle.net_simulator.specs.Worlds.{Keeps, Stands, WorldState, IsWorldOf, standing_by}
 use Rattle.net_simulator.proofs.Sums.{total-without, without, without-other}
@@ -43,8 +43,8 @@ sum_by-same f g (x ∷ xs) same =
     omega (arith, sum_by-cons f x xs, sum_by-cons g x xs, head, rest)
 
 -- what the row of a link tells is what is on its way
-pub seen-same : (net : Net) (past : ℕ → ℕ → Passed) (qs rs ws : List ℕ) (x l : ℕ) → Keeps net past qs rs ws x → l < length net.link_names → (link_at net l).travel ≤ 120 → seen_by net qs rs x l ≡ link_sense net past x l
-seen-same net past qs rs ws x l keeps h most =
+pub seen-same : (net : Net) (past : ℕ → ℕ → Passed) (qs rs ws ss : List ℕ) (x l : ℕ) → Keeps net past qs rs ws x → slice_index ss l ≡ stood net past x l → l < length net.link_names → (link_at net l).travel ≤ 120 → seen_by net qs rs ss x l ≡ link_sense net past x l
+seen-same net past qs rs ws ss x l keeps standing h most =
     let t : ℕ = (link_at net l).travel in
     let same = range-same (λ i. cell rs l (x + 128 - t + i)) (coming net past x l) t (λ i b.
     let place : x + 128 - t + i ≡ x + 128 - (t - i) = omega arith in
@@ -52,11 +52,11 @@ seen-same net past qs rs ws x l keeps h most =
     let two : x - (t - i) ≡ x + i - t = omega arith in
     ap (cell rs l) place ∙ keeps.recent l (t - i) h (omega arith) (omega arith) ∙ ap (λ n. (past n l).entered - (past (x - (t - i)) l).entered) one ∙ ap (λ n. (past (x + i + 1 - t) l).entered - (past n l).entered) two) in
     let queues = keeps.queues l h in
-    λ i. record { link = l; queue = queues i; coming = same i }
+    λ i. record { link = l; queue = queues i; coming = same i; stood = standing i }
 
-pub senses-same : (net : Net) (past : ℕ → ℕ → Passed) (qs rs ws : List ℕ) (x : ℕ) (links : List ℕ) → IsNetwork net → Keeps net past qs rs ws x → All (λ l. l < length net.link_names) links → map (seen_by net qs rs x) links ≡ map (link_sense net past x) links
-senses-same net past qs rs ws x links network keeps below =
-    map-same (seen_by net qs rs x) (link_sense net past x) links (All-weaker (λ l. l < length net.link_names) (λ l. seen_by net qs rs x l ≡ link_sense net past x l) (λ l h. seen-same net past qs rs ws x l keeps h ((bounds-of net network).most l h)) links below)
+pub senses-same : (net : Net) (past : ℕ → ℕ → Passed) (qs rs ws ss : List ℕ) (x : ℕ) (links : List ℕ) → IsNetwork net → Keeps net past qs rs ws x → ((l : ℕ) → l < length net.link_names → slice_index ss l ≡ stood net past x l) → All (λ l. l < length net.link_names) links → map (seen_by net qs rs ss x) links ≡ map (link_sense net past x) links
+senses-same net past qs rs ws ss x links network keeps standing below =
+    map-same (seen_by net qs rs ss x) (link_sense net past x) links (All-weaker (λ l. l < length net.link_names) (λ l. seen_by net qs rs ss x l ≡ link_sense net past x l) (λ l h. seen-same net past qs rs ws ss x l keeps (standing l h) h ((bounds-of net network).most l h)) links below)
 
 -- a sum over numbers below n that differ is a part of the sum over all of them
 listed-part : (f : ℕ → ℕ) (n : ℕ) (xs : List ℕ) → AllPairs (λ a b. a < b) xs → All (λ x. x < n) xs → sum_by f xs ≤ total f n
@@ -127,14 +127,15 @@ pub below-names : (net : Net) (links names : List ℕ) → IsNetwork net → lin
 below-names net links names network is have = subst (All (λ l. l < length net.link_names)) is (λ k d h. let b = have k d h in let count = network.outline.road_count in omega arith)
 
 -- what the code gathers is what the definition gives
-pub gathered : (net : Net) (node : ℕ) (w v : WorldState) (qs rs links : List ℕ) (out : List LinkSense) → IsNetwork net → v ≡ w → qs ≡ v.queues → rs ≡ v.recent → links ≡ entry_links net node → out ≡ map (seen_by net qs rs v.second) links
+pub gathered : (net : Net) (node : ℕ) (w v : WorldState) (qs rs ss links : List ℕ) (out : List LinkSense) → IsNetwork net → v ≡ w → qs ≡ v.queues → rs ≡ v.recent → ss ≡ v.stood → links ≡ entry_links net node → out ≡ map (seen_by net qs rs ss v.second) links
     → All (λ l. l < length net.link_names) (entry_links net node) → (arriving : ℕ → ℕ → ℕ) (lines : ℕ → List Green) → Stands net arriving (standing_by lines) w
     → (let s : Sensed = record { now = v.second; links = out } in s) ≡ sense net (past_of net arriving (standing_by lines) w.second) w.second node
-gathered net node w v qs rs links out network view queues recent entries all below arriving lines stands =
+gathered net node w v qs rs ss links out network view queues recent standing entries all below arriving lines stands =
     let past : ℕ → ℕ → Passed = past_of net arriving (standing_by lines) w.second in
     let one = queues ∙ ap (λ (k : WorldState). k.queues) view in
     let two = recent ∙ ap (λ (k : WorldState). k.recent) view in
+    let three = standing ∙ ap (λ (k : WorldState). k.stood) view in
     let now = ap (λ (k : WorldState). k.second) view in
     let senses : out ≡ map (link_sense net past w.second) (entry_links net node) =
-    all ∙ (λ i. map (seen_by net (one i) (two i) (now i)) (entries i)) ∙ senses-same net past w.queues w.recent w.waits w.second (entry_links net node) network stands.keeps below in
+    all ∙ (λ i. map (seen_by net (one i) (two i) (three i) (now i)) (entries i)) ∙ senses-same net past w.queues w.recent w.waits w.stood w.second (entry_links net node) network stands.keeps stands.stood below in
     λ i. record { now = now i; links = senses i }

@@ -31,10 +31,12 @@ link_sense net past n l = record {
 abbrev pub sense : Net → (ℕ → ℕ → Passed) → ℕ → ℕ → Sensed
 sense net past n node = record { now = n; links = map (link_sense net past n) (entry_links net node) }
 
--- The same by what a world keeps: the queues and the row of what entered. No public clause names it.
-abbrev pub seen_by : Net → List ℕ → List ℕ → ℕ → ℕ → LinkSense
-seen_by net queues recent n l = record {
+-- The same by what a world keeps: the queues, the row of what entered, and for how long queues have stood. No public clause
+-- names it.
+abbrev pub seen_by : Net → List ℕ → List ℕ → List ℕ → ℕ → ℕ → LinkSense
+seen_by net queues recent standing n l = record {
   link = l;
   queue = slice_index queues l;
   coming = map (λ i. cell recent l (n + 128 - (link_at net l).travel + i)) (range_with_len 0 (link_at net l).travel);
+  stood = slice_index standing l;
 }

@@ -1,5 +1,5 @@
 -- What the code does in one second, by what it keeps. No public clause names these words.
-use Rattle.std.specs.Prelude.{ℕ, ◌+◌, ◌-◌, ◌*◌, ◌≤◌, ◌==◌, min, Bool, false, not, ◌&&◌, if◌then◌else◌, List, Option, Some, None, length, slice_index, slice_index_or}
+use Rattle.std.specs.Prelude.{ℕ, ◌+◌, ◌-◌, ◌*◌, ◌≤◌, ◌==◌, min, nat_lt, Bool, false, not, ◌&&◌, if◌then◌else◌, List, Option, Some, None, length, slice_index, slice_index_or}
 use Rattle.phase_plan.specs.Phases.{phase_at}
 use Rattle.net_numbers.specs.Numbers.{Net}
 use Rattle.net_numbers.specs.Outline.{link_at, plan_at}
@@ -31,6 +31,10 @@ goes_out net leaving = total (λ l. outward (link_at net l).to (slice_index leav
 -- the sum of a number for each link
 abbrev pub all_of : List ℕ → ℕ → ℕ
 all_of amounts links = total (λ l. slice_index amounts l) links
+
+-- for how many seconds a queue has stood after one more of them, by the queue after it
+abbrev pub stands_on : ℕ → ℕ → ℕ
+stands_on queue stood = if nat_lt 0 queue then stood + 1 else 0
 
 -- what is counted of a link with one more second
 abbrev pub counted : LinkTotals → ℕ → ℕ → ℕ → LinkTotals

@@ -9,6 +9,7 @@ use Rattle.net_simulator.specs.Arriving.{arriving_of}
 use Rattle.net_simulator.specs.Sums.{link_totals, totals}
 use Rattle.net_simulator.specs.Rows.{cell}
 use Rattle.net_simulator.specs.Counts.{counts_at}
+use Rattle.net_simulator.specs.Senses.{stood}
 use Rattle.net_simulator.specs.declared.totals.LinkTotals.{LinkTotals}
 use Rattle.net_simulator.specs.declared.totals.Totals.{Totals}
 
@@ -17,13 +18,14 @@ abbrev pub standing_by : (ℕ → List Green) → ℕ → ℕ → Option (ℕ ×
 standing_by lines x node = standing (lines node) x
 
 -- what a world keeps: its second, how many nodes its network has, and for each link its queue, rows of what entered it and of
--- its queues, and what is counted
+-- its queues, for how long a queue has stood, and what is counted
 pub record WorldState : Type 0 where
   pub second : ℕ
   pub nodes : ℕ
   pub queues : List ℕ
   pub recent : List ℕ
   pub waits : List ℕ
+  pub stood : List ℕ
   pub counts : List LinkTotals
   pub totals : Totals
 
@@ -33,6 +35,7 @@ pub record HasShape (net : Net) (w : WorldState) : Type 0 where
   pub queues : length w.queues ≡ length net.link_names
   pub recent : length w.recent ≡ length net.link_names * 128
   pub waits : length w.waits ≡ length net.link_names * 128
+  pub stood : length w.stood ≡ length net.link_names
   pub counts : length w.counts ≡ length net.link_names
 
 -- What is kept of the links is what passed them in the first x seconds: the queues, what entered in each of the last 120
@@ -49,6 +52,7 @@ pub record Stands (net : Net) (arriving : ℕ → ℕ → ℕ) (shown : ℕ → 
   pub keeps : Keeps net (past_of net arriving shown w.second) w.queues w.recent w.waits w.second
   pub counts : (l : ℕ) → l < length net.link_names → counts_at w.counts l ≡ link_totals net (past_of net arriving shown w.second) w.second l
   pub totals : w.totals ≡ totals net arriving (past_of net arriving shown w.second) w.second
+  pub stood : (l : ℕ) → l < length net.link_names → slice_index w.stood l ≡ stood net (past_of net arriving shown w.second) w.second l
 
 -- a world stands for this network with some arrivals and timelines
 pub record IsWorldOf (net : Net) (w : WorldState) : Type 0 where

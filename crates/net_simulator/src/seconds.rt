@@ -6,7 +6,7 @@ ghost use Rattle.net_numbers.specs.Outline.{link_at, turns_at};
 ghost use Rattle.net_simulator.specs.Arriving.{arriving_of};
 ghost use Rattle.net_simulator.specs.Counts.{counts_at};
 ghost use Rattle.net_simulator.specs.Rows.{cell};
-ghost use Rattle.net_simulator.specs.Steps.{is_open, goes, waits_at, goes_out, all_of, counted, FitsSeconds};
+ghost use Rattle.net_simulator.specs.Steps.{is_open, goes, waits_at, goes_out, all_of, counted, stands_on, FitsSeconds};
 ghost use Rattle.net_simulator.specs.Sums.{outward};
 ghost use Rattle.road_net.specs.Joins.{split_of};
 ghost use Rattle.road_net.specs.Totals.{total};
@@ -191,15 +191,22 @@ pub(crate) fn enter(recent: &mut [u32], net: &Network, leaving: &[u32], second: 
     }
 }
 
-/// Keeps the queues after this second.
-pub(crate) fn remember(waits: &mut [u32], queues: &[u32], links: u32, next: u32)
+/// Keeps the queues after this second, and for how many seconds each has stood.
+pub(crate) fn remember(waits: &mut [u32], stood: &mut [u32], queues: &[u32], links: u32, next: u32)
     requires waits { length waits.old ≡ links * 128 }
+    requires stood { length stood.old ≡ links }
     requires queues { length queues.now ≡ links }
+    requires fits { (l : ℕ) → l < links → slice_index stood.old l < 18000 }
     ensures here { (l : ℕ) → l < links → cell waits.new l next ≡ slice_index queues.now l }
     ensures others { (l y : ℕ) → y % 128 ≢ next % 128 → cell waits.new l y ≡ cell waits.old l y }
+    ensures stood { (l : ℕ) → l < links
+        → slice_index stood.new l ≡ stands_on (slice_index queues.now l) (slice_index stood.old l) }
 {
     for l in 0..links {
-        rows::put(waits, l, next, queues[l as usize]);
+        let queue = queues[l as usize];
+        rows::put(waits, l, next, queue);
+        let before = stood[l as usize];
+        stood[l as usize] = if queue > 0 { before + 1 } else { 0 };
     }
 }
 

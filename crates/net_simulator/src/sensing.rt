@@ -16,35 +16,39 @@ pub(crate) fn sense_links(
     links: &[u32],
     queues: &[u32],
     recent: &[u32],
+    stood: &[u32],
     second: u32,
 ) -> Result<Vec<LinkSense>, AllocError>
     requires links { All (λ l. l < length net.now.link_names) links.now }
     requires queues { length queues.now ≡ length net.now.link_names }
     requires recent { length recent.now ≡ length net.now.link_names * 128 }
+    requires stood { length stood.now ≡ length net.now.link_names }
     requires second { second ≤ 18000 }
-    ensures { IfOk result (λ s. s.items ≡ map (seen_by net.now queues.now recent.now second) links.now) }
+    ensures { IfOk result (λ s. s.items ≡ map (seen_by net.now queues.now recent.now stood.now second) links.now) }
 {
     let mut senses = Vec::with_capacity(alloc, links.len())?;
     for &l in links {
-        senses.push(sense_link(alloc, net, l, queues, recent, second)?)?;
+        senses.push(sense_link(alloc, net, l, queues, recent, stood, second)?)?;
     }
     Ok(senses)
 }
 
-/// What is seen of a link in a second: its queue, and what is on its way to its end.
+/// What is seen of a link in a second: its queue, what is on its way to its end, and for how long a queue has stood.
 fn sense_link(
     alloc: Global,
     net: &Network,
     l: u32,
     queues: &[u32],
     recent: &[u32],
+    stood: &[u32],
     second: u32,
 ) -> Result<LinkSense, AllocError>
     requires link { l < length net.now.link_names }
     requires queues { length queues.now ≡ length net.now.link_names }
     requires recent { length recent.now ≡ length net.now.link_names * 128 }
+    requires stood { length stood.now ≡ length net.now.link_names }
     requires second { second ≤ 18000 }
-    ensures { IfOk result (λ s. s ≡ seen_by net.now queues.now recent.now second l) }
+    ensures { IfOk result (λ s. s ≡ seen_by net.now queues.now recent.now stood.now second l) }
 {
     let travel = net.link(l).travel;
     let first = second + 128 - travel;
@@ -56,5 +60,6 @@ fn sense_link(
         link: l,
         queue: queues[l as usize],
         coming: Items::from_vec(coming),
+        stood: stood[l as usize],
     })
 }

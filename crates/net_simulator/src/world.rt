@@ -1,9 +1,9 @@
 //! The world.
 
-ghost use Rattle.std.specs.Prelude.{◌≡◌, ℕ, ◌+◌, ◌≤◌, ◌<◌, Option, IfOk, List, length, replicate};
+ghost use Rattle.std.specs.Prelude.{◌≡◌, ℕ, ◌+◌, ◌≤◌, ◌<◌, None, Option, IfOk, List, length, replicate, slice_index_or};
 ghost use Rattle.arrivals.specs.Amounts.{Amounts, AreArrivals};
 ghost use Rattle.control_flow.specs.declared.greens.Green.{Green};
-ghost use Rattle.control_flow.specs.Greens.{standing};
+ghost use Rattle.control_flow.specs.Greens.{green_at, standing};
 ghost use Rattle.net_numbers.specs.Numbers.{Net};
 ghost use Rattle.net_simulator.specs.Arriving.{arriving_of};
 ghost use Rattle.net_simulator.specs.Counts.{counts_at, no_totals, IsBalanced};
@@ -35,6 +35,7 @@ pub struct World {
     queues: Vec<u32>,
     recent: Vec<u32>,
     waits: Vec<u32>,
+    stood: Vec<u32>,
     greens: Vec<Option<Green>>,
     leaving: Vec<u32>,
     counts: Vec<LinkTotals>,
@@ -48,7 +49,7 @@ impl Model for World {
 
     ghost Value = { WorldState };
 
-    ghost view = { λ w. record { second = w.second; nodes = length w.greens.items; queues = w.queues.items; recent = w.recent.items; waits = w.waits.items; counts = w.counts.items; totals = w.totals } };
+    ghost view = { λ w. record { second = w.second; nodes = length w.greens.items; queues = w.queues.items; recent = w.recent.items; waits = w.waits.items; stood = w.stood.items; counts = w.counts.items; totals = w.totals } };
 
     ghost invariant = { λ w. (length w.leaving.items ≡ length w.queues.items) × IsBalanced w.totals };
 }
@@ -70,6 +71,7 @@ impl World {
         let queues = zeros(alloc, links)?;
         let recent = zeros(alloc, links * 128)?;
         let waits = zeros(alloc, links * 128)?;
+        let stood = zeros(alloc, links)?;
         let leaving = zeros(alloc, links)?;
         let counts = no_counts(alloc, links)?;
         let greens = no_greens(alloc, net.nodes() as usize)?;
@@ -78,6 +80,7 @@ impl World {
             queues,
             recent,
             waits,
+            stood,
             greens,
             leaving,
             counts,
@@ -117,7 +120,8 @@ impl World {
         self.totals
     }
 
-    /// What a node of the network sees of its entry links: their queues, and what is on its way to their ends.
+    /// What a node of the network sees of its entry links: their queues, for how long these have stood, and what is on its
+    /// way to their ends.
     ///
     /// `Err`: out of memory.
     ///
@@ -137,6 +141,7 @@ impl World {
             net.entry_links(node),
             self.queues.as_slice(),
             self.recent.as_slice(),
+            self.stood.as_slice(),
             self.second,
         )?;
         Ok(Sensed {
@@ -175,9 +180,11 @@ impl World {
         ensures stands { Stands net.now (arriving_of arrivals.now) (standing_by (T.lines lights.now)) self.new }
     {
         let x = self.second;
+        seconds::look(self.greens.as_mut_slice(), net, lights, x);
         let moment = Moment {
             net,
             lights,
+            greens: self.greens.as_slice(),
             arrivals,
             totals: self.totals,
             second: x,
@@ -186,7 +193,7 @@ impl World {
             self.queues.as_mut_slice(),
             self.recent.as_mut_slice(),
             self.waits.as_mut_slice(),
-            self.greens.as_mut_slice(),
+            self.stood.as_mut_slice(),
             self.leaving.as_mut_slice(),
             self.counts.as_mut_slice(),
             &moment,
@@ -195,11 +202,13 @@ impl World {
     }
 }
 
-/// What a second begins with: the network, what its signals show, what comes from outside, and what is counted so far.
+/// What a second begins with: the network, its signals and what they show, what comes from outside, and what is counted so
+/// far.
 #[derive(Drop)]
 struct Moment<'a, T> {
     net: &'a Network,
     lights: &'a T,
+    greens: &'a [Option<Green>],
     arrivals: &'a Arrivals,
     totals: Totals,
     second: u32,
@@ -210,7 +219,7 @@ fn pass_second<T: Lights>(
     queues: &mut [u32],
     recent: &mut [u32],
     waits: &mut [u32],
-    greens: &mut [Option<Green>],
+    stood: &mut [u32],
     leaving: &mut [u32],
     counts: &mut [LinkTotals],
     moment: &Moment<T>,
@@ -218,22 +227,26 @@ fn pass_second<T: Lights>(
     requires second { moment.now.second < 18000 }
     requires leaving { length leaving.old ≡ length queues.old }
     requires arrivals { AreArrivals moment.now.net.now moment.now.arrivals.now }
+    requires greens { (n : ℕ) → n < length moment.now.net.now.node_names
+        → slice_index_or moment.now.greens.now n None ≡ green_at (T.lines moment.now.lights.now n) moment.now.second }
     requires stands { Stands moment.now.net.now (arriving_of moment.now.arrivals.now) (standing_by (T.lines moment.now.lights.now)) (record {
       second = moment.now.second;
-      nodes = length greens.old;
+      nodes = length moment.now.greens.now;
       queues = queues.old;
       recent = recent.old;
       waits = waits.old;
+      stood = stood.old;
       counts = counts.old;
       totals = moment.now.totals;
     }) }
     ensures whole { IsBalanced result }
     ensures stands { Stands moment.now.net.now (arriving_of moment.now.arrivals.now) (standing_by (T.lines moment.now.lights.now)) (record {
       second = moment.now.second + 1;
-      nodes = length greens.new;
+      nodes = length moment.now.greens.now;
       queues = queues.new;
       recent = recent.new;
       waits = waits.new;
+      stood = stood.new;
       counts = counts.new;
       totals = result;
     }) }
@@ -242,11 +255,10 @@ fn pass_second<T: Lights>(
     let x = moment.second;
     let totals = &moment.totals;
     let links = net.links();
-    seconds::look(greens, net, moment.lights, x);
     let arriving = seconds::arrive(recent, links, moment.arrivals, x);
-    let out = seconds::leave(leaving, queues, net, recent, waits, greens, x);
+    let out = seconds::leave(leaving, queues, net, recent, waits, moment.greens, x);
     seconds::enter(recent, net, leaving, x);
-    seconds::remember(waits, queues, links, x + 1);
+    seconds::remember(waits, stood, queues, links, x + 1);
     let waiting = seconds::count(counts, recent, leaving, queues, links, x);
     let entered = totals.entered + arriving;
     let left = totals.left + out;

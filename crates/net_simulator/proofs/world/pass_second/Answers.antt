@@ -1,10 +1,10 @@
 use Rattle.std.proofs.Common.{◌+◌, ◌-◌, length, refl, arith}
 use Rattle.net_simulator.specs.Arriving.{arriving_of}
-use Rattle.net_simulator.proofs.Passing.{few-of, begun-by, room-leave, room-enter, leaves-now, counts-small, stands-next, room-entered, room-left, delay-most}
+use Rattle.net_simulator.proofs.Passing.{few-of, begun-by, room-leave, room-enter, leaves-now, counts-small, standing-small, stands-next, room-entered, room-left, delay-most}
 use Rattle.net_simulator.proofs.world.pass_second.Goals as goal
 
 pub leave-out-requires-clause-begun : goal.leave-out-requires-clause-begun
-leave-out-requires-clause-begun g c = begun-by c.look.new.greens (length c.args.moment.now.net.now.node_names) (g.T.Lights.lines c.args.moment.now.lights.now) c.args.moment.now.second c.look.ensures
+leave-out-requires-clause-begun g c = begun-by c.args.moment.now.greens.now (length c.args.moment.now.net.now.node_names) (g.T.Lights.lines c.args.moment.now.lights.now) c.args.moment.now.second c.requires.greens
 
 pub leave-out-requires-clause-fits : goal.leave-out-requires-clause-fits
 leave-out-requires-clause-fits g c =
@@ -12,9 +12,12 @@ leave-out-requires-clause-fits g c =
 
 pub enter-requires-clause-fits : goal.enter-requires-clause-fits
 enter-requires-clause-fits g c =
-    let leaves = leaves-now c.args.moment.now.net.now c.links-links.ensures.network (arriving_of c.args.moment.now.arrivals.now) (g.T.Lights.lines c.args.moment.now.lights.now) (few-of c.args.moment.now.net.now c.links-links.ensures.network c.args.moment.now.arrivals.now c.requires.arrivals) _ c.requires.stands c.look.new.greens c.arrive-arriving.new.recent c.leave-out.new.leaving c.look.ensures c.arrive-arriving.ensures.others c.leave-out.ensures.leaving in
+    let leaves = leaves-now c.args.moment.now.net.now c.links-links.ensures.network (arriving_of c.args.moment.now.arrivals.now) (g.T.Lights.lines c.args.moment.now.lights.now) (few-of c.args.moment.now.net.now c.links-links.ensures.network c.args.moment.now.arrivals.now c.requires.arrivals) _ c.requires.stands c.args.moment.now.greens.now c.arrive-arriving.new.recent c.leave-out.new.leaving c.requires.greens c.arrive-arriving.ensures.others c.leave-out.ensures.leaving in
     room-enter c.args.moment.now.net.now c.links-links.ensures.network (arriving_of c.args.moment.now.arrivals.now) (g.T.Lights.lines c.args.moment.now.lights.now) (few-of c.args.moment.now.net.now c.links-links.ensures.network c.args.moment.now.arrivals.now c.requires.arrivals) _ c.requires.stands c.arrive-arriving.new.recent c.leave-out.new.leaving leaves
     (rw c.links-links.ensures.value at c.arrive-arriving.ensures.here)
+
+pub remember-requires-clause-fits : goal.remember-requires-clause-fits
+remember-requires-clause-fits g c = rw c.links-links.ensures.value (standing-small c.args.moment.now.net.now c.links-links.ensures.network (arriving_of c.args.moment.now.arrivals.now) (g.T.Lights.lines c.args.moment.now.lights.now) (few-of c.args.moment.now.net.now c.links-links.ensures.network c.args.moment.now.arrivals.now c.requires.arrivals) _ c.requires.stands c.requires.second)
 
 pub count-waiting-requires-clause-fits : goal.count-waiting-requires-clause-fits
 count-waiting-requires-clause-fits g c = rw c.links-links.ensures.value (counts-small c.args.moment.now.net.now c.links-links.ensures.network (arriving_of c.args.moment.now.arrivals.now) (g.T.Lights.lines c.args.moment.now.lights.now) (few-of c.args.moment.now.net.now c.links-links.ensures.network c.args.moment.now.arrivals.now c.requires.arrivals) _ c.requires.stands)
@@ -27,7 +30,7 @@ overflow_add-entered g c =
 
 pub overflow_sub-result : goal.overflow_sub-result
 overflow_sub-result g c =
-    let leaves = leaves-now c.args.moment.now.net.now c.links-links.ensures.network (arriving_of c.args.moment.now.arrivals.now) (g.T.Lights.lines c.args.moment.now.lights.now) (few-of c.args.moment.now.net.now c.links-links.ensures.network c.args.moment.now.arrivals.now c.requires.arrivals) _ c.requires.stands c.look.new.greens c.arrive-arriving.new.recent c.leave-out.new.leaving c.look.ensures c.arrive-arriving.ensures.others c.leave-out.ensures.leaving in
+    let leaves = leaves-now c.args.moment.now.net.now c.links-links.ensures.network (arriving_of c.args.moment.now.arrivals.now) (g.T.Lights.lines c.args.moment.now.lights.now) (few-of c.args.moment.now.net.now c.links-links.ensures.network c.args.moment.now.arrivals.now c.requires.arrivals) _ c.requires.stands c.args.moment.now.greens.now c.arrive-arriving.new.recent c.leave-out.new.leaving c.requires.greens c.arrive-arriving.ensures.others c.leave-out.ensures.leaving in
     let room = room-left c.args.moment.now.net.now c.links-links.ensures.network (arriving_of c.args.moment.now.arrivals.now) (g.T.Lights.lines c.args.moment.now.lights.now) (few-of c.args.moment.now.net.now c.links-links.ensures.network c.args.moment.now.arrivals.now c.requires.arrivals) _ c.requires.stands c.leave-out.new.leaving leaves in
     let all = rw c.links-links.ensures.value at c.arrive-arriving.ensures.all in
     omega (arith, room, all, c.leave-out.ensures.out)
@@ -36,7 +39,7 @@ pub overflow_add-left : goal.overflow_add-left
 overflow_add-left g c =
     let room = room-entered c.args.moment.now.net.now c.links-links.ensures.network (arriving_of c.args.moment.now.arrivals.now) (g.T.Lights.lines c.args.moment.now.lights.now) (few-of c.args.moment.now.net.now c.links-links.ensures.network c.args.moment.now.arrivals.now c.requires.arrivals) _ c.requires.stands in
     let all = rw c.links-links.ensures.value at c.arrive-arriving.ensures.all in
-    let leaves = leaves-now c.args.moment.now.net.now c.links-links.ensures.network (arriving_of c.args.moment.now.arrivals.now) (g.T.Lights.lines c.args.moment.now.lights.now) (few-of c.args.moment.now.net.now c.links-links.ensures.network c.args.moment.now.arrivals.now c.requires.arrivals) _ c.requires.stands c.look.new.greens c.arrive-arriving.new.recent c.leave-out.new.leaving c.look.ensures c.arrive-arriving.ensures.others c.leave-out.ensures.leaving in
+    let leaves = leaves-now c.args.moment.now.net.now c.links-links.ensures.network (arriving_of c.args.moment.now.arrivals.now) (g.T.Lights.lines c.args.moment.now.lights.now) (few-of c.args.moment.now.net.now c.links-links.ensures.network c.args.moment.now.arrivals.now c.requires.arrivals) _ c.requires.stands c.args.moment.now.greens.now c.arrive-arriving.new.recent c.leave-out.new.leaving c.requires.greens c.arrive-arriving.ensures.others c.leave-out.ensures.leaving in
     let less = room-left c.args.moment.now.net.now c.links-links.ensures.network (arriving_of c.args.moment.now.arrivals.now) (g.T.Lights.lines c.args.moment.now.lights.now) (few-of c.args.moment.now.net.now c.links-links.ensures.network c.args.moment.now.arrivals.now c.requires.arrivals) _ c.requires.stands c.leave-out.new.leaving leaves in
     omega (arith, room, all, less, c.leave-out.ensures.out)
 
@@ -48,20 +51,21 @@ overflow_add-result g c =
 
 pub returns-clause-whole : goal.returns-clause-whole
 returns-clause-whole g c =
-    let leaves = leaves-now c.args.moment.now.net.now c.links-links.ensures.network (arriving_of c.args.moment.now.arrivals.now) (g.T.Lights.lines c.args.moment.now.lights.now) (few-of c.args.moment.now.net.now c.links-links.ensures.network c.args.moment.now.arrivals.now c.requires.arrivals) _ c.requires.stands c.look.new.greens c.arrive-arriving.new.recent c.leave-out.new.leaving c.look.ensures c.arrive-arriving.ensures.others c.leave-out.ensures.leaving in
+    let leaves = leaves-now c.args.moment.now.net.now c.links-links.ensures.network (arriving_of c.args.moment.now.arrivals.now) (g.T.Lights.lines c.args.moment.now.lights.now) (few-of c.args.moment.now.net.now c.links-links.ensures.network c.args.moment.now.arrivals.now c.requires.arrivals) _ c.requires.stands c.args.moment.now.greens.now c.arrive-arriving.new.recent c.leave-out.new.leaving c.requires.greens c.arrive-arriving.ensures.others c.leave-out.ensures.leaving in
     let room = room-left c.args.moment.now.net.now c.links-links.ensures.network (arriving_of c.args.moment.now.arrivals.now) (g.T.Lights.lines c.args.moment.now.lights.now) (few-of c.args.moment.now.net.now c.links-links.ensures.network c.args.moment.now.arrivals.now c.requires.arrivals) _ c.requires.stands c.leave-out.new.leaving leaves in
     let all = rw c.links-links.ensures.value at c.arrive-arriving.ensures.all in
     omega (arith, room, all, c.leave-out.ensures.out)
 
 pub returns-clause-stands : goal.returns-clause-stands
 returns-clause-stands g c =
-    stands-next c.args.moment.now.net.now c.links-links.ensures.network (arriving_of c.args.moment.now.arrivals.now) (g.T.Lights.lines c.args.moment.now.lights.now) (few-of c.args.moment.now.net.now c.links-links.ensures.network c.args.moment.now.arrivals.now c.requires.arrivals) _ c.requires.stands c.look.new.greens c.arrive-arriving.new.recent c.leave-out.new.leaving
+    stands-next c.args.moment.now.net.now c.links-links.ensures.network (arriving_of c.args.moment.now.arrivals.now) (g.T.Lights.lines c.args.moment.now.lights.now) (few-of c.args.moment.now.net.now c.links-links.ensures.network c.args.moment.now.arrivals.now c.requires.arrivals) _ c.requires.stands c.args.moment.now.greens.now c.arrive-arriving.new.recent c.leave-out.new.leaving
     (record {
       second = c.args.moment.now.second + 1;
-      nodes = length c.look.new.greens;
+      nodes = length c.args.moment.now.greens.now;
       queues = c.leave-out.new.queues;
       recent = c.enter.new.recent;
       waits = c.remember.new.waits;
+      stood = c.remember.new.stood;
       counts = c.count-waiting.new.counts;
       totals = record {
         entered = c.args.moment.now.totals.entered + c.arrive-arriving.result;
@@ -71,8 +75,8 @@ returns-clause-stands g c =
       };
     })
     c.requires.second refl
-    (let s = c.requires.stands.shape in record { nodes = omega arith; queues = omega arith; recent = omega arith; waits = omega arith; counts = omega arith })
-    c.look.ensures
+    (let s = c.requires.stands.shape in record { nodes = omega arith; queues = omega arith; recent = omega arith; waits = omega arith; stood = omega arith; counts = omega arith })
+    c.requires.greens
     (record {
       arrives = rw c.links-links.ensures.value at c.arrive-arriving.ensures.here;
       arrives-others = c.arrive-arriving.ensures.others;
@@ -82,6 +86,7 @@ returns-clause-stands g c =
       enters-others = c.enter.ensures.others;
       remembers = rw c.links-links.ensures.value at c.remember.ensures.here;
       remembers-others = c.remember.ensures.others;
+      stands = rw c.links-links.ensures.value at c.remember.ensures.stood;
       counts = rw c.links-links.ensures.value at c.count-waiting.ensures.counts;
       entered = let all = rw c.links-links.ensures.value at c.arrive-arriving.ensures.all in omega (arith, all);
       left = omega (arith, c.leave-out.ensures.out);

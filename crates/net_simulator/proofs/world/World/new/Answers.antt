@@ -13,10 +13,12 @@ returns-clause-stands c arriving shown =
       queues = ap length c.in_ok-queues.ensures ∙ length-replicate _ 0 ∙ links;
       recent = ap length c.in_ok-recent.ensures ∙ length-replicate _ 0 ∙ ap (λ (n : ℕ). n * 128) links;
       waits = ap length c.in_ok-waits.ensures ∙ length-replicate _ 0 ∙ ap (λ (n : ℕ). n * 128) links;
+      stood = ap length c.in_ok-stood.ensures ∙ length-replicate _ 0 ∙ links;
       counts = ap length c.in_ok-counts.ensures ∙ length-replicate _ no_totals ∙ links;
     })
     (λ k. rw c.in_ok-queues.ensures (zeros _ k 0))
     (λ k. rw c.in_ok-recent.ensures (zeros _ k 0))
     (λ k. rw c.in_ok-waits.ensures (zeros _ k 0))
+    (λ k. rw c.in_ok-stood.ensures (zeros _ k 0))
     (λ k. rw c.in_ok-counts.ensures (zeros _ k no_totals))
     refl
