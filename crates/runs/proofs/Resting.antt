@@ -11,7 +11,7 @@ use Rattle.intersection_actor.specs.Rounds.{IsNew, IsOf}
 use Rattle.intersection_actor.specs.declared.records.Want.TheVariants.{Done}
 use Rattle.net_numbers.specs.Numbers.{Net}
 use Rattle.net_simulator.specs.Flow.{Passed, past_of}
-use Rattle.net_simulator.specs.Senses.{sense}
+use Rattle.net_simulator.specs.Senses.{sense, stood}
 use Rattle.net_simulator.specs.Sums.{link_totals, totals}
 use Rattle.net_simulator.specs.Worlds.{Keeps, WorldState, Stands, standing_by}
 use Rattle.road_net.specs.Network.{IsNetwork}
@@ -49,6 +49,7 @@ stands-same net network arriving shown seen w same s =
       keeps = subst (λ (p : ℕ → ℕ → Passed). Keeps net p w.queues w.recent w.waits w.second) e s.keeps;
       counts = λ l below. s.counts l below ∙ ap (λ (p : ℕ → ℕ → Passed). link_totals net p w.second l) e;
       totals = s.totals ∙ ap (λ (p : ℕ → ℕ → Passed). totals net arriving p w.second) e;
+      stood = λ l below. s.stood l below ∙ ap (λ (p : ℕ → ℕ → Passed). stood net p w.second l) e;
     }
 
 -- what was heard and made before a round stays in its plan records
