@@ -4,6 +4,7 @@ pub mod GatherLaws
 pub mod ListLaws
 pub mod LoadLaws
 pub mod PlatoonLaws
+pub mod RunLaws
 pub mod SeenLaws
 pub mod SmoothLaws
 pub mod TakingLaws
