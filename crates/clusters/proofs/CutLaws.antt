@@ -1,10 +1,11 @@
 -- Runs grow second by second, and a series is cut run by run.
-use Rattle.std.proofs.Common.{◌≡◌, ℕ, zero, suc, ◌+◌, ◌-◌, ◌<◌, ◌≤◌, Bool, nat_lt, List, [], ◌∷◌, ◌++◌, length, get_or, filter, refl, sym, ap, ◌∙◌, inl, inr, arith}
+use Rattle.std.proofs.Common.{◌≡◌, ℕ, zero, suc, ◌+◌, ◌-◌, ◌<◌, ◌≤◌, Bool, nat_lt, List, [], ◌∷◌, ◌++◌, Option, Some, None, length, get_or, filter, refl, sym, ap, ◌∙◌, inl, inr, arith}
+use Rattle.std.specs.Prelude.{IfNone, IfSome, unwrap_or}
 use Rattle.std.specs.List.{range_with_len}
 use Rattle.std.proofs.lemmas.List.Elements.{filter-append}
 use Rattle.std.proofs.lemmas.Bool.{cases_lt, cond_below, cond_above}
 use Rattle.clusters.specs.Cuts.{filled_from, filled, first_of, last_of, IsRun}
-use Rattle.clusters.specs.Steps.{IsEmpty, IsRunUpTo, IsClosed}
+use Rattle.clusters.specs.Steps.{IsEmpty, IsNext, IsRunUpTo, IsClosed}
 use Rattle.clusters.proofs.ListLaws.{range-append, get_or-push-last, get_or-push-at, get_or-push-other, length-push}
 
 abbrev is_filled : List ℕ → ℕ → Bool
@@ -138,3 +139,22 @@ growing-done gap most series first end x h all = λ y lo filled. elim (cases_lt 
   | inl below ↦ let e : get_or series y 0 ≡ 0 = h.empty y lo below in absurd (omega (arith, e, filled))
   | inr past ↦ inr (omega (arith, all y past filled))
 ]
+
+-- the first filled second of a series is the first one that is found from 0 on
+first-next : (series : List ℕ) (x : ℕ) → IsNext series 0 x → first_of (filled series) ≡ x
+first-next series x next =
+    let rest : ℕ = length series - (x + 1) in
+    let there : x < length series = next.there in
+    let total : length series ≡ x + (1 + (length series - (x + 1))) = omega arith in
+    let from : 0 + x ≡ x = omega arith in
+    ap first_of
+    (ap (filled_from series 0) total
+    ∙ filled-append series 0 x (1 + rest)
+    ∙ ap (λ ys. ys ++ filled_from series (0 + x) (1 + rest)) (filled-none series 0 x (λ k lo hi. next.before k lo (omega arith)))
+    ∙ ap (λ s. filled_from series s (1 + rest)) from
+    ∙ filled-append series x 1 rest
+    ∙ ap (λ ys. ys ++ filled_from series (x + 1) rest) (filled-one series x next.filled))
+
+pub first-found : (series : List ℕ) (found : Option ℕ) → IfNone found (IsEmpty series 0 (length series)) → IfSome found (IsNext series 0) → unwrap_or found 0 ≡ first_of (filled series)
+first-found series None none some = sym (ap first_of (filled-none series 0 (length series) (λ k lo hi. none k lo (omega arith))))
+first-found series (Some x) none some = sym (first-next series x some)

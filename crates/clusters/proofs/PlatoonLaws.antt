@@ -1,5 +1,5 @@
 -- The platoons of a phase are what planning and forecasting ask.
-use Rattle.std.proofs.Common.{◌≡◌, ℕ, ◌+◌, ◌-◌, ◌*◌, ◌<◌, ◌≤◌, List, [], ◌∷◌, ◌++◌, All, length, get_or, map, sum_by, refl, sym, ap, subst, ◌∙◌, inl, inr, arith, add-one}
+use Rattle.std.proofs.Common.{◌≡◌, ℕ, ◌+◌, ◌-◌, ◌*◌, ◌<◌, ◌≤◌, List, [], ◌∷◌, ◌++◌, Option, All, length, get_or, map, sum_by, refl, sym, ap, subst, ◌∙◌, inl, inr, arith, add-one}
 use Rattle.std.specs.List.{range_with_len}
 use Rattle.std.specs.List.Sorted.{IsStrictlyIncreasing}
 use Rattle.std.proofs.lemmas.List.{get_or-map, length-map, get_or_past}
@@ -8,8 +8,6 @@ use Rattle.board_model.specs.declared.forecasts.Row.{Row}
 use Rattle.std.proofs.lemmas.List.FromFn.{get_or-map-range_with_len, length-map-range_with_len}
 use Rattle.std.proofs.lemmas.List.Elements.{All-get_or, All-from_get_or, All-map, All-weaker}
 use Rattle.std.proofs.lemmas.Bool.{cases_lt}
-use Rattle.phase_plan.specs.declared.Phase.{Phase}
-use Rattle.phase_plan.specs.Phases.{phase_at}
 use Rattle.switch_rules.specs.Sequences.{cluster_at}
 use Rattle.switch_rules.specs.Serving.{IsCluster}
 use Rattle.board_model.specs.declared.boards.Heard.{Heard}
@@ -21,14 +19,15 @@ use Rattle.clusters.specs.declared.vehicle_groups.Part.{Part}
 use Rattle.clusters.specs.declared.vehicle_groups.Platoon.{Platoon}
 use Rattle.clusters.specs.Smoothing.{smoothed, left_by}
 use Rattle.clusters.specs.Inflow.{inflow, inflow_at, leaving, sense_of, heard_forecast}
-use Rattle.clusters.specs.Cuts.{first_of, last_of, run_at, IsCut}
-use Rattle.clusters.specs.Platoons.{ArePlatoonsOf, most_of, platoons_at, part_of, platoon_of, platoon_within, load_of, streams_of, together, whole_of}
-use Rattle.clusters.specs.Sound.{IsPart, IsPlatoon, AreOfNode, AreOfPhase, cluster_lists, AreSpacedClusters, clusters_of}
+use Rattle.clusters.specs.Cuts.{first_of, last_of, run_at}
+use Rattle.clusters.specs.Platoons.{ArePlatoonsBy, platoons_at, part_of, platoon_of, platoon_within, streams_of, together, whole_of}
+use Rattle.clusters.specs.Sound.{IsPart, IsPlatoon, AreOfNode, AreSoundOf, cluster_lists, AreSpacedClusters, clusters_of}
 use Rattle.clusters.specs.Windows.{IsRising, arrivals}
-use Rattle.clusters.specs.Steps.{AreGathered, AreOfLinks, AreStreams, IsRunBefore}
-use Rattle.net_draft.specs.declared.drafts.Run.{Run}
+use Rattle.clusters.specs.Steps.{AreOfLinks, AreStreams, IsAge}
+use Rattle.clusters.specs.UnderLoad.{aged_load_of}
 use Rattle.clusters.proofs.ListLaws.{get_or-push-at, get_or-push-other, length-push}
 use Rattle.clusters.proofs.LoadLaws.{IsLoading, loads-between}
+use Rattle.clusters.proofs.RunLaws.{AreInOrder, LiesIn, cut-in-order}
 use Rattle.clusters.proofs.SmoothLaws.{left-more}
 use Rattle.clusters.proofs.TogetherLaws.{brought, length-slice_range, All-slice_range, whole-some, whole-few}
 
@@ -150,97 +149,91 @@ arrival-at load now streams runs k lt =
     get_or-map (λ p. p.cluster.arr) (map (platoon_of load now streams) runs) k d 0 (omega (arith, length-map runs (platoon_of load now streams)))
     ∙ ap (λ p. p.cluster.arr) (platoon-at load now streams runs k d lt)
 
-each-run : (gap most : ℕ) (series : List ℕ) (runs : List (List ℕ)) (k : ℕ) → k < length runs → All (IsRunBefore gap most series (length series)) runs
-    → IsRunBefore gap most series (length series) (run_at runs k)
-each-run gap most series runs k lt h = All-get_or (IsRunBefore gap most series (length series)) runs k [] lt h
-
-pub phase-made : (net : Net) (node phase : ℕ) (sensed : Sensed) (heard : List Heard) (series : List ℕ) (streams : List Part) (list : List Platoon)
-    → IsNetwork net → sensed.now ≤ 18000 → streams ≡ streams_of net sensed heard (phase_links_at net node phase) → AreStreams net.run.look streams → AreOfLinks net streams
-    → series ≡ together streams net.run.look → AreGathered (load_of net) net.run.gap (most_of net node phase) sensed.now series streams list
-    → AreOfPhase net node phase sensed heard list
+-- Platoons of the runs of a cut, whatever these may span and a part may count.
+pub platoons-made : (load : Part → ℕ) (gap : ℕ) (span : ℕ → ℕ) (net : Net) (node phase : ℕ) (sensed : Sensed) (heard : List Heard) (list : List Platoon)
+    → IsNetwork net → sensed.now ≤ 18000 → node < length net.node_names → phase < length (plan_at net node)
+    → ((first end : ℕ) → IsLoading load (map (part_of first end) (streams_of net sensed heard (phase_links_at net node phase))))
+    → ArePlatoonsBy load gap span sensed.now net.run.look (streams_of net sensed heard (phase_links_at net node phase)) list
+    → AreSoundOf net node phase sensed.now list
 unfolding together
-phase-made net node phase sensed heard series streams list h early are sound of_links brings made =
+platoons-made load gap span net node phase sensed heard list h early there exists loads are =
     let look : ℕ = net.run.look in
     let now : ℕ = sensed.now in
     let links : List ℕ = phase_links_at net node phase in
-    let runs : List (List ℕ) = made.runs in
+    let streams : List Part = streams_of net sensed heard (phase_links_at net node phase) in
+    let series : List ℕ = together (streams_of net sensed heard (phase_links_at net node phase)) net.run.look in
+    let runs : List (List ℕ) = are.runs in
     let short : net.run.look ≤ 180 = h.outline.run.look.1 in
-    let count : length series ≡ net.run.look = ap length brings ∙ length-map-range_with_len (λ x. sum_by (brought x) streams) 0 net.run.look in
-    let each : (k : ℕ) → k < length made.runs → IsRunBefore net.run.gap (most_of net node phase) series (length series) (run_at made.runs k) =
-    λ k lt. each-run net.run.gap (most_of net node phase) series made.runs k lt made.each in
-    let parts : All (IsPart net net.run.look) streams = let P : List Part → Type 0 = λ ss. All (IsPart net net.run.look) ss in subst P (sym are) (streams-parts net sensed heard (phase_links_at net node phase)) in
-    let order : map (λ part. part.link) streams ≡ phase_links_at net node phase = ap (map (λ (part : Part). part.link)) are ∙ streams-links net sensed heard (phase_links_at net node phase) in
-    let filled : (x : ℕ) → x < net.run.look → get_or series x 0 ≡ sum_by (brought x) streams =
-    λ x lt. ap (λ xs. get_or xs x 0) brings ∙ get_or-map-range_with_len (λ y. sum_by (brought y) streams) 0 net.run.look x x 0 lt (omega arith) in
-    let platoons : List Platoon = map (platoon_of (load_of net) now streams) runs in
-    let size : length list ≡ length made.runs = ap length made.made ∙ length-map made.runs (platoon_of (load_of net) sensed.now streams) in
+    let count : length (together (streams_of net sensed heard (phase_links_at net node phase)) net.run.look) ≡ net.run.look =
+    length-map-range_with_len (λ x. sum_by (brought x) (streams_of net sensed heard (phase_links_at net node phase))) 0 net.run.look in
+    let placed : AreInOrder series runs = cut-in-order gap span series runs are.cut in
+    let each : (k : ℕ) → k < length are.runs → LiesIn series (run_at are.runs k) = λ k lt. All-get_or (LiesIn series) are.runs k [] lt placed.each in
+    let sound : AreStreams net.run.look streams = streams-sound net node phase sensed heard links streams look h there exists refl refl refl in
+    let parts : All (IsPart net net.run.look) streams = streams-parts net sensed heard links in
+    let order : map (λ part. part.link) streams ≡ links = streams-links net sensed heard links in
+    let filled : (x : ℕ) → x < net.run.look → get_or (together (streams_of net sensed heard (phase_links_at net node phase)) net.run.look) x 0 ≡ sum_by (brought x) (streams_of net sensed heard (phase_links_at net node phase)) =
+    λ x lt. get_or-map-range_with_len (λ y. sum_by (brought y) (streams_of net sensed heard (phase_links_at net node phase))) 0 net.run.look x x 0 lt (omega arith) in
+    let size : length list ≡ length are.runs = ap length are.each ∙ length-map are.runs (platoon_of load sensed.now streams) in
     record {
-      platoons = record {
-        runs = made.runs;
-        cut = let P : List ℕ → Type 0 = λ xs. IsCut net.run.gap (most_of net node phase) xs made.runs in let Q : List Part → Type 0 = λ ss. IsCut net.run.gap (most_of net node phase) (together ss net.run.look) made.runs in subst Q are (subst P brings made.cut);
-        each = made.made ∙ ap (λ ss. map (platoon_of (load_of net) sensed.now ss) made.runs) are;
-      };
       parts =
           let P : List Platoon → Type 0 = All (IsPlatoon net sensed.now (phase_links_at net node phase)) in
-          subst P (sym made.made)
-          (All-map (IsPlatoon net sensed.now (phase_links_at net node phase)) (platoon_of (load_of net) sensed.now streams) made.runs
-          (All-weaker (IsRunBefore net.run.gap (most_of net node phase) series (length series)) (λ run. IsPlatoon net sensed.now (phase_links_at net node phase) (platoon_of (load_of net) sensed.now streams run))
-          (λ run r. platoon-parts (load_of net) net net.run.look sensed.now (first_of run) (last_of run + 1) streams (phase_links_at net node phase) parts order (omega (arith, r.before, count)))
-          made.runs made.each));
+          subst P (sym are.each)
+          (All-map (IsPlatoon net sensed.now (phase_links_at net node phase)) (platoon_of load sensed.now streams) are.runs
+          (All-weaker (LiesIn series) (λ run. IsPlatoon net sensed.now (phase_links_at net node phase) (platoon_of load sensed.now streams run))
+          (λ run r. platoon-parts load net net.run.look sensed.now (first_of run) (last_of run + 1) streams (phase_links_at net node phase) parts order (omega (arith, r.before, count)))
+          are.runs placed.each));
       clusters =
           let P : List Platoon → Type 0 = λ ps. AreSpacedClusters (clusters_of ps) in
-          subst P (sym made.made)
+          subst P (sym are.each)
           (record {
             each =
-                All-map IsCluster (λ p. p.cluster) (map (platoon_of (load_of net) sensed.now streams) made.runs)
-                (All-map (λ p. IsCluster p.cluster) (platoon_of (load_of net) sensed.now streams) made.runs
-                (All-weaker (IsRunBefore net.run.gap (most_of net node phase) series (length series)) (λ run. IsCluster (platoon_of (load_of net) sensed.now streams run).cluster)
-                (λ run r. platoon-cluster (load_of net) net.run.look sensed.now (first_of run) (last_of run + 1) streams sound early short (omega (arith, r.order)) (omega (arith, r.before, count))
+                All-map IsCluster (λ p. p.cluster) (map (platoon_of load sensed.now streams) are.runs)
+                (All-map (λ p. IsCluster p.cluster) (platoon_of load sensed.now streams) are.runs
+                (All-weaker (LiesIn series) (λ run. IsCluster (platoon_of load sensed.now streams run).cluster)
+                (λ run r. platoon-cluster load net.run.look sensed.now (first_of run) (last_of run + 1) streams sound early short (omega (arith, r.order)) (omega (arith, r.before, count))
                 (omega (arith, r.filled, filled (first_of run) (omega (arith, r.order, r.before, count))))
-                (loads-between net (first_of run) (last_of run + 1) streams h.outline of_links))
-                made.runs made.each));
+                (loads (first_of run) (last_of run + 1)))
+                are.runs placed.each));
             spaced = λ k lt.
-                let below : k + 1 < length made.runs = omega (arith, lt, length-map (map (platoon_of (load_of net) sensed.now streams) made.runs) (λ (p : Platoon). p.cluster), length-map made.runs (platoon_of (load_of net) sensed.now streams)) in
-                rw (cluster-at (load_of net) sensed.now streams made.runs k (omega arith), cluster-at (load_of net) sensed.now streams made.runs (k + 1) below)
-                (omega (arith, made.order k below, (each k (omega arith)).order));
+                let below : k + 1 < length are.runs = omega (arith, lt, length-map (map (platoon_of load sensed.now streams) are.runs) (λ (p : Platoon). p.cluster), length-map are.runs (platoon_of load sensed.now streams)) in
+                rw (cluster-at load sensed.now streams are.runs k (omega arith), cluster-at load sensed.now streams are.runs (k + 1) below)
+                (omega (arith, placed.order k below, (each k (omega arith)).order));
           });
       rising = record {
-        few = omega (arith, size, made.few, count);
+        few = omega (arith, size, placed.few, count);
         rising =
             let P : List Platoon → Type 0 = λ ps. IsStrictlyIncreasing (arrivals ps) in
-            subst P (sym made.made)
+            subst P (sym are.each)
             (λ k lt.
-            let below : k + 1 < length made.runs = omega (arith, lt, length-map (map (platoon_of (load_of net) sensed.now streams) made.runs) (λ (p : Platoon). p.cluster.arr), length-map made.runs (platoon_of (load_of net) sensed.now streams)) in
-            rw (arrival-at (load_of net) sensed.now streams made.runs k (omega arith), arrival-at (load_of net) sensed.now streams made.runs (k + 1) below)
-            (omega (arith, made.order k below, (each k (omega arith)).order)));
+            let below : k + 1 < length are.runs = omega (arith, lt, length-map (map (platoon_of load sensed.now streams) are.runs) (λ (p : Platoon). p.cluster.arr), length-map are.runs (platoon_of load sensed.now streams)) in
+            rw (arrival-at load sensed.now streams are.runs k (omega arith), arrival-at load sensed.now streams are.runs (k + 1) below)
+            (omega (arith, placed.order k below, (each k (omega arith)).order)));
       };
     }
 
-pub phase-from : (net : Net) (node phase : ℕ) (sensed : Sensed) (heard : List Heard) (run : Run) (times : Phase) (plan : List Phase) (links series : List ℕ) (streams : List Part) (list : List Platoon)
-    → IsNetwork net → sensed.now ≤ 18000 → run ≡ net.run → plan ≡ plan_at net node → times ≡ phase_at plan phase → links ≡ phase_links_at net node phase
-    → streams ≡ streams_of net sensed heard links → AreStreams run.look streams → AreOfLinks net streams → series ≡ together streams run.look
-    → AreGathered (load_of net) run.gap (times.greatest - times.loss) sensed.now series streams list → AreOfPhase net node phase sensed heard list
-phase-from net node phase sensed heard run times plan links series streams list h early r p t l s sound of_links brings made =
-    let look : run.look ≡ net.run.look = ap (λ (q : Run). q.look) r in
-    let times_are : times ≡ phase_at (plan_at net node) phase = t ∙ ap (λ ps. phase_at ps phase) p in
-    let P : ℕ → Type 0 = λ n. AreStreams n streams in
-    let Q : Run → Type 0 = λ q. AreGathered (load_of net) q.gap (times.greatest - times.loss) sensed.now series streams list in
-    let R : Phase → Type 0 = λ q. AreGathered (load_of net) net.run.gap (q.greatest - q.loss) sensed.now series streams list in
-    phase-made net node phase sensed heard series streams list h early (s ∙ ap (streams_of net sensed heard) l) (subst P look sound) of_links (brings ∙ ap (together streams) look)
-    (subst R times_are (subst Q r made))
+-- so the platoons of a phase of a network, with an age or none, are what planning and forecasting ask
+pub aged-sound : (age : Option ℕ) (gap : ℕ) (span : ℕ → ℕ) (net : Net) (node phase : ℕ) (sensed : Sensed) (heard : List Heard) (list : List Platoon)
+    → IsNetwork net → sensed.now ≤ 18000 → node < length net.node_names → phase < length (plan_at net node) → IsAge age
+    → ArePlatoonsBy (aged_load_of age net sensed) gap span sensed.now net.run.look (streams_of net sensed heard (phase_links_at net node phase)) list
+    → AreSoundOf net node phase sensed.now list
+aged-sound age gap span net node phase sensed heard list h early there exists ok are =
+    let streams : List Part = streams_of net sensed heard (phase_links_at net node phase) in
+    platoons-made (aged_load_of age net sensed) gap span net node phase sensed heard list h early there exists
+    (λ first end. loads-between age net sensed first end streams ok h.outline (streams-exist net node phase sensed heard (phase_links_at net node phase) streams h there exists refl refl))
+    are
 
--- The platoons of the first i phases.
-pub record ArePhases (net : Net) (node : ℕ) (sensed : Sensed) (heard : List Heard) (lists : List (List Platoon)) (i : ℕ) : Type 0 where
+-- The lists of the first i phases are such lists.
+pub record ArePhases (Are : ℕ → List Platoon → Type 0) (lists : List (List Platoon)) (i : ℕ) : Type 0 where
   pub count : length lists ≡ i
-  pub each : (k : ℕ) → k < i → AreOfPhase net node k sensed heard (platoons_at lists k)
+  pub each : (k : ℕ) → k < i → Are k (platoons_at lists k)
 
-pub phases-none : (net : Net) (node : ℕ) (sensed : Sensed) (heard : List Heard) → ArePhases net node sensed heard [] 0
-phases-none net node sensed heard = record { count = refl; each = λ k lt. absurd (omega arith) }
+pub phases-none : (Are : ℕ → List Platoon → Type 0) → ArePhases Are [] 0
+phases-none Are = record { count = refl; each = λ k lt. absurd (omega arith) }
 
-pub phases-more : (net : Net) (node : ℕ) (sensed : Sensed) (heard : List Heard) (lists more : List (List Platoon)) (list : List Platoon) (i : ℕ)
-    → ArePhases net node sensed heard lists i → AreOfPhase net node i sensed heard list → more ≡ lists ++ list ∷ [] → ArePhases net node sensed heard more (i + 1)
-phases-more net node sensed heard lists more list i h one pushed =
-    let P : List (List Platoon) → Type 0 = λ ls. ArePhases net node sensed heard ls (i + 1) in
+pub phases-more : (Are : ℕ → List Platoon → Type 0) (lists more : List (List Platoon)) (list : List Platoon) (i : ℕ)
+    → ArePhases Are lists i → Are i list → more ≡ lists ++ list ∷ [] → ArePhases Are more (i + 1)
+phases-more Are lists more list i h one pushed =
+    let P : List (List Platoon) → Type 0 = λ ls. ArePhases Are ls (i + 1) in
     subst P (sym pushed)
     (record {
       count = omega (arith, length-push lists list, h.count);
@@ -252,19 +245,15 @@ phases-more net node sensed heard lists more list i h one pushed =
       ];
     })
 
-pub phases-platoons : (net : Net) (node : ℕ) (sensed : Sensed) (heard : List Heard) (lists : List (List Platoon)) (i : ℕ) → ArePhases net node sensed heard lists i → i ≡ length (plan_at net node)
-    → ArePlatoonsOf net node sensed heard lists
-phases-platoons net node sensed heard lists i h e = record { count = omega (arith, h.count, e); each = λ k lt. (h.each k (omega (arith, h.count))).platoons }
+-- what is true of the lists of all phases of a node, where each is what planning and forecasting ask
+pub phases-node : (net : Net) (node now : ℕ) (lists : List (List Platoon)) → length lists ≡ length (plan_at net node)
+    → ((k : ℕ) → k < length lists → AreSoundOf net node k now (platoons_at lists k)) → AreOfNode net node now lists
+phases-node net node now lists count h = record { count = count; each = λ k lt. (h k lt).parts }
 
-pub phases-node : (net : Net) (node : ℕ) (sensed : Sensed) (heard : List Heard) (lists : List (List Platoon)) (i : ℕ) → ArePhases net node sensed heard lists i → i ≡ length (plan_at net node)
-    → AreOfNode net node sensed.now lists
-phases-node net node sensed heard lists i h e = record { count = omega (arith, h.count, e); each = λ k lt. (h.each k (omega (arith, h.count))).parts }
-
-pub phases-clusters : (net : Net) (node : ℕ) (sensed : Sensed) (heard : List Heard) (lists : List (List Platoon)) (i : ℕ) → ArePhases net node sensed heard lists i
+pub phases-clusters : (net : Net) (node now : ℕ) (lists : List (List Platoon)) → ((k : ℕ) → k < length lists → AreSoundOf net node k now (platoons_at lists k))
     → All AreSpacedClusters (cluster_lists lists)
-phases-clusters net node sensed heard lists i h =
-    All-map AreSpacedClusters clusters_of lists (All-from_get_or (λ list. AreSpacedClusters (clusters_of list)) lists [] (λ k lt. (h.each k (omega (arith, h.count))).clusters))
+phases-clusters net node now lists h = All-map AreSpacedClusters clusters_of lists (All-from_get_or (λ list. AreSpacedClusters (clusters_of list)) lists [] (λ k lt. (h k lt).clusters))
 
-pub phases-rising : (net : Net) (node : ℕ) (sensed : Sensed) (heard : List Heard) (lists : List (List Platoon)) (i : ℕ) → ArePhases net node sensed heard lists i
+pub phases-rising : (net : Net) (node now : ℕ) (lists : List (List Platoon)) → ((k : ℕ) → k < length lists → AreSoundOf net node k now (platoons_at lists k))
     → All IsRising lists
-phases-rising net node sensed heard lists i h = All-from_get_or IsRising lists [] (λ k lt. (h.each k (omega (arith, h.count))).rising)
+phases-rising net node now lists h = All-from_get_or IsRising lists [] (λ k lt. (h k lt).rising)

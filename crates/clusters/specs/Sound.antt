@@ -9,9 +9,7 @@ use Rattle.net_numbers.specs.Numbers.{Net}
 use Rattle.net_numbers.specs.Outline.{link_at, phase_links_at, plan_at}
 use Rattle.clusters.specs.declared.vehicle_groups.Part.{Part}
 use Rattle.clusters.specs.declared.vehicle_groups.Platoon.{Platoon}
-use Rattle.board_model.specs.declared.boards.Heard.{Heard}
-use Rattle.road_net.specs.declared.senses.Sensed.{Sensed}
-use Rattle.clusters.specs.Platoons.{ArePlatoons, load_of, most_of, platoons_at, streams_of, whole_of}
+use Rattle.clusters.specs.Platoons.{platoons_at, whole_of}
 use Rattle.clusters.specs.Windows.{IsRising}
 
 -- a part of a platoon of `len` seconds: an amount for each, at most what can leave its link in a second
@@ -50,9 +48,8 @@ pub record ArePlannable (lists : List (List Cluster)) : Type 0 where
   pub few : sum (counts_of lists) ≤ most_clusters
   pub orders : length (orders (counts_of lists)) ≤ most_orders
 
--- The platoons of a phase of a node, with what planning and forecasting ask of them. No public clause names it.
-pub record AreOfPhase (net : Net) (node phase : ℕ) (sensed : Sensed) (heard : List Heard) (list : List Platoon) : Type 0 where
-  pub platoons : ArePlatoons (load_of net) net.run.gap (most_of net node phase) sensed.now net.run.look (streams_of net sensed heard (phase_links_at net node phase)) list
-  pub parts : All (IsPlatoon net sensed.now (phase_links_at net node phase)) list
+-- The platoons of a phase of a node, as planning and forecasting ask of them. No public clause names it.
+pub record AreSoundOf (net : Net) (node phase now : ℕ) (list : List Platoon) : Type 0 where
+  pub parts : All (IsPlatoon net now (phase_links_at net node phase)) list
   pub clusters : AreSpacedClusters (clusters_of list)
   pub rising : IsRising list

@@ -1,10 +1,16 @@
 -- What the steps of the work make: an inflow, and the runs of a series. No public clause names these words.
-use Rattle.std.specs.Prelude.{◌≡◌, ℕ, ◌+◌, ◌-◌, ◌<◌, ◌≤◌, ◌⊎◌, List, map, length, slice_index, sum, All, ◌==◌, if◌then◌else◌}
+use Rattle.std.specs.Prelude.{◌≡◌, ℕ, ◌+◌, ◌-◌, ◌<◌, ◌≤◌, ◌⊎◌, Option, Some, None, IfSome, List, length, slice_index, sum, All, ◌==◌, if◌then◌else◌}
+use Rattle.board_model.specs.declared.boards.Heard.{Heard}
+use Rattle.phase_plan.specs.Phases.{phase_at}
+use Rattle.switch_rules.specs.declared.Head.{Head}
 use Rattle.net_numbers.specs.Numbers.{Net}
+use Rattle.net_numbers.specs.Outline.{phase_links_at, plan_at}
+use Rattle.road_net.specs.declared.senses.Sensed.{Sensed}
 use Rattle.clusters.specs.declared.vehicle_groups.Part.{Part}
 use Rattle.clusters.specs.declared.vehicle_groups.Platoon.{Platoon}
-use Rattle.clusters.specs.Cuts.{IsCut, IsRun, filled_from, first_of, last_of, run_at}
-use Rattle.clusters.specs.Platoons.{platoon_of}
+use Rattle.clusters.specs.Cuts.{IsRun, filled, filled_from, first_of, last_of}
+use Rattle.clusters.specs.Platoons.{ArePlatoonsBy, most_of, streams_of, together}
+use Rattle.clusters.specs.UnderLoad.{aged_load_of, span_in_green}
 
 -- from this second on, before `end`, all are empty
 abbrev pub IsEmpty : List ℕ → ℕ → ℕ → Type 0
@@ -29,21 +35,33 @@ pub record IsRunUpTo (gap most : ℕ) (series : List ℕ) (first end : ℕ) : Ty
 abbrev pub IsClosed : ℕ → ℕ → List ℕ → ℕ → ℕ → Type 0
 IsClosed gap most series first end = (x : ℕ) → end ≤ x → 1 ≤ slice_index series x → (end + gap < x) ⊎ (first + most < x + 1)
 
--- a run of seconds before `end`, of which the first is not empty
-pub record IsRunBefore (gap most : ℕ) (series : List ℕ) (end : ℕ) (run : List ℕ) : Type 0 where
-  pub shape : IsRun gap most run
-  pub filled : 1 ≤ slice_index series (first_of run)
-  pub order : first_of run ≤ last_of run
-  pub before : last_of run < end
+-- how many seconds a run may span that begins in second x: `most`, or as many as stand beside that second
+abbrev pub span_at : Option (ℕ × ℕ) → ℕ → ℕ → ℕ
+span_at None most x = most
+span_at (Some first) most x = if x == first.0 then first.1 else most
 
--- the platoons are those of the runs of a cut, one after another
-pub record AreGathered (load : Part → ℕ) (gap most now : ℕ) (series : List ℕ) (streams : List Part) (platoons : List Platoon) : Type 0 where
-  pub runs : List (List ℕ)
-  pub cut : IsCut gap most series runs
-  pub each : All (IsRunBefore gap most series (length series)) runs
-  pub order : (k : ℕ) → k + 1 < length runs → last_of (run_at runs k) < first_of (run_at runs (k + 1))
-  pub few : length runs ≤ length series
-  pub made : platoons ≡ map (platoon_of load now streams) runs
+-- it spans a second at least, and 240 at most
+abbrev pub AreSpans : Option (ℕ × ℕ) → ℕ → Type 0
+AreSpans first most = (x : ℕ) → (1 ≤ span_at first most x) × (span_at first most x ≤ 240)
+
+-- how many it may where the first run, if a head is given, is to end in the green of that head
+abbrev pub span_with : Option Head → ℕ → ℕ → ℕ → List ℕ → ℕ → ℕ
+span_with None greatest most now series x = most
+span_with (Some head) greatest most now series x = if x == first_of (filled series) then span_in_green greatest most head (now + x) else most
+
+-- an age and a hold of a network
+abbrev pub IsAge : Option ℕ → Type 0
+IsAge age = IfSome age (λ a. (1 ≤ a) × (a ≤ 3600))
+
+abbrev pub IsHold : Option ℕ → Type 0
+IsHold hold = IfSome hold (λ h. (1 ≤ h) × (h ≤ 20))
+
+-- the platoons of a phase with this age, and with this head to split for
+abbrev pub ArePlatoonsAsked : Option ℕ → Option Head → Net → ℕ → ℕ → Sensed → List Heard → List Platoon → Type 0
+ArePlatoonsAsked age split net node phase sensed heard =
+    ArePlatoonsBy (aged_load_of age net sensed) net.run.gap
+    (span_with split (phase_at (plan_at net node) phase).greatest (most_of net node phase) sensed.now (together (streams_of net sensed heard (phase_links_at net node phase)) net.run.look))
+    sensed.now net.run.look (streams_of net sensed heard (phase_links_at net node phase))
 
 -- streams of links of the network
 abbrev pub AreOfLinks : Net → List Part → Type 0

@@ -1,12 +1,14 @@
 //! How what comes is cut into platoons.
-ghost use Rattle.std.specs.Prelude.{◌≡◌, ◌+◌, ◌*◌, ◌<◌, ◌≤◌, ◌^◌, ℕ, All, IfOk, IfNone, IfSome, length, slice_index, sum, sum_by, map, vec_len};
-ghost use Rattle.net_numbers.specs.Outline.{link_at};
-ghost use Rattle.clusters.specs.Platoons.{load_of, part_of, platoon_within, together};
-ghost use Rattle.clusters.specs.Steps.{AreGathered, AreOfLinks, AreStreams, IsEmpty, IsNext, IsRunUpTo, IsClosed};
+ghost use Rattle.std.specs.Prelude.{◌≡◌, ◌+◌, ◌<◌, ◌≤◌, ◌^◌, ℕ, All, IfOk, IfNone, IfSome, length, slice_index, sum, vec_len};
+ghost use Rattle.clusters.specs.Cuts.{filled, first_of};
+ghost use Rattle.clusters.specs.Platoons.{ArePlatoonsBy, platoon_within, together};
+ghost use Rattle.clusters.specs.Steps.{AreOfLinks, AreSpans, AreStreams, IsAge, IsEmpty, IsNext, IsRunUpTo, IsClosed, span_at};
+ghost use Rattle.clusters.specs.UnderLoad.{aged_load_of};
 
+use crate::loads::load_on;
 use crate::vehicle_groups::{Part, Platoon};
 use foundation::items::Items;
-use road_net::Network;
+use road_net::{Network, Sensed};
 use std::alloc::{AllocError, Global};
 use switch_rules::Cluster;
 
@@ -68,36 +70,62 @@ fn run_end(series: &[u32], first: usize, gap: u32, most: u32) -> usize
     end
 }
 
-/// How a series is cut: the second of its first amount, how many empty seconds a run may have between its vehicles, and
-/// how many seconds a run may span.
-#[derive(Clone, Copy)]
-pub(crate) struct Cutting {
-    pub now: u32,
-    pub gap: u32,
-    pub most: u32,
+/// The first second that is not empty; 0 where all are.
+pub(crate) fn first_filled(series: &[u32]) -> usize
+    ensures value { result ≡ first_of (filled series.now) }
+    ensures bounds { result ≤ length series.now }
+{
+    next_filled(series, 0).unwrap_or(0)
 }
 
-/// The platoons of the streams, whose series is what they bring together.
+/// How a series is cut.
+#[derive(Clone, Copy)]
+pub(crate) struct Cutting {
+    /// How many empty seconds a run may have between its vehicles.
+    pub gap: u32,
+    /// How many seconds a run may span.
+    pub most: u32,
+    /// The second in which a run begins that may span another number of seconds, and that number.
+    pub first: Option<(usize, u32)>,
+}
+
+/// How many seconds a run may span that begins in this one.
+fn span_at(cutting: Cutting, second: usize) -> u32
+    ensures { result ≡ span_at cutting.first cutting.most second }
+{
+    match cutting.first {
+        Some((first, span)) if first == second => span,
+        _ => cutting.most,
+    }
+}
+
+/// The platoons of the streams, whose series is what they bring together. With an age a link counts more in their loads
+/// while its queue stands.
 pub(crate) fn gather_platoons(
     alloc: Global,
     net: &Network,
+    sensed: &Sensed,
+    age: Option<u32>,
     cutting: Cutting,
     series: &[u32],
     streams: &[Part],
 ) -> Result<Vec<Platoon>, AllocError>
-    requires now { cutting.now ≤ 18000 }
+    requires now { sensed.now.now ≤ 18000 }
+    requires age { IsAge age }
     requires gap { cutting.gap ≤ 10 }
-    requires most { (1 ≤ cutting.most) × (cutting.most ≤ 240) }
+    requires spans { AreSpans cutting.first cutting.most }
     requires look { length series.now ≤ 180 }
+    requires series { series.now ≡ together streams.now (length series.now) }
     requires streams { AreStreams (length series.now) streams.now }
     requires links { AreOfLinks net.now streams.now }
-    ensures { IfOk result (λ platoons. AreGathered (load_of net.now) cutting.gap cutting.most cutting.now series.now streams.now platoons.items) }
+    ensures { IfOk result (λ platoons. ArePlatoonsBy (aged_load_of age net.now sensed.entry.now) cutting.gap
+        (span_at cutting.first cutting.most) sensed.entry.now.now (length series.now) streams.now platoons.items) }
 {
     let mut platoons = Vec::new(alloc);
     let mut from = 0;
     while let Some(first) = next_filled(series, from) {
-        let end = run_end(series, first, cutting.gap, cutting.most);
-        platoons.push(platoon(alloc, net, cutting.now, streams, first, end)?)?;
+        let end = run_end(series, first, cutting.gap, span_at(cutting, first));
+        platoons.push(platoon(alloc, net, sensed, age, streams, first, end)?)?;
         from = end;
     }
     Ok(platoons)
@@ -107,19 +135,22 @@ pub(crate) fn gather_platoons(
 fn platoon(
     alloc: Global,
     net: &Network,
-    now: u32,
+    sensed: &Sensed,
+    age: Option<u32>,
     streams: &[Part],
     first: usize,
     end: usize,
 ) -> Result<Platoon, AllocError>
-    requires now { now ≤ 18000 }
+    requires now { sensed.now.now ≤ 18000 }
+    requires age { IsAge age }
     requires order { first ≤ end }
     requires end { end ≤ 180 }
     requires few { length streams.now ≤ 16 }
     requires links { AreOfLinks net.now streams.now }
     requires long { All (λ s. end ≤ length s.amounts) streams.now }
     requires amounts { All (λ s. All (λ amount. amount ≤ 5000) s.amounts) streams.now }
-    ensures { IfOk result (λ platoon. platoon ≡ platoon_within (load_of net.now) now streams.now first end) }
+    ensures { IfOk result (λ platoon. platoon ≡
+        platoon_within (aged_load_of age net.now sensed.entry.now) sensed.entry.now.now streams.now first end) }
 {
     let mut parts = Vec::with_capacity(alloc, streams.len())?;
     let mut size = 0;
@@ -128,7 +159,7 @@ fn platoon(
         let amounts = &stream.amounts.as_slice()[first..end];
         let amount = total(amounts);
         size += amount;
-        load += load_on(net, stream.link, amount);
+        load += load_on(net, sensed, age, stream.link, amounts, amount);
         parts.push(Part {
             link: stream.link,
             amounts: Items::from_vec(Vec::from_slice(alloc, amounts)?),
@@ -137,23 +168,13 @@ fn platoon(
     let cluster = Cluster {
         size,
         load,
-        arr: now + first as u32,
+        arr: sensed.now + first as u32,
         len: (end - first) as u32,
     };
     Ok(Platoon {
         cluster,
         parts: Items::from_vec(parts),
     })
-}
-
-/// What this amount counts on a link.
-fn load_on(net: &Network, link: u32, amount: u32) -> u32
-    requires link { link < length net.now.link_names }
-    requires few { amount ≤ 900000 }
-    ensures value { result ≡ (link_at net.now link).weight * amount }
-    ensures most { result ≤ 20 * amount }
-{
-    net.link(link).weight * amount
 }
 
 /// All these amounts.

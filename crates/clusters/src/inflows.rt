@@ -79,6 +79,17 @@ fn sensed_of(sensed: &Sensed, l: u32) -> (u32, &[u32])
     }
 }
 
+/// For how many seconds the queue of a link has stood.
+#[tactic(auto, unfolding(crate::specs::Inflow::sense_of))]
+pub(crate) fn stood_on(sensed: &Sensed, l: u32) -> u32
+    ensures { result ≡ (sense_of sensed.entry.now l).stood }
+{
+    match find_sense(sensed, l) {
+        Some(sense) => sense.stood,
+        None => 0,
+    }
+}
+
 /// What is sensed of a link, if it is.
 fn find_sense(sensed: &Sensed, l: u32) -> Option<&LinkSense>
     ensures { option_copied result ≡ find (λ s. s.link == l) sensed.entry.now.links }

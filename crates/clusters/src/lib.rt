@@ -3,8 +3,10 @@
 
 mod cuts;
 mod inflows;
+mod loads;
 mod node_platoons;
 mod smoothing;
+mod spans;
 mod vehicle_groups;
 mod windows;
 

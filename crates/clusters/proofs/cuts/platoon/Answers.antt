@@ -1,7 +1,8 @@
-use Rattle.std.proofs.Common.{◌*◌, ◌∙◌, ap, sym, arith, ℕ, List, sum, slice_range}
+use Rattle.std.proofs.Common.{◌∙◌, ◌≤◌, ap, sym, arith, sum, sum_by, slice_range}
 use Rattle.net_numbers.specs.Outline.{link_at}
-use Rattle.clusters.specs.Platoons.{load_of}
-use Rattle.clusters.proofs.TogetherLaws.{sizing-more, stream-few}
+use Rattle.clusters.specs.Inflow.{sense_of}
+use Rattle.clusters.specs.UnderLoad.{aged, aged_load_of}
+use Rattle.clusters.proofs.TogetherLaws.{All-slice_range, sizing-more, stream-few, stream-small}
 use Rattle.clusters.proofs.cuts.platoon.Goals as goal
 
 pub total-amount-requires : goal.total-amount-requires
@@ -20,10 +21,17 @@ pub overflow_add-load : goal.overflow_add-load
 overflow_add-load c =
     omega (arith, c.loop-stream.invariant.loads_fit, c.load_on.ensures.most, c.total-amount.ensures, stream-few c.args.streams.now c.loop-stream.stream-index c.stream-item.result c.as_slice.result.now c.args.first c.args.end c.requires.amounts (omega arith) c.stream-item.is c.as_slice.ensures c.requires.end)
 
+pub load_on-requires-clause-small : goal.load_on-requires-clause-small
+load_on-requires-clause-small c =
+    rw c.as_slice.ensures
+    (All-slice_range (λ x. x ≤ 5000) c.stream-item.result.amounts c.args.first c.args.end (stream-small c.args.streams.now c.loop-stream.stream-index c.stream-item.result c.requires.amounts (omega arith) c.stream-item.is))
+
 pub loop-stream-preserved : goal.loop-stream-preserved
 loop-stream-preserved c =
     let cut = c.from_vec.ensures ∙ c.in_ok-from_slice.ensures.items ∙ ap (λ xs. slice_range xs c.args.first c.args.end) c.as_slice.ensures in
     let total = c.total-amount.ensures ∙ ap (λ xs. sum (slice_range xs c.args.first c.args.end)) c.as_slice.ensures in
-    let load = c.load_on.ensures.value ∙ ap (λ (n : ℕ). (link_at c.args.net.now c.stream-item.result.link).weight * n) (total ∙ sym (ap (λ (xs : List ℕ). sum xs) cut)) in
-    sizing-more (load_of c.args.net.now) c.args.first c.args.end c.args.streams.now c.loop-stream.parts.items c.push.new.self.items c.loop-stream.stream-index c.loop-stream.size c.loop-stream.load c.total-amount.result c.load_on.result c.stream-item.result c.from_vec.result
+    let load =
+    c.load_on.ensures.value
+    ∙ ap (sum_by (aged c.args.age (link_at c.args.net.now c.stream-item.result.link).weight (sense_of c.args.sensed.now c.stream-item.result.link).stood)) (sym (c.from_vec.ensures ∙ c.in_ok-from_slice.ensures.items)) in
+    sizing-more (aged_load_of c.args.age c.args.net.now c.args.sensed.now) c.args.first c.args.end c.args.streams.now c.loop-stream.parts.items c.push.new.self.items c.loop-stream.stream-index c.loop-stream.size c.loop-stream.load c.total-amount.result c.load_on.result c.stream-item.result c.from_vec.result
     c.loop-stream.invariant (omega arith) c.stream-item.is c.requires.amounts c.requires.end cut c.in_ok-push.ensures.items total load c.load_on.ensures.most

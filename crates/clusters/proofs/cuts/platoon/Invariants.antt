@@ -1,6 +1,6 @@
-use Rattle.clusters.specs.Platoons.{load_of}
+use Rattle.clusters.specs.UnderLoad.{aged_load_of}
 use Rattle.clusters.proofs.TogetherLaws.{IsSizing}
 use Rattle.clusters.proofs.cuts.platoon.Given as goal
 
 abbrev pub invariant-loop-stream : goal.invariant-loop-stream
-invariant-loop-stream l = IsSizing (load_of l.net) l.first l.end l.streams l.parts.items l.stream-index l.size l.load
+invariant-loop-stream l = IsSizing (aged_load_of l.age l.net l.sensed) l.first l.end l.streams l.parts.items l.stream-index l.size l.load

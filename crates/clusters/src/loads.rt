@@ -1,0 +1,75 @@
+//! What platoons count: their loads.
+ghost use Rattle.std.specs.Prelude.{◌≡◌, ◌+◌, ◌*◌, ◌/◌, ◌<◌, ◌≤◌, ℕ, All, Some, length, min, sum, sum_by};
+ghost use Rattle.net_numbers.specs.Outline.{link_at};
+ghost use Rattle.clusters.specs.Inflow.{sense_of};
+ghost use Rattle.clusters.specs.Steps.{IsAge};
+ghost use Rattle.clusters.specs.UnderLoad.{aged};
+ghost use Rattle.switch_rules.specs.Bounds.{greatest_weight};
+
+use crate::inflows::stood_on;
+use road_net::{Network, Sensed};
+use switch_rules::GREATEST_WEIGHT;
+
+/// What these amounts count on a link, where `whole` is all of them. With an age they count more while the queue of the
+/// link stands.
+pub(crate) fn load_on(
+    net: &Network,
+    sensed: &Sensed,
+    age: Option<u32>,
+    link: u32,
+    amounts: &[u32],
+    whole: u32,
+) -> u32
+    requires link { link < length net.now.link_names }
+    requires age { IsAge age }
+    requires whole { whole ≡ sum amounts.now }
+    requires few { whole ≤ 900000 }
+    requires small { All (λ amount. amount ≤ 5000) amounts.now }
+    ensures value { result ≡
+        sum_by (aged age (link_at net.now link).weight (sense_of sensed.entry.now link).stood) amounts.now }
+    ensures most { result ≤ greatest_weight * whole }
+{
+    let weight = net.link(link).weight;
+    match age {
+        Some(age) => aged_load(age, weight, stood_on(sensed, link), amounts),
+        None => weight * whole,
+    }
+}
+
+/// What these amounts count on a link of this weight whose queue has stood for so long, with this age.
+fn aged_load(age: u32, weight: u32, stood: u32, amounts: &[u32]) -> u32
+    requires age { (1 ≤ age) × (age ≤ 3600) }
+    requires weight { (1 ≤ weight) × (weight ≤ greatest_weight) }
+    requires few { sum amounts.now ≤ 900000 }
+    requires small { All (λ amount. amount ≤ 5000) amounts.now }
+    ensures value { result ≡ sum_by (aged (Some age) weight stood) amounts.now }
+    ensures most { result ≤ greatest_weight * sum amounts.now }
+{
+    let grown = grown_weight(age, weight, stood);
+    let mut load = 0;
+    for amount in amounts {
+        load += aged(age, grown, *amount);
+    }
+    load
+}
+
+/// The weight by the age, and again by the seconds that the queue has stood, up to three ages.
+fn grown_weight(age: u32, weight: u32, stood: u32) -> u32
+    requires age { (1 ≤ age) × (age ≤ 3600) }
+    requires weight { (1 ≤ weight) × (weight ≤ greatest_weight) }
+    ensures value { result ≡ weight * (age + min stood (3 * age)) }
+    ensures most { result ≤ 288000 }
+{
+    weight * (age + stood.min(3 * age))
+}
+
+/// What an amount counts where the weight by the age has grown to this, and at most 20 times itself.
+fn aged(age: u32, grown: u32, amount: u32) -> u32
+    requires age { 1 ≤ age }
+    requires grown { grown ≤ 288000 }
+    requires amount { amount ≤ 5000 }
+    ensures value { result ≡ min (greatest_weight * amount) (amount * grown / age) }
+    ensures most { result ≤ greatest_weight * amount }
+{
+    (GREATEST_WEIGHT * amount).min(amount * grown / age)
+}
