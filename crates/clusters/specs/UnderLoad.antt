@@ -1,5 +1,5 @@
 -- What a network may ask of the platoons of its nodes beside the rules: `split`, `age` and `hold`.
-use Rattle.std.specs.Prelude.{◌≡◌, ℕ, ◌+◌, ◌-◌, ◌*◌, ◌/◌, ◌<◌, ◌==◌, ◌&&◌, min, max, nat_lt, nat_le, if◌then◌else◌, false, List, [], ◌∷◌, Option, Some, None, length, map, sum_by, unwrap_or}
+use Rattle.std.specs.Prelude.{◌≡◌, ℕ, ◌+◌, ◌-◌, ◌*◌, ◌/◌, ◌<◌, ◌==◌, ◌&&◌, min, max, nat_lt, nat_le, if◌then◌else◌, false, List, [], ◌∷◌, Option, Some, None, length, sum_by}
 use Rattle.board_model.specs.declared.boards.Heard.{Heard}
 use Rattle.phase_plan.specs.Phases.{phase_at}
 use Rattle.switch_rules.specs.Bounds.{greatest_weight}
@@ -41,14 +41,15 @@ aged_load_of age net sensed part = sum_by (aged age (link_at net part.link).weig
 abbrev pub held : ℕ → Platoon → Platoon
 held hold p = record { cluster = record p.cluster { load = min (greatest_weight * p.cluster.size) (hold * p.cluster.load) }; parts = p.parts }
 
--- the same of the first of these platoons, where it has arrived by this second
-abbrev pub with_first_held : ℕ → ℕ → List Platoon → List Platoon
-with_first_held hold at [] = []
-with_first_held hold at (p ∷ ps) = (if nat_le p.cluster.arr at then held hold p else p) ∷ ps
+-- the same of the first of these platoons, where it has arrived by this second; without a hold the platoons as they are
+abbrev pub with_first_held : Option ℕ → ℕ → List Platoon → List Platoon
+with_first_held None at list = list
+with_first_held (Some hold) at [] = []
+with_first_held (Some hold) at (p ∷ ps) = (if nat_le p.cluster.arr at then held hold p else p) ∷ ps
 
--- the platoons of phase k, where the standing green can serve the first at once and it counts `hold` times
+-- the platoons of phase k, where the standing green can serve the first at once and it counts as often as the network asks
 abbrev pub held_in : Net → Head → ℕ → List Platoon → List Platoon
-held_in net head k list = if k == head.phase then with_first_held (unwrap_or net.run.hold 1) head.at list else list
+held_in net head k list = if k == head.phase then with_first_held net.run.hold head.at list else list
 
 -- the platoons of phase k that a node with this head expects
 pub record AreExpectedIn (net : Net) (node : ℕ) (head : Head) (sensed : Sensed) (k : ℕ) (streams : List Part) (platoons : List Platoon) : Type 0 where

@@ -3,10 +3,12 @@ ghost use Rattle.std.specs.Prelude.{◌≡◌, ◌+◌, ◌*◌, ◌/◌, ◌<�
 ghost use Rattle.net_numbers.specs.Outline.{link_at};
 ghost use Rattle.clusters.specs.Inflow.{sense_of};
 ghost use Rattle.clusters.specs.Steps.{IsAge};
-ghost use Rattle.clusters.specs.UnderLoad.{aged};
-ghost use Rattle.switch_rules.specs.Bounds.{greatest_weight};
+ghost use Rattle.clusters.specs.Sound.{AreSpacedClusters, clusters_of};
+ghost use Rattle.clusters.specs.UnderLoad.{aged, with_first_held};
+ghost use Rattle.switch_rules.specs.Bounds.{greatest_size, greatest_weight};
 
 use crate::inflows::stood_on;
+use crate::vehicle_groups::Platoon;
 use road_net::{Network, Sensed};
 use switch_rules::GREATEST_WEIGHT;
 
@@ -72,4 +74,25 @@ fn aged(age: u32, grown: u32, amount: u32) -> u32
     ensures most { result ≤ greatest_weight * amount }
 {
     (GREATEST_WEIGHT * amount).min(amount * grown / age)
+}
+
+/// Lets the load of the first of these platoons count so many times, where it has arrived by this second.
+pub(crate) fn hold_first(list: &mut [Platoon], hold: u32, at: u32)
+    requires { AreSpacedClusters (clusters_of list.old) }
+    ensures { list.new ≡ with_first_held (Some hold) at list.old }
+{
+    if list.is_empty() || list[0].cluster.arr > at {
+        return;
+    }
+    let cluster = list[0].cluster;
+    list[0].cluster.load = held_load(hold, cluster.size, cluster.load);
+}
+
+/// A load that counts so many times, and at most 20 times the size.
+fn held_load(hold: u32, size: u32, load: u32) -> u32
+    requires { size ≤ greatest_size }
+    ensures { result ≡ min (greatest_weight * size) (hold * load) }
+{
+    let most = GREATEST_WEIGHT * size;
+    (hold as u64 * load as u64).min(most as u64) as u32
 }
