@@ -1,3 +1,4 @@
+pub mod AskedLaws
 pub mod CutLaws
 pub mod ForecastLaws
 pub mod GatherLaws

@@ -124,7 +124,7 @@ inflow-made now look travel queue coming rows seen amounts h same value some =
     ∙ sym (get_or-map-range_with_len (inflow_at now travel queue coming rows) now look k (now + k) 0 within refl))
 
 -- what was written through a loan of a whole list
-pub written : (xs ys : List ℕ) (n : ℕ) → length ys ≡ length xs → n ≡ length xs → take n (ys ++ drop (length ys) xs) ≡ ys
+pub written : {X : Type 0} (xs ys : List X) (n : ℕ) → length ys ≡ length xs → n ≡ length xs → take n (ys ++ drop (length ys) xs) ≡ ys
 written xs ys n same e = let f : n ≡ length ys = omega arith in rw f (take-append_seam ys (drop (length ys) xs))
 
 -- what is sensed of one link is within what is sensed of all

@@ -1,17 +1,21 @@
 //! The platoons that a node expects.
-ghost use Rattle.std.specs.Prelude.{◌≡◌, ℕ, ◌+◌, ◌<◌, ◌≤◌, List, All, IfOk, length};
+ghost use Rattle.std.specs.Prelude.{◌≡◌, ◌==◌, ◌&&◌, ℕ, ◌<◌, ◌≤◌, List, Some, None, All, IfOk, IfSome, length, if◌then◌else◌};
+ghost use Rattle.net_numbers.specs.Numbers.{Net};
 ghost use Rattle.net_numbers.specs.Outline.{phase_links_at, plan_at};
+ghost use Rattle.road_net.specs.Network.{IsNetwork};
 ghost use Rattle.road_net.specs.Senses.{IsSensedOf};
 ghost use Rattle.clusters.specs.Inflow.{IsHeardOf};
-ghost use Rattle.clusters.specs.Platoons.{ArePlatoons, ArePlatoonsOf, most_of, streams_of};
-ghost use Rattle.clusters.specs.Sound.{AreOfNode, AreOfPhase, AreSpacedClusters, cluster_lists};
-ghost use Rattle.clusters.specs.UnderLoad.{AreExpected, AsksNothing};
+ghost use Rattle.clusters.specs.Platoons.{ArePlatoonsOf, streams_of};
+ghost use Rattle.clusters.specs.Sound.{AreOfNode, AreSpacedClusters, cluster_lists, clusters_of};
+ghost use Rattle.clusters.specs.Steps.{ArePlatoonsAsked, IsAge};
+ghost use Rattle.clusters.specs.UnderLoad.{AreExpected, AreExpectedIn, AsksNothing, held_in};
 ghost use Rattle.clusters.specs.Windows.{IsRising};
-ghost use Rattle.net_numbers.specs.Numbers.{Net};
 ghost use Rattle.switch_rules.specs.Serving.{IsHead};
 
 use crate::cuts::{Cutting, gather_platoons, together};
 use crate::inflows::streams;
+use crate::loads::hold_first;
+use crate::spans::first_in_green;
 use crate::vehicle_groups::Platoon;
 use board_model::Heard;
 use foundation::items::Items;
@@ -44,20 +48,24 @@ pub fn platoons(
     ensures clusters { IfOk result (λ lists. All AreSpacedClusters (cluster_lists lists.items)) }
     ensures rising { IfOk result (λ lists. All IsRising lists.items) }
 {
+    let asked = Asked {
+        age: None,
+        split: None,
+    };
     let mut lists = Vec::with_capacity(alloc, net.plan(node).count() as usize)?;
     for phase in 0..net.plan(node).count() {
-        let list = platoons_of(alloc, net, node, phase, sensed, heard)?;
+        let list = platoons_of(alloc, net, node, phase, sensed, heard, asked)?;
         lists.push(Items::from_vec(list))?;
     }
     Ok(lists)
 }
 
-/// The platoons that a node expects whose signal has this head, phase by phase, as its network asks for them under load: what
-/// `platoons` gives, where the network has no `split`, `age` and `hold`.
+/// The platoons that a node expects whose signal has this head, phase by phase, as its network asks for them: those of
+/// `platoons`, where the network has no `split`, `age` and `hold` (`law_without_options`).
 ///
-/// With `split` the first platoon of the head's phase ends in the standing green, where that still stands as the platoon can
-/// start. With an age a link counts more in the loads for as long as its queue stands. With `hold` the load of the first
-/// platoon of the head's phase counts so many times, where it has arrived by the second of the head.
+/// With `split` the first platoon of the head's phase ends in the standing green, where that still stands as the
+/// platoon can start. With an age a link counts more in the loads the longer its queue stands. With `hold` the load of
+/// the first platoon of the head's phase counts so many times, where it has arrived by the head's second `at`.
 ///
 /// `Err`: out of memory.
 ///
@@ -81,14 +89,14 @@ pub fn expected_platoons(
 {
     let mut lists = Vec::with_capacity(alloc, net.plan(node).count() as usize)?;
     for phase in 0..net.plan(node).count() {
-        let list = platoons_of(alloc, net, node, phase, sensed, heard)?;
+        let list = expected_in(alloc, net, node, phase, head, sensed, heard)?;
         lists.push(Items::from_vec(list))?;
     }
     Ok(lists)
 }
 
-/// Where a network asks for none of `split`, `age` and `hold`, the platoons that are expected are those of the rules alone, with
-/// any head.
+/// Where a network asks for none of `split`, `age` and `hold`, the platoons that are expected are those of the rules
+/// alone, with any head.
 ///
 /// docs/RULES.md, "Streets under load".
 pub fn law_without_options()
@@ -96,7 +104,70 @@ pub fn law_without_options()
         → AsksNothing net → AreExpected net node head sensed heard lists → ArePlatoonsOf net node sensed heard lists }
 {}
 
-/// The platoons of one phase.
+/// The platoons of one phase that a node with this head expects.
+fn expected_in(
+    alloc: Global,
+    net: &Network,
+    node: u32,
+    phase: u8,
+    head: &Head,
+    sensed: &Sensed,
+    heard: &[Heard],
+) -> Result<Vec<Platoon>, AllocError>
+    requires node { node < length net.now.node_names }
+    requires phase { phase < length (plan_at net.now node) }
+    requires head { head.now.since ≤ head.now.at }
+    requires sensed { IsSensedOf net.now node sensed.now }
+    ensures { IfOk result (λ list. AreExpectedIn net.now node head.now sensed.entry.now phase
+        (streams_of net.now sensed.entry.now heard.now (phase_links_at net.now node phase)) list.items) }
+{
+    let asked = asked_of(net, phase, head);
+    let mut list = platoons_of(alloc, net, node, phase, sensed, heard, asked)?;
+    hold_in(list.as_mut_slice(), net, phase, head);
+    Ok(list)
+}
+
+/// What a network asks of the platoons of a phase where a node has this head.
+fn asked_of(net: &Network, phase: u8, head: &Head) -> Asked
+    ensures age { result.age ≡ net.now.run.age }
+    ensures split { result.split ≡ (if net.now.run.split && (phase == head.now.phase) then Some head.now else None) }
+    ensures network { IsNetwork net.now }
+{
+    let run = net.run();
+    let split = if run.split && phase == head.phase {
+        Some(*head)
+    } else {
+        None
+    };
+    Asked {
+        age: run.age,
+        split,
+    }
+}
+
+/// Lets the load of the first of these platoons count as often as the network asks, where the standing green can serve
+/// it at once.
+fn hold_in(list: &mut [Platoon], net: &Network, phase: u8, head: &Head)
+    requires { AreSpacedClusters (clusters_of list.old) }
+    ensures { list.new ≡ held_in net.now head.now phase list.old }
+{
+    if phase == head.phase
+        && let Some(hold) = net.run().hold
+    {
+        hold_first(list, hold, head.at);
+    }
+}
+
+/// What is asked of the platoons of a phase beside the rules.
+#[derive(Clone, Copy)]
+struct Asked {
+    /// In how many seconds the weight of a link whose queue stands grows by itself, if it grows.
+    age: Option<u32>,
+    /// The head in whose green the first platoon is to end, if it has to.
+    split: Option<Head>,
+}
+
+/// The platoons of one phase, before a load is held.
 fn platoons_of(
     alloc: Global,
     net: &Network,
@@ -104,20 +175,32 @@ fn platoons_of(
     phase: u8,
     sensed: &Sensed,
     heard: &[Heard],
+    asked: Asked,
 ) -> Result<Vec<Platoon>, AllocError>
     requires node { node < length net.now.node_names }
     requires phase { phase < length (plan_at net.now node) }
     requires sensed { IsSensedOf net.now node sensed.now }
-    ensures { IfOk result (λ list. AreOfPhase net.now node phase sensed.entry.now heard.now list.items) }
+    requires age { IsAge asked.age }
+    requires head { IfSome asked.split (λ head. head.since ≤ head.at) }
+    ensures { IfOk result
+        (λ list. ArePlatoonsAsked asked.age asked.split net.now node phase sensed.entry.now heard.now list.items) }
 {
     let times = net.plan(node).phase(phase);
     let run = net.run();
     let streams = streams(alloc, net, net.phase_links(node, phase), sensed, heard)?;
     let series = together(alloc, streams.as_slice(), run.look)?;
     let cutting = Cutting {
-        now: sensed.now,
         gap: run.gap,
         most: times.greatest - times.loss,
+        first: first_in_green(times, asked.split, sensed.now, series.as_slice()),
     };
-    gather_platoons(alloc, net, cutting, series.as_slice(), streams.as_slice())
+    gather_platoons(
+        alloc,
+        net,
+        sensed,
+        asked.age,
+        cutting,
+        series.as_slice(),
+        streams.as_slice(),
+    )
 }
