@@ -63,53 +63,39 @@ pub stream-few : (streams : List Part) (i : ℕ) (s : Part) (amounts : List ℕ)
     → sum (slice_range amounts first end) ≤ 900000
 stream-few streams i s amounts first end small lt e same le = sum-slice_range-le amounts first end (rw same (stream-small streams i s small lt e)) le
 
--- A platoon's size and load, stream by stream.
-pub record IsSizing (load : Part → ℕ) (first end : ℕ) (streams parts : List Part) (i size loads : ℕ) : Type 0 where
-  pub made : parts ≡ map (part_of first end) (take i streams)
-  pub whole : size ≡ whole_of parts
+-- A platoon's size and load, of its first i streams.
+pub record IsSizing (load : Part → ℕ) (first end : ℕ) (streams : List Part) (i size loads : ℕ) : Type 0 where
+  pub whole : size ≡ whole_of (map (part_of first end) (take i streams))
   pub fits : size ≤ 900000 * i
-  pub loads_are : loads ≡ sum_by load parts
+  pub loads_are : loads ≡ sum_by load (map (part_of first end) (take i streams))
   pub loads_fit : loads ≤ 18000000 * i
 
-pub sizing-none : (load : Part → ℕ) (first end : ℕ) (streams : List Part) → IsSizing load first end streams [] 0 0 0
-sizing-none load first end streams = record { made = refl; whole = refl; fits = omega arith; loads_are = refl; loads_fit = omega arith }
+pub sizing-none : (load : Part → ℕ) (first end : ℕ) (streams : List Part) → IsSizing load first end streams 0 0 0
+sizing-none load first end streams = record { whole = refl; fits = omega arith; loads_are = refl; loads_fit = omega arith }
 
-pub sizing-more : (load : Part → ℕ) (first end : ℕ) (streams parts more : List Part) (i size loads sum_of_it load_of_it : ℕ) (s : Part) (amounts : List ℕ)
-    → IsSizing load first end streams parts i size loads → i < length streams → s ≡ get_or streams i s → AreSmall streams → end ≤ 180
-    → amounts ≡ slice_range s.amounts first end → more ≡ parts ++ record { link = s.link; amounts = amounts } ∷ [] → sum_of_it ≡ sum (slice_range s.amounts first end)
-    → load_of_it ≡ load (record { link = s.link; amounts = amounts }) → load_of_it ≤ 20 * sum_of_it
-    → IsSizing load first end streams more (i + 1) (size + sum_of_it) (loads + load_of_it)
-sizing-more load first end streams parts more i size loads sum_of_it load_of_it s amounts h lt e small le cut pushed total counts most =
-    let one : Part → List Part = λ p. p ∷ [] in
-    let same : part_of first end s ≡ record { link = s.link; amounts = amounts } = ap (λ xs. let p : Part = record { link = s.link; amounts = xs } in p) (sym cut) in
-    let made : more ≡ map (part_of first end) (take (i + 1) streams) =
-    pushed ∙ ap (λ ps. ps ++ record { link = s.link; amounts = amounts } ∷ []) h.made
-    ∙ ap (λ p. map (part_of first end) (take i streams) ++ p ∷ []) (sym same)
-    ∙ sym (ap (map (part_of first end)) (take_more streams i s lt) ∙ map-append (part_of first end) (take i streams) (get_or streams i s ∷ [])
-    ∙ ap (λ x. map (part_of first end) (take i streams) ++ part_of first end x ∷ []) (sym e)) in
+pub sizing-more : (load : Part → ℕ) (first end : ℕ) (streams : List Part) (i size loads sum_of_it load_of_it : ℕ) (s : Part)
+    → IsSizing load first end streams i size loads → i < length streams → s ≡ get_or streams i s → AreSmall streams → end ≤ 180
+    → sum_of_it ≡ sum (slice_range s.amounts first end) → load_of_it ≡ load (part_of first end s) → load_of_it ≤ 20 * sum_of_it
+    → IsSizing load first end streams (i + 1) (size + sum_of_it) (loads + load_of_it)
+sizing-more load first end streams i size loads sum_of_it load_of_it s h lt e small le total counts most =
+    let before = map (part_of first end) (take i streams) in
+    let more : map (part_of first end) (take (i + 1) streams) ≡ before ++ part_of first end s ∷ [] =
+    ap (map (part_of first end)) (take_more streams i s lt) ∙ map-append (part_of first end) (take i streams) (get_or streams i s ∷ [])
+    ∙ ap (λ x. before ++ part_of first end x ∷ []) (sym e) in
     let each : All (λ x. x ≤ 5000) s.amounts = stream-small streams i s small lt e in
     record {
-      made = made;
       whole =
           omega (
             arith,
             h.whole,
             total,
-            ap whole_of pushed,
-            sum_by-append (λ (part : Part). sum part.amounts) parts (record { link = s.link; amounts = amounts } ∷ []),
-            sum_by-cons (λ (part : Part). sum part.amounts) (record { link = s.link; amounts = amounts }) [],
-            ap sum cut,
+            ap whole_of more,
+            sum_by-append (λ (part : Part). sum part.amounts) before (part_of first end s ∷ []),
+            sum_by-cons (λ (part : Part). sum part.amounts) (part_of first end s) [],
           );
       fits = omega (arith, h.fits, total, sum-slice_range-le s.amounts first end each le);
       loads_are =
-          omega (
-            arith,
-            h.loads_are,
-            counts,
-            ap (sum_by load) pushed,
-            sum_by-append load parts (record { link = s.link; amounts = amounts } ∷ []),
-            sum_by-cons load (record { link = s.link; amounts = amounts }) [],
-          );
+          omega (arith, h.loads_are, counts, ap (sum_by load) more, sum_by-append load before (part_of first end s ∷ []), sum_by-cons load (part_of first end s) []);
       loads_fit = omega (arith, h.loads_fit, most, total, sum-slice_range-le s.amounts first end each le);
     }
 

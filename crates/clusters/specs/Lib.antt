@@ -4,6 +4,7 @@ pub mod Platoons
 pub mod Smoothing
 pub mod Sound
 pub mod Steps
+pub mod Streams
 pub mod Taking
 pub mod UnderLoad
 pub mod Windows

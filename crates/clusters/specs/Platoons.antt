@@ -1,5 +1,5 @@
 -- The platoons of a node: the vehicles that it expects, phase by phase, gathered into clusters.
-use Rattle.std.specs.Prelude.{◌≡◌, ℕ, ◌+◌, ◌-◌, ◌*◌, ◌<◌, List, [], length, map, slice_index, slice_index_or, slice_range, sum, sum_by}
+use Rattle.std.specs.Prelude.{◌≡◌, ℕ, ◌+◌, ◌-◌, ◌*◌, ◌<◌, List, [], length, map, slice_index, slice_index_or, sum, sum_by}
 use Rattle.std.specs.List.{range_with_len}
 use Rattle.board_model.specs.declared.boards.Heard.{Heard}
 use Rattle.phase_plan.specs.Phases.{phase_at}
@@ -10,6 +10,7 @@ use Rattle.clusters.specs.declared.vehicle_groups.Part.{Part}
 use Rattle.clusters.specs.declared.vehicle_groups.Platoon.{Platoon}
 use Rattle.clusters.specs.Cuts.{IsCutBy, first_of, last_of}
 use Rattle.clusters.specs.Inflow.{leaving}
+pub use Rattle.clusters.specs.Streams.{part_of}
 
 -- what leaves each of these links
 abbrev pub streams_of : Net → Sensed → List Heard → List ℕ → List Part
@@ -18,10 +19,6 @@ streams_of net sensed heard links = map (λ l. record { link = l; amounts = leav
 -- what they bring together, in each of the first `look` seconds
 unfoldable pub together : List Part → ℕ → List ℕ
 together streams look = map (λ x. sum_by (λ s. slice_index s.amounts x) streams) (range_with_len 0 look)
-
--- what a stream brings from this second on, before the second `end`
-abbrev pub part_of : ℕ → ℕ → Part → Part
-part_of first end s = record { link = s.link; amounts = slice_range s.amounts first end }
 
 -- all amounts of these parts
 abbrev pub whole_of : List Part → ℕ

@@ -6,8 +6,8 @@ ghost use Rattle.clusters.specs.Steps.{AreOfLinks, AreSpans, AreStreams, IsAge, 
 ghost use Rattle.clusters.specs.UnderLoad.{aged_load_of};
 
 use crate::loads::load_on;
+use crate::parts::{Parts, PhaseStreams};
 use crate::vehicle_groups::{Part, Platoon};
-use foundation::items::Items;
 use road_net::{Network, Sensed};
 use std::alloc::{AllocError, Global};
 use switch_rules::Cluster;
@@ -108,7 +108,7 @@ pub(crate) fn gather_platoons(
     age: Option<u32>,
     cutting: Cutting,
     series: &[u32],
-    streams: &[Part],
+    streams: &PhaseStreams,
 ) -> Result<Vec<Platoon>, AllocError>
     requires now { sensed.now.now ≤ 18000 }
     requires age { IsAge age }
@@ -125,7 +125,7 @@ pub(crate) fn gather_platoons(
     let mut from = 0;
     while let Some(first) = next_filled(series, from) {
         let end = run_end(series, first, cutting.gap, span_at(cutting, first));
-        platoons.push(platoon(alloc, net, sensed, age, streams, first, end)?)?;
+        platoons.push(platoon(net, sensed, age, streams, first, end)?)?;
         from = end;
     }
     Ok(platoons)
@@ -133,11 +133,10 @@ pub(crate) fn gather_platoons(
 
 /// The platoon of what the streams bring from the place `first` on, before the place `end`.
 fn platoon(
-    alloc: Global,
     net: &Network,
     sensed: &Sensed,
     age: Option<u32>,
-    streams: &[Part],
+    streams: &PhaseStreams,
     first: usize,
     end: usize,
 ) -> Result<Platoon, AllocError>
@@ -152,18 +151,13 @@ fn platoon(
     ensures { IfOk result (λ platoon. platoon ≡
         platoon_within (aged_load_of age net.now sensed.entry.now) sensed.entry.now.now streams.now first end) }
 {
-    let mut parts = Vec::with_capacity(alloc, streams.len())?;
     let mut size = 0;
     let mut load = 0;
-    for stream in streams {
+    for stream in streams.as_slice() {
         let amounts = &stream.amounts.as_slice()[first..end];
         let amount = total(amounts);
         size += amount;
         load += load_on(net, sensed, age, stream.link, amounts, amount);
-        parts.push(Part {
-            link: stream.link,
-            amounts: Items::from_vec(Vec::from_slice(alloc, amounts)?),
-        })?;
     }
     let cluster = Cluster {
         size,
@@ -173,7 +167,7 @@ fn platoon(
     };
     Ok(Platoon {
         cluster,
-        parts: Items::from_vec(parts),
+        parts: Parts::within(streams, first, end)?,
     })
 }
 

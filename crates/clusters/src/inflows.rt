@@ -7,6 +7,7 @@ ghost use Rattle.clusters.specs.Steps.{IsSeen};
 ghost use Rattle.clusters.specs.Inflow.{inflow, leaving, sense_of, heard_forecast};
 ghost use Rattle.clusters.specs.Platoons.{streams_of};
 
+use crate::parts::PhaseStreams;
 use crate::smoothing::smooth_in_place;
 use crate::vehicle_groups::Part;
 use board_model::{Heard, Row};
@@ -21,11 +22,11 @@ pub(crate) fn streams(
     links: &[u32],
     sensed: &Sensed,
     heard: &[Heard],
-) -> Result<Vec<Part>, AllocError>
+) -> Result<PhaseStreams, AllocError>
     requires links { All (λ l. l < length net.now.link_names) links.now }
     requires now { sensed.now.now ≤ 18000 }
     requires amounts { sum_by amount sensed.now.links ≤ 2000000000 }
-    ensures { IfOk result (λ streams. streams.items ≡ streams_of net.now sensed.entry.now heard.now links.now) }
+    ensures { IfOk result (λ streams. streams ≡ streams_of net.now sensed.entry.now heard.now links.now) }
 {
     let mut streams = Vec::with_capacity(alloc, links.len())?;
     for l in links {
@@ -35,7 +36,7 @@ pub(crate) fn streams(
             amounts: Items::from_vec(amounts),
         })?;
     }
-    Ok(streams)
+    PhaseStreams::from_vec(alloc, streams)
 }
 
 /// What leaves the end of a link, in each second that the network looks ahead.

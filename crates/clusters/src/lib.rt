@@ -5,12 +5,14 @@ mod cuts;
 mod inflows;
 mod loads;
 mod node_platoons;
+mod parts;
 mod smoothing;
 mod spans;
 mod vehicle_groups;
 mod windows;
 
 pub use node_platoons::{expected_platoons, law_without_options, platoons};
+pub use parts::Parts;
 pub use smoothing::smooth;
 pub use vehicle_groups::{Part, Platoon, Window};
 pub use windows::window;

@@ -201,6 +201,6 @@ fn platoons_of(
         asked.age,
         cutting,
         series.as_slice(),
-        streams.as_slice(),
+        &streams,
     )
 }

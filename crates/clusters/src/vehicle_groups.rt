@@ -1,5 +1,6 @@
 //! Platoons, their parts, and windows of them.
 
+use crate::parts::Parts;
 use foundation::items::Items;
 use foundation::threads::CrossesThreads;
 use switch_rules::Cluster;
@@ -25,7 +26,7 @@ pub struct Platoon {
     /// The platoon as planning sees it.
     pub cluster: Cluster,
     /// One part for each link of the phase, in the order in which the phase names them.
-    pub parts: Items<Part>,
+    pub parts: Parts,
 }
 
 impl CrossesThreads for Platoon {}
