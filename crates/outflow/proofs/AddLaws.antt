@@ -1,7 +1,8 @@
 -- What comes of a platoon, part by part.
-use Rattle.std.proofs.Common.{◌≡◌, ◌≢◌, ℕ, ◌+◌, ◌-◌, ◌*◌, ◌/◌, ◌<◌, ◌≤◌, List, [], All, length, get_or, take, sum_by, refl, sym, ap, ◌∙◌, inl, inr, arith}
+use Rattle.std.proofs.Common.{◌≡◌, ◌≢◌, ℕ, ◌+◌, ◌-◌, ◌*◌, ◌/◌, ◌<◌, ◌≤◌, List, [], Some, All, length, get_or, slice_get, take, sum_by, refl, sym, ap, subst, ◌∙◌, inl, inr, arith}
 use Rattle.std.proofs.lemmas.List.{get_or_past}
-use Rattle.std.proofs.lemmas.List.Elements.{All-weaker}
+use Rattle.std.proofs.lemmas.List.Elements.{All-get_or, All-weaker}
+use Rattle.std.proofs.lemmas.Option.{get_or_from_slice_get, slice_get_within}
 use Rattle.std.proofs.lemmas.List.Sums.{sum_by_more, sum_by-le, sum_by-take-le}
 use Rattle.std.proofs.lemmas.Bool.{cases_lt, cond_above}
 use Rattle.net_numbers.specs.Numbers.{Net}
@@ -19,6 +20,11 @@ use Rattle.outflow.specs.Steps.{IsShareInto}
 
 abbrev pub AreSmall : List Part → Type 0
 AreSmall parts = All (λ part. All (λ amount. amount ≤ 5000) part.amounts) parts
+
+pub found-small : (parts : List Part) (i : ℕ) (part : Part) → AreSmall parts → slice_get parts i ≡ Some part → All (λ amount. amount ≤ 5000) part.amounts
+found-small parts i part small found =
+    let P : Part → Type 0 = λ p. All (λ amount. amount ≤ 5000) p.amounts in
+    subst P (get_or_from_slice_get parts i part part found) (All-get_or P parts i part (slice_get_within parts i part found) small)
 
 -- at this place of a platoon whose first amount stands in place `first`
 pub coming-at : (net : Net) (exit k first : ℕ) (part : Part) → first ≤ k → part_coming net exit 0 k first part ≡ split_of (turns_at net part.link) (get_or part.amounts (k - first) 0) exit
@@ -48,12 +54,12 @@ part-small net exit first k parts i small shares le =
     omega (arith, sum_by-take-le (part_coming net exit 0 k first) parts i, sum_by-le (part_coming net exit 0 k first) 5000 parts each)
 
 pub adding-more : (net : Net) (exit first : ℕ) (before : List ℕ) (parts : List Part) (amounts more : List ℕ) (i : ℕ) (part : Part) (share : ℕ × ℕ)
-    → IsAddingParts net exit first before parts amounts i → i < length parts → part ≡ get_or parts i part → length amounts ≡ length before → length more ≡ length amounts
+    → IsAddingParts net exit first before parts amounts i → i < length parts → slice_get parts i ≡ Some part → length amounts ≡ length before → length more ≡ length amounts
     → IsShareInto (turns_at net part.link) exit share
     → ((k : ℕ) → k < first → get_or more k 0 ≡ get_or amounts k 0)
     → ((k : ℕ) → first ≤ k → k < length amounts → get_or more k 0 ≡ get_or amounts k 0 + part_between (get_or part.amounts (k - first) 0) share.0 (share.0 + share.1))
     → IsAddingParts net exit first before parts more (i + 1)
-adding-more net exit first before parts amounts more i part share h lt e same same2 into near far = record {
+adding-more net exit first before parts amounts more i part share h lt found same same2 into near far = record {
   near = λ k less. near k less ∙ h.near k less;
   far = λ k le less.
       omega (
@@ -63,7 +69,7 @@ adding-more net exit first before parts amounts more i part share h lt e same sa
         into.part (get_or part.amounts (k - first) 0),
         coming-at net exit k first part le,
         sum_by_more (part_coming net exit 0 k first) parts i part lt,
-        ap (part_coming net exit 0 k first) e,
+        ap (part_coming net exit 0 k first) (get_or_from_slice_get parts i part part found),
       );
   past = λ k le. get_or_past more k 0 (omega arith);
 }

@@ -8,7 +8,7 @@ ghost use Rattle.outflow.specs.Outflow.{AreServed, departures, part_coming};
 ghost use Rattle.outflow.specs.Steps.{AreArriving, IsShareInto};
 
 use crate::servings::Servings;
-use clusters::{Part, Platoon, Window};
+use clusters::{Parts, Platoon, Window};
 use road_net::{Network, Turn, part_of_turn};
 use std::alloc::{AllocError, Global};
 
@@ -41,13 +41,7 @@ pub(crate) fn exit_flow(
         };
         taken[k] += 1;
         let first = servings.served[i].start as usize + travel as usize - now as usize;
-        add_platoon(
-            amounts.as_mut_slice(),
-            net,
-            platoon.parts.as_slice(),
-            first,
-            exit,
-        );
+        add_platoon(amounts.as_mut_slice(), net, &platoon.parts, first, exit);
     }
     Ok(amounts)
 }
@@ -60,7 +54,7 @@ fn platoon_at(list: &[Platoon], place: usize) -> Option<&Platoon>
 }
 
 /// Adds what of each part comes, the first of it in this place.
-fn add_platoon(amounts: &mut [u32], net: &Network, parts: &[Part], first: usize, exit: u32)
+fn add_platoon(amounts: &mut [u32], net: &Network, parts: &Parts, first: usize, exit: u32)
     requires links { All (λ part. part.link < length net.now.link_names) parts.now }
     requires few { length parts.now ≤ 16 }
     requires small { All (λ part. All (λ amount. amount ≤ 5000) part.amounts) parts.now }
@@ -69,9 +63,10 @@ fn add_platoon(amounts: &mut [u32], net: &Network, parts: &[Part], first: usize,
     ensures far { (k : ℕ) → first ≤ k → k < length amounts.old
         → slice_index amounts.new k ≡ sum_by (part_coming net.now exit 0 k first) parts.now }
 {
-    for part in parts {
-        let share = share_into(net.turns(part.link), exit);
-        add_part(amounts, part.amounts.as_slice(), first, share);
+    for place in 0..parts.len() {
+        let (link, part) = parts.at(place);
+        let share = share_into(net.turns(link), exit);
+        add_part(amounts, part, first, share);
     }
 }
 

@@ -1,7 +1,5 @@
-use Rattle.std.proofs.Common.{◌∙◌, ap, List, get_or, ◌+◌, ◌-◌, arith}
+use Rattle.std.proofs.Common.{◌∙◌, ap, get_or, ◌+◌, ◌-◌, arith}
 use Rattle.net_numbers.specs.declared.roads.Link.{Link}
-use Rattle.clusters.specs.declared.vehicle_groups.Part.{Part}
-use Rattle.clusters.specs.declared.vehicle_groups.Platoon.{Platoon}
 use Rattle.clusters.proofs.SeenLaws.{written}
 use Rattle.outflow.proofs.ServedLaws.{clear-after, filling-all, filling-more, found-fit, listed, no_served, phase-below, phases-few, platoon-found, platoon-there, serving-late}
 use Rattle.outflow.proofs.exit_flow.exit_flow.Goals as goal
@@ -28,19 +26,19 @@ overflow_sub-first c = omega (arith, serving-late c.args.net.now c.args.node c.a
 
 pub add_platoon-requires-clause-links : goal.add_platoon-requires-clause-links
 add_platoon-requires-clause-links c =
-    rw c.as_slice-in-loop-i-2.ensures (found-fit c.args.net.now c.args.node c.args.exit c.args.now c.args.window.now.lists c.args.servings.now.phases.now c.args.servings.now.served.now c.loop-i.taken c.loop-i.amounts.items c.loop-i.i c.in-Some.platoon.now c.requires.platoons c.loop-i.invariant (omega arith) c.link-travel.ensures.network c.requires.node
+    (found-fit c.args.net.now c.args.node c.args.exit c.args.now c.args.window.now.lists c.args.servings.now.phases.now c.args.servings.now.served.now c.loop-i.taken c.loop-i.amounts.items c.loop-i.i c.in-Some.platoon.now c.requires.platoons c.loop-i.invariant (omega arith) c.link-travel.ensures.network c.requires.node
     (platoon-found c.args.net.now c.args.node c.args.exit c.args.now c.args.window.now.lists c.args.servings.now.phases.now c.args.servings.now.served.now c.loop-i.taken c.loop-i.amounts.items c.loop-i.i c.as_slice-in-loop-i.result.now c.in-Some.platoon.now c.requires.platoons c.loop-i.invariant (omega arith)
     (listed c.args.window.now.lists c.as_slice.result.now (get_or c.args.servings.now.phases.now c.loop-i.i 0) c.index-as_slice-k.result c.as_slice-in-loop-i.result.now c.as_slice.ensures (phase-below c.args.net.now c.args.node c.args.exit c.args.now c.args.window.now.lists c.args.servings.now.phases.now c.args.servings.now.served.now c.loop-i.taken c.loop-i.amounts.items c.loop-i.i c.requires.platoons c.loop-i.invariant (omega arith)) c.index-as_slice-k.is c.as_slice-in-loop-i.ensures) c.in-Some.ensures)).links
 
 pub add_platoon-requires-clause-few : goal.add_platoon-requires-clause-few
 add_platoon-requires-clause-few c =
-    rw c.as_slice-in-loop-i-2.ensures (found-fit c.args.net.now c.args.node c.args.exit c.args.now c.args.window.now.lists c.args.servings.now.phases.now c.args.servings.now.served.now c.loop-i.taken c.loop-i.amounts.items c.loop-i.i c.in-Some.platoon.now c.requires.platoons c.loop-i.invariant (omega arith) c.link-travel.ensures.network c.requires.node
+    (found-fit c.args.net.now c.args.node c.args.exit c.args.now c.args.window.now.lists c.args.servings.now.phases.now c.args.servings.now.served.now c.loop-i.taken c.loop-i.amounts.items c.loop-i.i c.in-Some.platoon.now c.requires.platoons c.loop-i.invariant (omega arith) c.link-travel.ensures.network c.requires.node
     (platoon-found c.args.net.now c.args.node c.args.exit c.args.now c.args.window.now.lists c.args.servings.now.phases.now c.args.servings.now.served.now c.loop-i.taken c.loop-i.amounts.items c.loop-i.i c.as_slice-in-loop-i.result.now c.in-Some.platoon.now c.requires.platoons c.loop-i.invariant (omega arith)
     (listed c.args.window.now.lists c.as_slice.result.now (get_or c.args.servings.now.phases.now c.loop-i.i 0) c.index-as_slice-k.result c.as_slice-in-loop-i.result.now c.as_slice.ensures (phase-below c.args.net.now c.args.node c.args.exit c.args.now c.args.window.now.lists c.args.servings.now.phases.now c.args.servings.now.served.now c.loop-i.taken c.loop-i.amounts.items c.loop-i.i c.requires.platoons c.loop-i.invariant (omega arith)) c.index-as_slice-k.is c.as_slice-in-loop-i.ensures) c.in-Some.ensures)).few
 
 pub add_platoon-requires-clause-small : goal.add_platoon-requires-clause-small
 add_platoon-requires-clause-small c =
-    rw c.as_slice-in-loop-i-2.ensures (found-fit c.args.net.now c.args.node c.args.exit c.args.now c.args.window.now.lists c.args.servings.now.phases.now c.args.servings.now.served.now c.loop-i.taken c.loop-i.amounts.items c.loop-i.i c.in-Some.platoon.now c.requires.platoons c.loop-i.invariant (omega arith) c.link-travel.ensures.network c.requires.node
+    (found-fit c.args.net.now c.args.node c.args.exit c.args.now c.args.window.now.lists c.args.servings.now.phases.now c.args.servings.now.served.now c.loop-i.taken c.loop-i.amounts.items c.loop-i.i c.in-Some.platoon.now c.requires.platoons c.loop-i.invariant (omega arith) c.link-travel.ensures.network c.requires.node
     (platoon-found c.args.net.now c.args.node c.args.exit c.args.now c.args.window.now.lists c.args.servings.now.phases.now c.args.servings.now.served.now c.loop-i.taken c.loop-i.amounts.items c.loop-i.i c.as_slice-in-loop-i.result.now c.in-Some.platoon.now c.requires.platoons c.loop-i.invariant (omega arith)
     (listed c.args.window.now.lists c.as_slice.result.now (get_or c.args.servings.now.phases.now c.loop-i.i 0) c.index-as_slice-k.result c.as_slice-in-loop-i.result.now c.as_slice.ensures (phase-below c.args.net.now c.args.node c.args.exit c.args.now c.args.window.now.lists c.args.servings.now.phases.now c.args.servings.now.served.now c.loop-i.taken c.loop-i.amounts.items c.loop-i.i c.requires.platoons c.loop-i.invariant (omega arith)) c.index-as_slice-k.is c.as_slice-in-loop-i.ensures) c.in-Some.ensures)).small
 
@@ -53,10 +51,10 @@ pub loop-i-preserved : goal.loop-i-preserved
 loop-i-preserved c =
     rw (written c.loop-i.amounts.items c.add_platoon.new.amounts c.loop-i.amounts.len (omega arith) (omega arith))
     (filling-more c.args.net.now c.args.node c.args.exit c.args.now c.args.window.now.lists c.args.servings.now.phases.now c.args.servings.now.served.now c.loop-i.taken c.loop-i.amounts.items c.add_platoon.new.amounts c.loop-i.i
-    ((get_or c.args.servings.now.served.now c.loop-i.i no_served).start + c.link-travel.result.travel - c.args.now) no_served (record { cluster = c.in-Some.platoon.now.cluster; parts = c.as_slice-in-loop-i-2.result.now })
+    ((get_or c.args.servings.now.served.now c.loop-i.i no_served).start + c.link-travel.result.travel - c.args.now) no_served c.in-Some.platoon.now
     c.requires.platoons c.loop-i.invariant (omega arith) (phases-few c.args.net.now c.args.node c.args.now c.args.window.now.lists c.link-travel.ensures.network c.requires.node c.requires.platoons)
-    (ap (λ (ps : List Part). let p : Platoon = record { cluster = c.in-Some.platoon.now.cluster; parts = ps } in p) c.as_slice-in-loop-i-2.ensures ∙ (platoon-found c.args.net.now c.args.node c.args.exit c.args.now c.args.window.now.lists c.args.servings.now.phases.now c.args.servings.now.served.now c.loop-i.taken c.loop-i.amounts.items c.loop-i.i c.as_slice-in-loop-i.result.now c.in-Some.platoon.now c.requires.platoons c.loop-i.invariant (omega arith)
-    (listed c.args.window.now.lists c.as_slice.result.now (get_or c.args.servings.now.phases.now c.loop-i.i 0) c.index-as_slice-k.result c.as_slice-in-loop-i.result.now c.as_slice.ensures (phase-below c.args.net.now c.args.node c.args.exit c.args.now c.args.window.now.lists c.args.servings.now.phases.now c.args.servings.now.served.now c.loop-i.taken c.loop-i.amounts.items c.loop-i.i c.requires.platoons c.loop-i.invariant (omega arith)) c.index-as_slice-k.is c.as_slice-in-loop-i.ensures) c.in-Some.ensures))
+    (platoon-found c.args.net.now c.args.node c.args.exit c.args.now c.args.window.now.lists c.args.servings.now.phases.now c.args.servings.now.served.now c.loop-i.taken c.loop-i.amounts.items c.loop-i.i c.as_slice-in-loop-i.result.now c.in-Some.platoon.now c.requires.platoons c.loop-i.invariant (omega arith)
+    (listed c.args.window.now.lists c.as_slice.result.now (get_or c.args.servings.now.phases.now c.loop-i.i 0) c.index-as_slice-k.result c.as_slice-in-loop-i.result.now c.as_slice.ensures (phase-below c.args.net.now c.args.node c.args.exit c.args.now c.args.window.now.lists c.args.servings.now.phases.now c.args.servings.now.served.now c.loop-i.taken c.loop-i.amounts.items c.loop-i.i c.requires.platoons c.loop-i.invariant (omega arith)) c.index-as_slice-k.is c.as_slice-in-loop-i.ensures) c.in-Some.ensures)
     (omega (arith, serving-late c.args.net.now c.args.node c.args.exit c.args.now c.args.window.now.lists c.args.servings.now.phases.now c.args.servings.now.served.now c.loop-i.taken c.loop-i.amounts.items c.loop-i.i c.requires.platoons c.loop-i.invariant (omega arith), ap (λ (l : Link). l.travel) c.link-travel.ensures.value))
     (omega arith)
     (λ k lt. c.add_platoon.ensures.near k lt ∙ ap (λ xs. get_or xs k 0) c.as_mut_slice.ensures.value)
