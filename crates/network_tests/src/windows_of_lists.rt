@@ -3,7 +3,7 @@ ghost use Rattle.std.specs.Prelude.{◌≡◌, ◌+◌, ◌*◌, ◌≤◌, All,
 ghost use Rattle.std.specs.List.{range_with_len};
 ghost use Rattle.clusters.specs.Windows.{IsRising};
 
-use clusters::{Platoon, window};
+use clusters::{Parts, Platoon, window};
 use foundation::items::Items;
 use std::alloc::{AllocError, Global};
 use std::test::Fail;
@@ -30,8 +30,8 @@ const WINDOWS: &[(&[[u32; 3]], &[u32])] = &[
 ];
 
 /// A platoon of one vehicle that arrives in this second.
-fn platoon(alloc: Global, arr: u32) -> Platoon
-    ensures { result.cluster.arr ≡ arr }
+fn platoon(alloc: Global, arr: u32) -> Result<Platoon, AllocError>
+    ensures { IfOk result (λ platoon. platoon.cluster.arr ≡ arr) }
 {
     let cluster = Cluster {
         size: 1000,
@@ -39,10 +39,10 @@ fn platoon(alloc: Global, arr: u32) -> Platoon
         arr,
         len: 1,
     };
-    Platoon {
+    Ok(Platoon {
         cluster,
-        parts: Items::from_vec(Vec::new(alloc)),
-    }
+        parts: Parts::none(alloc)?,
+    })
 }
 
 /// A number of platoons, one after another.
@@ -54,7 +54,7 @@ fn spaced(alloc: Global, first: u32, space: u32, count: u32) -> Result<Vec<Plato
 {
     let mut list = Vec::new(alloc);
     for place in 0..count {
-        list.push(platoon(alloc, first + space * place))?;
+        list.push(platoon(alloc, first + space * place)?)?;
     }
     Ok(list)
 }
