@@ -70,6 +70,17 @@ fn shape(part: Section, item: u32, sub: u32) -> NetFault
     NetFault::Shape(Place { part, item, sub })
 }
 
+/// Which table of an array is read, and in which file.
+#[derive(Clone, Copy)]
+struct Spot {
+    /// The item of the node or link with the array; 0 where the array stands in the table of the whole file.
+    item: u32,
+    /// The number of the table in the array, from 1.
+    number: u32,
+    /// Whether the file must be complete.
+    complete: bool,
+}
+
 /// A table that stands in an array of the file.
 trait Element: Sized + Drop {
     /// What the table stands for, in a file that must be complete or need not.
@@ -79,17 +90,11 @@ trait Element: Sized + Drop {
     /// place.
     ghost at_fault: { Bool → ℕ → ℕ → Data → Place → Type 0 };
 
-    /// Reads the table with this number, from 1, of an array. The item is that of the node or link with the array, and 0
-    /// where the array stands in the table of the whole file.
-    fn read(
-        alloc: Global,
-        value: &Value,
-        item: u32,
-        number: u32,
-        complete: bool,
-    ) -> Result<Self, NetFault>
-        ensures ok { IfOk result (λ element. reading complete (view value.now) ≡ Some element) }
-        ensures first { IfErr result (λ fault. Blames fault (at_fault complete item number (view value.now))) };
+    /// Reads a table.
+    fn read(alloc: Global, value: &Value, spot: Spot) -> Result<Self, NetFault>
+        ensures ok { IfOk result (λ element. reading spot.complete (view value.now) ≡ Some element) }
+        ensures first { IfErr result (λ fault. Blames fault
+            (at_fault spot.complete spot.item spot.number (view value.now))) };
 }
 
 /// The elements of an array, in order, in the table of this item.
@@ -105,7 +110,12 @@ fn read_all<T: Element>(
 {
     let mut all = Vec::new(alloc);
     for (index, value) in values.iter().enumerate() {
-        let element = T::read(alloc, value, item, ordinal(index), complete)?;
+        let spot = Spot {
+            item,
+            number: ordinal(index),
+            complete,
+        };
+        let element = T::read(alloc, value, spot)?;
         all.push(element)?;
     }
     Ok(all)
@@ -124,17 +134,11 @@ impl Element for DraftNode {
     ghost at_fault = { IsNodeAtFault };
 
     #[tactic(auto, unfolding(crate::specs::Table::node_of))]
-    fn read(
-        alloc: Global,
-        value: &Value,
-        item: u32,
-        number: u32,
-        complete: bool,
-    ) -> Result<DraftNode, NetFault> {
+    fn read(alloc: Global, value: &Value, spot: Spot) -> Result<DraftNode, NetFault> {
         let Some((name, phases)) = node_form(value) else {
-            return Err(shape(Section::Node, number, 0));
+            return Err(shape(Section::Node, spot.number, 0));
         };
-        let phases = read_all(alloc, phases, number, complete)?;
+        let phases = read_all(alloc, phases, spot.number, spot.complete)?;
         let name = copy_text(alloc, name)?;
         Ok(DraftNode {
             name,
@@ -149,18 +153,12 @@ impl Element for DraftPhase {
     ghost at_fault = { IsPhaseAtFault };
 
     #[tactic(auto, unfolding(crate::specs::Table::phase_of))]
-    fn read(
-        alloc: Global,
-        value: &Value,
-        item: u32,
-        number: u32,
-        complete: bool,
-    ) -> Result<DraftPhase, NetFault> {
-        let Some((phase, links)) = phase_form(value, complete) else {
-            return Err(shape(Section::Phase, item, number));
+    fn read(alloc: Global, value: &Value, spot: Spot) -> Result<DraftPhase, NetFault> {
+        let Some((phase, links)) = phase_form(value, spot.complete) else {
+            return Err(shape(Section::Phase, spot.item, spot.number));
         };
         let Some(links) = texts_of(alloc, links)? else {
-            return Err(shape(Section::Phase, item, number));
+            return Err(shape(Section::Phase, spot.item, spot.number));
         };
         Ok(DraftPhase {
             phase,
@@ -175,17 +173,11 @@ impl Element for DraftLink {
     ghost at_fault = { IsLinkAtFault };
 
     #[tactic(auto, unfolding(crate::specs::Table::link_of))]
-    fn read(
-        alloc: Global,
-        value: &Value,
-        item: u32,
-        number: u32,
-        complete: bool,
-    ) -> Result<DraftLink, NetFault> {
-        let Some(link) = link_form(value, complete) else {
-            return Err(shape(Section::Link, number, 0));
+    fn read(alloc: Global, value: &Value, spot: Spot) -> Result<DraftLink, NetFault> {
+        let Some(link) = link_form(value, spot.complete) else {
+            return Err(shape(Section::Link, spot.number, 0));
         };
-        let turns = read_all(alloc, link.turns, number, complete)?;
+        let turns = read_all(alloc, link.turns, spot.number, spot.complete)?;
         Ok(DraftLink {
             name: copy_text(alloc, link.name)?,
             from: copy_optional_text(alloc, link.from)?,
@@ -203,15 +195,9 @@ impl Element for DraftTurn {
 
     ghost at_fault = { IsTurnAtFault };
 
-    fn read(
-        alloc: Global,
-        value: &Value,
-        item: u32,
-        number: u32,
-        complete: bool,
-    ) -> Result<DraftTurn, NetFault> {
+    fn read(alloc: Global, value: &Value, spot: Spot) -> Result<DraftTurn, NetFault> {
         let Some((exit, share)) = turn_form(value) else {
-            return Err(shape(Section::Turn, item, number));
+            return Err(shape(Section::Turn, spot.item, spot.number));
         };
         let exit = copy_text(alloc, exit)?;
         Ok(DraftTurn { exit, share })
@@ -223,15 +209,9 @@ impl Element for DraftConflict {
 
     ghost at_fault = { IsConflictAtFault };
 
-    fn read(
-        alloc: Global,
-        value: &Value,
-        item: u32,
-        number: u32,
-        complete: bool,
-    ) -> Result<DraftConflict, NetFault> {
+    fn read(alloc: Global, value: &Value, spot: Spot) -> Result<DraftConflict, NetFault> {
         let Some((a, b)) = conflict_form(value) else {
-            return Err(shape(Section::Conflict, number, 0));
+            return Err(shape(Section::Conflict, spot.number, 0));
         };
         let a = copy_text(alloc, a)?;
         let b = copy_text(alloc, b)?;
