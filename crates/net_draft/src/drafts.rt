@@ -20,8 +20,8 @@ pub struct Run {
     /// Whether the first cluster of the standing phase has to end in its green; false where the file does not say it
     /// (docs/RULES.md, "Streets under load", as the two below).
     pub split: bool,
-    /// The seconds in which the weight of a link whose queue stands grows by itself, 1 to 3600; none where the file does
-    /// not say it.
+    /// The seconds in which the weight of a link whose queue stands grows by itself, 1 to 3600; none where the file
+    /// does not say it.
     pub age: Option<u32>,
     /// How many times the load counts of what the standing green can serve at once, 1 to 20; none where the file does
     /// not say it, which is once.

@@ -1,4 +1,4 @@
-//! The road network file: what stands in it, by names, and how it is read.
+//! The road network file: what is in it, by names, and how it is read.
 #![tactic(auto)]
 
 mod drafts;

@@ -1,4 +1,4 @@
--- The bounds of what stands in a draft.
+-- The bounds of what is in a draft.
 use Rattle.std.specs.Prelude.{◌≡◌, ℕ, ◌≤◌, ◌⊎◌, IfSome, List, length, count_by, All}
 use Rattle.phase_plan.specs.Phases.{IsPhase, is_unmarked}
 use Rattle.net_draft.specs.declared.drafts.Run.{Run}

@@ -61,7 +61,8 @@ fn is_run(run: &Run) -> bool
 fn check_nodes(nodes: &[DraftNode]) -> Result<(), NetFault>
     requires { length nodes.now ≤ 64 }
     ensures { Checks (All IsBoundedNode nodes.now)
-        (λ place. FromOne (IsFirstAt IsBoundedNode (λ n. IsNodeFault n place.part place.sub) nodes.now) place.item) result }
+        (λ place. FromOne
+        (IsFirstAt IsBoundedNode (λ n. IsNodeFault n place.part place.sub) nodes.now) place.item) result }
 {
     for (index, node) in nodes.iter().enumerate() {
         check_node(node, index as u32 + 1)?;
@@ -122,7 +123,8 @@ fn is_bounded_phase(phase: &DraftPhase) -> bool
 fn check_links(links: &[DraftLink]) -> Result<(), NetFault>
     requires { length links.now ≤ 320 }
     ensures { Checks (All IsBoundedLink links.now)
-        (λ place. FromOne (IsFirstAt IsBoundedLink (λ l. IsLinkFault l place.part place.sub) links.now) place.item) result }
+        (λ place. FromOne
+        (IsFirstAt IsBoundedLink (λ l. IsLinkFault l place.part place.sub) links.now) place.item) result }
 {
     for (index, link) in links.iter().enumerate() {
         check_link(link, index as u32 + 1)?;

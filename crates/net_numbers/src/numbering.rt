@@ -150,7 +150,8 @@ fn phase_links(
     requires bounds { All IsBoundedNode nodes.now }
     ensures { Makes (λ lists. lists.items) result (each (spec.phases_of names.now) nodes.now)
         (λ place. (place.part ≡ Section.Phase)
-        × FromOne (IsFirstAt (IsKnownNode names.now) (λ n. IsUnknownInNode names.now n place.sub) nodes.now) place.item) }
+        × FromOne
+        (IsFirstAt (IsKnownNode names.now) (λ n. IsUnknownInNode names.now n place.sub) nodes.now) place.item) }
 {
     let mut lists = Vec::new(alloc);
     for (index, node) in nodes.iter().enumerate() {

@@ -19,9 +19,9 @@ use toml::Table;
 /// The version that is written.
 const VERSION: u32 = 2;
 
-/// The network file of a draft, of version 2: it has every mark and weight, of what else may be absent `split` where it
-/// is true, `age`, `hold` and the ends of links where the draft has them, and an array where it is not empty. `Err`: out
-/// of memory.
+/// The network file of a draft, of version 2: it has every mark and weight, and of what else may be absent `split`
+/// where it is true, `age`, `hold` and the ends of links where the draft has them, and an array where it is not
+/// empty. `Err`: out of memory.
 ///
 /// docs/FORMATS.md, "Network file".
 pub fn draft_text(alloc: Global, draft: &Draft) -> Result<Vec<u8>, AllocError>

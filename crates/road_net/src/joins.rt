@@ -214,7 +214,8 @@ fn push_links(named: &mut Vec<u32>, phases: &[Items<u32>]) -> Result<(), AllocEr
     Ok(())
 }
 
-/// Tests that the links of each conflict end at one node, in two phases. The first conflict whose links do not is named.
+/// Tests that the links of each conflict end at one node, in two phases. The first conflict whose links do not is
+/// named.
 pub(crate) fn check_conflicts(links: &[Link], conflicts: &[(u32, u32)]) -> Result<(), NetFault>
     requires { All (λ c. (c.0 < length links.now) × (c.1 < length links.now)) conflicts.now }
     ensures { TestsEach (clash_at conflicts.now) (IsConflictAt links.now conflicts.now) (length conflicts.now) result }

@@ -146,8 +146,8 @@ impl Network {
         self.parts.links[l as usize]
     }
 
-    /// The turns of a link, at most 16, in the order of the file; none where it ends at no node. What turns into the exit
-    /// of each is `part_of_turn` of its share, after the shares of those before it.
+    /// The turns of a link, at most 16, in the order of the file; none where it ends at no node. What turns into the
+    /// exit of each is `part_of_turn` of its share, after the shares of those before it.
     ///
     /// docs/RULES.md, "Turning".
     pub fn turns(&self, l: u32) -> &[Turn]
@@ -160,8 +160,8 @@ impl Network {
     }
 
     /// The part of an amount, in thousandths of a vehicle, that turns at the end of link `l` into the link
-    /// `exit`; 0 where no turn leads there. Where the link ends at a node, the parts of its turns are the amount, and so
-    /// are those of all links: nothing is lost and nothing comes from nowhere.
+    /// `exit`; 0 where no turn leads there. Where the link ends at a node, the parts of its turns are the amount, and
+    /// so are those of all links: nothing is lost and nothing comes from nowhere.
     ///
     /// docs/RULES.md, "Turning".
     pub fn split(&self, l: u32, amount: u32, exit: u32) -> u32
@@ -278,9 +278,9 @@ struct NodeLinks {
     exit: Vec<Items<u32>>,
 }
 
-/// The links of each node of these parts, where the parts are joined as they must be. The fault is out of memory, or the
-/// first that is found when all are tested for the ends of links, then for crowded nodes, for shares, for phases and for
-/// conflicts.
+/// The links of each node of these parts, where the parts are joined as they must be. The fault is out of memory, or
+/// the first that is found when all are tested for the ends of links, then for crowded nodes, for shares, for phases
+/// and for conflicts.
 fn node_links(alloc: Global, parts: &Parts) -> Result<NodeLinks, NetFault>
     requires { IsOutline (net_of parts.now) }
     ensures { Links parts.now result }
@@ -300,7 +300,8 @@ fn node_links(alloc: Global, parts: &Parts) -> Result<NodeLinks, NetFault>
 /// The network of a text, which is read as TOML. The text has fewer than 2^32 bytes.
 ///
 /// The fault is out of memory, `NotToml` where the text is no UTF-8 or no TOML, `Shape` of the first table that has
-/// not the form of its place, `Bound` of the whole table where it says a version other than 2, and else that of `build`.
+/// not the form of its place, `Bound` of the whole table where it says a version other than 2, and else that of
+/// `build`.
 ///
 /// docs/FORMATS.md, "Network file".
 pub fn read_network(alloc: Global, bytes: &[u8]) -> Result<Network, NetFault>
@@ -342,8 +343,8 @@ fn parse_draft(alloc: Global, bytes: &[u8]) -> Result<Draft, NetFault>
 }
 
 /// The network file of a network, of version 2: it has every mark and weight, and of what else may be absent `split`
-/// where it is true, `age`, `hold` and the ends of links where the network has them, and an array where it is not empty.
-/// What is read from it is this very network, with the same value of every accessor. `Err`: out of memory.
+/// where it is true, `age`, `hold` and the ends of links where the network has them, and an array where it is not
+/// empty. What is read from it is this very network, with the same value of every accessor. `Err`: out of memory.
 ///
 /// docs/FORMATS.md, "Network file".
 pub fn write_network(alloc: Global, net: &Network) -> Result<Vec<u8>, AllocError>

@@ -20,8 +20,8 @@ pub(crate) fn split(turns: &[Turn], amount: u32, exit: u32) -> u32
     0
 }
 
-/// The part of an amount that makes a turn with this share, where the turns of the link before it have the share `before`
-/// together. Whoever goes over the turns of a link with a running share has all parts in one step each.
+/// The part of an amount that makes a turn with this share, where the turns of the link before it have the share
+/// `before` together. Whoever goes over the turns of a link with a running share has all parts in one step each.
 ///
 /// docs/RULES.md, "Turning".
 pub fn part_of_turn(amount: u32, before: u32, share: u32) -> u32
