@@ -7,8 +7,8 @@ use Rattle.control_flow.specs.Greens.{BeginBy, GoesOn, IsLawful, end_of}
 use Rattle.control_flow.specs.declared.greens.Green.{Green}
 use Rattle.net_numbers.specs.Numbers.{Net}
 use Rattle.road_net.specs.declared.senses.Sensed.{Sensed}
-use Rattle.clusters.specs.Platoons.{ArePlatoonsOf}
 use Rattle.clusters.specs.Sound.{AreOfNode, ArePlannable, cluster_lists}
+use Rattle.clusters.specs.UnderLoad.{AreExpected}
 use Rattle.clusters.specs.Windows.{IsWindow}
 use Rattle.clusters.specs.declared.vehicle_groups.Platoon.{Platoon}
 use Rattle.clusters.specs.declared.vehicle_groups.Window.{Window}
@@ -20,15 +20,15 @@ pub next-line : {E : Type 0} (plan : List Phase) (head : Head) (until : ℕ) (r 
 next-line plan head until (Ok line) lawful goes begins later = record { lawful = lawful; goes_on = goes; begins = begins; later = later }
 next-line plan head until (Err e) lawful goes begins later = tt
 
-pub expected-made : {E : Type 0} (net : Net) (node : ℕ) (sensed : Sensed) (heard : List Heard) (lists : List (List Platoon)) (r : Result Window E) → ArePlatoonsOf net node sensed heard lists
+pub expected-made : {E : Type 0} (net : Net) (node : ℕ) (head : Head) (sensed : Sensed) (heard : List Heard) (lists : List (List Platoon)) (r : Result Window E) → AreExpected net node head sensed heard lists
     → IfOk r (IsWindow lists) → IfOk r (λ window. AreOfNode net node sensed.now window.lists) → IfOk r (λ window. ArePlannable (cluster_lists window.lists))
-    → IfOk r (IsExpected net node sensed heard)
-expected-made net node sensed heard lists (Ok window) are longest of_node plannable = record {
+    → IfOk r (IsExpected net node head sensed heard)
+expected-made net node head sensed heard lists (Ok window) are longest of_node plannable = record {
   platoons = lists;
   are = are;
   longest = longest;
   of_node = of_node;
   plannable = plannable;
-  soon = window-soon net node sensed heard lists window are longest;
+  soon = window-soon net node head sensed heard lists window are longest;
 }
-expected-made net node sensed heard lists (Err e) are longest of_node plannable = tt
+expected-made net node head sensed heard lists (Err e) are longest of_node plannable = tt

@@ -33,7 +33,7 @@ lists-short lists few = All-from_get_or (λ list. length list < 4294967296) list
     omega (arith, few, count-le-sum (counts_of lists) k, get_or-map (λ (list : List Cluster). length list) lists k [] 0 lt))
 
 module _ (net : Net) (node : ℕ) (sensed : Sensed) (heard : List Heard) (plan : List Phase) (head : Head) (window : Window) (i : Problem) (schedule : Schedule) (p : IsPlan plan) (same : plan ≡ plan_at net node)
-    (expected : IsExpected net node sensed heard window) (is : i ≡ record { plan = plan; head = head; lists = cluster_lists window.lists }) (scheduled : IsScheduled i schedule) where
+    (expected : IsExpected net node head sensed heard window) (is : i ≡ record { plan = plan; head = head; lists = cluster_lists window.lists }) (scheduled : IsScheduled i schedule) where
   plan-next : AreNextServings plan (cluster_lists window.lists) (counts_of (cluster_lists window.lists)) head schedule.phases schedule.served
   plan-next = subst (λ (q : Problem). AreNextServings q.plan q.lists (counts_of q.lists) q.head schedule.phases schedule.served) is scheduled.next
 
@@ -49,7 +49,7 @@ module _ (net : Net) (node : ℕ) (sensed : Sensed) (heard : List Heard) (plan :
 
 -- what the steps make is the node's plan of the round
 at-plan : (net : Net) (node : ℕ) (old : List Green) (sensed : Sensed) (heard : List Heard) (head : Head) (p : RoundPlan)
-    → head_at (plan_at net node) old sensed.now ≡ Some head → Joins old p.next → IsExpected net node sensed heard p.window
+    → head_at (plan_at net node) old sensed.now ≡ Some head → Joins old p.next → IsExpected net node head sensed heard p.window
     → p.instance ≡ record { plan = plan_at net node; head = head; lists = cluster_lists p.window.lists } → IsScheduled p.instance p.schedule
     → p.next ≡ line_for (plan_at net node) head p.schedule.answer p.schedule.served (sensed.now + net.run.look) → IsNextLine (plan_at net node) head (sensed.now + net.run.look) p.next → p.used ≡ used_of heard
     → IsPlanned net node old sensed heard p
@@ -77,7 +77,7 @@ at-plan net node old sensed heard head p stands joins expected is scheduled valu
 }
 
 pub planned-made : (net : Net) (node : ℕ) (old : List Green) (sensed : Sensed) (heard : List Heard) (plan : List Phase) (until : ℕ) (head : Head) (p : RoundPlan)
-    → plan ≡ plan_at net node → until ≡ sensed.now + net.run.look → head_at plan old sensed.now ≡ Some head → Joins old p.next → IsExpected net node sensed heard p.window
+    → plan ≡ plan_at net node → until ≡ sensed.now + net.run.look → head_at plan old sensed.now ≡ Some head → Joins old p.next → IsExpected net node head sensed heard p.window
     → p.instance ≡ record { plan = plan; head = head; lists = cluster_lists p.window.lists } → IsScheduled p.instance p.schedule
     → p.next ≡ line_for plan head p.schedule.answer p.schedule.served until → IsNextLine plan head until p.next → p.used ≡ used_of heard
     → IsPlanned net node old sensed heard p

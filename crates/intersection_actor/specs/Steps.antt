@@ -12,8 +12,8 @@ use Rattle.control_flow.specs.declared.greens.Green.{Green}
 use Rattle.net_numbers.specs.Numbers.{Net}
 use Rattle.net_numbers.specs.Outline.{plan_at}
 use Rattle.road_net.specs.declared.senses.Sensed.{Sensed}
-use Rattle.clusters.specs.Platoons.{ArePlatoonsOf}
 use Rattle.clusters.specs.Sound.{AreOfNode, ArePlannable, cluster_lists}
+use Rattle.clusters.specs.UnderLoad.{AreExpected}
 use Rattle.clusters.specs.Windows.{IsWindow}
 use Rattle.clusters.specs.declared.vehicle_groups.Platoon.{Platoon}
 use Rattle.clusters.specs.declared.vehicle_groups.Window.{Window}
@@ -25,11 +25,11 @@ use Rattle.intersection_actor.specs.declared.planning.RoundPlan.{RoundPlan}
 abbrev pub ArriveBy : ℕ → List (List Cluster) → Type 0
 ArriveBy second lists = All (λ list. All (λ (c : Cluster). c.arr ≤ second) list) lists
 
--- the window of the platoons that a node expects: they are the node's, and their clusters make an instance, and arrive while the
--- network looks ahead
-pub record IsExpected (net : Net) (node : ℕ) (sensed : Sensed) (heard : List Heard) (window : Window) : Type 0 where
+-- the window of the platoons that a node with this head expects: they are the node's, and their clusters make an instance, and
+-- arrive while the network looks ahead
+pub record IsExpected (net : Net) (node : ℕ) (head : Head) (sensed : Sensed) (heard : List Heard) (window : Window) : Type 0 where
   pub platoons : List (List Platoon)
-  pub are : ArePlatoonsOf net node sensed heard platoons
+  pub are : AreExpected net node head sensed heard platoons
   pub longest : IsWindow platoons window
   pub of_node : AreOfNode net node sensed.now window.lists
   pub plannable : ArePlannable (cluster_lists window.lists)

@@ -14,7 +14,7 @@ ghost use Rattle.switch_rules.specs.Serving.{IsHead};
 
 use crate::records::Used;
 use board_model::Heard;
-use clusters::{Platoon, Window, platoons, window};
+use clusters::{Platoon, Window, expected_platoons, window};
 use control_flow::greens::Timeline;
 use control_flow::{head_at, rotation, timeline};
 use foundation::items::Items;
@@ -65,7 +65,7 @@ pub(crate) fn plan_round<P: Planner>(
     let _ = plan.count();
     let until = sensed.now + net.run().look;
     let head = head_at(plan, line, sensed.now);
-    let window = expected_window(alloc, net, node, sensed, heard)?;
+    let window = expected_window(alloc, net, node, &head, sensed, heard)?;
     let instance = problem(alloc, plan, &head, &window)?;
     let schedule = best_schedule(alloc, planner, &instance)?;
     let next = next_line(alloc, plan, &head, &schedule, until)?;
@@ -78,22 +78,24 @@ pub(crate) fn plan_round<P: Planner>(
     })
 }
 
-/// The window of the platoons that a node expects.
+/// The window of the platoons that a node with this head expects.
 fn expected_window(
     alloc: Global,
     net: &Network,
     node: u32,
+    head: &Head,
     sensed: &Sensed,
     heard: &[Heard],
 ) -> Result<Window, AllocError>
     requires node { node < length net.now.node_names }
+    requires head { IsHead (plan_at net.now node) head.now }
     requires sensed { IsSensedOf net.now node sensed.now }
     requires heard { IsHeardOf net.now node heard.now }
-    ensures { IfOk result (IsExpected net.now node sensed.entry.now heard.now) }
+    ensures { IfOk result (IsExpected net.now node head.now sensed.entry.now heard.now) }
 {
     // Called for its clause `plan`, and not for the count.
     let _ = net.plan(node).count();
-    let lists = platoons(alloc, net, node, sensed, heard)?;
+    let lists = expected_platoons(alloc, net, node, head, sensed, heard)?;
     window(alloc, lists)
 }
 

@@ -3,6 +3,7 @@ use Rattle.std.proofs.Common.{◌≡◌, ℕ, ◌+◌, List, sym, ap, subst, ◌
 use Rattle.std.proofs.lemmas.Option.{same_Some}
 use Rattle.board_model.specs.declared.boards.Heard.{Heard}
 use Rattle.clusters.specs.Sound.{cluster_lists}
+use Rattle.clusters.specs.UnderLoad.{AreExpected}
 use Rattle.clusters.specs.Windows.{IsWindow}
 use Rattle.clusters.specs.declared.vehicle_groups.Platoon.{Platoon}
 use Rattle.clusters.specs.declared.vehicle_groups.Window.{Window}
@@ -32,7 +33,7 @@ pub one-commit : (net : Net) (node round : ℕ) (old : List Green) (sensed : Sen
 unfolding problem_of
 one-commit net node round old sensed heard a b h g =
     let head : a.head ≡ b.head = same_Some a.head b.head (sym h.head ∙ g.head) in
-    let platoons : a.platoons ≡ b.platoons = one-expected net node sensed heard a.platoons b.platoons h.platoons g.platoons in
+    let platoons : a.platoons ≡ b.platoons = one-expected net node b.head sensed heard a.platoons b.platoons (subst (λ (x : Head). AreExpected net node x sensed heard a.platoons) head h.platoons) g.platoons in
     let window : a.window ≡ b.window = one-window b.platoons a.window b.window (subst (λ (p : List (List Platoon)). IsWindow p a.window) platoons h.window) g.window in
     let problem : a.problem ≡ b.problem = h.problem ∙ ap (λ x. problem_of net node x a.window) head ∙ ap (problem_of net node b.head) window ∙ sym g.problem in
     let answer : a.answer ≡ b.answer = best-one b.problem a.answer b.answer (subst (λ (p : Problem). IsBest p a.answer) problem h.answer) g.answer in

@@ -10,7 +10,8 @@ use Rattle.std.proofs.lemmas.List.Kept.{AllPairs-from_increasing, IsStrictlyIncr
 use Rattle.std.proofs.lemmas.List.Sums.{sum_by-cons}
 use Rattle.board_model.specs.declared.boards.Heard.{Heard}
 use Rattle.clusters.specs.Cuts.{CannotJoin, IsRun, filled, filled_from, first_of, last_of, run_at}
-use Rattle.clusters.specs.Platoons.{ArePlatoons, ArePlatoonsOf, platoon_of, platoons_at, together}
+use Rattle.clusters.specs.Platoons.{ArePlatoonsBy, platoon_of, platoons_at, together}
+use Rattle.clusters.specs.UnderLoad.{AreExpected, AreExpectedIn, held_in}
 use Rattle.clusters.specs.Windows.{IsLongest, IsWindow, counts_of}
 use Rattle.clusters.specs.declared.vehicle_groups.Part.{Part}
 use Rattle.clusters.specs.declared.vehicle_groups.Platoon.{Platoon}
@@ -19,6 +20,7 @@ use Rattle.clusters.proofs.WindowLaws.{front-within, sum-grows}
 use Rattle.histories.proofs.Counts.{cuts}
 use Rattle.net_numbers.specs.Numbers.{Net}
 use Rattle.road_net.specs.declared.senses.Sensed.{Sensed}
+use Rattle.switch_rules.specs.declared.Head.{Head}
 
 abbrev pub Rise : List ℕ → Type 0
 Rise xs = AllPairs (λ a b. a < b) xs
@@ -43,44 +45,52 @@ rise-last xs i up inside = elim (cases_lt i (length xs - 1)) [
   | inr more ↦ (let e : i ≡ length xs - 1 = omega arith in omega (arith, ap (λ k. get_or xs k 0) e))
 ]
 
-module _ (gap most : ℕ) where
+module _ (gap : ℕ) (span : ℕ → ℕ) where
+  -- a run within the span of its first second, and what could not have joined it
+  abbrev Fits : List ℕ → Type 0
+  Fits run = IsRun gap (span (first_of run)) run
+
+  abbrev StaysOut : List ℕ → ℕ → Type 0
+  StaysOut run = CannotJoin gap (span (first_of run)) run
+
   -- a second that could not have joined a run is in no longer one
-  longer : (run zs : List ℕ) (z : ℕ) → IsRun gap most run → IsRun gap most (run ++ z ∷ zs) → Rise (run ++ z ∷ zs) → CannotJoin gap most run z → ⊥
+  longer : (run zs : List ℕ) (z : ℕ) → Fits run → Fits (run ++ z ∷ zs) → Rise (run ++ z ∷ zs) → StaysOut run z → ⊥
   longer run zs z one other up cannot =
       let some : 1 ≤ length run = one.some in
       let long : length (run ++ z ∷ zs) ≡ length run + suc (length zs) = length-append run (z ∷ zs) in
       let here : get_or (run ++ z ∷ zs) (length run) 0 ≡ z = get_or_at run z zs 0 (length run) refl in
       let before : get_or (run ++ z ∷ zs) (length run - 1) 0 ≡ last_of run = get_or_append_left run (z ∷ zs) 0 (length run - 1) (omega arith) in
-      let first : get_or (run ++ z ∷ zs) 0 0 ≡ first_of run = get_or_append_left run (z ∷ zs) 0 0 (omega arith) in
+      let first : first_of (run ++ z ∷ zs) ≡ first_of run = get_or_append_left run (z ∷ zs) 0 0 (omega arith) in
+      let wide : span (first_of (run ++ z ∷ zs)) ≡ span (first_of run) = ap span first in
       let next : get_or (run ++ z ∷ zs) (length run - 1 + 1) 0 ≡ z = ap (λ k. get_or (run ++ z ∷ zs) k 0) (let e : length run - 1 + 1 ≡ length run = omega arith in e) ∙ here in
       elim cannot [
         | inl far ↦ omega (arith, far, other.near (length run - 1) (omega arith), next, before)
-        | inr wide ↦ omega (arith, wide, other.span, first, rise-last (run ++ z ∷ zs) (length run) up (omega arith), here)
+        | inr past ↦ omega (arith, past, other.span, first, wide, rise-last (run ++ z ∷ zs) (length run) up (omega arith), here)
       ]
 
   abbrev Apart : List (List ℕ) → Type 0
-  Apart runs = (k : ℕ) → k + 1 < length runs → CannotJoin gap most (run_at runs k) (first_of (run_at runs (k + 1)))
+  Apart runs = (k : ℕ) → k + 1 < length runs → StaysOut (run_at runs k) (first_of (run_at runs (k + 1)))
 
   abbrev Runs : List (List ℕ) → Type 0
-  Runs runs = All (IsRun gap most) runs × Apart runs
+  Runs runs = All Fits runs × Apart runs
 
   behind : (run : List ℕ) (runs : List (List ℕ)) → Apart (run ∷ runs) → Apart runs
   behind run runs apart k inside =
       let e : suc k + 1 ≡ suc (k + 1) = omega arith in
-      subst (λ j. CannotJoin gap most (run_at runs k) (first_of (run_at (run ∷ runs) j))) e (apart (suc k) (omega arith))
+      subst (λ j. StaysOut (run_at runs k) (first_of (run_at (run ∷ runs) j))) e (apart (suc k) (omega arith))
 
   -- so a run is no part of a longer one that is cut off from the same seconds
-  no-longer : (run : List ℕ) (runs : List (List ℕ)) (z : ℕ) (zs rest : List ℕ) → Runs (run ∷ runs) → concat runs ≡ (z ∷ zs) ++ rest → IsRun gap most (run ++ z ∷ zs) → Rise (run ++ z ∷ zs) → ⊥
+  no-longer : (run : List ℕ) (runs : List (List ℕ)) (z : ℕ) (zs rest : List ℕ) → Runs (run ∷ runs) → concat runs ≡ (z ∷ zs) ++ rest → Fits (run ++ z ∷ zs) → Rise (run ++ z ∷ zs) → ⊥
   no-longer run [] z zs rest are e other up = omega (arith, ap length e)
-  no-longer run ([] ∷ runs) z zs rest are e other up = (let some = (All-head (IsRun gap most) [] runs (All-tail (IsRun gap most) run ([] ∷ runs) are.0)).some in omega arith)
+  no-longer run ([] ∷ runs) z zs rest are e other up = (let some = (All-head Fits [] runs (All-tail Fits run ([] ∷ runs) are.0)).some in omega arith)
   no-longer run ((w ∷ ws) ∷ runs) z zs rest are e other up =
       let same : w ≡ z = (let f : w ∷ (ws ++ concat runs) ≡ z ∷ (zs ++ rest) = e in cc) in
-      longer run zs z (All-head (IsRun gap most) run ((w ∷ ws) ∷ runs) are.0) other up (subst (CannotJoin gap most run) same (are.1 0 (omega arith)))
+      longer run zs z (All-head Fits run ((w ∷ ws) ∷ runs) are.0) other up (subst (StaysOut run) same (are.1 0 (omega arith)))
 
   same-cut : (a b : List (List ℕ)) → concat a ≡ concat b → Rise (concat a) → Runs a → Runs b → a ≡ b
   same-cut [] [] e up x y = refl
-  same-cut [] (q ∷ qs) e up x y = absurd (let some = (All-head (IsRun gap most) q qs y.0).some in omega (arith, ap length e, length-append q (concat qs)))
-  same-cut (r ∷ rs) [] e up x y = absurd (let some = (All-head (IsRun gap most) r rs x.0).some in omega (arith, ap length e, length-append r (concat rs)))
+  same-cut [] (q ∷ qs) e up x y = absurd (let some = (All-head Fits q qs y.0).some in omega (arith, ap length e, length-append q (concat qs)))
+  same-cut (r ∷ rs) [] e up x y = absurd (let some = (All-head Fits r rs x.0).some in omega (arith, ap length e, length-append r (concat rs)))
   same-cut (r ∷ rs) (q ∷ qs) e up x y = elim (cuts r (concat rs) q (concat qs) e) [
     | inl g ↦ first (same-cut rs qs) g.0 g.1 g.2
     | inr g ↦ second (same-cut rs qs) g.0 g.1 g.2
@@ -90,25 +100,28 @@ module _ (gap most : ℕ) where
       right = subst Rise e up
 
       both : (concat rs ≡ concat qs → Rise (concat rs) → Runs rs → Runs qs → rs ≡ qs) → r ≡ q → concat rs ≡ concat qs → r ∷ rs ≡ q ∷ qs
-      both others same rest = ap (λ l. l ∷ rs) same ∙ ap (λ l. q ∷ l) (others rest (rise-right r (concat rs) up) (All-tail (IsRun gap most) r rs x.0, behind r rs x.1) (All-tail (IsRun gap most) q qs y.0, behind q qs y.1))
+      both others same rest = ap (λ l. l ∷ rs) same ∙ ap (λ l. q ∷ l) (others rest (rise-right r (concat rs) up) (All-tail Fits r rs x.0, behind r rs x.1) (All-tail Fits q qs y.0, behind q qs y.1))
 
       first : (concat rs ≡ concat qs → Rise (concat rs) → Runs rs → Runs qs → rs ≡ qs) → (zs : List ℕ) → q ≡ r ++ zs → concat rs ≡ zs ++ concat qs → r ∷ rs ≡ q ∷ qs
       first others [] s t = both others (sym (s ∙ append-nil r)) t
-      first others (z ∷ zs) s t = absurd (no-longer r rs z zs (concat qs) x t (subst (IsRun gap most) s (All-head (IsRun gap most) q qs y.0)) (subst Rise s (rise-left q (concat qs) right)))
+      first others (z ∷ zs) s t = absurd (no-longer r rs z zs (concat qs) x t (subst Fits s (All-head Fits q qs y.0)) (subst Rise s (rise-left q (concat qs) right)))
 
       second : (concat rs ≡ concat qs → Rise (concat rs) → Runs rs → Runs qs → rs ≡ qs) → (zs : List ℕ) → r ≡ q ++ zs → concat qs ≡ zs ++ concat rs → r ∷ rs ≡ q ∷ qs
       second others [] s t = both others (s ∙ append-nil q) (sym t)
-      second others (z ∷ zs) s t = absurd (no-longer q qs z zs (concat rs) y t (subst (IsRun gap most) s (All-head (IsRun gap most) r rs x.0)) (subst Rise s (rise-left r (concat rs) up)))
+      second others (z ∷ zs) s t = absurd (no-longer q qs z zs (concat rs) y t (subst Fits s (All-head Fits r rs x.0)) (subst Rise s (rise-left r (concat rs) up)))
 
-same-platoons : (load : Part → ℕ) (gap most now look : ℕ) (streams : List Part) (a b : List Platoon) → ArePlatoons load gap most now look streams a → ArePlatoons load gap most now look streams b → a ≡ b
-same-platoons load gap most now look streams a b h g =
+same-platoons : (load : Part → ℕ) (gap : ℕ) (span : ℕ → ℕ) (now look : ℕ) (streams : List Part) (a b : List Platoon) → ArePlatoonsBy load gap span now look streams a → ArePlatoonsBy load gap span now look streams b → a ≡ b
+same-platoons load gap span now look streams a b h g =
     h.each
-    ∙ ap (map (platoon_of load now streams)) (same-cut gap most h.runs g.runs (h.cut.all ∙ sym g.cut.all) (subst Rise (sym h.cut.all) (filled-rise (together streams look))) (h.cut.each, h.cut.apart) (g.cut.each, g.cut.apart))
+    ∙ ap (map (platoon_of load now streams)) (same-cut gap span h.runs g.runs (h.cut.all ∙ sym g.cut.all) (subst Rise (sym h.cut.all) (filled-rise (together streams look))) (h.cut.each, h.cut.apart) (g.cut.each, g.cut.apart))
     ∙ sym g.each
 
--- the platoons of a node are one
-pub one-expected : (net : Net) (node : ℕ) (sensed : Sensed) (heard : List Heard) (a b : List (List Platoon)) → ArePlatoonsOf net node sensed heard a → ArePlatoonsOf net node sensed heard b → a ≡ b
-one-expected net node sensed heard a b h g = ext_get_or [] a b (h.count ∙ sym g.count) (λ k inside. same-platoons _ _ _ _ _ _ _ _ (h.each k inside) (g.each k (omega (arith, h.count, g.count))))
+same-expected : (net : Net) (node : ℕ) (head : Head) (sensed : Sensed) (k : ℕ) (streams : List Part) (a b : List Platoon) → AreExpectedIn net node head sensed k streams a → AreExpectedIn net node head sensed k streams b → a ≡ b
+same-expected net node head sensed k streams a b h g = h.held ∙ ap (held_in net head k) (same-platoons _ _ _ _ _ _ _ _ h.are g.are) ∙ sym g.held
+
+-- the platoons of a node with a head are one
+pub one-expected : (net : Net) (node : ℕ) (head : Head) (sensed : Sensed) (heard : List Heard) (a b : List (List Platoon)) → AreExpected net node head sensed heard a → AreExpected net node head sensed heard b → a ≡ b
+one-expected net node head sensed heard a b h g = ext_get_or [] a b (h.count ∙ sym g.count) (λ k inside. same-expected net node head sensed k _ _ _ (h.each k inside) (g.each k (omega (arith, h.count, g.count))))
 
 -- counts that are no more than others anywhere, and as many in all, are the same
 same-counts : (a b : List ℕ) → length a ≡ length b → ((k : ℕ) → get_or a k 0 ≤ get_or b k 0) → sum b ≤ sum a → a ≡ b

@@ -116,7 +116,7 @@ module _ (net : Net) (network : IsNetwork net) (node : ℕ) (below : node < leng
     next =
         let most = look in
         let servings = next-servings (plan_at net node) (cluster_lists c.window.lists) plan each ready.clusters (phases_of c.answer) (counts_of (cluster_lists c.window.lists)) c.head c.served served-next in
-        let greens = greens-by (plan_at net node) (cluster_lists c.window.lists) plan each ready.clusters (sensed.now + net.run.look) (window-soon net node sensed heard c.platoons c.window is.platoons is.window)
+        let greens = greens-by (plan_at net node) (cluster_lists c.window.lists) plan each ready.clusters (sensed.now + net.run.look) (window-soon net node c.head sensed heard c.platoons c.window is.platoons is.window)
         (phases_of c.answer) (counts_of (cluster_lists c.window.lists)) c.head c.served soon-head.is (omega arith) served-next in
         subst (IsNext (plan_at net node) c.head) (sym is.next) (next-line (plan_at net node) c.head c.answer c.served (sensed.now + net.run.look) plan soon-head (omega arith) servings greens)
 

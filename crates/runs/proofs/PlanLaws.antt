@@ -5,7 +5,7 @@ use Rattle.std.specs.List.{flat_map, range_with_len}
 use Rattle.std.proofs.lemmas.List.{ext_get_or, get_or-map, length-map}
 use Rattle.std.proofs.lemmas.List.Elements.{All-append, All-cons, All-contains, All-nil}
 use Rattle.board_model.specs.declared.boards.Heard.{Heard}
-use Rattle.clusters.specs.Platoons.{ArePlatoonsOf}
+use Rattle.clusters.specs.UnderLoad.{AreExpected}
 use Rattle.histories.specs.Histories.{IsLawful, version_at}
 use Rattle.histories.specs.Steps.{board_steps}
 use Rattle.histories.proofs.Versions.{version-rises}
@@ -148,7 +148,7 @@ module _ (net : Net) (network : IsNetwork net) (enters : ℕ → ℕ → ℕ) (h
         platoons = (made r n).platoons;
         window = (made r n).window;
         at = c.head;
-        expected = subst (λ (x : List Heard). ArePlatoonsOf net n (sensed_in net enters made r n) x (made r n).platoons) (heard-back r n less below) c.platoons;
+        expected = subst (λ (x : List Heard). AreExpected net n (made r n).head (sensed_in net enters made r n) x (made r n).platoons) (heard-back r n less below) c.platoons;
         taken = c.window;
         instance = c.problem;
       }
