@@ -59,10 +59,7 @@ at-plan net node old sensed heard head p stands joins expected is scheduled valu
   stands = stands;
   is = λ round now. record {
     now = now;
-    head = stands;
-    platoons = expected.are;
-    window = expected.longest;
-    problem = is;
+    problem = record { at = stands; expected = expected.are; taken = expected.longest; is = is };
     answer = scheduled.best;
     served = scheduled.served;
     next = value;

@@ -50,14 +50,19 @@ abbrev pub line_for : List Phase → Head → Answer → List Served → ℕ →
 line_for plan head (Plan sequence delay) served until = line_of plan head sequence served until
 line_for plan head NoPlan served until = rotation_of plan head until
 
--- A node's commit in a round: from the head that its line has now, and the window of the platoons that it expects, it takes
--- the best answer; its new line is the old one, spliced with the timeline of that answer for as long as the network looks ahead.
+-- What a node has to plan, from its line, what it senses and what it has heard: the clusters of the window of the platoons that it
+-- expects, from the head that its line has now.
+pub record IsProblemOf (net : Net) (node : ℕ) (line : List Green) (sensed : Sensed) (heard : List Heard) (head : Head) (platoons : List (List Platoon)) (window : Window) (problem : Problem) : Type 0 where
+  pub at : head_at (plan_at net node) line sensed.now ≡ Some head
+  pub expected : AreExpected net node head sensed heard platoons
+  pub taken : IsWindow platoons window
+  pub is : problem ≡ record { plan = plan_at net node; head = head; lists = cluster_lists window.lists }
+
+-- A node's commit in a round: of what it has to plan it takes the best answer; its new line is the old one, spliced with the
+-- timeline of that answer for as long as the network looks ahead.
 pub record IsCommit (net : Net) (node round : ℕ) (old : List Green) (sensed : Sensed) (heard : List Heard) (c : Commitment) : Type 0 where
   pub now : sensed.now ≡ round * net.run.step
-  pub head : head_at (plan_at net node) old sensed.now ≡ Some c.head
-  pub platoons : AreExpected net node c.head sensed heard c.platoons
-  pub window : IsWindow c.platoons c.window
-  pub problem : c.problem ≡ record { plan = plan_at net node; head = c.head; lists = cluster_lists c.window.lists }
+  pub problem : IsProblemOf net node old sensed heard c.head c.platoons c.window c.problem
   pub answer : IsBest c.problem c.answer
   pub served : AreServedBy c.problem c.answer c.served
   pub next : c.next ≡ line_for (plan_at net node) c.head c.answer c.served (sensed.now + net.run.look)

@@ -32,10 +32,10 @@ problem_of net node head window = record { plan = plan_at net node; head = head;
 pub one-commit : (net : Net) (node round : ℕ) (old : List Green) (sensed : Sensed) (heard : List Heard) (a b : Commitment) → IsCommit net node round old sensed heard a → IsCommit net node round old sensed heard b → a ≡ b
 unfolding problem_of
 one-commit net node round old sensed heard a b h g =
-    let head : a.head ≡ b.head = same_Some a.head b.head (sym h.head ∙ g.head) in
-    let platoons : a.platoons ≡ b.platoons = one-expected net node b.head sensed heard a.platoons b.platoons (subst (λ (x : Head). AreExpected net node x sensed heard a.platoons) head h.platoons) g.platoons in
-    let window : a.window ≡ b.window = one-window b.platoons a.window b.window (subst (λ (p : List (List Platoon)). IsWindow p a.window) platoons h.window) g.window in
-    let problem : a.problem ≡ b.problem = h.problem ∙ ap (λ x. problem_of net node x a.window) head ∙ ap (problem_of net node b.head) window ∙ sym g.problem in
+    let head : a.head ≡ b.head = same_Some a.head b.head (sym h.problem.at ∙ g.problem.at) in
+    let platoons : a.platoons ≡ b.platoons = one-expected net node b.head sensed heard a.platoons b.platoons (subst (λ (x : Head). AreExpected net node x sensed heard a.platoons) head h.problem.expected) g.problem.expected in
+    let window : a.window ≡ b.window = one-window b.platoons a.window b.window (subst (λ (p : List (List Platoon)). IsWindow p a.window) platoons h.problem.taken) g.problem.taken in
+    let problem : a.problem ≡ b.problem = h.problem.is ∙ ap (λ x. problem_of net node x a.window) head ∙ ap (problem_of net node b.head) window ∙ sym g.problem.is in
     let answer : a.answer ≡ b.answer = best-one b.problem a.answer b.answer (subst (λ (p : Problem). IsBest p a.answer) problem h.answer) g.answer in
     let same : AreServedBy b.problem b.answer a.served = subst (λ (x : Answer). AreServedBy b.problem x a.served) answer (subst (λ (p : Problem). AreServedBy p a.answer a.served) problem h.served) in
     let served : a.served ≡ b.served = one-served b.problem b.answer a.served b.served same g.served in

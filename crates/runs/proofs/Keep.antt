@@ -97,31 +97,31 @@ module _ (net : Net) (network : IsNetwork net) (node : ℕ) (below : node < leng
     look = network.outline.run.look.1
 
     soon-head : IsSoonHead (plan_at net node) c.head
-    soon-head = head-of (plan_at net node) old sensed.now c.head line (omega arith) is.head
+    soon-head = head-of (plan_at net node) old sensed.now c.head line (omega arith) is.problem.at
 
     ready : ArePlannable (cluster_lists c.window.lists)
-    ready = plannable net network node below sensed early heard c.platoons c.window is.platoons is.window
+    ready = plannable net network node below sensed early heard c.platoons c.window is.problem.expected is.problem.taken
 
     each : length (cluster_lists c.window.lists) ≡ length (plan_at net node)
-    each = length-map c.window.lists clusters_of ∙ window-count net network node below sensed early heard c.platoons c.window is.platoons is.window
+    each = length-map c.window.lists clusters_of ∙ window-count net network node below sensed early heard c.platoons c.window is.problem.expected is.problem.taken
 
     instance_is : IsInstance (record { plan = plan_at net node; head = c.head; lists = cluster_lists c.window.lists })
     instance_is = record { plan = plan; head = soon-head.is; since = soon-head.since; lists = each; clusters = ready.clusters; spaced = ready.spaced; few = ready.few; orders = ready.orders }
 
     served-next : AreNextServings (plan_at net node) (cluster_lists c.window.lists) (counts_of (cluster_lists c.window.lists)) c.head (phases_of c.answer) c.served
-    served-next = subst (λ (p : Problem). AreNextServings p.plan p.lists (counts_of p.lists) p.head (phases_of c.answer) c.served) is.problem
-        (schedule-made c.problem c.answer (phases_of c.answer) c.served (subst IsInstance (sym is.problem) instance_is) is.answer refl is.served).next
+    served-next = subst (λ (p : Problem). AreNextServings p.plan p.lists (counts_of p.lists) p.head (phases_of c.answer) c.served) is.problem.is
+        (schedule-made c.problem c.answer (phases_of c.answer) c.served (subst IsInstance (sym is.problem.is) instance_is) is.answer refl is.served).next
 
     next : IsNext (plan_at net node) c.head c.next
     next =
         let most = look in
         let servings = next-servings (plan_at net node) (cluster_lists c.window.lists) plan each ready.clusters (phases_of c.answer) (counts_of (cluster_lists c.window.lists)) c.head c.served served-next in
-        let greens = greens-by (plan_at net node) (cluster_lists c.window.lists) plan each ready.clusters (sensed.now + net.run.look) (window-soon net node c.head sensed heard c.platoons c.window is.platoons is.window)
+        let greens = greens-by (plan_at net node) (cluster_lists c.window.lists) plan each ready.clusters (sensed.now + net.run.look) (window-soon net node c.head sensed heard c.platoons c.window is.problem.expected is.problem.taken)
         (phases_of c.answer) (counts_of (cluster_lists c.window.lists)) c.head c.served soon-head.is (omega arith) served-next in
         subst (IsNext (plan_at net node) c.head) (sym is.next) (next-line (plan_at net node) c.head c.answer c.served (sensed.now + net.run.look) plan soon-head (omega arith) servings greens)
 
     goes-on : IsContinued (plan_at net node) old sensed.now c.next c.line
-    goes-on = subst (IsContinued (plan_at net node) old sensed.now c.next) (sym is.line) (continued (plan_at net node) old sensed.now c.head c.next plan line.lawful is.head next.lawful next.goes)
+    goes-on = subst (IsContinued (plan_at net node) old sensed.now c.next) (sym is.line) (continued (plan_at net node) old sensed.now c.head c.next plan line.lawful is.problem.at next.lawful next.goes)
 
     pub new-line : IsLine (plan_at net node) c.line
     new-line = record { lawful = goes-on.lawful; begins = goes-on.begins_by 100000 line.begins next.begins }

@@ -5,11 +5,10 @@ use Rattle.std.specs.List.{flat_map, range_with_len}
 use Rattle.std.proofs.lemmas.List.{ext_get_or, get_or-map, length-map}
 use Rattle.std.proofs.lemmas.List.Elements.{All-append, All-cons, All-contains, All-nil}
 use Rattle.board_model.specs.declared.boards.Heard.{Heard}
-use Rattle.clusters.specs.UnderLoad.{AreExpected}
 use Rattle.histories.specs.Histories.{IsLawful, version_at}
 use Rattle.histories.specs.Steps.{board_steps}
 use Rattle.histories.proofs.Versions.{version-rises}
-use Rattle.intersection_actor.specs.Commits.{Commitment, record_of, used_of}
+use Rattle.intersection_actor.specs.Commits.{Commitment, IsProblemOf, record_of, used_of}
 use Rattle.intersection_actor.specs.declared.records.PlanRecord.{PlanRecord}
 use Rattle.intersection_actor.specs.declared.records.Used.{Used}
 use Rattle.net_numbers.specs.Numbers.{Net}
@@ -17,7 +16,7 @@ use Rattle.road_net.specs.Network.{IsNetwork, heard_links}
 use Rattle.schedule_meaning.specs.Best.{IsLeast}
 use Rattle.schedule_meaning.proofs.Choosing.{best-least}
 use Rattle.runs.specs.Plans.{IsPlannedFrom, NamesVersions, NeverOlder, heard_by}
-use Rattle.runs.specs.Runs.{AllCommit, HearAlong, hearing, plans_in, plans_of, sensed_in}
+use Rattle.runs.specs.Runs.{AllCommit, HearAlong, hearing, line_before, plans_in, plans_of, sensed_in}
 use Rattle.runs.proofs.Heard.{heard-at, heard-count, heard-once}
 use Rattle.runs.proofs.Places.{StandsAt, comes-first, first-small, place-of}
 
@@ -142,15 +141,12 @@ module _ (net : Net) (network : IsNetwork net) (enters : ℕ → ℕ → ℕ) (h
 
   planned : (r n : ℕ) → r < net.run.rounds → n < length net.node_names → IsPlannedFrom net enters made (record_of n r (heard r n) (made r n))
   planned r n less below =
-      let c = (commits r n less below).commit in
+      let c : Commitment = made r n in
       record {
-        head = (made r n).head;
-        platoons = (made r n).platoons;
-        window = (made r n).window;
-        at = c.head;
-        expected = subst (λ (x : List Heard). AreExpected net n (made r n).head (sensed_in net enters made r n) x (made r n).platoons) (heard-back r n less below) c.platoons;
-        taken = c.window;
-        instance = c.problem;
+        head = c.head;
+        platoons = c.platoons;
+        window = c.window;
+        instance = subst (λ (x : List Heard). IsProblemOf net n (line_before net made r n) (sensed_in net enters made r n) x c.head c.platoons c.window c.problem) (heard-back r n less below) (commits r n less below).commit.problem;
       }
 
   pub all-planned : All (IsPlannedFrom net enters made) (plans_of net heard made net.run.rounds)

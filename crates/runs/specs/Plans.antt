@@ -1,20 +1,15 @@
 -- The plan records of a run by themselves.
-use Rattle.std.specs.Prelude.{◌≡◌, ℕ, ◌*◌, ◌<◌, ◌≤◌, List, Contains, Some, length, map, slice_index}
+use Rattle.std.specs.Prelude.{◌≡◌, ℕ, ◌<◌, ◌≤◌, List, Contains, length, map, slice_index}
 use Rattle.board_model.specs.declared.boards.Heard.{Heard}
-use Rattle.clusters.specs.Sound.{cluster_lists}
-use Rattle.clusters.specs.UnderLoad.{AreExpected}
-use Rattle.clusters.specs.Windows.{IsWindow}
 use Rattle.clusters.specs.declared.vehicle_groups.Platoon.{Platoon}
 use Rattle.clusters.specs.declared.vehicle_groups.Window.{Window}
-use Rattle.control_flow.specs.Greens.{head_at}
 use Rattle.histories.specs.Histories.{round_at, step_at, version_at}
 use Rattle.histories.specs.Steps.{board_steps}
 use Rattle.histories.specs.declared.steps.BoardStep.TheVariants.{Read}
-use Rattle.intersection_actor.specs.Commits.{Commitment}
+use Rattle.intersection_actor.specs.Commits.{Commitment, IsProblemOf}
 use Rattle.intersection_actor.specs.declared.records.PlanRecord.{PlanRecord}
 use Rattle.intersection_actor.specs.declared.records.Used.{Used}
 use Rattle.net_numbers.specs.Numbers.{Net}
-use Rattle.net_numbers.specs.Outline.{plan_at}
 use Rattle.road_net.specs.Network.{heard_links}
 use Rattle.switch_rules.specs.declared.Head.{Head}
 use Rattle.runs.specs.Runs.{hearing, line_before, sensed_in}
@@ -40,14 +35,10 @@ NeverOlder plans = (early late : PlanRecord) (before now : Used) → Contains pl
 abbrev pub heard_by : Net → (ℕ → ℕ → Commitment) → PlanRecord → List Heard
 heard_by net made plan = map (λ (u : Used). hearing net made u.link u.version) plan.used
 
--- The instance of a plan is that of just the versions that it names: it has the phases of the node, the head that the node's line
--- has when the round begins, and the clusters of the window of the platoons that are expected from what the node senses then and
--- from the forecasts of those versions.
+-- The instance of a plan is that of just the versions that it names: it is what the node has to plan, from its line when the round
+-- begins, from what it senses then, and from the forecasts of those versions.
 pub record IsPlannedFrom (net : Net) (enters : ℕ → ℕ → ℕ) (made : ℕ → ℕ → Commitment) (plan : PlanRecord) : Type 0 where
   pub head : Head
   pub platoons : List (List Platoon)
   pub window : Window
-  pub at : head_at (plan_at net plan.node) (line_before net made plan.round plan.node) (plan.round * net.run.step) ≡ Some head
-  pub expected : AreExpected net plan.node head (sensed_in net enters made plan.round plan.node) (heard_by net made plan) platoons
-  pub taken : IsWindow platoons window
-  pub instance : plan.instance ≡ record { plan = plan_at net plan.node; head = head; lists = cluster_lists window.lists }
+  pub instance : IsProblemOf net plan.node (line_before net made plan.round plan.node) (sensed_in net enters made plan.round plan.node) (heard_by net made plan) head platoons window plan.instance
