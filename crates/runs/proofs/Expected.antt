@@ -1,49 +1,25 @@
 -- What a node expects is one: a series is cut in one way, and one front is the longest that can be planned.
-use Rattle.std.proofs.Common.{◌≡◌, ℕ, zero, suc, ◌+◌, ◌-◌, ◌<◌, ◌≤◌, nat_lt, List, [], ◌∷◌, ◌++◌, All, length, map, get_or, take, sum, refl, sym, ap, subst, ◌∙◌, inl, inr, arith, length-append, append-nil}
-use Rattle.std.specs.Prelude.{AllPairs, ◌⊎◌}
-use Rattle.std.specs.List.{concat, range_with_len}
+use Rattle.std.proofs.Common.{◌≡◌, ℕ, zero, suc, ◌+◌, ◌-◌, ◌<◌, ◌≤◌, List, [], ◌∷◌, ◌++◌, All, length, map, get_or, take, sum, refl, sym, ap, subst, ◌∙◌, inl, inr, arith, length-append, append-nil}
+use Rattle.std.specs.Prelude.{◌⊎◌}
+use Rattle.std.specs.List.{concat}
 use Rattle.std.proofs.lemmas.Bool.{cases_lt}
-use Rattle.std.proofs.lemmas.List.{ext_get_or, get_or_append_left, get_or-append-add, get_or_at, length-map}
+use Rattle.std.proofs.lemmas.List.{ext_get_or, get_or_append_left, get_or_at, length-map}
 use Rattle.std.proofs.lemmas.List.Elements.{All-head, All-tail}
-use Rattle.std.proofs.lemmas.List.FromFn.{length-range_with_len, get_or-range_with_len}
-use Rattle.std.proofs.lemmas.List.Kept.{AllPairs-from_increasing, IsStrictlyIncreasing-filter}
 use Rattle.std.proofs.lemmas.List.Sums.{sum_by-cons}
 use Rattle.board_model.specs.declared.boards.Heard.{Heard}
-use Rattle.clusters.specs.Cuts.{CannotJoin, IsRun, filled, filled_from, first_of, last_of, run_at}
+use Rattle.clusters.specs.Cuts.{CannotJoin, IsRun, first_of, last_of, run_at}
 use Rattle.clusters.specs.Platoons.{ArePlatoonsBy, platoon_of, platoons_at, together}
 use Rattle.clusters.specs.UnderLoad.{AreExpected, AreExpectedIn, held_in}
 use Rattle.clusters.specs.Windows.{IsLongest, IsWindow, counts_of}
 use Rattle.clusters.specs.declared.vehicle_groups.Part.{Part}
 use Rattle.clusters.specs.declared.vehicle_groups.Platoon.{Platoon}
 use Rattle.clusters.specs.declared.vehicle_groups.Window.{Window}
+use Rattle.clusters.proofs.RunLaws.{Rise, filled-rise, rise-last, rise-left, rise-right}
 use Rattle.clusters.proofs.WindowLaws.{front-within, sum-grows}
 use Rattle.histories.proofs.Counts.{cuts}
 use Rattle.net_numbers.specs.Numbers.{Net}
 use Rattle.road_net.specs.declared.senses.Sensed.{Sensed}
 use Rattle.switch_rules.specs.declared.Head.{Head}
-
-abbrev pub Rise : List ℕ → Type 0
-Rise xs = AllPairs (λ a b. a < b) xs
-
--- the filled seconds rise
-pub filled-rise : (series : List ℕ) → Rise (filled series)
-unfolding filled_from
-filled-rise series = AllPairs-from_increasing (filled series) (IsStrictlyIncreasing-filter (λ x. nat_lt 0 (get_or series x 0)) (range_with_len 0 (length series)) (λ k inside.
-    let long = length-range_with_len 0 (length series) in
-    omega (arith, get_or-range_with_len 0 (length series) k 0 (omega arith), get_or-range_with_len 0 (length series) (k + 1) 0 (omega arith))))
-
-pub rise-left : (xs ys : List ℕ) → Rise (xs ++ ys) → Rise xs
-rise-left xs ys up i j d less inside = omega (arith, up i j d less (omega (arith, length-append xs ys)), get_or_append_left xs ys d i (omega arith), get_or_append_left xs ys d j inside)
-
-pub rise-right : (xs ys : List ℕ) → Rise (xs ++ ys) → Rise ys
-rise-right xs ys up i j d less inside = omega (arith, up (length xs + i) (length xs + j) d (omega arith) (omega (arith, length-append xs ys)), get_or-append-add xs ys i d, get_or-append-add xs ys j d)
-
--- none is above the last
-pub rise-last : (xs : List ℕ) (i : ℕ) → Rise xs → i < length xs → get_or xs i 0 ≤ last_of xs
-rise-last xs i up inside = elim (cases_lt i (length xs - 1)) [
-  | inl less ↦ (let above = up i (length xs - 1) 0 less (omega arith) in omega arith)
-  | inr more ↦ (let e : i ≡ length xs - 1 = omega arith in omega (arith, ap (λ k. get_or xs k 0) e))
-]
 
 module _ (gap : ℕ) (span : ℕ → ℕ) where
   -- a run within the span of its first second, and what could not have joined it

@@ -31,8 +31,8 @@ use Rattle.switch_rules.specs.Serving.{IsHead}
 use Rattle.switch_rules.specs.declared.Head.{Head}
 use Rattle.switch_rules.specs.declared.Served.{Served}
 use Rattle.runs.specs.Runs.{AllCommit, line_before, sensed_in}
-use Rattle.runs.proofs.Gathered.{plannable, window-count}
 use Rattle.runs.proofs.Lines.{AllKeep, plan-is}
+use Rattle.runs.proofs.Plannable.{plannable, window-count}
 
 -- a line as the rounds leave it: lawful, and its rows begin by 100,000
 pub record IsLine (plan : List Phase) (rows : List Green) : Type 0 where
@@ -100,10 +100,10 @@ module _ (net : Net) (network : IsNetwork net) (node : ℕ) (below : node < leng
     soon-head = head-of (plan_at net node) old sensed.now c.head line (omega arith) is.problem.at
 
     ready : ArePlannable (cluster_lists c.window.lists)
-    ready = plannable net network node below sensed early heard c.platoons c.window is.problem.expected is.problem.taken
+    ready = plannable c.platoons c.window is.problem.taken net network node below c.head sensed early heard is.problem.expected
 
     each : length (cluster_lists c.window.lists) ≡ length (plan_at net node)
-    each = length-map c.window.lists clusters_of ∙ window-count net network node below sensed early heard c.platoons c.window is.problem.expected is.problem.taken
+    each = length-map c.window.lists clusters_of ∙ window-count c.platoons c.window is.problem.taken net network node below c.head sensed early heard is.problem.expected
 
     instance_is : IsInstance (record { plan = plan_at net node; head = c.head; lists = cluster_lists c.window.lists })
     instance_is = record { plan = plan; head = soon-head.is; since = soon-head.since; lists = each; clusters = ready.clusters; spaced = ready.spaced; few = ready.few; orders = ready.orders }

@@ -2,7 +2,6 @@ pub mod Agree
 pub mod Committed
 pub mod CompleteLaws
 pub mod Expected
-pub mod Gathered
 pub mod Heard
 pub mod Keep
 pub mod Lines
@@ -10,6 +9,7 @@ pub mod One
 pub mod Past
 pub mod Places
 pub mod PlanLaws
+pub mod Plannable
 pub mod PromiseLaws
 pub mod Queues
 pub mod EndedRecords
