@@ -17,7 +17,7 @@ fn make_network_text<S: Shelf>(alloc: Global, shelf: &mut S, net: &str) -> Resul
     Ok(Made::Done(text))
 }
 
-/// The command `upgrade NET`: writes the network in the file as a file of version 2, in which every mark and weight stands. The same
+/// The command `upgrade NET`: writes the network in the file as a file of version 2, which has every mark and weight. The same
 /// network is read from it.
 ///
 /// Each status has its cause, and each refusal writes its line to `err`, as `signal` says.
