@@ -1,5 +1,6 @@
 pub mod ApartLaws
 pub mod MakingLaws
+pub mod MarkLaws
 pub mod OrderLaws
 pub mod RingLaws
 pub mod RowLaws

@@ -2,9 +2,11 @@
 #![tactic(auto)]
 
 pub mod greens;
+mod lawful_rows;
 mod seconds;
 mod splicing;
 mod timelines;
 
+pub use lawful_rows::{follows, is_green, is_lawful};
 pub use seconds::{colour, green_at, head_at};
 pub use timelines::{rotation, timeline};
