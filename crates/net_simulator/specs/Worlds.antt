@@ -1,5 +1,5 @@
 -- What a world stands for.
-use Rattle.std.specs.Prelude.{◌≡◌, ℕ, ◌+◌, ◌-◌, ◌*◌, ◌<◌, ◌≤◌, List, Option, length, slice_index}
+use Rattle.std.specs.Prelude.{◌≡◌, ℕ, ◌+◌, ◌-◌, ◌*◌, ◌<◌, ◌≤◌, List, [], Option, length, slice_index, slice_index_or}
 use Rattle.net_numbers.specs.Numbers.{Net}
 use Rattle.control_flow.specs.declared.greens.Green.{Green}
 use Rattle.control_flow.specs.Greens.{standing}
@@ -12,6 +12,10 @@ use Rattle.net_simulator.specs.Counts.{counts_at}
 use Rattle.net_simulator.specs.Senses.{stood}
 use Rattle.net_simulator.specs.declared.totals.LinkTotals.{LinkTotals}
 use Rattle.net_simulator.specs.declared.totals.Totals.{Totals}
+
+-- the timeline of a node, where they are given in the order of the nodes; that of a node without one has no row
+abbrev pub line_in : List (List Green) → ℕ → List Green
+line_in lines node = slice_index_or lines node []
 
 -- which phase is green in a second at a node, and since when, where each node has a timeline
 abbrev pub standing_by : (ℕ → List Green) → ℕ → ℕ → Option (ℕ × ℕ)

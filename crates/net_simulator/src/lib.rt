@@ -2,6 +2,7 @@
 #![tactic(auto)]
 
 mod lights;
+mod lines;
 mod rows;
 mod seconds;
 mod sensing;
@@ -9,5 +10,6 @@ mod totals;
 mod world;
 
 pub use lights::Lights;
+pub use lines::{Lines, play};
 pub use totals::{LinkTotals, Totals};
 pub use world::{World, law_of_lights};

@@ -1,4 +1,4 @@
-use Rattle.std.proofs.Common.{sym, refl, rules, ◌∙◌, arith}
+use Rattle.std.proofs.Common.{sym, refl, rules, ◌∙◌}
 use Rattle.std.proofs.lemmas.Bool.{false≢true}
 use Rattle.phase_plan.specs.Phases.{IsMarkedAt}
 use Rattle.control_flow.proofs.MarkLaws.{all-of-range, each-of-range}

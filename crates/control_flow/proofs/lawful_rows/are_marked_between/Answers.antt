@@ -1,4 +1,4 @@
-use Rattle.std.proofs.Common.{sym, ◌∙◌, rules}
+use Rattle.std.proofs.Common.{sym, ◌∙◌}
 use Rattle.std.proofs.lemmas.Bool.{false≢true}
 use Rattle.phase_plan.specs.Phases.{IsMarkedAt}
 use Rattle.control_flow.proofs.MarkLaws.{all-round}

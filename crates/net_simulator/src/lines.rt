@@ -1,0 +1,58 @@
+//! Timelines that are given, one for each node, and the world under them.
+
+ghost use Rattle.std.specs.Prelude.{◌≡◌, ◌≤◌, IfOk};
+ghost use Rattle.arrivals.specs.Amounts.{AreArrivals};
+ghost use Rattle.net_simulator.specs.Arriving.{arriving_of};
+ghost use Rattle.net_simulator.specs.Worlds.{Stands, line_in, standing_by};
+
+use super::lights::Lights;
+use super::world::World;
+use arrivals::Arrivals;
+use control_flow::green_at;
+use control_flow::greens::{Green, Timeline};
+use road_net::Network;
+use std::alloc::{AllocError, Global};
+
+/// Timelines, by node; a node without one shows no green.
+///
+/// docs/RULES.md, "Timeline".
+#[derive(Drop)]
+pub struct Lines<'a> {
+    /// The timelines, in the order of the nodes.
+    pub all: &'a [Timeline],
+}
+
+impl<'a> Lights for Lines<'a> {
+    ghost use Rattle.net_simulator.specs.Worlds.{line_in};
+
+    ghost lines = { λ lines node. line_in lines.all.now node };
+
+    fn green(&self, node: u32, second: u32) -> Option<Green> {
+        if node as usize >= self.all.len() {
+            return None;
+        }
+        green_at(&self.all[node as usize], second)
+    }
+}
+
+/// The world of a network that moved from second 0 by `seconds` seconds, up to second 18,000, under these timelines.
+///
+/// `Err`: out of memory.
+///
+/// docs/RULES.md, "World".
+pub fn play<'a>(
+    alloc: Global,
+    net: &Network,
+    arrivals: &Arrivals,
+    lines: &Lines<'a>,
+    seconds: u32,
+) -> Result<World, AllocError>
+    requires second { seconds ≤ 18000 }
+    requires arrivals { AreArrivals net.now arrivals.now }
+    ensures second { IfOk result (λ world. world.second ≡ seconds) }
+    ensures stands { IfOk result (Stands net.now (arriving_of arrivals.now) (standing_by (line_in lines.now.all.now))) }
+{
+    let mut world = World::new(alloc, net)?;
+    world.advance(net, lines, arrivals, seconds);
+    Ok(world)
+}
