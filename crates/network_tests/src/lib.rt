@@ -3,7 +3,7 @@
 #![tactic(auto)]
 
 #[cfg(test)]
-mod lights;
+mod lines;
 #[cfg(test)]
 mod series;
 #[cfg(test)]

@@ -1,22 +1,15 @@
 //! The world of the worked network, in one move of 20 seconds and second by second.
-ghost use Rattle.std.specs.Prelude.{◌≡◌, ◌≤◌, ◌+◌, ◌*◌, length};
+ghost use Rattle.std.specs.Prelude.{◌≡◌, length};
 ghost use Rattle.arrivals.specs.Amounts.{AreArrivals};
 ghost use Rattle.net_simulator.specs.Worlds.{IsWorldOf};
 
-use crate::lights::{Plans, plans_of_both};
+use crate::lines::lines_of_both;
 use arrivals::{Arrivals, read_arrivals};
-use net_simulator::World;
+use net_simulator::{Lines, World, play};
 use road_net::Network;
 use std::alloc::{AllocError, Global};
 use std::test::Fail;
 use worked_network::{ONE_VEHICLE, network};
-
-/// A number of moves, each of this number of seconds.
-#[derive(Clone, Copy)]
-struct Moves {
-    moves: u32,
-    seconds: u32,
-}
 
 /// What is told after each of ten seconds, in which the vehicle comes, and of each of ten in which half of it waits.
 const COMING: &str = "1000 0 1000 0\n";
@@ -36,41 +29,58 @@ const END: &str = "1000 1000 500
 3 0 [0, 0, 0, 0, 0, 0, 0, 0, 0, 0]
 ";
 
-/// What is told when the worked network is played.
-fn told(alloc: Global, moves: Moves) -> Result<String, Fail>
-    requires { (moves.moves ≤ 100) × (moves.seconds ≤ 100) }
-{
+/// What is told of the worked network, played at once or second by second.
+fn told(alloc: Global, at_once: bool) -> Result<String, Fail> {
     match network(alloc, 4) {
-        Ok(net) => told_of(alloc, &net, moves),
+        Ok(net) => told_of(alloc, &net, at_once),
         Err(_) => Err("no network".into()),
     }
 }
 
-/// What is told when a network is played.
-fn told_of(alloc: Global, net: &Network, moves: Moves) -> Result<String, Fail>
-    requires { (moves.moves ≤ 100) × (moves.seconds ≤ 100) }
-{
-    let plans = plans_of_both(alloc)?;
+/// What is told of a network, played at once or second by second.
+fn told_of(alloc: Global, net: &Network, at_once: bool) -> Result<String, Fail> {
+    let lines = lines_of_both(alloc)?;
+    let lines = Lines {
+        all: lines.as_slice(),
+    };
     let arrivals = read_arrivals(alloc, ONE_VEHICLE.as_bytes(), net)?;
-    Ok(played(alloc, net, &plans, moves, &arrivals)?)
+    Ok(if at_once {
+        played_at_once(alloc, net, &arrivals, &lines)?
+    } else {
+        played_by_seconds(alloc, net, &arrivals, &lines)?
+    })
 }
 
-/// Plays a network, and tells the totals after each move, and then what is told in the end.
-fn played(
+/// Plays a network for 20 seconds, and tells the totals, and what is told in the end.
+fn played_at_once<'a>(
     alloc: Global,
     net: &Network,
-    plans: &Plans,
-    moves: Moves,
     arrivals: &Arrivals,
+    lines: &Lines<'a>,
 ) -> Result<String, AllocError>
-    requires arrivals { AreArrivals net.now arrivals.now }
-    requires moves { moves.moves ≤ 100 }
-    requires seconds { moves.seconds ≤ 100 }
+    requires { AreArrivals net.now arrivals.now }
+{
+    let mut told = String::new(alloc);
+    let world = play(alloc, net, arrivals, lines, 20)?;
+    tell_totals(&world, &mut told)?;
+    tell_links(net, &world, &mut told)?;
+    tell_senses(alloc, net, &world, &mut told)?;
+    Ok(told)
+}
+
+/// Plays a network second by second, and tells the totals after each, and then what is told in the end.
+fn played_by_seconds<'a>(
+    alloc: Global,
+    net: &Network,
+    arrivals: &Arrivals,
+    lines: &Lines<'a>,
+) -> Result<String, AllocError>
+    requires { AreArrivals net.now arrivals.now }
 {
     let mut told = String::new(alloc);
     let mut world = World::new(alloc, net)?;
-    for _i in 0..moves.moves {
-        world.advance(net, plans, arrivals, moves.seconds);
+    for _i in 0..20_u32 {
+        world.advance(net, lines, arrivals, 1);
         tell_totals(&world, &mut told)?;
     }
     tell_links(net, &world, &mut told)?;
@@ -119,21 +129,9 @@ fn tell_senses(
 #[test]
 fn twenty_seconds(rt: HostRuntime) -> Result<(), Fail> {
     let alloc = rt.alloc();
-    let at_once = told(
-        alloc,
-        Moves {
-            moves: 1,
-            seconds: 20,
-        },
-    )?;
+    let at_once = told(alloc, true)?;
     assert_eq!(rt; at_once.as_str(), [WAITING, END].concat(alloc)?.as_str());
-    let by_seconds = told(
-        alloc,
-        Moves {
-            moves: 20,
-            seconds: 1,
-        },
-    )?;
+    let by_seconds = told(alloc, false)?;
     let seconds = [
         COMING.repeat(alloc, 10)?.as_str(),
         WAITING.repeat(alloc, 10)?.as_str(),
