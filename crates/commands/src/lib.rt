@@ -4,7 +4,6 @@
 
 mod bad_texts;
 mod ending;
-mod numbers;
 mod pieces;
 mod refusals;
 mod scenes;

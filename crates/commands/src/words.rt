@@ -5,8 +5,8 @@ ghost use Rattle.scenario_gen.specs.Grids.{AreRounds};
 ghost use Rattle.scenario_gen.specs.Layout.{IsSide};
 ghost use Rattle.commands.specs.Commands.{Call, IsCall, call_of};
 
-use super::numbers::{number_u32, number_u64, number_within};
 use foundation::text::Text;
+use number_words::{number_u32, number_u64, number_within};
 
 /// What the program can be told to do, with the further words.
 ///

@@ -1,4 +1,6 @@
-//! The words of a command that are numbers.
+//! Whole words that are numbers: the canonical decimals, read exactly.
+#![tactic(auto)]
+
 ghost use Rattle.std.specs.Prelude.{◌≡◌, ◌≢◌, ◌<◌, ◌≤◌, ◌^◌, ◌↔◌, ℕ, length, slice_index, IfSome, IfNone, IsTrue};
 ghost use Rattle.std.specs.Fmt.{decimal};
 
@@ -45,7 +47,7 @@ pub fn number_within(word: &str, least: u32, most: u32) -> Option<u32>
     }
 }
 
-// Whether bytes have neither a sign in front nor a zero before further bytes.
+/// Whether bytes have neither a sign in front nor a zero before further bytes.
 fn may_be_number(bytes: &[u8]) -> bool
     ensures { IsTrue result ↔ ((slice_index bytes.now 0 ≢ 43) × (slice_index bytes.now 0 ≡ 48 → length bytes.now ≡ 1)) }
 {
