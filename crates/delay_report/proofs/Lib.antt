@@ -1,7 +1,6 @@
 pub mod EntryLaws
-pub mod RecordLaws
 pub mod RenderLaws
 pub mod ReportLaws
 pub mod TextLaws
+pub mod VersionLaws
 pub mod WalkLaws
-pub mod WrittenLaws

@@ -1,5 +1,5 @@
 -- The parts of a report, one after another.
-use Rattle.std.proofs.Common.{◌≡◌, ℕ, ◌<◌, List, [], ◌∷◌, ◌++◌, length, map, filter, nat_lt, slice_index_or, get_or, All, Vec, sym, ap, ◌∙◌, subst, arith}
+use Rattle.std.proofs.Common.{◌≡◌, ℕ, ◌<◌, List, [], ◌∷◌, ◌++◌, length, map, get_or, All, Vec, sym, ap, ◌∙◌, subst, arith}
 use Rattle.std.specs.List.{flat_map, range_with_len}
 use Rattle.std.proofs.lemmas.List.{get_or-map, length-map}
 use Rattle.std.proofs.lemmas.List.Elements.{All-append, All-map, All-nil}
@@ -14,17 +14,10 @@ use Rattle.net_numbers.specs.Numbers.{Net}
 use Rattle.runs.specs.Runs.{end_of_run}
 use Rattle.runs.specs.Complete.{IsComplete, rounds_and_nodes}
 use Rattle.runs.specs.declared.records.RunRecord.{RunRecord}
-use Rattle.delay_report.specs.Entries.{header}
-use Rattle.delay_report.specs.Reports.{green_record, link_record, no_totals, outcome_records, plan_record, records_text, report_records, report_text, step_record_at, steps_records, total_record}
-use Rattle.delay_report.specs.Written.{Adds, HasWritten}
-use Rattle.delay_report.proofs.WrittenLaws.{adds-then}
-
--- the greens of a node that begin before the run ends
-pub greens-of : {Z : Type 0} (net : Net) (lines : List (List Green)) (node end : ℕ) (rows : List Green) (old new : Writer (Vec ℕ Z)) → end ≡ end_of_run net → rows ≡ slice_index_or lines node []
-    → Adds old new (map (green_record net node) (filter (λ (green : Green). nat_lt green.from end) rows))
-    → Adds old new (map (green_record net node) (filter (λ (green : Green). nat_lt green.from (end_of_run net)) (slice_index_or lines node [])))
-greens-of net lines node end rows old new ends are adds =
-    subst (Adds old new) (ap (λ e. map (green_record net node) (filter (λ (green : Green). nat_lt green.from e) rows)) ends ∙ ap (λ l. map (green_record net node) (filter (λ (green : Green). nat_lt green.from (end_of_run net)) l)) are) adds
+use Rattle.world_records.specs.Records.{green_records, header, link_record_of, records_text, total_record}
+use Rattle.delay_report.specs.Reports.{outcome_records, plan_record, report_records, report_text, step_record_at, steps_records}
+use Rattle.world_records.specs.Written.{Adds, HasWritten}
+use Rattle.world_records.proofs.WrittenLaws.{adds-then}
 
 -- the front of a report
 pub front-parts : {Z : Type 0} (net : Net) (h nodes : List ℕ) (o0 o1 o2 : Writer (Vec ℕ Z)) → nodes ≡ h → HasWritten o0 [] → Adds o0 o1 (header ∷ [])
@@ -34,16 +27,17 @@ front-parts net h nodes o0 o1 o2 is_history start first steps =
     (adds-then o0 o1 o2 _ _ first b).adds [] start
 
 -- what comes after it
-pub outcome-parts : {Z : Type 0} (net : Net) (run : RunRecord) (text : List ℕ) (plans : List PlanRecord) (lines : List (List Green)) (links : List LinkTotals) (o2 o3 o4 o5 o6 : Writer (Vec ℕ Z))
-    → plans ≡ run.plans → lines ≡ run.timelines → links ≡ run.links → HasWritten o2 text
+pub outcome-parts : {Z : Type 0} (net : Net) (run : RunRecord) (text : List ℕ) (plans : List PlanRecord) (lines : List (List Green)) (links : List LinkTotals) (end : ℕ) (o2 o3 o4 o5 o6 : Writer (Vec ℕ Z))
+    → plans ≡ run.plans → lines ≡ run.timelines → links ≡ run.links → end ≡ end_of_run net → HasWritten o2 text
     → Adds o2 o3 (map (plan_record net) plans)
-    → Adds o3 o4 (flat_map (λ node. map (green_record net node) (filter (λ (green : Green). nat_lt green.from (end_of_run net)) (slice_index_or lines node []))) (range_with_len 0 (length net.node_names)))
-    → Adds o4 o5 (map (λ link. link_record net link (slice_index_or links link no_totals)) (range_with_len 0 (length net.link_names)))
+    → Adds o3 o4 (flat_map (green_records net lines end) (range_with_len 0 (length net.node_names)))
+    → Adds o4 o5 (map (link_record_of net links) (range_with_len 0 (length net.link_names)))
     → Adds o5 o6 (total_record run.totals ∷ []) → HasWritten o6 (text ++ records_text (outcome_records net run))
-outcome-parts net run text plans lines links o2 o3 o4 o5 o6 are_plans are_lines are_links start planned shown counted last =
+outcome-parts net run text plans lines links end o2 o3 o4 o5 o6 are_plans are_lines are_links ends start planned shown counted last =
     let c = subst (λ l. Adds o2 o3 (map (plan_record net) l)) are_plans planned in
-    let d = subst (λ l. Adds o3 o4 (flat_map (λ node. map (green_record net node) (filter (λ (green : Green). nat_lt green.from (end_of_run net)) (slice_index_or l node []))) (range_with_len 0 (length net.node_names)))) are_lines shown in
-    let e = subst (λ l. Adds o4 o5 (map (λ link. link_record net link (slice_index_or l link no_totals)) (range_with_len 0 (length net.link_names)))) are_links counted in
+    let at = subst (λ l. Adds o3 o4 (flat_map (green_records net l end) (range_with_len 0 (length net.node_names)))) are_lines shown in
+    let d = subst (λ n. Adds o3 o4 (flat_map (green_records net run.timelines n) (range_with_len 0 (length net.node_names)))) ends at in
+    let e = subst (λ l. Adds o4 o5 (map (link_record_of net l) (range_with_len 0 (length net.link_names)))) are_links counted in
     (adds-then o2 o3 o6 _ _ c (adds-then o3 o4 o6 _ _ d (adds-then o4 o5 o6 _ _ e last))).adds text start
 
 -- both are the report

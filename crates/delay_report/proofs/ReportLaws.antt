@@ -1,5 +1,5 @@
 -- A report is a text of its history.
-use Rattle.std.proofs.Common.{◌≡◌, ℕ, ◌+◌, ◌<◌, codes, List, [], ◌∷◌, ◌++◌, length, get_or, map, filter, Option, Some, All, refl, sym, ap, ◌∙◌, subst, inl, inr, arith, append-nil, nat_lt}
+use Rattle.std.proofs.Common.{◌≡◌, ℕ, ◌+◌, ◌<◌, codes, List, [], ◌∷◌, ◌++◌, length, get_or, map, filter, Option, Some, All, refl, sym, ap, ◌∙◌, subst, inl, inr, arith, append-nil, nat_lt, slice_index_or}
 use Rattle.std.specs.List.{concat, flat_map, range_with_len}
 use Rattle.std.proofs.lemmas.Bool.{cases_Bool}
 use Rattle.std.proofs.lemmas.List.Folds.{concat-append}
@@ -18,15 +18,15 @@ use Rattle.histories.specs.declared.steps.BoardStep.TheVariants.{Read, Publish}
 use Rattle.net_numbers.specs.Numbers.{Net, AreDistinct, number_of}
 use Rattle.net_numbers.specs.Outline.{node_name_at}
 use Rattle.road_net.specs.Network.{IsNetwork}
-use Rattle.runs.specs.Promises.{last_line}
 use Rattle.runs.specs.Runs.{end_of_run}
 use Rattle.runs.specs.declared.records.RunRecord.{RunRecord}
 use Rattle.schedule_meaning.specs.declared.planners.Answer.{Answer}
 use Rattle.schedule_meaning.specs.declared.planners.Answer.TheVariants.{Plan, NoPlan}
-use Rattle.delay_report.specs.Entries.{header, steps_of}
-use Rattle.delay_report.specs.Reports.{answer_fields, green_record, green_records, link_record_of, plan_record, report_records, report_text, step_record, step_record_at, total_record}
+use Rattle.world_records.specs.Records.{green_record, green_records, header, link_record_of, total_record}
+use Rattle.delay_report.specs.Entries.{steps_of}
+use Rattle.delay_report.specs.Reports.{answer_fields, plan_record, report_records, report_text, step_record, step_record_at}
 use Rattle.delay_report.specs.Texts.{AreHistoryRecords, IsHistoryText}
-use Rattle.delay_report.proofs.RecordLaws.{HasField, header-first, read-records}
+use Rattle.world_records.proofs.RecordLaws.{HasField, header-first, read-records}
 use Rattle.delay_report.proofs.WalkLaws.{node-below}
 
 each-both : {X Y : Type 0} (f : X → Option Y) (xs xs' : List X) (ys ys' : List Y) → each f xs ≡ Some ys → each f xs' ≡ Some ys' → each f (xs ++ xs') ≡ Some (ys ++ ys')
@@ -120,11 +120,11 @@ module _ (net : Net) (network : IsNetwork net) (run : RunRecord) (h : List ℕ) 
   plans-tell : Tells net (map (plan_record net) run.plans) []
   plans-tell = tells-nothing net (plan_record net) (λ plan. plan-passed net _ _ _ plan.answer) run.plans
 
-  greens-tell : (nodes : List ℕ) → Tells net (flat_map (green_records net run) nodes) []
-  greens-tell nodes = tells-parts net (green_records net run) (λ node. tells-nothing net (green_record net node) (λ green. green-passed net _ _ _ _ _ _) (filter (λ green. nat_lt green.from (end_of_run net)) (last_line run node))) nodes
+  greens-tell : (nodes : List ℕ) → Tells net (flat_map (green_records net run.timelines (end_of_run net)) nodes) []
+  greens-tell nodes = tells-parts net (green_records net run.timelines (end_of_run net)) (λ node. tells-nothing net (green_record net node) (λ green. green-passed net _ _ _ _ _ _) (filter (λ green. nat_lt green.from (end_of_run net)) (slice_index_or run.timelines node []))) nodes
 
-  links-tell : (links : List ℕ) → Tells net (map (link_record_of net run) links) []
-  links-tell links = tells-nothing net (link_record_of net run) (λ link. link-passed net _ _ _ _ _ _) links
+  links-tell : (links : List ℕ) → Tells net (map (link_record_of net run.links) links) []
+  links-tell links = tells-nothing net (link_record_of net run.links) (λ link. link-passed net _ _ _ _ _ _) links
 
   totals-tell : Tells net (total_record run.totals ∷ []) []
   totals-tell = record { steps = [] ∷ []; reads = rw (total-passed net _ _ _ _ _ _) refl; are = refl }

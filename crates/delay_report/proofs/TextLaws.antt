@@ -15,7 +15,8 @@ use Rattle.histories.proofs.HowFar.{come-over}
 use Rattle.histories.proofs.Rounds.{all-done, next}
 use Rattle.delay_report.specs.declared.faults.HistoryFault.{HistoryFault}
 use Rattle.delay_report.specs.declared.faults.HistoryFault.TheVariants.{NoMemory, Header, Row, Node, Extra, Turn, Short}
-use Rattle.delay_report.specs.Entries.{header, steps_by, steps_of, node_field_of}
+use Rattle.world_records.specs.Records.{header}
+use Rattle.delay_report.specs.Entries.{steps_by, steps_of, node_field_of}
 use Rattle.delay_report.specs.Faults.{AreFaulty, IsAtExtra, IsAtNode, IsAtRow, IsAtTurn, IsFirst, IsRecordFault, Refuses, TellUnderWay}
 use Rattle.record_text.specs.Faults.{HasAfterHeader}
 use Rattle.record_text.proofs.FaultLaws.{first-here, one-after}

@@ -4,10 +4,6 @@ use Rattle.std.specs.Str.{bytes_eq}
 use Rattle.foundation.specs.Options.{◌>>=◌}
 use Rattle.net_numbers.specs.Numbers.{Net, number_of}
 
--- the header
-abbrev pub header : List (List ℕ)
-header = codes "kind" ∷ codes "round" ∷ codes "node" ∷ codes "x" ∷ codes "y" ∷ codes "z" ∷ codes "w" ∷ []
-
 -- the kind of a step, and whether a field is one of the four kinds that are passed over
 abbrev pub is_step : List ℕ → Bool
 is_step kind = bytes_eq kind (codes "step")

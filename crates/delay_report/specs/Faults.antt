@@ -8,9 +8,10 @@ use Rattle.histories.specs.Progress.{IsDoneInRound}
 use Rattle.histories.specs.Steps.{board_steps}
 use Rattle.record_text.specs.Faults.{HasAfterHeader, IsFirstFault}
 use Rattle.record_text.specs.Records.{records_of}
+use Rattle.world_records.specs.Records.{header}
 use Rattle.delay_report.specs.declared.faults.HistoryFault.{HistoryFault}
 use Rattle.delay_report.specs.declared.faults.HistoryFault.TheVariants.{NoMemory, Header, Row, Node, Extra, Turn, Short}
-use Rattle.delay_report.specs.Entries.{header, steps_of, node_field_of}
+use Rattle.delay_report.specs.Entries.{steps_of, node_field_of}
 
 -- the steps that records tell are this history, which is under way: `done` rounds are done
 pub record AreUnderWay (net : Net) (records : List (List (List ℕ))) (history : List ℕ) (done : ℕ) : Type 0 where

@@ -4,4 +4,3 @@ pub mod Reports
 pub mod Taken
 pub mod Texts
 pub mod Walks
-pub mod Written

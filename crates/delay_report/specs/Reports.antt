@@ -1,9 +1,7 @@
 -- The report of a run: its records, and its text.
-use Rattle.std.specs.Prelude.{codes, nat_lt, ℕ, ◌+◌, List, [], ◌∷◌, ◌++◌, length, filter, map, slice_index, slice_index_or}
+use Rattle.std.specs.Prelude.{codes, ℕ, ◌+◌, List, [], ◌∷◌, ◌++◌, length, map, slice_index}
 use Rattle.std.specs.Fmt.{decimal}
 use Rattle.std.specs.List.{flat_map, join_with_byte, range_with_len}
-use Rattle.csv.specs.Writing.{default_writer, row_text}
-use Rattle.control_flow.specs.declared.greens.Green.{Green}
 use Rattle.histories.specs.Histories.{round_at, step_at, version_at}
 use Rattle.histories.specs.Steps.{board_steps}
 use Rattle.histories.specs.declared.steps.BoardStep.{BoardStep}
@@ -12,14 +10,12 @@ use Rattle.intersection_actor.specs.declared.records.PlanRecord.{PlanRecord}
 use Rattle.intersection_actor.specs.declared.records.Used.{Used}
 use Rattle.net_numbers.specs.Numbers.{Net}
 use Rattle.net_numbers.specs.Outline.{link_name_at, node_name_at}
-use Rattle.net_simulator.specs.declared.totals.LinkTotals.{LinkTotals}
-use Rattle.net_simulator.specs.declared.totals.Totals.{Totals}
-use Rattle.runs.specs.Promises.{last_line}
 use Rattle.runs.specs.Runs.{end_of_run}
 use Rattle.runs.specs.declared.records.RunRecord.{RunRecord}
 use Rattle.schedule_meaning.specs.declared.planners.Answer.{Answer}
 use Rattle.schedule_meaning.specs.declared.planners.Answer.TheVariants.{Plan, NoPlan}
-use Rattle.delay_report.specs.Entries.{header}
+use Rattle.world_records.specs.Records.{green_records, header, link_record_of, total_record}
+pub use Rattle.world_records.specs.Records.{records_text}
 
 -- The record of a board step of a node in a round: the link, and the version that is read, or else made, where `versions` counts
 -- the forecasts that were published on each link before it.
@@ -45,30 +41,6 @@ answer_fields NoPlan = codes "none" ∷ [] ∷ [] ∷ []
 abbrev pub plan_record : Net → PlanRecord → List (List ℕ)
 plan_record net plan = codes "plan" ∷ decimal plan.round ∷ node_name_at net plan.node ∷ join_with_byte 59 (map (used_text net) plan.used) ∷ answer_fields plan.answer
 
--- the record of a green of a node
-abbrev pub green_record : Net → ℕ → Green → List (List ℕ)
-green_record net node green = codes "green" ∷ [] ∷ node_name_at net node ∷ decimal green.phase ∷ decimal green.from ∷ decimal green.to ∷ [] ∷ []
-
--- those of the greens of a node's last line that begin before the run ends
-abbrev pub green_records : Net → RunRecord → ℕ → List (List (List ℕ))
-green_records net run node = map (green_record net node) (filter (λ green. nat_lt green.from (end_of_run net)) (last_line run node))
-
--- what stands where a link has no totals
-abbrev pub no_totals : LinkTotals
-no_totals = record { entered = 0; left = 0; delay = 0 }
-
--- the record of a link's totals
-abbrev pub link_record : Net → ℕ → LinkTotals → List (List ℕ)
-link_record net link totals = codes "link" ∷ [] ∷ [] ∷ link_name_at net link ∷ decimal totals.entered ∷ decimal totals.left ∷ decimal totals.delay ∷ []
-
--- that of a link of a run
-abbrev pub link_record_of : Net → RunRecord → ℕ → List (List ℕ)
-link_record_of net run link = link_record net link (slice_index_or run.links link no_totals)
-
--- the record of all totals
-abbrev pub total_record : Totals → List (List ℕ)
-total_record totals = codes "total" ∷ [] ∷ [] ∷ decimal totals.entered ∷ decimal totals.left ∷ decimal totals.on ∷ decimal totals.delay ∷ []
-
 -- the records of the front of a report: the header, and the steps of the history, in their order
 abbrev pub steps_records : Net → List ℕ → List (List (List ℕ))
 steps_records net history = header ∷ map (step_record_at net history) (range_with_len 0 (length history))
@@ -77,17 +49,13 @@ steps_records net history = header ∷ map (step_record_at net history) (range_w
 abbrev pub outcome_records : Net → RunRecord → List (List (List ℕ))
 outcome_records net run =
     map (plan_record net) run.plans
-    ++ (flat_map (green_records net run) (range_with_len 0 (length net.node_names))
-    ++ (map (link_record_of net run) (range_with_len 0 (length net.link_names))
+    ++ (flat_map (green_records net run.timelines (end_of_run net)) (range_with_len 0 (length net.node_names))
+    ++ (map (link_record_of net run.links) (range_with_len 0 (length net.link_names))
     ++ total_record run.totals ∷ []))
 
 -- the records of a report: the steps of the history, and after them the outcome of the run
 unfoldable pub report_records : Net → RunRecord → List ℕ → List (List (List ℕ))
 report_records net run history = steps_records net history ++ outcome_records net run
-
--- the text of records, as `csv` writes them
-abbrev pub records_text : List (List (List ℕ)) → List ℕ
-records_text records = flat_map (row_text default_writer) records
 
 -- the text of a report
 abbrev pub report_text : Net → RunRecord → List ℕ → List ℕ

@@ -5,7 +5,8 @@ use Rattle.foundation.specs.Options.{each}
 use Rattle.net_numbers.specs.Numbers.{Net}
 use Rattle.histories.specs.Histories.{IsLawful}
 use Rattle.record_text.specs.Records.{records_of}
-use Rattle.delay_report.specs.Entries.{header, steps_of}
+use Rattle.world_records.specs.Records.{header}
+use Rattle.delay_report.specs.Entries.{steps_of}
 
 -- The first of all records is the header, and the steps that the others tell are this history, which is lawful.
 pub record AreHistoryRecords (net : Net) (all : List (List (List ℕ))) (history : List ℕ) : Type 0 where

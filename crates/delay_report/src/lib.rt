@@ -5,11 +5,9 @@
 mod entries;
 mod faults;
 mod plans;
-mod records;
 mod reports;
 mod steps;
 mod texts;
-mod world;
 
 pub use faults::HistoryFault;
 pub use reports::{join_report, law_of_reports, render, render_outcome, render_steps};

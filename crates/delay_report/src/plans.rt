@@ -5,15 +5,15 @@ ghost use Rattle.std.specs.List.{flat_map, join_with_byte};
 ghost use Rattle.road_net.specs.Network.{heard_links};
 ghost use Rattle.delay_report.specs.Reports as report;
 ghost use Rattle.delay_report.specs.Reports.{plan_record};
-ghost use Rattle.delay_report.specs.Written.{Adds};
+ghost use Rattle.world_records.specs.Written.{Adds};
 
-use crate::records::{digits_of, write_record};
 use csv::Writer;
 use intersection_actor::{PlanRecord, Used};
 use road_net::Network;
 use schedule_meaning::Answer;
 use std::alloc::{AllocError, Global};
 use text_lines::push_number;
+use world_records::{digits_of, write_record};
 
 /// Writes the records of plans.
 pub(crate) fn write_plans(

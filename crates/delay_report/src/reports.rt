@@ -1,23 +1,20 @@
 //! The report of a run.
-ghost use Rattle.std.specs.Prelude.{◌≡◌, ℕ, List, [], ◌∷◌, ◌++◌, IfOk, OnOk};
+ghost use Rattle.std.specs.Prelude.{◌≡◌, ℕ, List, ◌++◌, IfOk, OnOk};
 ghost use Rattle.histories.specs.Histories.{IsLawful};
 ghost use Rattle.runs.specs.Complete.{IsComplete};
+ghost use Rattle.runs.specs.Runs as runs;
 ghost use Rattle.runs.specs.declared.records.RunRecord.{RunRecord};
-ghost use Rattle.delay_report.specs.Entries.{header};
 ghost use Rattle.delay_report.specs.Reports.{outcome_records, records_text, report_text, steps_records};
 ghost use Rattle.road_net.specs.Network.{IsNetwork};
 ghost use Rattle.delay_report.specs.Texts.{IsHistoryText};
-ghost use Rattle.delay_report.specs.Written.{Adds};
 
 use crate::plans::write_plans;
-use crate::records::{finish, start, write_record};
 use crate::steps::write_steps;
-use crate::world::{write_greens, write_links, write_totals};
-use csv::Writer;
 use histories::History;
 use road_net::Network;
 use runs::RunRecord;
 use std::alloc::{AllocError, Global};
+use world_records::{finish, start, write_greens, write_header, write_links, write_totals};
 
 // The capacity for a step of a report, in bytes, so that the text seldom has to move as it grows: the record takes some 28, and what
 // follows the steps a third as much again.
@@ -74,7 +71,7 @@ pub fn render_outcome(
     text.reserve(run.plans.len().saturating_mul(ROOM_FOR_A_PLAN))?;
     let mut out = start(text);
     write_plans(alloc, net, run.plans.as_slice(), &mut out)?;
-    write_greens(net, run.timelines.as_slice(), &mut out)?;
+    write_greens(net, run.timelines.as_slice(), end_of_run(net), &mut out)?;
     write_links(net, run.links.as_slice(), &mut out)?;
     write_totals(run.totals, &mut out)?;
     finish(out)
@@ -94,11 +91,11 @@ pub fn join_report(net: &Network, steps: Vec<u8>, outcome: &[u8]) -> Result<Vec<
     Ok(text)
 }
 
-/// Writes the header.
-fn write_header(out: &mut Writer<Vec<u8>>) -> Result<(), AllocError>
-    ensures { OnOk result (Adds out.old out.new (header ∷ [])) }
+/// The second at which a run ends.
+fn end_of_run(net: &Network) -> u32
+    ensures { result ≡ runs.end_of_run net.now }
 {
-    write_record(out, &[b"kind", b"round", b"node", b"x", b"y", b"z", b"w"])
+    net.run().rounds * net.run().step
 }
 
 /// The report of a lawful history is a text of that history, and a text is a text of one history at most.

@@ -8,13 +8,13 @@ ghost use Rattle.net_numbers.specs.Outline.{link_name_at, node_name_at};
 ghost use Rattle.road_net.specs.Network.{IsNetwork};
 ghost use Rattle.delay_report.specs.Reports.{step_record_at};
 ghost use Rattle.delay_report.specs.Walks.{HasWalkedTo, link_of};
-ghost use Rattle.delay_report.specs.Written.{Adds};
+ghost use Rattle.world_records.specs.Written.{Adds};
 
-use crate::records::{digits_of, write_record};
 use csv::Writer;
 use histories::{BoardStep, node_steps};
 use road_net::Network;
 use std::alloc::{AllocError, Global};
+use world_records::{digits_of, write_record};
 
 /// How far the nodes and links of a network have come along a history.
 #[derive(Drop)]

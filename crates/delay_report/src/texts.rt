@@ -5,18 +5,19 @@ ghost use Rattle.histories.specs.Histories.{IsLawful};
 ghost use Rattle.histories.specs.Progress.{HasCome};
 ghost use Rattle.record_text.specs.Reading.{IsReading, left_of};
 ghost use Rattle.road_net.specs.Network.{IsNetwork};
-ghost use Rattle.delay_report.specs.Entries.{header};
+ghost use Rattle.world_records.specs.Records.{header};
 ghost use Rattle.delay_report.specs.Faults.{AreFaulty, IsTextFault, Refuses};
 ghost use Rattle.delay_report.specs.Taken.{AreAllTaken, AreTaken, IsEntryFault};
 ghost use Rattle.delay_report.specs.Texts.{AreHistoryRecords, IsHistoryText};
 
-use crate::entries::{is_header, read_step};
+use crate::entries::read_step;
 use crate::faults::HistoryFault;
 use csv::{ByteRecord, Reader};
 use histories::{History, Progress, Stop};
 use record_text::{next_record, open};
 use road_net::Network;
 use std::alloc::Global;
+use world_records::is_header;
 
 /// The history of a file, whose nodes stand by their names in the network. It is lawful. A report is such a file. The file
 /// has fewer than 2^32 bytes.

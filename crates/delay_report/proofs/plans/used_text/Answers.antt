@@ -1,6 +1,6 @@
 use Rattle.std.proofs.Common.{get_or, ◌∙◌, ap, ◌++◌, arith}
 use Rattle.delay_report.specs.Reports as report
-use Rattle.delay_report.proofs.WrittenLaws.{joined-more}
+use Rattle.delay_report.proofs.VersionLaws.{joined-more}
 use Rattle.delay_report.proofs.plans.used_text.Goals as goal
 
 pub loop-place-preserved : goal.loop-place-preserved

@@ -1,6 +1,6 @@
 use Rattle.std.proofs.Common.{arith}
 use Rattle.delay_report.specs.Reports.{plan_record}
-use Rattle.delay_report.proofs.WrittenLaws.{adds-more}
+use Rattle.world_records.proofs.WrittenLaws.{adds-more}
 use Rattle.delay_report.proofs.plans.write_plans.Goals as goal
 
 pub loop-plan-preserved : goal.loop-plan-preserved

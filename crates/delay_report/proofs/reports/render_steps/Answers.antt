@@ -1,7 +1,7 @@
 use Rattle.std.proofs.lemmas.Result.{IfOk-weaker}
 use Rattle.std.proofs.Common.{◌≡◌, Vec, Global, ℕ, subst}
 use Rattle.delay_report.specs.Reports.{records_text, steps_records}
-use Rattle.delay_report.specs.Written.{HasWritten}
+use Rattle.world_records.specs.Written.{HasWritten}
 use Rattle.delay_report.proofs.RenderLaws.{front-parts}
 use Rattle.delay_report.proofs.reports.render_steps.Goals as goal
 

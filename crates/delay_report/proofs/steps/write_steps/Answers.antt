@@ -1,6 +1,6 @@
 use Rattle.std.proofs.Common.{arith, length}
 use Rattle.delay_report.specs.Reports.{step_record_at}
-use Rattle.delay_report.proofs.WrittenLaws.{adds-next, adds-numbers}
+use Rattle.world_records.proofs.WrittenLaws.{adds-next, adds-numbers}
 use Rattle.delay_report.proofs.steps.write_steps.Goals as goal
 
 pub loop-place-preserved : goal.loop-place-preserved

@@ -2,7 +2,7 @@ use Rattle.std.proofs.Common.{map}
 use Rattle.std.specs.List.{range_with_len}
 use Rattle.delay_report.specs.Reports.{step_record_at}
 use Rattle.delay_report.specs.Walks.{HasWalkedTo}
-use Rattle.delay_report.specs.Written.{Adds}
+use Rattle.world_records.specs.Written.{Adds}
 use Rattle.delay_report.proofs.steps.write_steps.Given as goal
 
 abbrev pub invariant-loop-place : goal.invariant-loop-place

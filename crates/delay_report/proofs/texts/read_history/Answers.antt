@@ -1,5 +1,5 @@
 use Rattle.std.proofs.Common.{ap, arith, length}
-use Rattle.delay_report.proofs.RecordLaws.{few-records}
+use Rattle.world_records.proofs.RecordLaws.{few-records}
 use Rattle.delay_report.proofs.texts.read_history.Goals as goal
 
 pub read_records-requires-clause-few : goal.read_records-requires-clause-few

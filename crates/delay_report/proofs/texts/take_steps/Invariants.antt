@@ -1,6 +1,6 @@
 use Rattle.std.proofs.Common.{◌∷◌, length}
 use Rattle.record_text.specs.Reading.{IsReading, left_of}
-use Rattle.delay_report.specs.Entries.{header}
+use Rattle.world_records.specs.Records.{header}
 use Rattle.delay_report.proofs.TextLaws.{IsUnder}
 use Rattle.delay_report.proofs.texts.take_steps.Given as goal
 

@@ -11,7 +11,7 @@ use Rattle.csv.specs.declared.parser.State.{State}
 use Rattle.csv.specs.declared.parser.State.TheVariants as st
 use Rattle.csv.proofs.RoundTrip.{read-write}
 use Rattle.record_text.specs.Records.{records_of}
-use Rattle.delay_report.specs.Entries.{header}
+use Rattle.world_records.specs.Records.{header}
 
 few-next : (n : ℕ) (more : State → List ℕ → List (List (List ℕ))) → ((t : State) (rest : List ℕ) → length (more t rest) ≤ n) → (o : Option Read) → length (records_next more o) ≤ suc n
 few-next n more few None = omega arith

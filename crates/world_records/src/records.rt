@@ -1,35 +1,43 @@
 //! Records, written one after another.
 ghost use Rattle.std.specs.Prelude.{◌≡◌, [], ◌∷◌, ℕ, List, IfOk, OnOk, map};
 ghost use Rattle.std.specs.Fmt.{decimal};
-ghost use Rattle.delay_report.specs.Written.{Adds, HasWritten};
+ghost use Rattle.world_records.specs.Written.{Adds, HasWritten};
 
 use csv::Writer;
-use std::alloc::{AllocError, Global};
+use std::alloc::AllocError;
 use text_lines::Line;
 
-/// A writer that appends to this text.
-pub(crate) fn start(text: Vec<u8>) -> Writer<Vec<u8>>
+/// A writer that appends records to a text.
+///
+/// docs/FORMATS.md, "Report".
+pub fn start(text: Vec<u8>) -> Writer<Vec<u8>>
     ensures { HasWritten result text.items }
 {
     Writer::from_writer(text)
 }
 
-/// The text that was written.
-pub(crate) fn finish(out: Writer<Vec<u8>>) -> Result<Vec<u8>, AllocError>
+/// The text that was written. `Err`: out of memory.
+///
+/// docs/FORMATS.md, "Report".
+pub fn finish(out: Writer<Vec<u8>>) -> Result<Vec<u8>, AllocError>
     ensures { IfOk result (λ bytes. (text : List ℕ) → HasWritten out text → bytes.items ≡ text) }
 {
     out.into_inner().ok().ok_or(AllocError)
 }
 
-/// Writes a record of these fields.
-pub(crate) fn write_record(out: &mut Writer<Vec<u8>>, fields: &[&[u8]]) -> Result<(), AllocError>
+/// Writes a record of these fields. `Err`: out of memory.
+///
+/// docs/FORMATS.md, "Report".
+pub fn write_record(out: &mut Writer<Vec<u8>>, fields: &[&[u8]]) -> Result<(), AllocError>
     ensures { OnOk result (Adds out.old out.new (map (λ f. f.now) fields.now ∷ [])) }
 {
     out.write_fields(fields).ok().ok_or(AllocError)
 }
 
-/// The digits of a number.
-pub(crate) fn digits_of(n: u64) -> Line
+/// The digits of a number, as a field of a record.
+///
+/// docs/FORMATS.md, "Numbers and lines".
+pub fn digits_of(n: u64) -> Line
     ensures { result ≡ decimal n }
 {
     let mut line = Line::new();

@@ -1,9 +1,8 @@
 //! The records of what the signals showed and the world counted.
-ghost use Rattle.std.specs.Prelude.{◌≡◌, ◌<◌, [], ◌∷◌, OnOk, filter, if◌then◌else◌, length, map, nat_lt, slice_index_or};
+ghost use Rattle.std.specs.Prelude.{◌≡◌, ◌<◌, [], ◌∷◌, OnOk, filter, if◌then◌else◌, length, map, nat_lt};
 ghost use Rattle.std.specs.List.{flat_map, range_with_len};
-ghost use Rattle.runs.specs.Runs.{end_of_run};
-ghost use Rattle.delay_report.specs.Reports.{green_record, link_record, no_totals, total_record};
-ghost use Rattle.delay_report.specs.Written.{Adds};
+ghost use Rattle.world_records.specs.Records.{green_record, green_records, link_record, link_record_of, total_record};
+ghost use Rattle.world_records.specs.Written.{Adds};
 
 use crate::records::{digits_of, write_record};
 use control_flow::greens::{Green, Timeline};
@@ -12,19 +11,20 @@ use net_simulator::{LinkTotals, Totals};
 use road_net::Network;
 use std::alloc::AllocError;
 
-/// Writes the records of the greens of each node's line that begin before the run ends.
-pub(crate) fn write_greens(
+/// Writes the records of the greens of each node's line that begin before second `end`, by node and time; a line for
+/// each node, by number. `Err`: out of memory.
+///
+/// docs/FORMATS.md, "Report".
+pub fn write_greens(
     net: &Network,
     lines: &[Timeline],
+    end: u32,
     out: &mut Writer<Vec<u8>>,
 ) -> Result<(), AllocError>
     requires { length lines.now ≡ length net.now.node_names }
     ensures { OnOk result (Adds out.old out.new
-        (flat_map (λ node. map (green_record net.now node)
-        (filter (λ green. nat_lt green.from (end_of_run net.now)) (slice_index_or lines.now node [])))
-        (range_with_len 0 (length net.now.node_names)))) }
+        (flat_map (green_records net.now lines.now end) (range_with_len 0 (length net.now.node_names)))) }
 {
-    let end = net.run().rounds * net.run().step;
     for node in 0..net.nodes() {
         write_greens_of(net, node, lines[node as usize].rows(), end, out)?;
     }
@@ -82,16 +82,17 @@ fn write_green(
     )
 }
 
-/// Writes the records of the totals of each link.
-pub(crate) fn write_links(
+/// Writes the records of the totals of each link, by number. `Err`: out of memory.
+///
+/// docs/FORMATS.md, "Report".
+pub fn write_links(
     net: &Network,
     totals: &[LinkTotals],
     out: &mut Writer<Vec<u8>>,
 ) -> Result<(), AllocError>
     requires { length totals.now ≡ length net.now.link_names }
     ensures { OnOk result (Adds out.old out.new
-        (map (λ link. link_record net.now link (slice_index_or totals.now link no_totals))
-        (range_with_len 0 (length net.now.link_names)))) }
+        (map (link_record_of net.now totals.now) (range_with_len 0 (length net.now.link_names)))) }
 {
     for link in 0..net.links() {
         write_link(net, link, totals[link as usize], out)?;
@@ -127,8 +128,10 @@ fn write_link(
     )
 }
 
-/// Writes the record of all totals.
-pub(crate) fn write_totals(totals: Totals, out: &mut Writer<Vec<u8>>) -> Result<(), AllocError>
+/// Writes the record of all totals. `Err`: out of memory.
+///
+/// docs/FORMATS.md, "Report".
+pub fn write_totals(totals: Totals, out: &mut Writer<Vec<u8>>) -> Result<(), AllocError>
     ensures { OnOk result (Adds out.old out.new (total_record totals ∷ [])) }
 {
     let entered = digits_of(totals.entered);

@@ -1,10 +1,10 @@
 -- What is written, one record after another.
-use Rattle.std.proofs.Common.{◌≡◌, ◌≢◌, ℕ, ◌+◌, ◌<◌, ◌≤◌, Bool, true, false, List, [], ◌∷◌, ◌++◌, length, get_or, take, map, filter, if◌then◌else◌, ◌==◌, ne_eqb, Option, Some, None, Result, Ok, Err, OnOk, IfOk, Vec, ok_or, refl, sym, ap, ◌∙◌, subst, arith, append_assoc, append-nil}
-use Rattle.std.proofs.lemmas.List.{length-map, length-take, map-append, map_more, take_all, take_more}
+use Rattle.std.proofs.Common.{◌≡◌, ◌≢◌, ℕ, ◌+◌, ◌<◌, ◌≤◌, Bool, true, false, List, [], ◌∷◌, ◌++◌, length, get_or, take, map, filter, if◌then◌else◌, Option, Some, None, Result, Ok, Err, OnOk, IfOk, Vec, ok_or, refl, sym, ap, ◌∙◌, subst, arith, append_assoc, append-nil}
+use Rattle.std.proofs.lemmas.List.{map-append, map_more, take_all, take_more}
 use Rattle.std.proofs.lemmas.List.Elements.{filter-append}
 use Rattle.std.proofs.lemmas.Option.{same_Some}
 use Rattle.std.proofs.lemmas.Grind.{flat_map-append}
-use Rattle.std.specs.List.{flat_map, join_with_byte, range_with_len}
+use Rattle.std.specs.List.{flat_map, range_with_len}
 use Rattle.std.specs.Result.{result_ok}
 use Rattle.std.specs.Io.KnownBytes.{Appends, Keeps}
 use Rattle.foundation.proofs.RangeLaws.{range-push}
@@ -12,8 +12,8 @@ use Rattle.csv.specs.Writing.{default_writer, fields_written, has_written, row_t
 use Rattle.csv.specs.declared.writer.QuoteStyle.TheVariants as style
 use Rattle.csv.specs.declared.writer.Writer.{Writer}
 use Rattle.csv.specs.declared.writer.WriterBuilder.{WriterBuilder}
-use Rattle.delay_report.specs.Reports.{records_text}
-use Rattle.delay_report.specs.Written.{Adds, HasWritten}
+use Rattle.world_records.specs.Records.{records_text}
+use Rattle.world_records.specs.Written.{Adds, HasWritten}
 
 -- nothing, and records after records
 pub adds-none : {Z : Type 0} (out : Writer (Vec ℕ Z)) → Adds out out []
@@ -106,28 +106,3 @@ adds-parts f n m a b same so_far = subst (λ k. Adds a b (flat_map f (range_with
 
 pub adds-passed : {X Z : Type 0} (f : X → List (List ℕ)) (p : X → Bool) (xs : List X) (i : ℕ) (a b : Writer (Vec ℕ Z)) → length xs ≤ i → Adds a b (map f (filter p (take i xs))) → Adds a b (map f (filter p xs))
 adds-passed f p xs i a b end so_far = subst (λ l. Adds a b (map f (filter p l))) (take_all i xs end) so_far
-
--- records that are the same
-pub adds-same : {Z : Type 0} (a b : Writer (Vec ℕ Z)) (xs ys : List (List (List ℕ))) → xs ≡ ys → Adds a b xs → Adds a b ys
-adds-same a b xs ys same adds = subst (Adds a b) same adds
-
--- texts with a byte between each two: one more at the end
-join-push : (c : ℕ) (x : List ℕ) (xs : List (List ℕ)) (y : List ℕ) → join_with_byte c (x ∷ (xs ++ y ∷ [])) ≡ join_with_byte c (x ∷ xs) ++ c ∷ y
-join-push c x [] y = refl
-join-push c x (z ∷ zs) y = ap (λ l. x ++ c ∷ l) (join-push c z zs y) ∙ sym (append_assoc x (c ∷ join_with_byte c (z ∷ zs)) (c ∷ y))
-
-joined : (c : ℕ) (xs : List (List ℕ)) (y old new : List ℕ) (i : ℕ) → i ≡ length xs → old ≡ join_with_byte c xs → new ≡ (old ++ (if i == 0 then [] else c ∷ [])) ++ y → new ≡ join_with_byte c (xs ++ y ∷ [])
-joined c [] y old new i none was is = is ∙ ap (λ l. (l ++ (if i == 0 then [] else c ∷ [])) ++ y) was ∙ ap (λ k. (if k == 0 then [] else c ∷ []) ++ y) none
-joined c (x ∷ xs) y old new i some was is =
-    is ∙ ap (λ l. (l ++ (if i == 0 then [] else c ∷ [])) ++ y) was ∙ ap (λ (b : Bool). (join_with_byte c (x ∷ xs) ++ (if b then [] else c ∷ [])) ++ y) (ne_eqb i 0 (λ e. absurd (omega (arith, e, some))))
-    ∙ append_assoc (join_with_byte c (x ∷ xs)) (c ∷ []) y ∙ sym (join-push c x xs y)
-
-pub joined-more : {X : Type 0} (c : ℕ) (f : X → List ℕ) (xs : List X) (i : ℕ) (d : X) (old new : List ℕ) → i < length xs → old ≡ join_with_byte c (map f (take i xs)) → new ≡ (old ++ (if i == 0 then [] else c ∷ [])) ++ f (get_or xs i d)
-    → new ≡ join_with_byte c (map f (take (i + 1) xs))
-joined-more c f xs i d old new inside was is =
-    joined c (map f (take i xs)) (f (get_or xs i d)) old new i (omega (arith, length-map (take i xs) f, length-take i xs)) was is ∙ ap (join_with_byte c) (sym (map_more f xs i d inside))
-
--- what holds anyway
-pub on-ok : {T E P : Type 0} (r : Result T E) → P → OnOk r P
-on-ok (Ok v) holds = holds
-on-ok (Err e) holds = tt

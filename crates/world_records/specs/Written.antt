@@ -1,8 +1,8 @@
--- What has been written. No public clause names these definitions.
+-- What has been written.
 use Rattle.std.specs.Prelude.{◌≡◌, ℕ, false, List, ◌++◌, Some, Vec}
 use Rattle.csv.specs.Writing.{default_writer, fields_written, has_written, text_written, writer_setup}
 use Rattle.csv.specs.declared.writer.Writer.{Writer}
-use Rattle.delay_report.specs.Reports.{records_text}
+use Rattle.world_records.specs.Records.{records_text}
 
 -- a writer between two records has written this text
 pub record HasWritten {Z : Type 0} (out : Writer (Vec ℕ Z)) (text : List ℕ) : Type 0 where

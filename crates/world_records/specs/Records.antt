@@ -1,0 +1,42 @@
+-- The records of what the signals showed and the world counted, and the text of records.
+use Rattle.std.specs.Prelude.{codes, nat_lt, ℕ, List, [], ◌∷◌, filter, map, slice_index_or}
+use Rattle.std.specs.Fmt.{decimal}
+use Rattle.std.specs.List.{flat_map}
+use Rattle.csv.specs.Writing.{default_writer, row_text}
+use Rattle.control_flow.specs.declared.greens.Green.{Green}
+use Rattle.net_numbers.specs.Numbers.{Net}
+use Rattle.net_numbers.specs.Outline.{link_name_at, node_name_at}
+use Rattle.net_simulator.specs.declared.totals.LinkTotals.{LinkTotals}
+use Rattle.net_simulator.specs.declared.totals.Totals.{Totals}
+
+-- the header
+abbrev pub header : List (List ℕ)
+header = codes "kind" ∷ codes "round" ∷ codes "node" ∷ codes "x" ∷ codes "y" ∷ codes "z" ∷ codes "w" ∷ []
+
+-- the record of a green of a node
+abbrev pub green_record : Net → ℕ → Green → List (List ℕ)
+green_record net node green = codes "green" ∷ [] ∷ node_name_at net node ∷ decimal green.phase ∷ decimal green.from ∷ decimal green.to ∷ [] ∷ []
+
+-- those of the greens of a node's line that begin before a second, where these are the lines of the nodes
+abbrev pub green_records : Net → List (List Green) → ℕ → ℕ → List (List (List ℕ))
+green_records net lines end node = map (green_record net node) (filter (λ green. nat_lt green.from end) (slice_index_or lines node []))
+
+-- what stands where a link has no totals
+abbrev pub no_totals : LinkTotals
+no_totals = record { entered = 0; left = 0; delay = 0 }
+
+-- the record of a link's totals
+abbrev pub link_record : Net → ℕ → LinkTotals → List (List ℕ)
+link_record net link totals = codes "link" ∷ [] ∷ [] ∷ link_name_at net link ∷ decimal totals.entered ∷ decimal totals.left ∷ decimal totals.delay ∷ []
+
+-- that of a link, where these are the totals of the links
+abbrev pub link_record_of : Net → List LinkTotals → ℕ → List (List ℕ)
+link_record_of net links link = link_record net link (slice_index_or links link no_totals)
+
+-- the record of all totals
+abbrev pub total_record : Totals → List (List ℕ)
+total_record totals = codes "total" ∷ [] ∷ [] ∷ decimal totals.entered ∷ decimal totals.left ∷ decimal totals.on ∷ decimal totals.delay ∷ []
+
+-- the text of records, as `csv` writes them
+abbrev pub records_text : List (List (List ℕ)) → List ℕ
+records_text records = flat_map (row_text default_writer) records
