@@ -4,7 +4,6 @@ pub mod CompleteLaws
 pub mod Expected
 pub mod Heard
 pub mod Keep
-pub mod Lines
 pub mod One
 pub mod Past
 pub mod Places

@@ -1,5 +1,6 @@
 -- What every run keeps.
-use Rattle.std.proofs.Common.{◌≡◌, ℕ, ◌<◌, List, All, length, sym, ap, subst, ◌∙◌, arith}
+use Rattle.std.proofs.Common.{◌≡◌, ℕ, ◌<◌, List, [], All, length, get_or, sym, ap, subst, ◌∙◌, arith}
+use Rattle.std.proofs.lemmas.List.FromFn.{get_or-map-range_with_len}
 use Rattle.std.proofs.lemmas.Nat.{div_below}
 use Rattle.control_flow.specs.Greens.{IsLawful as IsLawfulLine, standing}
 use Rattle.control_flow.specs.declared.greens.Green.{Green}
@@ -9,19 +10,22 @@ use Rattle.net_numbers.specs.Numbers.{Net}
 use Rattle.net_numbers.specs.Outline.{plan_at}
 use Rattle.road_net.specs.Network.{IsNetwork}
 use Rattle.schedule_meaning.specs.Best.{IsLeast}
+use Rattle.signal_safety.proofs.Lines.{safe}
+use Rattle.signal_safety.proofs.Rounds.{AllKeep, lawful-after, shows}
 use Rattle.runs.specs.Promises.{KeepsPromises, last_line}
 use Rattle.runs.specs.Plans.{IsPlannedFrom, NamesVersions, NeverOlder}
 use Rattle.runs.specs.Runs.{IsRun, line_before}
 use Rattle.runs.specs.declared.records.RunRecord.{RunRecord}
-use Rattle.runs.proofs.Lines.{AllKeep, last-is, lawful-after, safe, shows}
 use Rattle.runs.proofs.PlanLaws.{all-least, all-named, all-planned, never-older}
 
-module _ (net : Net) (network : IsNetwork net) (enters : ℕ → ℕ → ℕ) (h : List ℕ) (lawful : IsLawful net h) (run : RunRecord) (is : IsRun net enters h run) (keep : AllKeep net is.made net.run.rounds) where
+module _ (net : Net) (network : IsNetwork net) (enters : ℕ → ℕ → ℕ) (h : List ℕ) (lawful : IsLawful net h) (run : RunRecord) (is : IsRun net enters h run) (keep : AllKeep net (line_before net is.made) net.run.rounds) where
   line-is : (node : ℕ) → node < length net.node_names → last_line run node ≡ line_before net is.made net.run.rounds node
-  line-is node below = last-is net enters is.heard is.made run is.by node below
+  line-is node below =
+      ap (λ (l : List (List Green)). get_or l node []) is.by.timelines
+      ∙ get_or-map-range_with_len (line_before net is.made net.run.rounds) 0 (length net.node_names) node node [] below (omega arith)
 
   lawful-line : (node : ℕ) → node < length net.node_names → IsLawfulLine (plan_at net node) (last_line run node)
-  lawful-line node below = subst (IsLawfulLine (plan_at net node)) (sym (line-is node below)) (lawful-after net network is.made net.run.rounds keep net.run.rounds (network.outline.run.rounds.0) (omega arith) node below)
+  lawful-line node below = subst (IsLawfulLine (plan_at net node)) (sym (line-is node below)) (lawful-after net network (line_before net is.made) net.run.rounds keep net.run.rounds (network.outline.run.rounds.0) (omega arith) node below)
 
   pub kept : KeepsPromises net enters h is.made run
   kept = record {
@@ -31,5 +35,5 @@ module _ (net : Net) (network : IsNetwork net) (enters : ℕ → ℕ → ℕ) (h
     least = subst (All (λ (p : PlanRecord). IsLeast p.instance p.answer)) (sym is.by.plans) (all-least net network enters h lawful is.heard is.made is.by.commits is.along);
     lawful = lawful-line;
     safe = safe net network (last_line run) lawful-line;
-    greens = λ second node before below. ap (λ (l : List Green). standing l second) (line-is node below) ∙ shows net network is.made net.run.rounds keep net.run.rounds (omega arith) second node below (div_below second net.run.step net.run.rounds network.outline.run.step.0 before);
+    greens = λ second node before below. ap (λ (l : List Green). standing l second) (line-is node below) ∙ shows net network (line_before net is.made) net.run.rounds keep net.run.rounds (omega arith) second node below (div_below second net.run.step net.run.rounds network.outline.run.step.0 before);
   }

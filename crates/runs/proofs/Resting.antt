@@ -15,9 +15,9 @@ use Rattle.net_simulator.specs.Senses.{sense, stood}
 use Rattle.net_simulator.specs.Sums.{link_totals, totals}
 use Rattle.net_simulator.specs.Worlds.{Keeps, WorldState, Stands, standing_by}
 use Rattle.road_net.specs.Network.{IsNetwork}
+use Rattle.signal_safety.proofs.Rounds.{shows}
 use Rattle.runs.specs.Runs.{AllCommit, arriving_by, line_before, sensed_in, shown_by}
 use Rattle.runs.proofs.Keep.{all-keep}
-use Rattle.runs.proofs.Lines.{shows}
 use Rattle.runs.proofs.Past.{map-range-same, past-at-nodes}
 use Rattle.schedule_meaning.specs.declared.planners.Answer.TheVariants.{NoPlan}
 use Rattle.runs.specs.Resting.{AreNew, Rests, records_of}
@@ -59,7 +59,7 @@ records-same heard seen made other n r h m = map-range-same (λ s. record_of n s
 -- the lines before a round show what the world moved by
 module _ (net : Net) (network : IsNetwork net) (enters : ℕ → ℕ → ℕ) (round : ℕ) (heard : ℕ → ℕ → List Heard) (made : ℕ → ℕ → Commitment) (most : round ≤ net.run.rounds) (commits : AllCommit net enters heard made round) where
   pub before-shows : (x node : ℕ) → x < round * net.run.step → node < length net.node_names → standing (line_before net made round node) x ≡ shown_by net made x node
-  before-shows x node less below = shows net network made round (all-keep net network enters heard made round most commits) round (omega arith) x node below (div_below x net.run.step round network.outline.run.step.0 less)
+  before-shows x node less below = shows net network (line_before net made) round (all-keep net network enters heard made round most commits) round (omega arith) x node below (div_below x net.run.step round network.outline.run.step.0 less)
 
   pub before-stands : (world : WorldState) → world.second ≡ round * net.run.step → Stands net (arriving_by enters) (shown_by net made) world → Stands net (arriving_by enters) (standing_by (line_before net made round)) world
   before-stands world second stands = stands-same net network (arriving_by enters) (shown_by net made) (standing_by (line_before net made round)) world

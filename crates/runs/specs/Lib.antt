@@ -4,4 +4,3 @@ pub mod Plans
 pub mod Promises
 pub mod Resting
 pub mod Runs
-pub mod Safe

@@ -1,16 +1,12 @@
--- What lawful lines and a past that stays give: the network is safe, and the last lines show what the world moved by.
-use Rattle.std.proofs.Common.{◌≡◌, ℕ, zero, suc, ◌+◌, ◌*◌, ◌/◌, ◌<◌, ◌≤◌, List, [], Option, Some, None, length, get_or, refl, sym, ap, subst, ◌∙◌, inl, inr, arith}
+-- What lawful lines give: the network is safe.
+use Rattle.std.proofs.Common.{◌≡◌, ℕ, ◌+◌, ◌<◌, ◌≤◌, List, [], Option, Some, None, length, get_or, refl, sym, ap, subst, ◌∙◌, inl, inr, arith}
 use Rattle.std.specs.Prelude.{Contains, IfSome, IsSome, IsTrue, MatchOption, unwrap_or}
 use Rattle.std.proofs.lemmas.Bool.{cases_lt}
 use Rattle.std.proofs.lemmas.List.{get_or_default}
 use Rattle.std.proofs.lemmas.List.Elements.{All-get_or}
-use Rattle.std.proofs.lemmas.List.FromFn.{get_or-map-range_with_len}
-use Rattle.std.proofs.lemmas.Nat.{le-div}
-use Rattle.board_model.specs.declared.boards.Heard.{Heard}
-use Rattle.control_flow.specs.Greens.{AreApart, IsGreen, IsLawful, covers, no_green, row_at, standing}
+use Rattle.control_flow.specs.Greens.{AreApart, IsGreen, IsLawful, covers, no_green, row_at}
 use Rattle.control_flow.specs.declared.greens.Green.{Green}
 use Rattle.control_flow.proofs.ApartLaws.{are-apart}
-use Rattle.intersection_actor.specs.Commits.{Commitment}
 use Rattle.net_numbers.specs.Numbers.{Net, no_link}
 use Rattle.net_numbers.specs.Outline.{IsLink, link_at, plan_at}
 use Rattle.phase_plan.specs.Phases.{IsPlan, phase_at}
@@ -18,19 +14,7 @@ use Rattle.phase_plan.specs.declared.Phase.{Phase}
 use Rattle.phase_plan.proofs.RingLaws.{phase-bounds}
 use Rattle.road_net.specs.Joins.{IsConflict}
 use Rattle.road_net.specs.Network.{IsNetwork}
-use Rattle.runs.specs.Promises.{last_line}
-use Rattle.runs.specs.Runs.{IsRunBy, line_before, shown_by}
-use Rattle.runs.specs.Safe.{AreSafe, BeginsAfter, IsGreenOf, IsSafe, times_of}
-use Rattle.runs.specs.declared.records.RunRecord.{RunRecord}
-
--- what a commit keeps of its node's line
-pub record KeepsLine (net : Net) (made : ℕ → ℕ → Commitment) (round node : ℕ) : Type 0 where
-  pub lawful : IsLawful (plan_at net node) (made round node).line
-  pub past : (second : ℕ) → second < round * net.run.step → standing (made round node).line second ≡ standing (line_before net made round node) second
-
--- each commit of the first rounds does
-abbrev pub AllKeep : Net → (ℕ → ℕ → Commitment) → ℕ → Type 0
-AllKeep net made rounds = (round node : ℕ) → round < rounds → node < length net.node_names → KeepsLine net made round node
+use Rattle.signal_safety.specs.Safe.{AreSafe, BeginsAfter, IsGreenOf, IsSafe, times_of}
 
 pub plan-is : (net : Net) → IsNetwork net → (node : ℕ) → node < length net.node_names → IsPlan (plan_at net node)
 plan-is net network node below = All-get_or IsPlan net.plans node [] (let e = network.outline.plan_count in omega arith) network.outline.plans
@@ -56,8 +40,7 @@ module _ (plan : List Phase) (rows : List Green) (p : IsPlan plan) (lawful : IsL
   begins-behind order = elim (cases_lt ca.0 cb.0) [
     | inl before ↦
         let z : (row_at rows ca.0).to + (phase_at plan (row_at rows ca.0).phase).yellow + (phase_at plan (row_at rows ca.0).phase).clear ≤ (row_at rows cb.0).from = apart.apart ca.0 cb.0 before cb.1 in
-        let y : a.to + (phase_at plan a.phase).yellow + (phase_at plan a.phase).clear ≤ (row_at rows cb.0).from = subst (λ (g : Green). g.to + (phase_at plan g.phase).yellow + (phase_at plan g.phase).clear ≤ (row_at rows cb.0).from) at-a z in
-        subst (λ (g : Green). a.to + (phase_at plan a.phase).yellow + (phase_at plan a.phase).clear ≤ g.from) at-b y
+        omega (arith, z, ap (λ (g : Green). g.to + (phase_at plan g.phase).yellow + (phase_at plan g.phase).clear) at-a, ap (λ (g : Green). g.from) at-b)
     | inr past ↦ elim (cases_lt cb.0 ca.0) [
       | inr same ↦ absurd (other-places (omega arith))
       | inl behind ↦ absurd (
@@ -73,9 +56,6 @@ module _ (net : Net) (network : IsNetwork net) (lines : ℕ → List Green) (law
   of-node : (link node : ℕ) (row : Green) → (link_at net link).to ≡ Some node → IsGreenOf net lines link row → Contains (lines node) row
   of-node link node row to green = subst (λ (o : Option ℕ). MatchOption o ⊥ (λ n. Contains (lines n) row)) to green.ends
 
-  times-at : (link node : ℕ) → (link_at net link).to ≡ Some node → times_of net link ≡ phase_at (plan_at net node) (link_at net link).phase
-  times-at link node to = ap (λ (o : Option ℕ). phase_at (plan_at net (unwrap_or o 0)) (link_at net link).phase) to
-
   module _ (a b node : ℕ) (below : node < length net.node_names) (first : (link_at net a).to ≡ Some node) (second : (link_at net b).to ≡ Some node) (phases : (link_at net a).phase ≡ (link_at net b).phase → ⊥) where
     differ : (x y : Green) → IsGreenOf net lines a x → IsGreenOf net lines b y → x.phase ≡ y.phase → ⊥
     differ x y one other same = phases (sym one.phase ∙ same ∙ other.phase)
@@ -86,7 +66,7 @@ module _ (net : Net) (network : IsNetwork net) (lines : ℕ → List Green) (law
     pub safe-behind : BeginsAfter net lines a b
     safe-behind x y one other order =
         let z = begins-behind (plan_at net node) (lines node) (plan-is net network node below) (lawful node below) x y (of-node a node x first one) (of-node b node y second other) (differ x y one other) order in
-        let t : times_of net a ≡ phase_at (plan_at net node) x.phase = times-at a node first ∙ ap (phase_at (plan_at net node)) (sym one.phase) in
+        let t : times_of net a ≡ phase_at (plan_at net node) x.phase = ap (λ (o : Option ℕ). phase_at (plan_at net (unwrap_or o 0)) (link_at net a).phase) first ∙ ap (phase_at (plan_at net node)) (sym one.phase) in
         subst (λ (p : Phase). x.to + p.yellow + p.clear ≤ y.from) (sym t) z
 
   safe-pair : (c : ℕ × ℕ) → (c.0 < length net.link_names) → IsConflict net.links c → AreSafe net lines c
@@ -106,29 +86,3 @@ module _ (net : Net) (network : IsNetwork net) (lines : ℕ → List Green) (law
 
   pub safe : IsSafe net lines
   safe i d inside = safe-pair (get_or net.conflicts i d) (All-get_or (λ (c : ℕ × ℕ). (c.0 < length net.link_names) × (c.1 < length net.link_names)) net.conflicts i d inside network.outline.conflicts).0 (All-get_or (IsConflict net.links) net.conflicts i d inside network.joins.conflicts)
-
-module _ (net : Net) (network : IsNetwork net) (made : ℕ → ℕ → Commitment) (rounds : ℕ) (keep : AllKeep net made rounds) where
-  -- what a line shows in a round before is what that round's commit showed
-  pub shows : (r : ℕ) → r ≤ rounds → (second node : ℕ) → node < length net.node_names → second / net.run.step < r → standing (line_before net made r node) second ≡ shown_by net made second node
-  shows zero most second node below before = absurd (omega arith)
-  shows (suc r) most second node below before = elim (cases_lt (second / net.run.step) r) [
-    | inl earlier ↦ (keep r node (omega arith) below).past second (in-past r second earlier) ∙ shows r (omega arith) second node below earlier
-    | inr last ↦ (let e : r ≡ second / net.run.step = omega arith in ap (λ s. standing (made s node).line second) e)
-  ]
-    where
-      in-past : (r second : ℕ) → second / net.run.step < r → second < r * net.run.step
-      in-past r second earlier = elim (cases_lt second (r * net.run.step)) [
-        | inl less ↦ less
-        | inr more ↦ absurd (let z = le-div r second net.run.step network.outline.run.step.0 more in omega arith)
-      ]
-
-  pub lawful-after : (r : ℕ) → 0 < r → r ≤ rounds → (node : ℕ) → node < length net.node_names → IsLawful (plan_at net node) (line_before net made r node)
-  lawful-after zero some most node below = absurd (omega arith)
-  lawful-after (suc r) some most node below = (keep r node (omega arith) below).lawful
-
--- the last line of a node is that after the last round
-pub last-is : (net : Net) (enters : ℕ → ℕ → ℕ) (heard : ℕ → ℕ → List Heard) (made : ℕ → ℕ → Commitment) (run : RunRecord) → IsRunBy net enters heard made run → (node : ℕ) → node < length net.node_names
-    → last_line run node ≡ line_before net made net.run.rounds node
-last-is net enters heard made run by node below =
-    ap (λ (l : List (List Green)). get_or l node []) by.timelines
-    ∙ get_or-map-range_with_len (line_before net made net.run.rounds) 0 (length net.node_names) node node [] below (omega arith)
