@@ -1,0 +1,8 @@
+use Rattle.std.proofs.Common.{refl, sym, ◌∙◌}
+use Rattle.sheets.proofs.DraftLaws.{come-green}
+use Rattle.sheets.proofs.drafts.take_green.Goals as goal
+
+pub returns-clause-ok : goal.returns-clause-ok
+returns-clause-ok c = λ told come.
+    come-green c.args.net.now told c.args.draft.now come c.requires.network c.args.name.now c.args.green c.in-Some.node (sym c.in-Some.ensures) _
+    c.in_ok-add_green.ensures.count c.in_ok-add_green.ensures.here c.in_ok-add_green.ensures.others refl refl
