@@ -8,6 +8,7 @@ use Rattle.std.proofs.lemmas.List.Quantifiers.{position-Some}
 use Rattle.std.proofs.lemmas.Slice.Eq.{bytes_eq-Decides}
 use Rattle.control_flow.specs.declared.greens.Green.{Green}
 use Rattle.net_numbers.specs.Numbers.{AreDistinct, Net, number_of}
+use Rattle.net_numbers.proofs.Known.{number_of-known}
 use Rattle.net_numbers.specs.Outline.{link_name_at, node_name_at}
 use Rattle.net_simulator.specs.declared.totals.LinkTotals.{LinkTotals}
 use Rattle.net_simulator.specs.declared.totals.Totals.{Totals}
@@ -139,7 +140,7 @@ module _ (net : Net) (told : List Told) (old : Draft) (come : HasCome net told o
 
     pub come-green : HasCome net (told ++ Shows name green ∷ []) new
     come-green = record {
-      nodes = All-push (NamesNode net) told (Shows name green) come.nodes (rw found refl);
+      nodes = All-push (NamesNode net) told (Shows name green) come.nodes (number_of-known net.node_names name node found);
       names = same-links ∙ come.names ∙ sym (ap (λ (l : List (List ℕ)). take (length l) net.link_names) same-links);
       lines = count ∙ come.lines;
       shown = shown-at;

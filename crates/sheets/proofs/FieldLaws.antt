@@ -10,7 +10,7 @@ use Rattle.std.proofs.lemmas.Str.{IsUtf8-from_ascii}
 use Rattle.sheets.specs.Told.{number_in}
 
 -- the text of a number is read as it
-some-number : (bits : ℕ) (field : List ℕ) (n : ℕ) → n < 2 ^ bits → n < 2 ^ 64 → field ≡ decimal n → number_in bits field ≡ Some n
+pub some-number : (bits : ℕ) (field : List ℕ) (n : ℕ) → n < 2 ^ bits → n < 2 ^ 64 → field ≡ decimal n → number_in bits field ≡ Some n
 unfolding number_in
 some-number bits field n few fits spelled =
     let value : digits_value 10 field ≡ n = ap (digits_value 10) spelled ∙ (decimal_is_IsNumeral n fits).1 in

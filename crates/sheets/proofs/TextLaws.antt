@@ -1,8 +1,7 @@
 -- The records of a report, one after another, and the first at fault.
-use Rattle.std.proofs.Common.{◌≡◌, ◌≢◌, ℕ, ◌+◌, ◌<◌, ◌≤◌, List, [], ◌∷◌, ◌++◌, length, filter_map, get_or, take, Option, Some, None, All, IsSome, IsSomeAnd, refl, sym, ap, ◌∙◌, subst, inl, inr, arith, append_assoc, append-nil, length-append, length-take}
+use Rattle.std.proofs.Common.{◌≡◌, ◌≢◌, ℕ, ◌+◌, ◌<◌, ◌≤◌, List, [], ◌∷◌, ◌++◌, length, filter_map, get_or, map, take, Option, Some, None, All, IsSome, IsSomeAnd, refl, sym, ap, ◌∙◌, subst, inl, inr, arith, append_assoc, append-nil, length-append, length-take}
 use Rattle.std.proofs.lemmas.List.Elements.{filter_map-append}
 use Rattle.std.proofs.Math.Seq.{get_or-append_seam}
-use Rattle.std.proofs.lemmas.Bool.{false≢true}
 use Rattle.std.proofs.lemmas.Option.{same_Some, none-some}
 use Rattle.foundation.specs.Options.{each}
 use Rattle.foundation.proofs.EachLaws.{each-append, each-cons, each-push}
@@ -19,7 +18,7 @@ use Rattle.sheets.specs.declared.faults.SheetFault.TheVariants.{NoMemory, Header
 use Rattle.sheets.specs.declared.sheet.Sheet.{Sheet}
 use Rattle.sheets.specs.Entries.{AreTaken, HasCome, IsEntryFault, IsTaken, IsToldFault}
 use Rattle.sheets.specs.Faults.{AreFaulty, IsAtExtra, IsAtName, IsAtRow, IsEarly, IsExtra, IsFirst, IsMisnamed, IsRecordFault, Refuses, TellInOrder, links_told}
-use Rattle.sheets.specs.Texts.{AreSheetRecords, HasShape, IsSheetOf, NamesNode, counts_of, link_of, sums_of}
+use Rattle.sheets.specs.Texts.{AreSheetRecords, HasShape, IsSheetOf, NamesNode, counts_of, green_of, link_of, sums_of}
 use Rattle.sheets.specs.Told.{Counts, Passed, Shows, Sums, Told, told_of}
 use Rattle.sheets.proofs.DraftLaws.{come-once, shape-of}
 
@@ -131,13 +130,9 @@ extra-clash net front (Shows node green) back sheet is at = at
 extra-clash net front (Counts link totals) back sheet is at = omega (arith, at, links-count net front (Counts link totals) back sheet is)
 extra-clash net front (Sums totals) back sheet is at = omega (arith, at, sums-split net front (Sums totals) back sheet is)
 
-no-some : {X : Type 0} (o : Option X) → IsSome o → o ≡ None → ⊥
-no-some None some none = false≢true some
-no-some (Some x) some none = none-some x (sym none)
-
 misnamed-clash : (net : Net) (front : List Told) (t : Told) (back : List Told) (sheet : Sheet) → IsSheetOf net (front ++ t ∷ back) sheet → IsMisnamed net front t → ⊥
 misnamed-clash net front Passed back sheet is at = at
-misnamed-clash net front (Shows node green) back sheet is at = no-some (number_of net.node_names node) (All-middle (NamesNode net) front back (Shows node green) is.nodes) at
+misnamed-clash net front (Shows node green) back sheet is at = at (All-middle (NamesNode net) front back (Shows node green) is.nodes)
 misnamed-clash net front (Counts link totals) back sheet is at =
     at.1 (sym (ap (λ (names : List (List ℕ)). get_or names (links_told front) []) (links-split net front (Counts link totals) back sheet is) ∙ get_or-append_seam (filter_map link_of front) link (filter_map link_of back) []))
 misnamed-clash net front (Sums totals) back sheet is at = at
@@ -180,3 +175,22 @@ records-refuse net all (Row n) f = fault-refuses net all (Row n) f
 records-refuse net all (Extra n) f = fault-refuses net all (Extra n) f
 records-refuse net all (Name n) f = fault-refuses net all (Name n) f
 records-refuse net all Short f = fault-refuses net all Short f
+
+-- records are those of one sheet at most
+pub one-sheet : (net : Net) (all : List (List (List ℕ))) (one other : Sheet) → AreSheetRecords net all one → AreSheetRecords net all other → one ≡ other
+one-sheet net all one other a b = λ i. record { lines = lines i; links = links i; totals = totals i }
+  where
+    records : a.records ≡ b.records
+    records = one-after header a.records b.records (sym a.are ∙ b.are)
+
+    told : a.told ≡ b.told
+    told = same_Some a.told b.told (sym a.reads ∙ ap (each told_of) records ∙ b.reads)
+
+    lines : one.lines ≡ other.lines
+    lines = a.is.shown ∙ ap (λ (t : List Told). map (λ node. filter_map (green_of node) t) net.node_names) told ∙ sym b.is.shown
+
+    links : one.links ≡ other.links
+    links = a.is.counted ∙ ap (filter_map counts_of) told ∙ sym b.is.counted
+
+    totals : one.totals ≡ other.totals
+    totals = let same = sym a.is.once ∙ ap (filter_map sums_of) told ∙ b.is.once in cc

@@ -1,7 +1,7 @@
 -- The first fault of the text of a sheet.
-use Rattle.std.specs.Prelude.{◌≡◌, ◌≢◌, ℕ, ◌<◌, ◌≤◌, ◌⊎◌, List, [], ◌∷◌, Some, None, IsSomeAnd, All, filter_map, length, take}
+use Rattle.std.specs.Prelude.{◌≡◌, ◌≢◌, ℕ, ◌<◌, ◌≤◌, ◌⊎◌, List, [], ◌∷◌, Some, None, IsSomeAnd, All, Contains, filter_map, length, take}
 use Rattle.foundation.specs.Options.{each}
-use Rattle.net_numbers.specs.Numbers.{Net, number_of}
+use Rattle.net_numbers.specs.Numbers.{Net}
 use Rattle.net_numbers.specs.Outline.{link_name_at}
 use Rattle.record_text.specs.Faults.{HasAfterHeader, IsFirstFault}
 use Rattle.record_text.specs.Records.{records_of}
@@ -36,7 +36,7 @@ IsExtra net told _ = ⊥
 
 -- after this, a green of no node, and totals of a link that is not the next one
 abbrev pub IsMisnamed : Net → List Told → Told → Type 0
-IsMisnamed net told (Shows node green) = number_of net.node_names node ≡ None
+IsMisnamed net told (Shows node green) = ¬ Contains net.node_names node
 IsMisnamed net told (Counts link totals) = (links_told told < length net.link_names) × (link ≢ link_name_at net (links_told told))
 IsMisnamed net told _ = ⊥
 

@@ -1,9 +1,9 @@
 -- Which sheet a text stands for.
-use Rattle.std.specs.Prelude.{◌≡◌, ℕ, if◌then◌else◌, List, [], ◌∷◌, Option, Some, None, IsSome, All, filter_map, length, map}
+use Rattle.std.specs.Prelude.{◌≡◌, ℕ, if◌then◌else◌, List, [], ◌∷◌, Option, Some, None, All, Contains, filter_map, length, map}
 use Rattle.std.specs.Str.{bytes_eq}
 use Rattle.foundation.specs.Options.{each}
 use Rattle.control_flow.specs.declared.greens.Green.{Green}
-use Rattle.net_numbers.specs.Numbers.{Net, number_of}
+use Rattle.net_numbers.specs.Numbers.{Net}
 use Rattle.net_simulator.specs.declared.totals.LinkTotals.{LinkTotals}
 use Rattle.net_simulator.specs.declared.totals.Totals.{Totals}
 use Rattle.record_text.specs.Records.{records_of}
@@ -31,7 +31,7 @@ sums_of _ = None
 
 -- a green that is told is one of a node of the network
 abbrev pub NamesNode : Net → Told → Type 0
-NamesNode net (Shows name green) = IsSome (number_of net.node_names name)
+NamesNode net (Shows name green) = Contains net.node_names name
 NamesNode net _ = Unit {0}
 
 -- The sheet of what is told: greens are those of nodes, and each node's are its line; totals of each link are told, in the order of

@@ -1,5 +1,6 @@
-use Rattle.std.proofs.Common.{refl, ap, sym, ◌∙◌, arith}
+use Rattle.std.proofs.Common.{◌≡◌, refl, ap, sym, ◌∙◌, arith}
 use Rattle.net_numbers.specs.Outline.{link_name_at}
+use Rattle.sheets.specs.Faults.{links_told}
 use Rattle.sheets.proofs.DraftLaws.{come-counts, come-links, links-most, other-name-of, same-name}
 use Rattle.sheets.proofs.drafts.take_counts.Goals as goal
 
@@ -9,7 +10,7 @@ returns-then-link-links-clause-first c = λ told come. (refl, links-most c.args.
 pub returns-then-ne-clause-first : goal.returns-then-ne-clause-first
 returns-then-ne-clause-first c = λ told come. 
     let links = come-links c.args.net.now told c.args.draft.now come in
-    let next = c.as_bytes.ensures.value ∙ c.link_name.ensures.value ∙ ap (link_name_at c.args.net.now) (omega (arith, links)) in
+    let next : c.as_bytes.result.now ≡ link_name_at c.args.net.now (links_told told) = c.as_bytes.ensures.value ∙ c.link_name.ensures.value ∙ ap (link_name_at c.args.net.now) (omega (arith, links)) in
     (refl, (omega (arith, links), λ same. other-name-of c.args.name.now c.as_bytes.result.now c.if-ne.ensures (same ∙ sym next)))
 
 pub returns-clause-ok : goal.returns-clause-ok
