@@ -1,5 +1,5 @@
 -- A draft and what was told.
-use Rattle.std.proofs.Common.{◌≡◌, ◌≢◌, ℕ, zero, suc, ◌+◌, ◌<◌, ◌≤◌, Bool, true, false, if◌then◌else◌, ◌⊎◌, List, [], ◌∷◌, ◌++◌, length, filter_map, get_or, map, take, Option, Some, None, All, IsSome, is_some, not, refl, sym, ap, ◌∙◌, subst, inl, inr, arith, append_assoc, append-nil, length-append, length-take, AllPairs}
+use Rattle.std.proofs.Common.{◌≡◌, ◌≢◌, ℕ, suc, ◌+◌, ◌<◌, ◌≤◌, Bool, true, false, List, [], ◌∷◌, ◌++◌, length, filter_map, get_or, map, take, Option, Some, None, is_some, not, refl, sym, ap, ◌∙◌, inl, inr, arith, append-nil, length-append, length-take}
 use Rattle.std.specs.Str.{bytes_eq}
 use Rattle.std.proofs.lemmas.Bool.{cases_lt, true≢false}
 use Rattle.std.proofs.lemmas.List.{get_or-map, get_or_default, length-map, same_lists, take_all, take_more}
@@ -7,7 +7,7 @@ use Rattle.std.proofs.lemmas.List.Elements.{All-nil, All-push, filter_map-append
 use Rattle.std.proofs.lemmas.List.Quantifiers.{position-Some}
 use Rattle.std.proofs.lemmas.Slice.Eq.{bytes_eq-Decides}
 use Rattle.control_flow.specs.declared.greens.Green.{Green}
-use Rattle.net_numbers.specs.Numbers.{AreDistinct, Net, number_of}
+use Rattle.net_numbers.specs.Numbers.{Net, number_of}
 use Rattle.net_numbers.proofs.Known.{number_of-known}
 use Rattle.net_numbers.specs.Outline.{link_name_at, node_name_at}
 use Rattle.net_simulator.specs.declared.totals.LinkTotals.{LinkTotals}
@@ -15,7 +15,7 @@ use Rattle.net_simulator.specs.declared.totals.Totals.{Totals}
 use Rattle.road_net.specs.Network.{IsNetwork}
 use Rattle.sheets.specs.declared.drafts.Draft.{Draft}
 use Rattle.sheets.specs.declared.sheet.Sheet.{Sheet}
-use Rattle.sheets.specs.Entries.{HasCome, IsMore, sums_if}
+use Rattle.sheets.specs.Entries.{HasCome, sums_if}
 use Rattle.sheets.specs.Faults.{IsEarly, links_told}
 use Rattle.sheets.specs.Texts.{HasShape, IsSheetOf, NamesNode, counts_of, green_of, link_of, sums_of}
 use Rattle.sheets.specs.Told.{Counts, Passed, Shows, Sums, Told}
@@ -172,7 +172,7 @@ module _ (net : Net) (told : List Told) (old : Draft) (come : HasCome net told o
       names : filter_map link_of (told ++ Counts name totals ∷ []) ≡ take (links_told (told ++ Counts name totals ∷ [])) net.link_names
       names =
           split ∙ ap (λ l. l ++ name ∷ []) come.names ∙ ap (λ (n : List ℕ). take (links_told told) net.link_names ++ n ∷ []) (next ∙ ap (link_name_at net) come-links) ∙ sym more
-              ∙ sym (ap (λ k. take k net.link_names) longer)
+          ∙ sym (ap (λ k. take k net.link_names) longer)
 
   -- totals of the network
   pub come-sums : (totals : Totals) (new : Draft) → old.totals ≡ None → new.lines ≡ old.lines → new.links ≡ old.links → new.totals ≡ Some totals → HasCome net (told ++ Sums totals ∷ []) new

@@ -1,5 +1,5 @@
 -- The number that a field is the text of.
-use Rattle.std.proofs.Common.{◌≡◌, ◌≢◌, ℕ, ◌<◌, ◌≤◌, ◌^◌, nat_lt, ◌&&◌, if◌then◌else◌, Bool, true, false, List, Option, Some, None, IfSome, IfNone, IsUtf8, refl, sym, ap, ◌∙◌, arith}
+use Rattle.std.proofs.Common.{◌≡◌, ◌≢◌, ℕ, ◌<◌, ◌≤◌, ◌^◌, nat_lt, ◌&&◌, true, List, Option, Some, None, IfSome, IfNone, IsUtf8, refl, sym, ap, ◌∙◌, arith}
 use Rattle.std.specs.Fmt.{decimal}
 use Rattle.std.specs.Str.{bytes_eq}
 use Rattle.std.specs.Str.Parse.{digits_value}

@@ -1,5 +1,5 @@
 -- The records of a report, one after another, and the first at fault.
-use Rattle.std.proofs.Common.{◌≡◌, ◌≢◌, ℕ, ◌+◌, ◌<◌, ◌≤◌, List, [], ◌∷◌, ◌++◌, length, filter_map, get_or, map, take, Option, Some, None, All, IsSome, IsSomeAnd, refl, sym, ap, ◌∙◌, subst, inl, inr, arith, append_assoc, append-nil, length-append, length-take}
+use Rattle.std.proofs.Common.{◌≡◌, ℕ, ◌+◌, ◌<◌, List, [], ◌∷◌, ◌++◌, length, filter_map, get_or, map, Some, refl, sym, ap, ◌∙◌, subst, inl, inr, arith, append_assoc, append-nil, length-append}
 use Rattle.std.proofs.lemmas.List.Elements.{filter_map-append}
 use Rattle.std.proofs.Math.Seq.{get_or-append_seam}
 use Rattle.std.proofs.lemmas.Option.{same_Some, none-some}
@@ -7,8 +7,7 @@ use Rattle.foundation.specs.Options.{each}
 use Rattle.foundation.proofs.EachLaws.{each-append, each-cons, each-push}
 use Rattle.foundation.proofs.ListLaws.{All-middle}
 use Rattle.foundation.proofs.OptionLaws.{and-at, and-some}
-use Rattle.net_numbers.specs.Numbers.{Net, number_of}
-use Rattle.net_numbers.specs.Outline.{link_name_at}
+use Rattle.net_numbers.specs.Numbers.{Net}
 use Rattle.record_text.specs.Faults.{HasAfterHeader}
 use Rattle.record_text.proofs.FaultLaws.{first-here, one-after}
 use Rattle.world_records.specs.Records.{header}

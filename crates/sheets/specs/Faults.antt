@@ -9,7 +9,7 @@ use Rattle.world_records.specs.Records.{header}
 use Rattle.sheets.specs.declared.faults.SheetFault.{SheetFault}
 use Rattle.sheets.specs.declared.faults.SheetFault.TheVariants.{NoMemory, Header, Row, Extra, Name, Short}
 use Rattle.sheets.specs.Texts.{NamesNode, link_of, sums_of}
-use Rattle.sheets.specs.Told.{Counts, Passed, Shows, Sums, Told, told_of}
+use Rattle.sheets.specs.Told.{Counts, Shows, Sums, Told, told_of}
 
 -- of how many links totals are told
 abbrev pub links_told : List Told → ℕ

@@ -9,7 +9,7 @@ use Rattle.net_simulator.specs.declared.totals.Totals.{Totals}
 use Rattle.record_text.specs.Records.{records_of}
 use Rattle.world_records.specs.Records.{header}
 use Rattle.sheets.specs.declared.sheet.Sheet.{Sheet}
-use Rattle.sheets.specs.Told.{Counts, Passed, Shows, Sums, Told, told_of}
+use Rattle.sheets.specs.Told.{Counts, Shows, Sums, Told, told_of}
 
 -- the green that is told of the node of this name; the name of the link of which totals are told, and these; and the totals of
 -- the whole network

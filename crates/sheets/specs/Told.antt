@@ -54,10 +54,10 @@ is_passed_over kind = bytes_eq kind (codes "step") || bytes_eq kind (codes "plan
 unfoldable pub told : List ℕ → List ℕ → List ℕ → List ℕ → List ℕ → List ℕ → Option Told
 told kind node x y z w =
     if bytes_eq kind (codes "green")
-      then green_told node x y z
-      else (if bytes_eq kind (codes "link")
-        then counts_told x y z w
-        else (if bytes_eq kind (codes "total") then sums_told x y z w else (if is_passed_over kind then Some Passed else None)))
+    then green_told node x y z
+    else (if bytes_eq kind (codes "link")
+    then counts_told x y z w
+    else (if bytes_eq kind (codes "total") then sums_told x y z w else (if is_passed_over kind then Some Passed else None)))
 
 -- a record has seven fields
 abbrev pub told_of : List (List ℕ) → Option Told

@@ -51,7 +51,11 @@ impl Draft {
         ensures some { IfSome result (λ sheet. (told : List Told) → HasCome net.now told self → IsSheetOf net.now told sheet) }
         ensures none { IfNone result ((told : List Told) → HasCome net.now told self → IsEarly net.now told) }
     {
-        let Draft { lines, links, totals } = self;
+        let Draft {
+            lines,
+            links,
+            totals,
+        } = self;
         if links.len() < net.links() as usize {
             return None;
         }

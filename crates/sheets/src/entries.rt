@@ -5,7 +5,7 @@ ghost use Rattle.sheets.specs.Entries.{in_words};
 ghost use Rattle.sheets.specs.Told as told;
 ghost use Rattle.sheets.specs.Told.{counts_told, green_told, sums_told, told_of};
 
-use crate::fields::{field_u32, field_u64, field_u8};
+use crate::fields::{field_u8, field_u32, field_u64};
 use control_flow::greens::Green;
 use csv::ByteRecord;
 use net_simulator::{LinkTotals, Totals};

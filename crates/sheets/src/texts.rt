@@ -10,7 +10,7 @@ ghost use Rattle.sheets.specs.Texts.{AreSheetRecords, HasShape, IsSheetText};
 ghost use Rattle.sheets.specs.Told.{Told};
 ghost use Rattle.sheets.specs.declared.sheet.Sheet as spec;
 
-use crate::drafts::{take_entry, Draft};
+use crate::drafts::{Draft, take_entry};
 use crate::entries::read_entry;
 use crate::faults::SheetFault;
 use crate::sheet::Sheet;

@@ -8,7 +8,7 @@ pub returns-then-link-links-clause-first : goal.returns-then-link-links-clause-f
 returns-then-link-links-clause-first c = λ told come. (refl, links-most c.args.net.now told c.args.draft.now come (omega arith))
 
 pub returns-then-ne-clause-first : goal.returns-then-ne-clause-first
-returns-then-ne-clause-first c = λ told come. 
+returns-then-ne-clause-first c = λ told come.
     let links = come-links c.args.net.now told c.args.draft.now come in
     let next : c.as_bytes.result.now ≡ link_name_at c.args.net.now (links_told told) = c.as_bytes.ensures.value ∙ c.link_name.ensures.value ∙ ap (link_name_at c.args.net.now) (omega (arith, links)) in
     (refl, (omega (arith, links), λ same. other-name-of c.args.name.now c.as_bytes.result.now c.if-ne.ensures (same ∙ sym next)))

@@ -1,4 +1,4 @@
-use Rattle.std.proofs.Common.{refl, sym, ◌∙◌}
+use Rattle.std.proofs.Common.{refl, sym}
 use Rattle.net_numbers.proofs.Distinct.{number_of-unknown}
 use Rattle.sheets.proofs.DraftLaws.{come-green}
 use Rattle.sheets.proofs.drafts.take_green.Goals as goal

@@ -1,4 +1,4 @@
-use Rattle.std.proofs.Common.{refl, sym, arith}
+use Rattle.std.proofs.Common.{arith}
 use Rattle.sheets.proofs.DraftLaws.{come-early, come-sheet}
 use Rattle.sheets.proofs.drafts.Draft.end.Goals as goal
 
