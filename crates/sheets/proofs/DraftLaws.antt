@@ -1,9 +1,10 @@
 -- A draft and what was told.
-use Rattle.std.proofs.Common.{◌≡◌, ◌≢◌, ℕ, suc, ◌+◌, ◌<◌, ◌≤◌, Bool, true, false, List, [], ◌∷◌, ◌++◌, length, filter_map, get_or, map, take, Option, Some, None, is_some, not, refl, sym, ap, ◌∙◌, inl, inr, arith, append-nil, length-append, length-take}
+use Rattle.std.proofs.Common.{◌≡◌, ◌≢◌, ℕ, suc, ◌+◌, ◌<◌, ◌≤◌, Bool, true, false, List, [], ◌∷◌, ◌++◌, length, filter_map, get_or, map, take, Option, Some, None, is_some, not, All, refl, sym, ap, ◌∙◌, subst, inl, inr, arith, append-nil, length-append, length-take}
+use Rattle.std.specs.List.{cons_option}
 use Rattle.std.specs.Str.{bytes_eq}
 use Rattle.std.proofs.lemmas.Bool.{cases_lt, true≢false}
 use Rattle.std.proofs.lemmas.List.{get_or-map, get_or_default, length-map, same_lists, take_all, take_more}
-use Rattle.std.proofs.lemmas.List.Elements.{All-nil, All-push, filter_map-append}
+use Rattle.std.proofs.lemmas.List.Elements.{All-map, All-nil, All-push, filter_map-append}
 use Rattle.std.proofs.lemmas.List.Quantifiers.{position-Some}
 use Rattle.std.proofs.lemmas.Slice.Eq.{bytes_eq-Decides}
 use Rattle.control_flow.specs.declared.greens.Green.{Green}
@@ -210,6 +211,21 @@ module _ (net : Net) (told : List Told) (old : Draft) (come : HasCome net told o
       at : (k : ℕ) (d : List Green) → k < length net.node_names → get_or old.lines.items k d ≡ get_or (map line_at net.node_names) k d
       at k d h =
           get_or_default old.lines.items k d [] (omega (arith, h, come.lines)) ∙ come.shown k h ∙ sym (get_or-map line_at net.node_names k [] d h)
+
+-- what is gathered is no more than what is told
+one-more : {Y : Type 0} (o : Option Y) (ys : List Y) (most : ℕ) → length ys ≤ most → length (cons_option o ys) ≤ most + 1
+one-more None ys most few = omega (arith, few)
+one-more (Some y) ys most few = omega (arith, few)
+
+gathered-few : {Y : Type 0} (f : Told → Option Y) (told : List Told) → length (filter_map f told) ≤ length told
+gathered-few f [] = omega arith
+gathered-few f (t ∷ told) = omega (arith, one-more (f t) (filter_map f told) (length told) (gathered-few f told))
+
+-- no line has more rows than what is told
+pub rows-few : (net : Net) (told : List Told) (sheet : Sheet) (most : ℕ) → length told < most → IsSheetOf net told sheet → All (λ (rows : List Green). length rows < most) sheet.lines
+rows-few net told sheet most few is =
+    subst (All (λ (rows : List Green). length rows < most)) (sym is.shown)
+    (All-map (λ (rows : List Green). length rows < most) (λ node. filter_map (green_of node) told) net.node_names (λ k d h. omega (arith, few, gathered-few (green_of (get_or net.node_names k d)) told)))
 
 -- a sheet has the network's shape
 pub shape-of : (net : Net) (told : List Told) (sheet : Sheet) → IsSheetOf net told sheet → HasShape net sheet

@@ -1,12 +1,13 @@
 -- The records of a report, one after another, and the first at fault.
-use Rattle.std.proofs.Common.{◌≡◌, ℕ, ◌+◌, ◌<◌, List, [], ◌∷◌, ◌++◌, length, filter_map, get_or, map, Some, refl, sym, ap, ◌∙◌, subst, inl, inr, arith, append_assoc, append-nil, length-append}
+use Rattle.std.proofs.Common.{◌≡◌, ℕ, ◌+◌, ◌<◌, ◌≤◌, ◌^◌, List, All, [], ◌∷◌, ◌++◌, length, filter_map, get_or, map, Some, refl, sym, ap, ◌∙◌, subst, inl, inr, arith, append_assoc, append-nil, length-append}
 use Rattle.std.proofs.lemmas.List.Elements.{filter_map-append}
 use Rattle.std.proofs.Math.Seq.{get_or-append_seam}
 use Rattle.std.proofs.lemmas.Option.{same_Some, none-some}
 use Rattle.foundation.specs.Options.{each}
-use Rattle.foundation.proofs.EachLaws.{each-append, each-cons, each-push}
+use Rattle.foundation.proofs.EachLaws.{each-append, each-cons, each-length, each-push}
 use Rattle.foundation.proofs.ListLaws.{All-middle}
 use Rattle.foundation.proofs.OptionLaws.{and-at, and-some}
+use Rattle.control_flow.specs.declared.greens.Green.{Green}
 use Rattle.net_numbers.specs.Numbers.{Net}
 use Rattle.record_text.specs.Faults.{HasAfterHeader}
 use Rattle.record_text.proofs.FaultLaws.{first-here, one-after}
@@ -19,7 +20,7 @@ use Rattle.sheets.specs.Entries.{AreTaken, HasCome, IsEntryFault, IsTaken, IsTol
 use Rattle.sheets.specs.Faults.{AreFaulty, IsAtExtra, IsAtName, IsAtRow, IsEarly, IsExtra, IsFirst, IsMisnamed, IsRecordFault, Refuses, TellInOrder, links_told}
 use Rattle.sheets.specs.Texts.{AreSheetRecords, HasShape, IsSheetOf, NamesNode, counts_of, green_of, link_of, sums_of}
 use Rattle.sheets.specs.Told.{Counts, Passed, Shows, Sums, Told, told_of}
-use Rattle.sheets.proofs.DraftLaws.{come-once, shape-of}
+use Rattle.sheets.proofs.DraftLaws.{come-once, rows-few, shape-of}
 
 -- a record that tells what is at fault
 pub fault-told : (net : Net) (told : List Told) (fields : List (List ℕ)) (t : Told) (number : ℕ) (fault : SheetFault) → told_of fields ≡ Some t → IsToldFault net told t number fault → IsEntryFault net told fields number fault
@@ -103,6 +104,11 @@ module _ (net : Net) (all behind : List (List (List ℕ))) (draft : Draft) (are 
 
   pub taken-shape : (sheet : Sheet) → ((told : List Told) → HasCome net told draft → IsSheetOf net told sheet) → HasShape net sheet
   taken-shape sheet whole = shape-of net taken.told sheet (whole taken.told taken.come)
+
+  pub taken-rows : (sheet : Sheet) → length all ≤ 2 ^ 32 → ((told : List Told) → HasCome net told draft → IsSheetOf net told sheet) → All (λ (rows : List Green). length rows < 2 ^ 32) sheet.lines
+  taken-rows sheet few whole =
+      let told = each-length told_of behind taken.told taken.reads in
+      rows-few net taken.told sheet (2 ^ 32) (omega (arith, told, few, ap length are)) (whole taken.told taken.come)
 
   -- or not all
   pub taken-short : ((told : List Told) → HasCome net told draft → IsEarly net told) → AreFaulty net all Short

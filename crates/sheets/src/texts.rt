@@ -1,5 +1,5 @@
 //! The file of a report, read as a sheet.
-ghost use Rattle.std.specs.Prelude.{◌≡◌, ◌<◌, ◌≤◌, ◌^◌, ◌∷◌, [], IfErr, IfOk, List, OnOk, length};
+ghost use Rattle.std.specs.Prelude.{◌≡◌, ◌<◌, ◌≤◌, ◌^◌, ◌∷◌, [], All, IfErr, IfOk, List, OnOk, length};
 ghost use Rattle.csv.specs.Records.{fields_of};
 ghost use Rattle.record_text.specs.Reading.{IsReading, left_of};
 ghost use Rattle.road_net.specs.Network.{IsNetwork};
@@ -21,18 +21,20 @@ use road_net::Network;
 use std::alloc::Global;
 use world_records::is_header;
 
-/// What a report says, whoever wrote it: the greens of each node and the totals, by the names of the network. It has the network's
-/// shape. Of a row only the fields are read that the sheet has. The file has fewer than 2^32 bytes.
+/// What a report says, whoever wrote it: the greens of each node and the totals, by the names of the network. It has the
+/// network's shape, and each of its lines has fewer than 2^32 rows. Of a row only the fields are read that the sheet has.
+/// The file has fewer than 2^32 bytes.
 ///
 /// The fault is `NoMemory`; or `Header`, where the file does not begin with the header; or that of the first row at
-/// fault, within a row in the order `Row`, `Extra`, `Name`; or else `Short`, where the file ends before the totals of each
-/// link and of the whole network.
+/// fault, within a row in the order `Row`, `Extra`, `Name`; or else `Short`, where the file ends before the totals of
+/// each link and of the whole network.
 ///
 /// docs/FORMATS.md, "Sheet".
 pub fn read_sheet(alloc: Global, bytes: &[u8], net: &Network) -> Result<Sheet, SheetFault>
     requires { length bytes.now < 2 ^ 32 }
     ensures ok { IfOk result (IsSheetText net.now bytes.now) }
     ensures shape { IfOk result (HasShape net.now) }
+    ensures rows { IfOk result (λ sheet. All (λ rows. length rows < 2 ^ 32) sheet.lines) }
     ensures refused { IfErr result (λ fault. Refuses fault ((sheet : spec.Sheet) → ¬ IsSheetText net.now bytes.now sheet)) }
     ensures first { IfErr result (IsSheetFault net.now bytes.now) }
 {
@@ -52,6 +54,7 @@ fn read_records(
     requires few { length (left_of reader.old) ≤ 2 ^ 32 }
     ensures ok { IfOk result (AreSheetRecords net.now (left_of reader.old)) }
     ensures shape { IfOk result (HasShape net.now) }
+    ensures rows { IfOk result (λ sheet. All (λ rows. length rows < 2 ^ 32) sheet.lines) }
     ensures refused { IfErr result (λ fault.
         Refuses fault ((sheet : spec.Sheet) → ¬ AreSheetRecords net.now (left_of reader.old) sheet)) }
     ensures first { IfErr result (AreFaulty net.now (left_of reader.old)) }
