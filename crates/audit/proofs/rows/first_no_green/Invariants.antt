@@ -1,0 +1,7 @@
+use Rattle.std.proofs.Common.{ℕ, ◌<◌}
+use Rattle.audit.specs.Audits.{AllRows, IsGreenAt}
+use Rattle.audit.proofs.rows.first_no_green.Given as goal
+
+-- it holds of each row of the nodes up to here
+abbrev pub invariant-loop-node : goal.invariant-loop-node
+invariant-loop-node l = (n : ℕ) → n < l.node → AllRows IsGreenAt l.net l.lines n

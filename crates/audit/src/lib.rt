@@ -1,0 +1,65 @@
+//! Audits: whether a sheet, what a report says of greens and totals, is clean, and else the first reason why it is not.
+#![tactic(auto)]
+
+mod counts;
+mod findings;
+mod lines;
+mod rows;
+
+ghost use Rattle.std.specs.Prelude.{◌≡◌, ◌↔◌, ◌<◌, ◌^◌, All, IfOk, length};
+ghost use Rattle.arrivals.specs.Amounts.{AreArrivals};
+ghost use Rattle.audit.specs.Audits.{HasShape, IfBad, IsClean, IsWhy};
+ghost use Rattle.net_simulator.specs.Arriving.{arriving_of};
+ghost use Rattle.net_simulator.specs.Worlds.{line_in};
+ghost use Rattle.signal_safety.specs.Safe.{IsSafe};
+
+use arrivals::Arrivals;
+use counts::compare;
+pub use findings::{AuditWhy, Finding};
+use lines::timelines;
+use road_net::Network;
+use rows::first_unlawful;
+use sheets::Sheet;
+use std::alloc::{AllocError, Global};
+
+/// Whether a sheet is clean: each of its lines is lawful for the plan of its node, and its totals are those that the
+/// world shows under these lines and the arrivals, from second 0 up to the end of the last round. Else the first reason
+/// why it is not. Rows that begin after that end count for lawfulness, and not for the totals.
+///
+/// Under the greens of a clean sheet the network is safe. Of a sheet with the shape of the network, each of whose lines
+/// has fewer than 4,294,967,296 rows, nothing else is asked.
+///
+/// `Err`: out of memory.
+///
+/// docs/RULES.md, "Audit".
+pub fn audit(
+    alloc: Global,
+    net: &Network,
+    arrivals: &Arrivals,
+    sheet: Sheet,
+) -> Result<Finding, AllocError>
+    requires shape { HasShape net.now sheet }
+    requires rows { All (λ rows. length rows < 2 ^ 32) sheet.lines }
+    requires arrivals { AreArrivals net.now arrivals.now }
+    ensures clean { IfOk result (λ f. f ≡ Finding.Clean ↔ IsClean net.now (arriving_of arrivals.now) sheet) }
+    ensures safe { IfOk result (λ f. f ≡ Finding.Clean → IsSafe net.now (line_in sheet.lines)) }
+    ensures first { IfOk result (λ f. IfBad f (IsWhy net.now (arriving_of arrivals.now) sheet)) }
+{
+    if let Some(why) = first_unlawful(net, &sheet) {
+        return Ok(Finding::Bad(why));
+    }
+    let Sheet {
+        lines,
+        links,
+        totals,
+    } = sheet;
+    let lines = timelines(alloc, lines.into_vec())?;
+    compare(
+        alloc,
+        net,
+        arrivals,
+        lines.as_slice(),
+        links.as_slice(),
+        totals,
+    )
+}
