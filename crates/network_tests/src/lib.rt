@@ -1,7 +1,9 @@
 //! Tests of what no clause of a network's crates says and no command shows: splits, smoothed series, windows, the world of the
-//! worked network second by second, and what is written of it.
+//! worked network second by second, what is written of it, and audits of its report.
 #![tactic(auto)]
 
+#[cfg(test)]
+mod audits;
 #[cfg(test)]
 mod lines;
 #[cfg(test)]

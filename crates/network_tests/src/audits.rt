@@ -1,0 +1,139 @@
+//! What an audit finds of the worked network's report, and of sheets that differ from it in one place or two.
+ghost use Rattle.std.specs.Prelude.{◌≡◌, ◌<◌, ◌^◌, All, IfOk, length};
+ghost use Rattle.arrivals.specs.Amounts.{AreArrivals};
+
+use arrivals::{Arrivals, read_arrivals};
+use audit::{AuditWhy, Finding, audit};
+use control_flow::greens::Green;
+use foundation::items::Items;
+use net_simulator::{LinkTotals, Totals};
+use road_net::Network;
+use sheets::Sheet;
+use std::alloc::{AllocError, Global};
+use std::test::Fail;
+use worked_network::{ONE_VEHICLE, network};
+
+/// Of each sheet the begin of the second green of a, the end of the green of b, the delay of link sa and that of the
+/// whole network, and what is found.
+const SHEETS: &[(u32, u32, u64, u64, Finding)] = &[
+    (10, 27, 500, 500, Finding::Clean),
+    (
+        10,
+        31,
+        500,
+        500,
+        Finding::Bad(AuditWhy::Span { node: 1, row: 1 }),
+    ),
+    (
+        9,
+        27,
+        500,
+        500,
+        Finding::Bad(AuditWhy::Next { node: 0, row: 2 }),
+    ),
+    (
+        9,
+        31,
+        500,
+        500,
+        Finding::Bad(AuditWhy::Span { node: 1, row: 1 }),
+    ),
+    (10, 27, 499, 500, Finding::Bad(AuditWhy::Link { link: 0 })),
+    (10, 27, 499, 499, Finding::Bad(AuditWhy::Link { link: 0 })),
+    (10, 27, 500, 499, Finding::Bad(AuditWhy::Total)),
+];
+
+/// What the report says of the whole network, with this delay.
+fn totals(delay: u64) -> Totals {
+    Totals {
+        entered: 1000,
+        left: 0,
+        on: 1000,
+        delay,
+    }
+}
+
+/// What the report says of each link, with this delay of the first one.
+fn links(alloc: Global, delay: u64) -> Result<Vec<LinkTotals>, AllocError>
+    ensures { IfOk result (λ all. length all.items ≡ 5) }
+{
+    let nothing = LinkTotals {
+        entered: 0,
+        left: 0,
+        delay: 0,
+    };
+    let mut all = vec![in alloc; nothing; 5]?;
+    all[0] = LinkTotals {
+        entered: 1000,
+        left: 1000,
+        delay,
+    };
+    all[1].entered = 1000;
+    Ok(all)
+}
+
+/// The greens of both nodes, where the second one of a begins and that of b ends in these seconds.
+fn lines(alloc: Global, from: u32, to: u32) -> Result<Vec<Items<Green>>, AllocError>
+    ensures count { IfOk result (λ all. length all.items ≡ 2) }
+    ensures few { IfOk result (λ all. All (λ rows. length rows < 2 ^ 32) all.items) }
+{
+    let first = Green {
+        phase: 0,
+        from: 0,
+        to: 5,
+    };
+    let second = Green {
+        phase: 1,
+        from,
+        to: 27,
+    };
+    let other = Green {
+        phase: 0,
+        from: 0,
+        to,
+    };
+    let mut all = Vec::new(alloc);
+    all.push(Items::from_vec(vec![in alloc; first, second]?))?;
+    all.push(Items::from_vec(vec![in alloc; other]?))?;
+    Ok(all)
+}
+
+/// A sheet of the worked network.
+fn sheet(alloc: Global, from: u32, to: u32, delay: u64, all: u64) -> Result<Sheet, AllocError>
+    ensures lines { IfOk result (λ s. length s.lines ≡ 2) }
+    ensures links { IfOk result (λ s. length s.links ≡ 5) }
+    ensures few { IfOk result (λ s. All (λ rows. length rows < 2 ^ 32) s.lines) }
+{
+    let lines = lines(alloc, from, to)?;
+    let links = links(alloc, delay)?;
+    Ok(Sheet {
+        lines: Items::from_vec(lines),
+        links: Items::from_vec(links),
+        totals: totals(all),
+    })
+}
+
+/// How many sheets an audit finds something else of than is said.
+fn count_others(alloc: Global, net: &Network, arrivals: &Arrivals) -> Result<usize, AllocError>
+    requires nodes { length net.now.node_names ≡ 2 }
+    requires links { length net.now.link_names ≡ 5 }
+    requires arrivals { AreArrivals net.now arrivals.now }
+{
+    let mut others: usize = 0;
+    for &(from, to, delay, all, found) in SHEETS {
+        let sheet = sheet(alloc, from, to, delay, all)?;
+        if audit(alloc, net, arrivals, sheet)? != found {
+            others = others.saturating_add(1);
+        }
+    }
+    Ok(others)
+}
+
+#[test]
+fn an_audit_finds_the_first_reason(rt: HostRuntime) -> Result<(), Fail> {
+    let net = network(rt.alloc(), 4)?;
+    assert_eq!(rt; (net.nodes(), net.links()), (2, 5));
+    let arrivals = read_arrivals(rt.alloc(), ONE_VEHICLE.as_bytes(), &net)?;
+    assert_eq!(rt; count_others(rt.alloc(), &net, &arrivals)?, 0);
+    Ok(())
+}
