@@ -33,7 +33,8 @@ impl<S: LinkSlot> Model for Boards<S> {
 
     ghost view = { λ b. boards_view b.table.shared.table_id b.links b.passes };
 
-    ghost invariant = { λ b. AreBoards b.table.shared.table_id b.table.shared.key b.links b.passes × (vec_len b.waiting ≡ b.links) };
+    ghost invariant = { λ b. AreBoards b.table.shared.table_id b.table.shared.key b.links b.passes
+        × (vec_len b.waiting ≡ b.links) };
 }
 
 impl<S: LinkSlot + Send> CrossesThreads for Boards<S> {}

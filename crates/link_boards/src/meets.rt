@@ -35,7 +35,8 @@ impl<S: LinkSlot> Boards<S> {
     // Sends a courier.
     fn send(&self, seat: &mut Place<S>) -> Place<S>
         requires table { seat.old.table_id ≡ self.now.id }
-        ensures same { (seat.new.table_id ≡ seat.old.table_id) × (seat.new.id ≡ seat.old.id) × (seat.new.me ≡ seat.old.me) }
+        ensures same { (seat.new.table_id ≡ seat.old.table_id) × (seat.new.id ≡ seat.old.id)
+            × (seat.new.me ≡ seat.old.me) }
         ensures courier { (result.table_id ≡ self.now.id) × (result.me ≡ (courier seat.old.me.0, [])) }
     {
         self.table.shared.split_seat::<SendCourier>(seat)

@@ -52,7 +52,8 @@ impl<S: LinkSlot> Boards<S> {
         requires table { seat.old.table_id ≡ self.now.id }
         requires numbers { (number < self.now.passes) × (number < 64) × (calls ≤ 1000000) }
         requires dealer { IsDealer calls number seat.old.me.0 }
-        ensures table { (seat.new.table_id ≡ seat.old.table_id) × (seat.new.id ≡ seat.old.id) × (seat.new.me.1 ≡ seat.old.me.1) }
+        ensures table { (seat.new.table_id ≡ seat.old.table_id) × (seat.new.id ≡ seat.old.id)
+            × (seat.new.me.1 ≡ seat.old.me.1) }
         ensures dealer { IsDealer calls (number + 1) seat.new.me.0 }
         ensures pass { result ≡ fresh_pass self.now.id calls number }
     {

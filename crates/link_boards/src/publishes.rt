@@ -29,7 +29,8 @@ impl<S: LinkSlot> Boards<S> {
         requires table { seat.old.table_id ≡ self.now.id }
         requires drawing { CanDraw S.absent S.log _link _number seat.old.me }
         ensures table { (seat.new.table_id ≡ seat.old.table_id) × (seat.new.id ≡ seat.old.id) }
-        ensures drawn { HasDrawn seat.old.me.0 result × (seat.new.me ≡ (drew_publish W.forecast seat.old.me.0 result, seat.old.me.1)) }
+        ensures drawn { HasDrawn seat.old.me.0 result
+            × (seat.new.me ≡ (drew_publish W.forecast seat.old.me.0 result, seat.old.me.1)) }
     {
         self.table.shared.fetch_add::<DrawPublish<W>>(seat, 0, 1)
     }
@@ -46,7 +47,8 @@ impl<S: LinkSlot> Boards<S> {
         requires table { seat.old.table_id ≡ self.now.id }
         requires few { version_of (held_events S.absent S.log seat.old.me) < 64000000 }
         requires prepared { S.prepared (held S.absent seat.old.me) f }
-        requires note { CanNote S.absent S.log link stamp (after_publish (held_events S.absent S.log seat.old.me) stamp number f) seat.old.me }
+        requires note { CanNote S.absent S.log link stamp
+            (after_publish (held_events S.absent S.log seat.old.me) stamp number f) seat.old.me }
         ensures table { (seat.new.table_id ≡ seat.old.table_id) × (seat.new.id ≡ seat.old.id) }
         ensures view { seat.new.me.0 ≡ seat.old.me.0 }
         ensures holding { Holding S.absent S.log link seat.new.me }
@@ -70,8 +72,10 @@ impl<S: LinkSlot> Boards<S> {
         requires settled { S.settled (held S.absent seat.old.me) }
         ensures table { (seat.new.table_id ≡ seat.old.table_id) × (seat.new.id ≡ seat.old.id) }
         ensures view { seat.new.me.0 ≡ seat.old.me.0 }
-        ensures slot { HoldsSlot S.absent link seat.new.me × (S.log (held S.absent seat.new.me) ≡ S.log (held S.absent seat.old.me)) }
-        ensures made { MatchResult result (λ _. S.prepared (held S.absent seat.new.me) f.now) (λ _. S.settled (held S.absent seat.new.me)) }
+        ensures slot { HoldsSlot S.absent link seat.new.me
+            × (S.log (held S.absent seat.new.me) ≡ S.log (held S.absent seat.old.me)) }
+        ensures made { MatchResult result (λ _. S.prepared (held S.absent seat.new.me) f.now)
+            (λ _. S.settled (held S.absent seat.new.me)) }
     {
         seat.slot_mut(&self.table.shared, link as usize)
             .prepare_publish(rt, f)
@@ -90,8 +94,11 @@ impl<S: LinkSlot> Boards<S> {
         requires settled { S.settled (held S.absent seat.old.me) }
         ensures table { (seat.new.table_id ≡ seat.old.table_id) × (seat.new.id ≡ seat.old.id) }
         ensures view { seat.new.me.0 ≡ seat.old.me.0 }
-        ensures slot { HoldsSlot S.absent link seat.new.me × (held_events S.absent S.log seat.new.me ≡ held_events S.absent S.log seat.old.me) }
-        ensures made { MatchResult result (λ _. S.prepared (held S.absent seat.new.me) f.now × (1 ≤ (S.log (held S.absent seat.new.me)).spare)) (λ _. S.settled (held S.absent seat.new.me)) }
+        ensures slot { HoldsSlot S.absent link seat.new.me
+            × (held_events S.absent S.log seat.new.me ≡ held_events S.absent S.log seat.old.me) }
+        ensures made { MatchResult result
+            (λ _. S.prepared (held S.absent seat.new.me) f.now × (1 ≤ (S.log (held S.absent seat.new.me)).spare))
+            (λ _. S.settled (held S.absent seat.new.me)) }
     {
         self.reserve_at(seat, link)?;
         self.ready_to_publish(rt, seat, link, f)

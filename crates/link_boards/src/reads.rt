@@ -34,7 +34,8 @@ impl<S: LinkSlot> Boards<S> {
         requires table { seat.old.table_id ≡ self.now.id }
         requires drawing { CanDraw S.absent S.log _link _number seat.old.me }
         ensures table { (seat.new.table_id ≡ seat.old.table_id) × (seat.new.id ≡ seat.old.id) }
-        ensures drawn { HasDrawn seat.old.me.0 result × (seat.new.me ≡ (drew_read seat.old.me.0 result, seat.old.me.1)) }
+        ensures drawn { HasDrawn seat.old.me.0 result
+            × (seat.new.me ≡ (drew_read seat.old.me.0 result, seat.old.me.1)) }
     {
         self.table.shared.fetch_add::<DrawRead>(seat, 0, 1)
     }
@@ -42,7 +43,8 @@ impl<S: LinkSlot> Boards<S> {
     // Adds the event of a reading.
     fn note_read(&self, seat: &mut Place<S>, link: u32, number: u32, stamp: u64) -> u32
         requires table { seat.old.table_id ≡ self.now.id }
-        requires note { CanNote S.absent S.log link stamp (after_read (held_events S.absent S.log seat.old.me) stamp number) seat.old.me }
+        requires note { CanNote S.absent S.log link stamp
+            (after_read (held_events S.absent S.log seat.old.me) stamp number) seat.old.me }
         requires settled { S.settled (held S.absent seat.old.me) }
         ensures table { (seat.new.table_id ≡ seat.old.table_id) × (seat.new.id ≡ seat.old.id) }
         ensures view { seat.new.me.0 ≡ seat.old.me.0 }
@@ -84,9 +86,11 @@ impl<S: LinkSlot> Boards<S> {
         requires settled { S.settled (held S.absent seat.old.me) }
         ensures table { (seat.new.table_id ≡ seat.old.table_id) × (seat.new.id ≡ seat.old.id) }
         ensures view { seat.new.me.0 ≡ seat.old.me.0 }
-        ensures slot { HoldsSlot S.absent link seat.new.me × (held_events S.absent S.log seat.new.me ≡ held_events S.absent S.log seat.old.me) }
+        ensures slot { HoldsSlot S.absent link seat.new.me
+            × (held_events S.absent S.log seat.new.me ≡ held_events S.absent S.log seat.old.me) }
         ensures settled { S.settled (held S.absent seat.new.me) }
-        ensures ok { IfOk result (λ r. (S.ready r ≡ newest (held_events S.absent S.log seat.old.me)) × (1 ≤ (S.log (held S.absent seat.new.me)).spare)) }
+        ensures ok { IfOk result (λ r. (S.ready r ≡ newest (held_events S.absent S.log seat.old.me))
+            × (1 ≤ (S.log (held S.absent seat.new.me)).spare)) }
     {
         self.reserve_at(seat, link)?;
         self.ready_at(alloc, seat, link)
@@ -106,7 +110,8 @@ impl<S: LinkSlot> Boards<S> {
         ensures table { (seat.new.table_id ≡ seat.old.table_id) × (seat.new.id ≡ seat.old.id) }
         ensures holding { Holding S.absent S.log link seat.new.me }
         ensures settled { S.settled (held S.absent seat.new.me) }
-        ensures ok { IfOk result (λ d. ReadHeld S.absent S.log seat.old.me (S.ready d.ready) d.version d.stamp seat.new.me) }
+        ensures ok { IfOk result
+            (λ d. ReadHeld S.absent S.log seat.old.me (S.ready d.ready) d.version d.stamp seat.new.me) }
         ensures refused { OnErr result (seat.new.me.0 ≡ seat.old.me.0) }
     {
         let ready = self.prepare_read(alloc, seat, link)?;
@@ -132,7 +137,8 @@ impl<S: LinkSlot> Boards<S> {
         requires drawing { CanDraw S.absent S.log link number seat.old.me }
         requires settled { S.settled (held S.absent seat.old.me) }
         ensures table { (seat.new.table_id ≡ seat.old.table_id) × (seat.new.id ≡ seat.old.id) }
-        ensures ok { IfOk result (λ d. ReadAt S.absent S.log seat.old.me (S.ready d.ready) d.version d.stamp seat.new.me) }
+        ensures ok { IfOk result
+            (λ d. ReadAt S.absent S.log seat.old.me (S.ready d.ready) d.version d.stamp seat.new.me) }
         ensures refused { OnErr result (Undrawn seat.old.me seat.new.me) }
     {
         let drawn = self.read_held(alloc, seat, link, number);

@@ -38,9 +38,11 @@ pub(crate) fn move_world<'a, P, S: LinkSlot, G>(
 )
     requires second { world.old.second + seconds ≤ 18000 }
     requires arrivals { AreArrivals net.now arrivals.now }
-    requires stands { Stands net.now (arriving_of arrivals.now) (standing_by (lines_of (actors_in nodes.now.all.items))) world.old }
+    requires stands { Stands net.now (arriving_of arrivals.now)
+        (standing_by (lines_of (actors_in nodes.now.all.items))) world.old }
     ensures second { world.new.second ≡ world.old.second + seconds }
-    ensures stands { Stands net.now (arriving_of arrivals.now) (standing_by (lines_of (actors_in nodes.now.all.items))) world.new }
+    ensures stands { Stands net.now (arriving_of arrivals.now)
+        (standing_by (lines_of (actors_in nodes.now.all.items))) world.new }
 {
     world.advance(net, nodes, arrivals, seconds);
 }

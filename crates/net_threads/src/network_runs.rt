@@ -48,10 +48,12 @@ fn rounds_of<'a, P: Planner + Drop, S: LinkSlot, G: Gate>(
     gate: &'a G,
 ) -> Result<Rounds<'a, P, S, G>, AllocError>
     requires planners { vec_len planners ≡ length net.now.node_names }
-    ensures refs { IfOk result (λ r. (r.net.now ≡ net.now) × (r.arrivals.now ≡ arrivals.now) × (r.boards.now ≡ boards.now)) }
+    ensures refs { IfOk result (λ r. (r.net.now ≡ net.now) × (r.arrivals.now ≡ arrivals.now)
+        × (r.boards.now ≡ boards.now)) }
     ensures new { IfOk result (λ r. AreNew net.now (length net.now.node_names) (actors_in r.nodes.all.items)) }
     ensures second { IfOk result (λ r. r.world.second ≡ 0) }
-    ensures stands { (arriving : ℕ → ℕ → ℕ) (shown : ℕ → ℕ → Option (ℕ × ℕ)) → IfOk result (λ r. Stands net.now arriving shown r.world) }
+    ensures stands { (arriving : ℕ → ℕ → ℕ) (shown : ℕ → ℕ → Option (ℕ × ℕ))
+        → IfOk result (λ r. Stands net.now arriving shown r.world) }
     ensures of { IfOk result (λ r. AreTasksOf net.now boards.now r.nodes.all.items) }
 {
     let Actors { all: actors } = actors_of(alloc, net)?;

@@ -36,7 +36,9 @@ impl Model for SnapLog {
 fn show<R: Wait>(rt: &R, mut shower: Shower, next: Newest) -> (Shower, Result<(), AllocError>)
     requires full { length (shower.desk.place.me.0.client) ≡ shower.desk.shown.value.version }
     requires next { next.version ≡ shower.desk.shown.value.version + 1 }
-    ensures told { MatchResult result.1 (λ _. result.0.desk.place.me.0.client ≡ shower.desk.place.me.0.client ++ next.forecast ∷ []) (λ _. result.0.desk.place.me.0.client ≡ shower.desk.place.me.0.client) }
+    ensures told { MatchResult result.1
+        (λ _. result.0.desk.place.me.0.client ≡ shower.desk.place.me.0.client ++ next.forecast ∷ [])
+        (λ _. result.0.desk.place.me.0.client ≡ shower.desk.place.me.0.client) }
     ensures full { length (result.0.desk.place.me.0.client) ≡ result.0.desk.shown.value.version }
 {
     let Ok(()) = shower.append(next) else {
