@@ -18,11 +18,6 @@ use Rattle.audit.specs.declared.findings.AuditWhy.TheVariants.{Span, Next, Link,
 use Rattle.audit.specs.declared.findings.Finding.{Finding}
 use Rattle.audit.specs.declared.findings.Finding.TheVariants.{Clean, Bad}
 
--- a sheet has one line for each node, and says something of each link
-pub record HasShape (net : Net) (s : Sheet) : Type 0 where
-  pub lines : length s.lines ≡ length net.node_names
-  pub links : length s.links ≡ length net.link_names
-
 -- the second after the last round
 abbrev pub end_of_run : Net → ℕ
 end_of_run net = net.run.rounds * net.run.step

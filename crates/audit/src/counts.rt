@@ -2,7 +2,7 @@
 
 ghost use Rattle.std.specs.Prelude.{◌≡◌, ◌↔◌, ℕ, ◌<◌, ◌≤◌, IfNone, IfOk, IfSome, IsTrue, length};
 ghost use Rattle.arrivals.specs.Amounts.{AreArrivals};
-ghost use Rattle.audit.specs.Audits.{AreLawful, HasShape, IfBad, IsClean, IsWhy, end_of_run as end_of};
+ghost use Rattle.audit.specs.Audits.{AreLawful, IfBad, IsClean, IsWhy, end_of_run as end_of};
 ghost use Rattle.foundation.specs.Firsts.{IsFirstWithout};
 ghost use Rattle.net_simulator.specs.Arriving.{arriving_of};
 ghost use Rattle.net_simulator.specs.Counts.{counts_at};

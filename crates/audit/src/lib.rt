@@ -8,9 +8,10 @@ mod rows;
 
 ghost use Rattle.std.specs.Prelude.{◌≡◌, ◌↔◌, ◌<◌, ◌^◌, All, IfOk, length};
 ghost use Rattle.arrivals.specs.Amounts.{AreArrivals};
-ghost use Rattle.audit.specs.Audits.{HasShape, IfBad, IsClean, IsWhy};
+ghost use Rattle.audit.specs.Audits.{IfBad, IsClean, IsWhy};
 ghost use Rattle.net_simulator.specs.Arriving.{arriving_of};
 ghost use Rattle.net_simulator.specs.Worlds.{line_in};
+ghost use Rattle.sheets.specs.Texts.{HasShape};
 ghost use Rattle.signal_safety.specs.Safe.{IsSafe};
 
 use arrivals::Arrivals;

@@ -1,7 +1,8 @@
 //! The first row of a sheet's lines that is against the law.
 
 ghost use Rattle.std.specs.Prelude.{◌≡◌, ℕ, ◌<◌, ◌^◌, All, IfNone, IfSome, length};
-ghost use Rattle.audit.specs.Audits.{AllRows, AreLawful, FollowsAt, HasShape, IsFirstRow, IsGreenAt, IsWhy};
+ghost use Rattle.audit.specs.Audits.{AllRows, AreLawful, FollowsAt, IsFirstRow, IsGreenAt, IsWhy};
+ghost use Rattle.sheets.specs.Texts.{HasShape};
 ghost use Rattle.foundation.specs.Firsts.{FromOne, IsFirstWithout};
 ghost use Rattle.road_net.specs.Network.{IsNetwork};
 
