@@ -16,7 +16,7 @@ pub data Told : Type 0 where
   Counts : (link : List ℕ) → (totals : LinkTotals) → Told
   Sums : (totals : Totals) → Told
 
--- the number of at most so many bits that a field is the text of
+-- the number below 2 ^ bits that a field is the text of
 unfoldable pub number_in : ℕ → List ℕ → Option ℕ
 number_in bits field =
     if nat_lt (digits_value 10 field) (2 ^ bits) && bytes_eq field (decimal (digits_value 10 field)) then Some (digits_value 10 field) else None

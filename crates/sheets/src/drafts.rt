@@ -48,7 +48,8 @@ impl Draft {
 
     /// The sheet of all that was told; none where totals are missing.
     pub(crate) fn end(self, net: &Network) -> Option<Sheet>
-        ensures some { IfSome result (λ sheet. (told : List Told) → HasCome net.now told self → IsSheetOf net.now told sheet) }
+        ensures some { IfSome result (λ sheet. (told : List Told) → HasCome net.now told self
+            → IsSheetOf net.now told sheet) }
         ensures none { IfNone result ((told : List Told) → HasCome net.now told self → IsEarly net.now told) }
     {
         let Draft {
@@ -121,8 +122,10 @@ fn add_green(
 ) -> Result<(), AllocError>
     requires { node < length lines.old.items }
     ensures count { OnOk result (length lines.new.items ≡ length lines.old.items) }
-    ensures here { OnOk result (slice_index_or lines.new.items node [] ≡ slice_index_or lines.old.items node [] ++ green ∷ []) }
-    ensures others { OnOk result ((k : ℕ) → k ≢ node → slice_index_or lines.new.items k [] ≡ slice_index_or lines.old.items k []) }
+    ensures here { OnOk result
+        (slice_index_or lines.new.items node [] ≡ slice_index_or lines.old.items node [] ++ green ∷ []) }
+    ensures others { OnOk result ((k : ℕ) → k ≢ node
+        → slice_index_or lines.new.items k [] ≡ slice_index_or lines.old.items k []) }
 {
     let line = mem::replace(&mut lines[node], Items::from_vec(Vec::new(alloc)));
     let mut greens = line.into_vec();

@@ -21,9 +21,9 @@ use road_net::Network;
 use std::alloc::Global;
 use world_records::is_header;
 
-/// What a report says, whoever wrote it: the greens of each node and the totals, by the names of the network. It has the
-/// network's shape, and each of its lines has fewer than 2^32 rows. Of a row only the fields are read that the sheet has.
-/// The file has fewer than 2^32 bytes.
+/// What a report says, whoever wrote it: the greens of each node and the totals, by the names of the network. It has
+/// the network's shape, and each of its lines has fewer than 2^32 rows. Of a row only the fields are read that the
+/// sheet has. The file has fewer than 2^32 bytes.
 ///
 /// The fault is `NoMemory`; or `Header`, where the file does not begin with the header; or that of the first row at
 /// fault, within a row in the order `Row`, `Extra`, `Name`; or else `Short`, where the file ends before the totals of
@@ -35,7 +35,8 @@ pub fn read_sheet(alloc: Global, bytes: &[u8], net: &Network) -> Result<Sheet, S
     ensures ok { IfOk result (IsSheetText net.now bytes.now) }
     ensures shape { IfOk result (HasShape net.now) }
     ensures rows { IfOk result (λ sheet. All (λ rows. length rows < 2 ^ 32) sheet.lines) }
-    ensures refused { IfErr result (λ fault. Refuses fault ((sheet : spec.Sheet) → ¬ IsSheetText net.now bytes.now sheet)) }
+    ensures refused { IfErr result (λ fault.
+        Refuses fault ((sheet : spec.Sheet) → ¬ IsSheetText net.now bytes.now sheet)) }
     ensures first { IfErr result (IsSheetFault net.now bytes.now) }
 {
     let mut reader = open(alloc, bytes);
