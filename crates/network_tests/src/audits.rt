@@ -8,7 +8,7 @@ use control_flow::greens::Green;
 use foundation::items::Items;
 use net_simulator::{LinkTotals, Totals};
 use road_net::Network;
-use sheets::Sheet;
+use sheets::{Sheet, read_sheet};
 use std::alloc::{AllocError, Global};
 use std::test::Fail;
 use worked_network::{ONE_VEHICLE, network};
@@ -42,6 +42,12 @@ const SHEETS: &[(u32, u32, u64, u64, Finding)] = &[
     (10, 27, 499, 499, Finding::Bad(AuditWhy::Link { link: 0 })),
     (10, 27, 500, 499, Finding::Bad(AuditWhy::Total)),
 ];
+
+/// The report of the worked network, but for its steps and all plans but the last.
+const REPORT: &str = "kind,round,node,x,y,z,w\nplan,3,b,ab=4,plan,0,00\n\
+    green,,a,0,0,5,\ngreen,,a,1,10,27,\ngreen,,b,0,0,27,\n\
+    link,,,sa,1000,1000,500\nlink,,,ab,1000,0,0\nlink,,,ba,0,0,0\nlink,,,sb,0,0,0\nlink,,,xb,0,0,0\n\
+    total,,,1000,0,1000,500\n";
 
 /// What the report says of the whole network, with this delay.
 fn totals(delay: u64) -> Totals {
@@ -135,5 +141,14 @@ fn an_audit_finds_the_first_reason(rt: HostRuntime) -> Result<(), Fail> {
     assert_eq!(rt; (net.nodes(), net.links()), (2, 5));
     let arrivals = read_arrivals(rt.alloc(), ONE_VEHICLE.as_bytes(), &net)?;
     assert_eq!(rt; count_others(rt.alloc(), &net, &arrivals)?, 0);
+    Ok(())
+}
+
+#[test]
+fn a_report_is_read_as_a_clean_sheet(rt: HostRuntime) -> Result<(), Fail> {
+    let net = network(rt.alloc(), 4)?;
+    let arrivals = read_arrivals(rt.alloc(), ONE_VEHICLE.as_bytes(), &net)?;
+    let sheet = read_sheet(rt.alloc(), REPORT.as_bytes(), &net)?;
+    assert_eq!(rt; audit(rt.alloc(), &net, &arrivals, sheet)?, Finding::Clean);
     Ok(())
 }
