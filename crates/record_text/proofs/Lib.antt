@@ -1,3 +1,4 @@
 pub mod FaultLaws
 pub mod NameLaws
 pub mod RecordLaws
+pub mod WalkLaws

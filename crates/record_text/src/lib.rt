@@ -3,6 +3,8 @@
 
 mod names;
 mod records;
+mod walks;
 
 pub use names::{link_named, node_named};
 pub use records::{next_record, open};
+pub use walks::{RecordTaker, take_records};
