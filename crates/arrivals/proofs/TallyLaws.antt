@@ -12,13 +12,8 @@ use Rattle.net_numbers.specs.Numbers.{Net}
 use Rattle.arrivals.specs.declared.rows.ArrivalRow.{ArrivalRow}
 use Rattle.arrivals.specs.Amounts.{Amounts, place, entering, nothing, AreArrivalsOf, AreArrivals}
 use Rattle.arrivals.specs.Rows.{seconds, most_of_all, IsSource, IsRow, amount_of, is_at, entering_by}
-use Rattle.arrivals.specs.Stored.{added, amounts_to, reaching}
+use Rattle.arrivals.specs.Stored.{IsTally, added, amounts_to, reaching}
 use Rattle.arrivals.proofs.SumLaws.{entering-within, entering-beyond, entering-most, few}
-
--- the amounts are those of these rows, and so is their sum
-pub record IsTally (net : Net) (rows : List ArrivalRow) (a : Amounts) : Type 0 where
-  pub of_rows : AreArrivalsOf net rows a
-  pub whole : sum a.amounts ≡ sum_by amount_of rows
 
 nothing-enters : (links l x : ℕ) → entering (nothing links) l x ≡ 0
 nothing-enters links l x = omega (arith, entering-most (nothing links) l x)

@@ -1,6 +1,5 @@
 -- The first record at fault.
-use Rattle.std.proofs.Common.{◌≡◌, ℕ, ◌+◌, ◌≤◌, List, [], ◌∷◌, ◌++◌, length, sum, Some, None, Err, IsSomeAnd, refl, sym, ap, ◌∙◌, arith, append_assoc, length-append}
-use Rattle.std.proofs.lemmas.List.{append-nil}
+use Rattle.std.proofs.Common.{◌≡◌, ℕ, ◌+◌, ◌≤◌, List, [], ◌∷◌, ◌++◌, length, sum, Some, None, IsSomeAnd, IfErr, OnOk, Ok, Err, Result, refl, sym, ap, ◌∙◌, inl, inr, arith}
 use Rattle.std.proofs.lemmas.Option.{same_Some, none-some}
 use Rattle.foundation.specs.Options.{◌>>=◌, each}
 use Rattle.foundation.proofs.EachLaws.{each-push, each-length}
@@ -13,12 +12,14 @@ use Rattle.arrivals.specs.Amounts.{Amounts, nothing}
 use Rattle.arrivals.specs.Faults.{IsFirst, AreReadAs, IsAtLink, IsAtBound, IsAtSum, Refuses}
 use Rattle.arrivals.specs.Records.{Told, told_of, row_of, header}
 use Rattle.arrivals.specs.Rows.{most_of_all, IsSource, IsRow}
-use Rattle.arrivals.specs.Stored.{Adds, Reads, added}
+use Rattle.arrivals.specs.Stored.{Adds, HasTaken, IsRefused}
 use Rattle.arrivals.specs.Texts.{AreArrivalRecords, IsSourceName, IsRecordFault, AreFaulty}
 use Rattle.record_text.specs.Faults.{HasAfterHeader}
-use Rattle.record_text.proofs.FaultLaws.{first-here, one-after}
+use Rattle.record_text.specs.Walks.{AreCounted, IsFaultAmong, OrMemory}
+use Rattle.record_text.proofs.FaultLaws.{one-after}
+use Rattle.record_text.proofs.WalkLaws.{fault-after}
 use Rattle.arrivals.proofs.FaultLaws.{refuses}
-use Rattle.arrivals.proofs.TallyLaws.{IsTally, tally-none, tally-more, tally-count}
+use Rattle.arrivals.proofs.TallyLaws.{tally-none, tally-more, tally-count}
 
 -- what a row was read from
 record IsToldBy (net : Net) (fields : List (List ℕ)) (r : ArrivalRow) : Type 0 where
@@ -43,80 +44,55 @@ no-source-name net fields r e none =
     let by = told-by net fields r e in
     and-some (λ t. IsSourceName net t.name → ⊥) (told_of fields) by.told by.is (λ source. none (and-at (IsSource net) (number_of net.link_names by.told.name) r.link by.named source))
 
--- The records that were read, and their rows.
-pub record IsUnder (net : Net) (all : List (List (List ℕ))) (number : ℕ) (left : List (List (List ℕ))) (a : Amounts) : Type 0 where
-  pub records : List (List (List ℕ))
-  pub rows : List ArrivalRow
-  pub are : all ≡ header ∷ (records ++ left)
-  pub reads : each (row_of net) records ≡ Some rows
-  pub counted : number ≡ length records
-  pub tally : IsTally net rows a
+-- nothing was taken
+pub taken-none : (net : Net) (a : Amounts) → a ≡ nothing (length net.link_names) → HasTaken net [] a
+taken-none net a none = record { rows = []; reads = refl; tally = tally-none net a none }
 
-module _ (net : Net) (all : List (List (List ℕ))) (number : ℕ) (fields : List (List ℕ)) (left : List (List (List ℕ))) (a : Amounts) (under : IsUnder net all number (fields ∷ left) a) where
-  here-first : (n : ℕ) (at_fault : List ArrivalRow → List (List ℕ) → Type 0) → n ≡ number + 1 → at_fault under.rows fields → IsFirst (row_of net) net (under.records ++ fields ∷ left) n at_fault
-  here-first n at_fault at fault =
-      first-here (AreReadAs (row_of net) net) under.records fields left number n under.rows at_fault under.counted at (record { reads = under.reads; lawful = under.tally.of_rows.lawful }) fault
+-- a row was added, or not
+module _ (net : Net) (fields : List (List ℕ)) (number : ℕ) (a new : Amounts) (r : ArrivalRow) (is : row_of net fields ≡ Some r) where
+  pub taken-more : (result : Result (Unit {0}) RowFault) → Adds net r number a new result → OnOk result ((records : List (List (List ℕ))) → HasTaken net records a → HasTaken net (records ++ fields ∷ []) new)
+  taken-more (Ok done) (row, same, few) =
+      λ records taken. record { rows = taken.rows ++ r ∷ []; reads = each-push (row_of net) records fields taken.rows r taken.reads is; tally = tally-more net taken.rows a new r taken.tally row same few }
+  taken-more (Err fault) adds = tt
 
-  after-header : (fault : RowFault) → IsRecordFault net (under.records ++ fields ∷ left) fault → HasAfterHeader header all (λ records. IsRecordFault net records fault)
-  after-header fault first = record { records = under.records ++ fields ∷ left; are = under.are; after = first }
+  pub refused-row : (result : Result (Unit {0}) RowFault) → Adds net r number a new result → IfErr result (IsRefused net a fields number)
+  refused-row (Ok done) adds = tt
+  refused-row (Err fault) adds = inr (r, is, new, adds)
 
+-- rows that bring no more than they may are few
+pub taken-few : (net : Net) (all : List (List (List ℕ))) → AreCounted (HasTaken net) all
+taken-few net all = λ header front here rest a are taken. omega (arith, each-length (row_of net) front taken.rows taken.reads, tally-count net taken.rows a taken.tally)
+
+-- all records were taken
+pub taken-all : (net : Net) (all : List (List (List ℕ))) (a : Amounts) → HasAfterHeader header all (λ records. HasTaken net records a) → AreArrivalRecords net all a
+taken-all net all a taken = record { records = taken.records; are = taken.are; rows = taken.after.rows; reads = taken.after.reads; arrivals = taken.after.tally.of_rows }
+
+module _ (net : Net) (all : List (List (List ℕ))) (why : RowFault) (stop : HasAfterHeader header all (IsFaultAmong (HasTaken net) (IsRefused net) why)) where
+  here-first : (n : ℕ) (at_fault : List ArrivalRow → List (List ℕ) → Type 0) → n ≡ stop.after.0 → at_fault stop.after.1.reads.rows stop.after.1.here → HasAfterHeader header all (λ records. IsFirst (row_of net) net records n at_fault)
+  here-first n at_fault same fault =
+      let taken = stop.after.1.reads in
+      fault-after (IsRefused net) (AreReadAs (row_of net) net) at_fault n stop taken.rows same (record { reads = taken.reads; lawful = taken.tally.of_rows.lawful }) fault
+
+  fault-at : (fault : RowFault) → IsRefused net stop.after.1.so_far stop.after.1.here stop.after.0 fault → AreFaulty net all fault
   -- the record is no row
-  pub fault-read : (fault : RowFault) → Reads net fields (number + 1) (Err fault) → AreFaulty net all fault
-  fault-read (Row n) h = after-header (Row n) (here-first n (λ before fields. told_of fields ≡ None) h.0 h.1)
-  fault-read (Link n) h =
-      after-header (Link n) (here-first n (λ before fields. IsSomeAnd (told_of fields) (λ t. IsSourceName net t.name → ⊥)) h.0
-      (and-weaker (λ t. number_of net.link_names t.name ≡ None) (λ t. IsSourceName net t.name → ⊥) (told_of fields) (λ t none. none-and (IsSource net) (number_of net.link_names t.name) none) h.1))
-  fault-read _ h = absurd h
-
+  fault-at (Row n) (inl h) = here-first n (λ before fields. told_of fields ≡ None) h.0 h.1
+  fault-at (Link n) (inl h) =
+      here-first n (λ before fields. IsSomeAnd (told_of fields) (λ t. IsSourceName net t.name → ⊥)) h.0
+      (and-weaker (λ t. number_of net.link_names t.name ≡ None) (λ t. IsSourceName net t.name → ⊥) (told_of stop.after.1.here) (λ t none. none-and (IsSource net) (number_of net.link_names t.name) none) h.1)
+  fault-at _ (inl h) = absurd h
   -- the row cannot be added
-  pub fault-added : (r : ArrivalRow) (new : Amounts) (fault : RowFault) → row_of net fields ≡ Some r → Adds net r (number + 1) a new (Err fault) → AreFaulty net all fault
-  fault-added r new (Link n) is h = after-header (Link n) (here-first n (λ before fields. IsSomeAnd (told_of fields) (λ t. IsSourceName net t.name → ⊥)) h.0 (no-source-name net fields r is h.1))
-  fault-added r new (Bound n) is h = after-header (Bound n) (here-first n (λ before fields. IsSomeAnd (row_of net fields) (IsAtBound net)) h.0 (and-some (IsAtBound net) (row_of net fields) r is h.1))
-  fault-added r new (Sum n) is h =
-      after-header (Sum n) (here-first n (λ before fields. IsSomeAnd (row_of net fields) (IsAtSum net before)) h.0
-      (and-some (IsAtSum net under.rows) (row_of net fields) r is (h.1, omega (arith, h.2, under.tally.whole))))
-  fault-added r new NoMemory is h = tt
-  fault-added r new _ is h = absurd h
+  fault-at (Link n) (inr (r, is, new, h)) = here-first n (λ before fields. IsSomeAnd (told_of fields) (λ t. IsSourceName net t.name → ⊥)) h.0 (no-source-name net stop.after.1.here r is h.1)
+  fault-at (Bound n) (inr (r, is, new, h)) = here-first n (λ before fields. IsSomeAnd (row_of net fields) (IsAtBound net)) h.0 (and-some (IsAtBound net) (row_of net stop.after.1.here) r is h.1)
+  fault-at (Sum n) (inr (r, is, new, h)) =
+      here-first n (λ before fields. IsSomeAnd (row_of net fields) (IsAtSum net before)) h.0
+      (and-some (IsAtSum net stop.after.1.reads.rows) (row_of net stop.after.1.here) r is (h.1, omega (arith, h.2, stop.after.1.reads.tally.whole)))
+  fault-at NoMemory (inr (r, is, new, h)) = tt
+  fault-at _ (inr (r, is, new, h)) = absurd h
 
-  -- one record more
-  pub under-more : (r : ArrivalRow) (new : Amounts) → row_of net fields ≡ Some r → IsRow net r × (new ≡ added a r) × (sum a.amounts + r.amount ≤ most_of_all) → IsUnder net all (number + 1) left new
-  under-more r new is (row, same, few) = record {
-    records = under.records ++ fields ∷ [];
-    rows = under.rows ++ r ∷ [];
-    are = under.are ∙ ap (λ l. header ∷ l) (sym (append_assoc under.records (fields ∷ []) left));
-    reads = each-push (row_of net) under.records fields under.rows r under.reads is;
-    counted = omega (arith, under.counted, length-append under.records (fields ∷ []));
-    tally = tally-more net under.rows a new r under.tally row same few;
-  }
-
--- the header alone was read
-pub under-none : (net : Net) (all : List (List (List ℕ))) (fields : List (List ℕ)) (left : List (List (List ℕ))) (a : Amounts) → all ≡ fields ∷ left → fields ≡ header → a ≡ nothing (length net.link_names) → IsUnder net all 0 left a
-under-none net all fields left a are is none = record {
-  records = [];
-  rows = [];
-  are = are ∙ ap (λ l. l ∷ left) is;
-  reads = refl;
-  counted = refl;
-  tally = tally-none net a none;
-}
-
--- what is left begins with a record
-pub under-at : (net : Net) (all : List (List (List ℕ))) (number : ℕ) (left : List (List (List ℕ))) (fields : List (List ℕ)) (rest : List (List (List ℕ))) (a : Amounts) → left ≡ fields ∷ rest → IsUnder net all number left a → IsUnder net all number (fields ∷ rest) a
-under-at net all number left fields rest a same under = rw same at under
-
--- how many records were read
-pub under-count : (net : Net) (all : List (List (List ℕ))) (number : ℕ) (left : List (List (List ℕ))) (a : Amounts) → IsUnder net all number left a → number ≤ most_of_all
-under-count net all number left a under = omega (arith, under.counted, each-length (row_of net) under.records under.rows under.reads, tally-count net under.rows a under.tally)
-
--- nothing is left
-pub under-all : (net : Net) (all : List (List (List ℕ))) (number : ℕ) (left : List (List (List ℕ))) (a : Amounts) → IsUnder net all number left a → left ≡ [] → AreArrivalRecords net all a
-under-all net all number left a under none = record {
-  records = under.records;
-  are = under.are ∙ ap (λ l. header ∷ (under.records ++ l)) none ∙ ap (λ l. header ∷ l) (append-nil under.records);
-  rows = under.rows;
-  reads = under.reads;
-  arrivals = under.tally.of_rows;
-}
+-- the first record that is not taken is at fault
+pub first-fault : (net : Net) (all : List (List (List ℕ))) (fault : RowFault) → OrMemory (λ _ why. why ≡ NoMemory) fault (HasAfterHeader header all (IsFaultAmong (HasTaken net) (IsRefused net) fault)) → AreFaulty net all fault
+first-fault net all fault (inl (e, memory)) = rw memory tt
+first-fault net all fault (inr stop) = fault-at net all fault stop fault stop.after.1.faulty
 
 -- records with a fault bring no arrivals
 pub records-refuse : (net : Net) (all : List (List (List ℕ))) (fault : RowFault) → AreFaulty net all fault → Refuses fault ((a : Amounts) → AreArrivalRecords net all a → ⊥)

@@ -1,13 +1,14 @@
 -- What the steps of the code answer, and what they keep. No public clause names these words.
-use Rattle.std.specs.Prelude.{◌≡◌, ℕ, ◌+◌, ◌-◌, ◌*◌, ◌≤◌, List, ◌++◌, None, Some, Result, Ok, Err, IsSomeAnd, length, replicate, sum, slice_index_or, slice_set}
+use Rattle.std.specs.Prelude.{◌≡◌, ℕ, ◌+◌, ◌-◌, ◌*◌, ◌≤◌, ◌⊎◌, List, ◌++◌, None, Some, Result, Ok, Err, IsSomeAnd, length, replicate, sum, sum_by, slice_index_or, slice_set}
+use Rattle.foundation.specs.Options.{each}
 use Rattle.net_numbers.specs.Numbers.{Net, number_of}
 use Rattle.arrivals.specs.declared.rows.ArrivalRow.{ArrivalRow}
 use Rattle.arrivals.specs.declared.rows.RowFault.{RowFault}
 use Rattle.arrivals.specs.declared.rows.RowFault.TheVariants.{NoMemory, Row, Link, Bound, Sum}
-use Rattle.arrivals.specs.Amounts.{Amounts, place}
+use Rattle.arrivals.specs.Amounts.{Amounts, AreArrivalsOf, place}
 use Rattle.arrivals.specs.Faults.{IsAtLink, IsAtBound}
 use Rattle.arrivals.specs.Records.{told_of, row_of}
-use Rattle.arrivals.specs.Rows.{most_of_all, IsRow}
+use Rattle.arrivals.specs.Rows.{most_of_all, IsRow, amount_of}
 
 -- the amounts and their sum
 pub record IsStored (amounts : List ℕ) (whole : ℕ) : Type 0 where
@@ -41,3 +42,18 @@ Reads net fields number (Ok r) = row_of net fields ≡ Some r
 Reads net fields number (Err (Row n)) = (n ≡ number) × (told_of fields ≡ None)
 Reads net fields number (Err (Link n)) = (n ≡ number) × IsSomeAnd (told_of fields) (λ t. number_of net.link_names t.name ≡ None)
 Reads net fields number (Err _) = ⊥
+
+-- the amounts are those of these rows, and so is their sum
+pub record IsTally (net : Net) (rows : List ArrivalRow) (a : Amounts) : Type 0 where
+  pub of_rows : AreArrivalsOf net rows a
+  pub whole : sum a.amounts ≡ sum_by amount_of rows
+
+-- the amounts are those of the rows that these records tell
+pub record HasTaken (net : Net) (records : List (List (List ℕ))) (a : Amounts) : Type 0 where
+  pub rows : List ArrivalRow
+  pub reads : each (row_of net) records ≡ Some rows
+  pub tally : IsTally net rows a
+
+-- the record with this number tells no row, or its row cannot be added to the amounts
+abbrev pub IsRefused : Net → Amounts → List (List ℕ) → ℕ → RowFault → Type 0
+IsRefused net a fields number fault = Reads net fields number (Err fault) ⊎ ((r : ArrivalRow) × (row_of net fields ≡ Some r) × (new : Amounts) × Adds net r number a new (Err fault))

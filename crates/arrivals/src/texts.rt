@@ -2,14 +2,13 @@
 ghost use Rattle.std.specs.Prelude.{IfOk, IfErr};
 ghost use Rattle.arrivals.specs.Amounts.{Amounts, AreArrivals};
 ghost use Rattle.arrivals.specs.Faults.{Refuses};
-ghost use Rattle.arrivals.specs.Texts.{IsArrivalText, IsTextFault, AreArrivalRecords, AreFaulty};
-ghost use Rattle.record_text.specs.Reading.{IsReading, left_of};
+ghost use Rattle.arrivals.specs.Texts.{IsArrivalText, IsTextFault};
 
 use crate::amounts::Arrivals;
 use crate::fields::{is_header, read_row};
 use crate::rows::RowFault;
-use csv::{ByteRecord, Reader};
-use record_text::{next_record, open};
+use csv::ByteRecord;
+use record_text::{RecordTaker, take_records};
 use road_net::Network;
 use std::alloc::Global;
 
@@ -25,36 +24,37 @@ pub fn read_arrivals(alloc: Global, bytes: &[u8], net: &Network) -> Result<Arriv
     ensures refused { IfErr result (λ fault. Refuses fault ((a : Amounts) → ¬ IsArrivalText net.now bytes.now a)) }
     ensures first { IfErr result (IsTextFault net.now bytes.now) }
 {
-    let mut reader = open(alloc, bytes);
-    let mut record = ByteRecord::new(alloc);
-    read_records(alloc, net, &mut reader, &mut record)
-}
-
-/// The arrivals of the records that are left, the first of which must be the header.
-fn read_records(
-    alloc: Global,
-    net: &Network,
-    reader: &mut Reader<&[u8]>,
-    record: &mut ByteRecord,
-) -> Result<Arrivals, RowFault>
-    requires { IsReading reader.old }
-    ensures ok { IfOk result (AreArrivalRecords net.now (left_of reader.old)) }
-    ensures arrivals { IfOk result (AreArrivals net.now) }
-    ensures refused { IfErr result (λ fault. Refuses fault ((a : Amounts) → ¬ AreArrivalRecords net.now (left_of reader.old) a)) }
-    ensures first { IfErr result (AreFaulty net.now (left_of reader.old)) }
-{
     let mut arrivals = Arrivals::none(alloc, net);
-    if !next_record(reader, record)? {
+    if !take_records(alloc, bytes, net, &mut arrivals)? {
         return Err(RowFault::Header);
-    }
-    if !is_header(record) {
-        return Err(RowFault::Header);
-    }
-    let mut number = 0;
-    while next_record(reader, record)? {
-        number += 1;
-        let row = read_row(net, record, number)?;
-        arrivals.add(net, row, number)?;
     }
     Ok(arrivals)
+}
+
+impl RecordTaker for Arrivals {
+    ghost use Rattle.arrivals.specs.Records as records;
+    ghost use Rattle.arrivals.specs.Stored.{HasTaken, IsRefused};
+
+    type Fault = RowFault;
+
+    ghost header = { records.header };
+
+    ghost has_taken = { HasTaken };
+
+    ghost at_fault = { IsRefused };
+
+    fn is_header(row: &ByteRecord) -> bool {
+        is_header(row)
+    }
+
+    fn take(
+        &mut self,
+        _alloc: Global,
+        net: &Network,
+        row: &ByteRecord,
+        number: u32,
+    ) -> Result<(), RowFault> {
+        let row = read_row(net, row, number)?;
+        self.add(net, row, number)
+    }
 }

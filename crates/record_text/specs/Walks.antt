@@ -4,13 +4,9 @@ use Rattle.std.specs.Bool.{MatchBool}
 use Rattle.std.specs.declared.alloc.AllocError.{AllocError}
 use Rattle.record_text.specs.Faults.{HasAfterHeader, IsFirstFault}
 
--- where some of these records are taken, and one is left, they are fewer than 2^32 with that one
+-- where some records after the first are taken, and one is left, they are fewer than 2^32 with that one
 abbrev pub AreCounted : {X S : Type 0} → (List X → S → Type 0) → List X → Type 0
-AreCounted {X} {S} has_taken all = (front : List X) (here : X) (rest : List X) (taker : S) → all ≡ front ++ here ∷ rest → has_taken front taker → length front + 1 < 2 ^ 32
-
--- the same of those after the first
-abbrev pub AreCountedAfter : {X S : Type 0} → (List X → S → Type 0) → List X → Type 0
-AreCountedAfter {X} has_taken all = (header : X) (records : List X) → all ≡ header ∷ records → AreCounted has_taken records
+AreCounted {X} {S} has_taken all = (header : X) (front : List X) (here : X) (rest : List X) (taker : S) → all ≡ header ∷ (front ++ here ∷ rest) → has_taken front taker → length front + 1 < 2 ^ 32
 
 -- this is the fault of the first of these records that is not taken
 abbrev pub IsFaultAmong : {X S F : Type 0} → (List X → S → Type 0) → (S → X → ℕ → F → Type 0) → F → List X → Type 0

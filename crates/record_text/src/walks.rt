@@ -1,10 +1,10 @@
 //! The walk over the records of a text.
-ghost use Rattle.std.specs.Prelude.{◌≡◌, [], IfErr, IfOk, OnOk};
+ghost use Rattle.std.specs.Prelude.{[], IfErr, IfOk};
 ghost use Rattle.road_net.specs.Network.{IsNetwork};
 ghost use Rattle.record_text.specs.Faults.{HasAfterHeader};
 ghost use Rattle.record_text.specs.Reading.{IsReading, left_of};
 ghost use Rattle.record_text.specs.Records.{records_of};
-ghost use Rattle.record_text.specs.Walks.{AreCounted, AreCountedAfter, AreTakenIf, IsFaultAmong, OrMemory};
+ghost use Rattle.record_text.specs.Walks.{AreCounted, AreTakenIf, IsFaultAmong, OrMemory};
 
 use crate::records::{next_record, open};
 use csv::{ByteRecord, Reader};
@@ -64,7 +64,7 @@ pub fn take_records<T: RecordTaker>(
     taker: &mut T,
 ) -> Result<bool, T::Fault>
     requires network { IsNetwork net.now }
-    requires few { AreCountedAfter (T.has_taken net.now) (records_of bytes.now) }
+    requires few { AreCounted (T.has_taken net.now) (records_of bytes.now) }
     requires none { T.has_taken net.now [] taker.old }
     ensures taken { IfOk result (AreTakenIf T.header (T.has_taken net.now) (records_of bytes.now) taker.new) }
     ensures first { IfErr result (λ fault. OrMemory T.Fault.from_gives fault
@@ -72,11 +72,11 @@ pub fn take_records<T: RecordTaker>(
 {
     let mut reader = open(alloc, bytes);
     let mut row = ByteRecord::new(alloc);
-    take_after_header(alloc, net, &mut reader, &mut row, taker)
+    take_left(alloc, net, &mut reader, &mut row, taker)
 }
 
 /// Takes the records that are left after the first, which must be the header.
-fn take_after_header<T: RecordTaker>(
+fn take_left<T: RecordTaker>(
     alloc: Global,
     net: &Network,
     reader: &mut Reader<&[u8]>,
@@ -85,7 +85,7 @@ fn take_after_header<T: RecordTaker>(
 ) -> Result<bool, T::Fault>
     requires network { IsNetwork net.now }
     requires reading { IsReading reader.old }
-    requires few { AreCountedAfter (T.has_taken net.now) (left_of reader.old) }
+    requires few { AreCounted (T.has_taken net.now) (left_of reader.old) }
     requires none { T.has_taken net.now [] taker.old }
     ensures taken { IfOk result (AreTakenIf T.header (T.has_taken net.now) (left_of reader.old) taker.new) }
     ensures first { IfErr result (λ fault. OrMemory T.Fault.from_gives fault
@@ -97,30 +97,10 @@ fn take_after_header<T: RecordTaker>(
     if !T::is_header(row) {
         return Ok(false);
     }
-    take_left(alloc, net, reader, row, taker)?;
-    Ok(true)
-}
-
-/// Takes the records that are left.
-fn take_left<T: RecordTaker>(
-    alloc: Global,
-    net: &Network,
-    reader: &mut Reader<&[u8]>,
-    row: &mut ByteRecord,
-    taker: &mut T,
-) -> Result<(), T::Fault>
-    requires network { IsNetwork net.now }
-    requires reading { IsReading reader.old }
-    requires few { AreCounted (T.has_taken net.now) (left_of reader.old) }
-    requires none { T.has_taken net.now [] taker.old }
-    ensures taken { OnOk result (T.has_taken net.now (left_of reader.old) taker.new) }
-    ensures first { IfErr result (λ fault. OrMemory T.Fault.from_gives fault
-        (IsFaultAmong (T.has_taken net.now) (T.at_fault net.now) fault (left_of reader.old))) }
-{
     let mut number = 0;
     while next_record(reader, row)? {
         number += 1;
         taker.take(alloc, net, row, number)?;
     }
-    Ok(())
+    Ok(true)
 }

@@ -7,7 +7,7 @@ use Rattle.record_text.proofs.walks.take_left.Given as goal
 abbrev pub invariant-loop-number : goal.invariant-loop-number
 invariant-loop-number g l = record {
   reading : IsReading l.reader;
-  walked : HasWalked (g.T.RecordTaker.has_taken l.net) (left_of l.fn.reader) l.number (left_of l.reader) l.taker;
+  walked : HasWalked g.T.RecordTaker.header (g.T.RecordTaker.has_taken l.net) (left_of l.fn.reader) l.number (left_of l.reader) l.taker;
 }
 
 -- how many records are left

@@ -1,5 +1,5 @@
 use Rattle.std.proofs.Common.{take}
-use Rattle.arrivals.proofs.TallyLaws.{IsTally}
+use Rattle.arrivals.specs.Stored.{IsTally}
 use Rattle.arrivals.proofs.amounts.Arrivals.of_rows.Given as goal
 
 -- the amounts are those of the rows so far
