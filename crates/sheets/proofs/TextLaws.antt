@@ -1,5 +1,5 @@
 -- The records of a report, one after another, and the first at fault.
-use Rattle.std.proofs.Common.{◌≡◌, ℕ, ◌+◌, ◌<◌, ◌≤◌, ◌^◌, List, All, [], ◌∷◌, ◌++◌, length, filter_map, get_or, map, Some, refl, sym, ap, ◌∙◌, subst, inl, inr, arith, append_assoc, append-nil, length-append}
+use Rattle.std.proofs.Common.{◌≡◌, ℕ, ◌+◌, ◌<◌, ◌≤◌, ◌^◌, List, All, [], ◌∷◌, ◌++◌, length, filter_map, get_or, map, Some, Result, Ok, Err, OnOk, refl, sym, ap, ◌∙◌, subst, inl, inr, arith, length-append}
 use Rattle.std.proofs.lemmas.List.Elements.{filter_map-append}
 use Rattle.std.proofs.Math.Seq.{get_or-append_seam}
 use Rattle.std.proofs.lemmas.Option.{same_Some, none-some}
@@ -10,13 +10,15 @@ use Rattle.foundation.proofs.OptionLaws.{and-at, and-some}
 use Rattle.control_flow.specs.declared.greens.Green.{Green}
 use Rattle.net_numbers.specs.Numbers.{Net}
 use Rattle.record_text.specs.Faults.{HasAfterHeader}
-use Rattle.record_text.proofs.FaultLaws.{first-here, one-after}
+use Rattle.record_text.specs.Walks.{IsFaultAmong, OrMemory}
+use Rattle.record_text.proofs.FaultLaws.{one-after}
+use Rattle.record_text.proofs.WalkLaws.{fault-after}
 use Rattle.world_records.specs.Records.{header}
 use Rattle.sheets.specs.declared.drafts.Draft.{Draft}
 use Rattle.sheets.specs.declared.faults.SheetFault.{SheetFault}
 use Rattle.sheets.specs.declared.faults.SheetFault.TheVariants.{NoMemory, Header, Row, Extra, Name, Short}
 use Rattle.sheets.specs.declared.sheet.Sheet.{Sheet}
-use Rattle.sheets.specs.Entries.{AreTaken, HasCome, IsEntryFault, IsTaken, IsToldFault}
+use Rattle.sheets.specs.Entries.{AreTaken, HasCome, IsEntryFault, IsMore, IsRefused, IsToldFault}
 use Rattle.sheets.specs.Faults.{AreFaulty, IsAtExtra, IsAtName, IsAtRow, IsEarly, IsExtra, IsFirst, IsMisnamed, IsRecordFault, Refuses, TellInOrder, links_told}
 use Rattle.sheets.specs.Texts.{AreSheetRecords, HasShape, IsSheetOf, NamesNode, counts_of, green_of, link_of, sums_of}
 use Rattle.sheets.specs.Told.{Counts, Passed, Shows, Sums, Told, told_of}
@@ -35,87 +37,59 @@ fault-told net told fields t number Short is h = absurd h
 in-order : (net : Net) (records : List (List (List ℕ))) (told : List Told) (draft : Draft) → each told_of records ≡ Some told → HasCome net told draft → TellInOrder net records told
 in-order net records told draft reads come = record { reads = reads; nodes = come.nodes; names = come.names; once = come-once net told draft come }
 
--- The records that were read, what they tell, and the draft that has it.
-pub record IsUnder (net : Net) (all : List (List (List ℕ))) (number : ℕ) (left : List (List (List ℕ))) (draft : Draft) : Type 0 where
-  pub records : List (List (List ℕ))
-  pub told : List Told
-  pub are : all ≡ header ∷ (records ++ left)
-  pub reads : each told_of records ≡ Some told
-  pub counted : number ≡ length records
-  pub come : HasCome net told draft
+-- nothing was taken
+pub taken-none : (net : Net) (draft : Draft) → HasCome net [] draft → AreTaken net [] draft
+taken-none net draft come = record { told = []; reads = refl; come = come }
 
--- the header alone was read
-pub under-none : (net : Net) (left : List (List (List ℕ))) (draft : Draft) → HasCome net [] draft → IsUnder net (header ∷ left) 0 left draft
-under-none net left draft come = record { records = []; told = []; are = refl; reads = refl; counted = refl; come = come }
+-- one record more
+pub taken-more : (net : Net) (fields : List (List ℕ)) (t : Told) (old new : Draft) (result : Result (Unit {0}) SheetFault) → told_of fields ≡ Some t → OnOk result (IsMore net old t new)
+    → OnOk result ((records : List (List (List ℕ))) → AreTaken net records old → AreTaken net (records ++ fields ∷ []) new)
+taken-more net fields t old new (Ok done) is more =
+    λ records taken. record { told = taken.told ++ t ∷ []; reads = each-push told_of records fields taken.told t taken.reads is; come = more taken.told taken.come }
+taken-more net fields t old new (Err fault) is more = tt
 
--- what is left begins with a record
-pub under-at : (net : Net) (all : List (List (List ℕ))) (number : ℕ) (left : List (List (List ℕ))) (fields : List (List ℕ)) (rest : List (List (List ℕ))) (draft : Draft) → left ≡ fields ∷ rest → IsUnder net all number left draft → IsUnder net all number (fields ∷ rest) draft
-under-at net all number left fields rest draft same under = rw same at under
+module _ (net : Net) (all : List (List (List ℕ))) (why : SheetFault) (stop : HasAfterHeader header all (IsFaultAmong (AreTaken net) (IsRefused net) why)) where
+  here-first : (n : ℕ) (at_fault : List Told → List (List ℕ) → Type 0) → n ≡ stop.after.0 → at_fault stop.after.1.reads.told stop.after.1.here → HasAfterHeader header all (λ records. IsFirst net records n at_fault)
+  here-first n at_fault same fault =
+      let taken = stop.after.1.reads in
+      fault-after (IsRefused net) (TellInOrder net) at_fault n stop taken.told same (in-order net stop.after.1.before taken.told stop.after.1.so_far taken.reads taken.come) fault
 
--- how many records were read, where one is left
-pub under-few : (net : Net) (all : List (List (List ℕ))) (number : ℕ) (fields : List (List ℕ)) (left : List (List (List ℕ))) (draft : Draft) → IsUnder net all number (fields ∷ left) draft → number + 1 < length all
-under-few net all number fields left draft under = let a = ap length under.are in omega (arith, a, length-append under.records (fields ∷ left), under.counted)
-
--- the draft has a line for each node
-pub under-lines : (net : Net) (all : List (List (List ℕ))) (number : ℕ) (left : List (List (List ℕ))) (draft : Draft) → IsUnder net all number left draft → length draft.lines.items ≡ length net.node_names
-under-lines net all number left draft under = under.come.lines
-
-module _ (net : Net) (all : List (List (List ℕ))) (number : ℕ) (fields : List (List ℕ)) (left : List (List (List ℕ))) (draft : Draft) (under : IsUnder net all number (fields ∷ left) draft) where
-  here-first : (n : ℕ) (at_fault : List Told → List (List ℕ) → Type 0) → n ≡ number + 1 → at_fault under.told fields → IsFirst net (under.records ++ fields ∷ left) n at_fault
-  here-first n at_fault at fault =
-      first-here (TellInOrder net) under.records fields left number n under.told at_fault under.counted at (in-order net under.records under.told draft under.reads under.come) fault
-
-  after-header : (fault : SheetFault) → IsRecordFault net (under.records ++ fields ∷ left) fault → HasAfterHeader header all (λ records. IsRecordFault net records fault)
-  after-header fault first = record { records = under.records ++ fields ∷ left; are = under.are; after = first }
-
-  -- the record is at fault
-  fault-at : (fault : SheetFault) → IsEntryFault net under.told fields (number + 1) fault → AreFaulty net all fault
+  fault-at : (fault : SheetFault) → IsEntryFault net stop.after.1.reads.told stop.after.1.here stop.after.0 fault → AreFaulty net all fault
   fault-at NoMemory h = tt
   fault-at Header h = absurd h
-  fault-at (Row n) h = after-header (Row n) (here-first n (λ told fields. IsAtRow fields) h.0 h.1)
-  fault-at (Extra n) h = after-header (Extra n) (here-first n (IsAtExtra net) h.0 h.1)
-  fault-at (Name n) h = after-header (Name n) (here-first n (IsAtName net) h.0 h.1)
+  fault-at (Row n) h = here-first n (λ told fields. IsAtRow fields) h.0 h.1
+  fault-at (Extra n) h = here-first n (IsAtExtra net) h.0 h.1
+  fault-at (Name n) h = here-first n (IsAtName net) h.0 h.1
   fault-at Short h = absurd h
 
-  pub fault-here : (fault : SheetFault) → ((told : List Told) → HasCome net told draft → IsEntryFault net told fields (number + 1) fault) → AreFaulty net all fault
-  fault-here fault h = fault-at fault (h under.told under.come)
+-- the first record that is not taken is at fault
+pub first-fault : (net : Net) (all : List (List (List ℕ))) (fault : SheetFault) → OrMemory (λ _ why. why ≡ NoMemory) fault (HasAfterHeader header all (IsFaultAmong (AreTaken net) (IsRefused net) fault)) → AreFaulty net all fault
+first-fault net all fault (inl (e, memory)) = rw memory tt
+first-fault net all fault (inr stop) = fault-at net all fault stop fault (stop.after.1.faulty stop.after.1.reads.told stop.after.1.reads.come)
 
-  -- one record more
-  pub under-more : (new : Draft) → IsTaken net fields draft new → IsUnder net all (number + 1) left new
-  under-more new taken = record {
-    records = under.records ++ fields ∷ [];
-    told = under.told ++ taken.tells ∷ [];
-    are = under.are ∙ ap (λ l. header ∷ l) (sym (append_assoc under.records (fields ∷ []) left));
-    reads = each-push told_of under.records fields under.told taken.tells under.reads taken.told;
-    counted = omega (arith, under.counted, length-append under.records (fields ∷ []));
-    come = taken.more under.told under.come;
-  }
-
--- nothing is left
-pub under-all : (net : Net) (behind : List (List (List ℕ))) (number : ℕ) (left : List (List (List ℕ))) (draft : Draft) → IsUnder net (header ∷ behind) number left draft → left ≡ [] → AreTaken net behind draft
-under-all net behind number left draft under none =
-    let same : behind ≡ under.records = one-after header behind under.records (under.are ∙ ap (λ l. header ∷ (under.records ++ l)) none ∙ ap (λ l. header ∷ l) (append-nil under.records)) in
-    record { told = under.told; reads = rw same under.reads; come = under.come }
-
-module _ (net : Net) (all behind : List (List (List ℕ))) (draft : Draft) (are : all ≡ header ∷ behind) (taken : AreTaken net behind draft) where
+module _ (net : Net) (all : List (List (List ℕ))) (draft : Draft) (taken : HasAfterHeader header all (λ records. AreTaken net records draft)) where
   -- all was told
   pub taken-all : (sheet : Sheet) → ((told : List Told) → HasCome net told draft → IsSheetOf net told sheet) → AreSheetRecords net all sheet
-  taken-all sheet whole = record { records = behind; are = are; told = taken.told; reads = taken.reads; is = whole taken.told taken.come }
+  taken-all sheet whole = record { records = taken.records; are = taken.are; told = taken.after.told; reads = taken.after.reads; is = whole taken.after.told taken.after.come }
 
   pub taken-shape : (sheet : Sheet) → ((told : List Told) → HasCome net told draft → IsSheetOf net told sheet) → HasShape net sheet
-  taken-shape sheet whole = shape-of net taken.told sheet (whole taken.told taken.come)
+  taken-shape sheet whole = shape-of net taken.after.told sheet (whole taken.after.told taken.after.come)
 
   pub taken-rows : (sheet : Sheet) → length all ≤ 2 ^ 32 → ((told : List Told) → HasCome net told draft → IsSheetOf net told sheet) → All (λ (rows : List Green). length rows < 2 ^ 32) sheet.lines
   taken-rows sheet few whole =
-      let told = each-length told_of behind taken.told taken.reads in
-      rows-few net taken.told sheet (2 ^ 32) (omega (arith, told, few, ap length are)) (whole taken.told taken.come)
+      let told = each-length told_of taken.records taken.after.told taken.after.reads in
+      rows-few net taken.after.told sheet (2 ^ 32) (omega (arith, told, few, ap length taken.are)) (whole taken.after.told taken.after.come)
 
   -- or not all
   pub taken-short : ((told : List Told) → HasCome net told draft → IsEarly net told) → AreFaulty net all Short
   taken-short early = record {
-    records = behind;
-    are = are;
-    after = record { told = taken.told; in_order = in-order net behind taken.told draft taken.reads taken.come; early = early taken.told taken.come };
+    records = taken.records;
+    are = taken.are;
+    after = record {
+      told = taken.after.told;
+      in_order = in-order net taken.records taken.after.told draft taken.after.reads taken.after.come;
+      early = early taken.after.told taken.after.come;
+    };
   }
 
 -- where a part of what is told is at fault, all of it has no sheet

@@ -53,11 +53,9 @@ IsEntryFault net told fields number (Extra n) = (n ≡ number) × IsAtExtra net 
 IsEntryFault net told fields number (Name n) = (n ≡ number) × IsAtName net told fields
 IsEntryFault net told fields number _ = ⊥
 
--- what the record tells was taken
-pub record IsTaken (net : Net) (fields : List (List ℕ)) (old new : Draft) : Type 0 where
-  pub tells : Told
-  pub told : told_of fields ≡ Some tells
-  pub more : IsMore net old tells new
+-- the record with this number is at fault after what was taken
+abbrev pub IsRefused : Net → Draft → List (List ℕ) → ℕ → SheetFault → Type 0
+IsRefused net draft fields number fault = (told : List Told) → HasCome net told draft → IsEntryFault net told fields number fault
 
 -- what all these records tell was taken
 pub record AreTaken (net : Net) (records : List (List (List ℕ))) (draft : Draft) : Type 0 where
