@@ -10,7 +10,7 @@ use Rattle.std.proofs.lemmas.List.Folds.{sum_by-replicate}
 use Rattle.std.proofs.lemmas.List.Sums.{sum_by-append, sum_by-cons, sum_by-set}
 use Rattle.net_numbers.specs.Numbers.{Net}
 use Rattle.arrivals.specs.declared.rows.ArrivalRow.{ArrivalRow}
-use Rattle.arrivals.specs.Amounts.{Amounts, place, entering, nothing, AreArrivalsOf, AreArrivals}
+use Rattle.arrivals.specs.Amounts.{Amounts, place, entering, nothing, AreArrivals}
 use Rattle.arrivals.specs.Rows.{seconds, most_of_all, IsSource, IsRow, amount_of, is_at, entering_by}
 use Rattle.arrivals.specs.Stored.{IsTally, added, amounts_to, reaching}
 use Rattle.arrivals.proofs.SumLaws.{entering-within, entering-beyond, entering-most, few}

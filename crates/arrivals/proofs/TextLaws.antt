@@ -1,7 +1,7 @@
 -- The first record at fault.
-use Rattle.std.proofs.Common.{◌≡◌, ℕ, ◌+◌, ◌≤◌, List, [], ◌∷◌, ◌++◌, length, sum, Some, None, IsSomeAnd, IfErr, OnOk, Ok, Err, Result, refl, sym, ap, ◌∙◌, inl, inr, arith}
+use Rattle.std.proofs.Common.{◌≡◌, ℕ, List, [], ◌∷◌, ◌++◌, length, Some, None, IsSomeAnd, IfErr, OnOk, Ok, Err, Result, refl, sym, ap, ◌∙◌, inl, inr, arith}
 use Rattle.std.proofs.lemmas.Option.{same_Some, none-some}
-use Rattle.foundation.specs.Options.{◌>>=◌, each}
+use Rattle.foundation.specs.Options.{◌>>=◌}
 use Rattle.foundation.proofs.EachLaws.{each-push, each-length}
 use Rattle.foundation.proofs.OptionLaws.{bind-some, and-some, and-at, and-weaker, none-and}
 use Rattle.net_numbers.specs.Numbers.{Net, number_of}
@@ -11,9 +11,9 @@ use Rattle.arrivals.specs.declared.rows.RowFault.TheVariants.{NoMemory, Header, 
 use Rattle.arrivals.specs.Amounts.{Amounts, nothing}
 use Rattle.arrivals.specs.Faults.{IsFirst, AreReadAs, IsAtLink, IsAtBound, IsAtSum, Refuses}
 use Rattle.arrivals.specs.Records.{Told, told_of, row_of, header}
-use Rattle.arrivals.specs.Rows.{most_of_all, IsSource, IsRow}
+use Rattle.arrivals.specs.Rows.{IsSource}
 use Rattle.arrivals.specs.Stored.{Adds, HasTaken, IsRefused}
-use Rattle.arrivals.specs.Texts.{AreArrivalRecords, IsSourceName, IsRecordFault, AreFaulty}
+use Rattle.arrivals.specs.Texts.{AreArrivalRecords, IsSourceName, AreFaulty}
 use Rattle.record_text.specs.Faults.{HasAfterHeader}
 use Rattle.record_text.specs.Walks.{AreCounted, IsFaultAmong, OrMemory}
 use Rattle.record_text.proofs.FaultLaws.{one-after}

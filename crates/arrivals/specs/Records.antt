@@ -1,30 +1,13 @@
 -- The header, and the row that a record tells.
-use Rattle.std.specs.Prelude.{codes, ℕ, ◌+◌, ◌-◌, ◌*◌, ◌^◌, min, nat_le, ◌&&◌, Bool, if◌then◌else◌, List, [], ◌∷◌, Option, Some, None, length, fold}
-use Rattle.std.specs.List.{list_all}
-use Rattle.std.specs.Char.{is_ascii_digit}
+use Rattle.std.specs.Prelude.{codes, ℕ, List, [], ◌∷◌, Option, Some, None}
 use Rattle.foundation.specs.Options.{◌>>=◌}
 use Rattle.net_numbers.specs.Numbers.{Net, number_of}
+use Rattle.record_text.specs.Decimals.{number_of_digits}
 use Rattle.arrivals.specs.declared.rows.ArrivalRow.{ArrivalRow}
 
 -- the header
 abbrev pub header : List (List ℕ)
 header = codes "second" ∷ codes "link" ∷ codes "amount" ∷ []
-
--- the value of decimal digits
-abbrev pub decimal_value : List ℕ → ℕ
-decimal_value digits = fold (λ n digit. n * 10 + (digit - 48)) 0 digits
-
--- the greatest u32
-abbrev pub greatest : ℕ
-greatest = 2 ^ 32 - 1
-
--- 1 to 10 digits, and nothing else
-abbrev pub are_digits : List ℕ → Bool
-are_digits field = nat_le 1 (length field) && nat_le (length field) 10 && list_all is_ascii_digit field
-
--- the number of a field of digits; one past the greatest u32 stands as that one, which is out of every bound
-abbrev pub digits_of : List ℕ → Option ℕ
-digits_of field = if are_digits field then Some (min (decimal_value field) greatest) else None
 
 -- what a record tells: a second, the name of a link, and an amount
 pub record Told : Type 0 where
@@ -35,8 +18,8 @@ pub record Told : Type 0 where
 -- what three fields tell, where the first and the last are digits
 unfoldable pub told : List ℕ → List ℕ → List ℕ → Option Told
 told second name amount = do
-  x ← digits_of second
-  a ← digits_of amount
+  x ← number_of_digits second
+  a ← number_of_digits amount
   Some (record { second = x; name = name; amount = a })
 
 -- a record of three fields

@@ -1,15 +1,13 @@
 //! The row that a record tells.
-ghost use Rattle.std.specs.Prelude.{◌≡◌, ◌≢◌, ◌↔◌, [], ◌∷◌, min, None, Some, IsTrue, MatchOption, length};
+ghost use Rattle.std.specs.Prelude.{◌≡◌, ◌≢◌, ◌↔◌, [], ◌∷◌, None, Some, IsTrue, MatchOption, length};
 ghost use Rattle.csv.specs.Records.{fields_of};
-ghost use Rattle.std.specs.List.{list_all};
-ghost use Rattle.std.specs.Char.{is_ascii_digit};
 ghost use Rattle.road_net.specs.Network.{IsNetwork};
-ghost use Rattle.arrivals.specs.Records.{header, are_digits, digits_of, greatest, decimal_value, told_of};
+ghost use Rattle.arrivals.specs.Records.{header, told_of};
 ghost use Rattle.arrivals.specs.Stored.{Reads};
 
 use crate::rows::{ArrivalRow, RowFault};
 use csv::ByteRecord;
-use record_text::link_named;
+use record_text::{digits, link_named};
 use road_net::Network;
 
 /// Whether the record is the header.
@@ -64,40 +62,4 @@ fn three_fields(row: &ByteRecord) -> Option<(&[u8], &[u8], &[u8])>
         return None;
     }
     Some((row.get(0)?, row.get(1)?, row.get(2)?))
-}
-
-/// The value of 1 to 10 decimal digits. One past the greatest u32 stands as that one, which is out of every bound.
-fn digits(field: &[u8]) -> Option<u32>
-    ensures { result ≡ digits_of field.now }
-{
-    if !are_digits(field) {
-        return None;
-    }
-    Some(decimal_value(field))
-}
-
-/// Whether the field is 1 to 10 digits.
-fn are_digits(field: &[u8]) -> bool
-    ensures { result ≡ are_digits field.now }
-{
-    1 <= field.len() && field.len() <= 10 && all_digits(field)
-}
-
-/// Whether each byte of the field is a digit.
-fn all_digits(field: &[u8]) -> bool
-    ensures { result ≡ list_all is_ascii_digit field.now }
-{
-    field.iter().all(|byte| byte.is_ascii_digit())
-}
-
-/// The value of decimal digits, or the greatest u32 where that is less.
-fn decimal_value(digits: &[u8]) -> u32
-    requires { IsTrue (list_all is_ascii_digit digits.now) }
-    ensures { result ≡ min (decimal_value digits.now) greatest }
-{
-    let mut number = 0u64;
-    for digit in digits {
-        number = (number * 10 + u64::from(*digit - b'0')).min(u64::from(u32::MAX));
-    }
-    number as u32
 }

@@ -1,3 +1,4 @@
+pub mod Decimals
 pub mod Faults
 pub mod Reading
 pub mod Records
