@@ -1,5 +1,5 @@
 -- The records of a history, one after another, and the first at fault.
-use Rattle.std.proofs.Common.{◌≡◌, ℕ, ◌+◌, ◌<◌, List, [], ◌∷◌, ◌++◌, length, Option, Some, None, IsSomeAnd, refl, sym, ap, ◌∙◌, subst, inl, inr, arith, append_assoc, append-nil, length-append}
+use Rattle.std.proofs.Common.{◌≡◌, ℕ, ◌+◌, ◌<◌, List, [], ◌∷◌, ◌++◌, length, Option, Some, None, IsSomeAnd, Result, Ok, Err, OnOk, refl, sym, ap, ◌∙◌, subst, inl, inr, arith, append-nil}
 use Rattle.std.specs.List.{concat}
 use Rattle.std.proofs.lemmas.List.Folds.{concat-append}
 use Rattle.std.proofs.lemmas.Option.{same_Some, none-some}
@@ -17,94 +17,78 @@ use Rattle.delay_report.specs.declared.faults.HistoryFault.{HistoryFault}
 use Rattle.delay_report.specs.declared.faults.HistoryFault.TheVariants.{NoMemory, Header, Row, Node, Extra, Turn, Short}
 use Rattle.world_records.specs.Records.{header}
 use Rattle.delay_report.specs.Entries.{steps_by, steps_of, node_field_of}
-use Rattle.delay_report.specs.Faults.{AreFaulty, IsAtExtra, IsAtNode, IsAtRow, IsAtTurn, IsFirst, IsRecordFault, Refuses, TellUnderWay}
+use Rattle.delay_report.specs.Faults.{AreFaulty, AreUnderWay, IsAtExtra, IsAtNode, IsAtRow, IsAtTurn, IsFirst, IsRecordFault, Refuses, TellUnderWay}
 use Rattle.record_text.specs.Faults.{HasAfterHeader}
-use Rattle.record_text.proofs.FaultLaws.{first-here, one-after}
-use Rattle.delay_report.specs.Taken.{AreAllTaken, AreTaken, IsEntryFault}
+use Rattle.record_text.specs.Walks.{IsFaultAmong, OrMemory}
+use Rattle.record_text.proofs.FaultLaws.{one-after}
+use Rattle.record_text.proofs.WalkLaws.{fault-after}
+use Rattle.delay_report.specs.declared.texts.HistoryDraft.{HistoryDraft}
+use Rattle.delay_report.specs.Taken.{AreTaken, HasTaken, IsEntryFault, IsRefused}
 use Rattle.delay_report.specs.Texts.{AreHistoryRecords}
 
--- The records that were read, the steps that they tell, and how far these have come.
-pub record IsUnder (net : Net) (all : List (List (List ℕ))) (number : ℕ) (left : List (List (List ℕ))) (history : List ℕ) (p : Course) : Type 0 where
-  pub records : List (List (List ℕ))
-  pub steps : List (List ℕ)
-  pub are : all ≡ header ∷ (records ++ left)
-  pub reads : each (steps_of net) records ≡ Some steps
-  pub counted : number ≡ length records
-  pub history_is : history ≡ concat steps
-  pub come : HasCome net history p
+-- nothing was taken
+pub taken-none : (net : Net) (draft : HistoryDraft) → draft.steps.items ≡ [] → HasCome net [] draft.progress → HasTaken net [] draft
+taken-none net draft none come =
+    record { steps = []; reads = refl; history_is = none; come = subst (λ (h : List ℕ). HasCome net h draft.progress) (sym none) come }
 
--- the header alone was read
-pub under-none : (net : Net) (left : List (List (List ℕ))) (history : List ℕ) (p : Course) → history ≡ [] → HasCome net [] p → IsUnder net (header ∷ left) 0 left history p
-under-none net left history p none come =
-    record { records = []; steps = []; are = refl; reads = refl; counted = refl; history_is = none; come = subst (λ (h : List ℕ). HasCome net h p) (sym none) come }
-
--- what is left begins with a record
-pub under-at : (net : Net) (all : List (List (List ℕ))) (number : ℕ) (left : List (List (List ℕ))) (fields : List (List ℕ)) (rest : List (List (List ℕ))) (history : List ℕ) (p : Course) → left ≡ fields ∷ rest → IsUnder net all number left history p → IsUnder net all number (fields ∷ rest) history p
-under-at net all number left fields rest history p same under = rw same at under
-
--- how many records were read, where one is left
-pub under-few : (net : Net) (all : List (List (List ℕ))) (number : ℕ) (fields : List (List ℕ)) (left : List (List (List ℕ))) (history : List ℕ) (p : Course) → IsUnder net all number (fields ∷ left) history p → number + 1 < length all
-under-few net all number fields left history p under = let a = ap length under.are in omega (arith, a, length-append under.records (fields ∷ left), under.counted)
+-- one record more
+pub taken-more : (net : Net) (fields : List (List ℕ)) (old new : HistoryDraft) (result : Result (Unit {0}) HistoryFault) → OnOk result (AreTaken net fields old.steps.items new.steps.items new.progress)
+    → OnOk result ((records : List (List (List ℕ))) → HasTaken net records old → HasTaken net (records ++ fields ∷ []) new)
+taken-more net fields old new (Ok done) more = λ records taken. record {
+  steps = taken.steps ++ more.more ∷ [];
+  reads = each-push (steps_of net) records fields taken.steps more.more taken.reads more.told;
+  history_is = more.new_is ∙ ap (λ l. l ++ more.more) taken.history_is ∙ ap (λ l. concat taken.steps ++ l) (sym (append-nil more.more)) ∙ sym (concat-append taken.steps (more.more ∷ []));
+  come = more.come;
+}
+taken-more net fields old new (Err fault) more = tt
 
 -- the rounds that are done, in the rounds of the network
 way-of : (net : Net) (history : List ℕ) (p : Course) → HasCome net history p → IsUnderWay (board_steps net) net.run.rounds p.done history
 way-of net history p come = subst (λ r. IsUnderWay (board_steps net) r p.done history) come.rounds come.way
 
-module _ (net : Net) (all : List (List (List ℕ))) (number : ℕ) (fields : List (List ℕ)) (left : List (List (List ℕ))) (history : List ℕ) (p : Course) (under : IsUnder net all number (fields ∷ left) history p) where
-  here-first : (n : ℕ) (at_fault : List ℕ → List (List ℕ) → Type 0) → n ≡ number + 1 → at_fault history fields → IsFirst net (under.records ++ fields ∷ left) n at_fault
-  here-first n at_fault at fault =
-      first-here (TellUnderWay net) under.records fields left number n history at_fault under.counted at
-      (record { done = p.done; under_way = record { steps = under.steps; reads = under.reads; history_is = under.history_is; way = way-of net history p under.come } }) fault
+-- what was taken is under way
+under-way : (net : Net) (records : List (List (List ℕ))) (draft : HistoryDraft) → HasTaken net records draft → AreUnderWay net records draft.steps.items draft.progress.done
+under-way net records draft taken =
+    record { steps = taken.steps; reads = taken.reads; history_is = taken.history_is; way = way-of net draft.steps.items draft.progress taken.come }
 
-  after-header : (fault : HistoryFault) → IsRecordFault net (under.records ++ fields ∷ left) fault → HasAfterHeader header all (λ records. IsRecordFault net records fault)
-  after-header fault first = record { records = under.records ++ fields ∷ left; are = under.are; after = first }
+module _ (net : Net) (all : List (List (List ℕ))) (why : HistoryFault) (stop : HasAfterHeader header all (IsFaultAmong (HasTaken net) (IsRefused net) why)) where
+  here-first : (n : ℕ) (at_fault : List ℕ → List (List ℕ) → Type 0) → n ≡ stop.after.0 → at_fault stop.after.1.so_far.steps.items stop.after.1.here → HasAfterHeader header all (λ records. IsFirst net records n at_fault)
+  here-first n at_fault same fault =
+      let draft = stop.after.1.so_far in
+      fault-after (IsRefused net) (TellUnderWay net) at_fault n stop draft.steps.items same (record { done = draft.progress.done; under_way = under-way net stop.after.1.before draft stop.after.1.reads }) fault
 
-  -- the record is at fault
-  pub fault-here : (fault : HistoryFault) → IsEntryFault net history fields (number + 1) fault → AreFaulty net all fault
-  fault-here NoMemory h = tt
-  fault-here Header h = absurd h
-  fault-here (Row n) h = after-header (Row n) (here-first n (λ history fields. IsAtRow fields) h.0 h.1)
-  fault-here (Node n) h = after-header (Node n) (here-first n (λ history fields. IsAtNode net fields) h.0 h.1)
-  fault-here (Extra n) h = after-header (Extra n) (here-first n (IsAtExtra net) h.0 h.1)
-  fault-here (Turn n) h = after-header (Turn n) (here-first n (IsAtTurn net) h.0 h.1)
-  fault-here Short h = absurd h
+  fault-at : (fault : HistoryFault) → IsEntryFault net stop.after.1.so_far.steps.items stop.after.1.here stop.after.0 fault → AreFaulty net all fault
+  fault-at NoMemory h = tt
+  fault-at Header h = absurd h
+  fault-at (Row n) h = here-first n (λ history fields. IsAtRow fields) h.0 h.1
+  fault-at (Node n) h = here-first n (λ history fields. IsAtNode net fields) h.0 h.1
+  fault-at (Extra n) h = here-first n (IsAtExtra net) h.0 h.1
+  fault-at (Turn n) h = here-first n (IsAtTurn net) h.0 h.1
+  fault-at Short h = absurd h
 
-  -- one record more
-  pub under-more : (new : List ℕ) (q : Course) → AreTaken net fields history new q → IsUnder net all (number + 1) left new q
-  under-more new q taken = record {
-    records = under.records ++ fields ∷ [];
-    steps = under.steps ++ taken.more ∷ [];
-    are = under.are ∙ ap (λ l. header ∷ l) (sym (append_assoc under.records (fields ∷ []) left));
-    reads = each-push (steps_of net) under.records fields under.steps taken.more under.reads taken.told;
-    counted = omega (arith, under.counted, length-append under.records (fields ∷ []));
-    history_is = taken.new_is ∙ ap (λ l. l ++ taken.more) under.history_is ∙ ap (λ l. concat under.steps ++ l) (sym (append-nil taken.more)) ∙ sym (concat-append under.steps (taken.more ∷ []));
-    come = taken.come;
-  }
+-- the first record that is not taken is at fault
+pub first-fault : (net : Net) (all : List (List (List ℕ))) (fault : HistoryFault) → OrMemory (λ _ why. why ≡ NoMemory) fault (HasAfterHeader header all (IsFaultAmong (HasTaken net) (IsRefused net) fault)) → AreFaulty net all fault
+first-fault net all fault (inl (e, memory)) = rw memory tt
+first-fault net all fault (inr stop) = fault-at net all fault stop fault stop.after.1.faulty
 
--- nothing is left
-pub under-all : (net : Net) (behind : List (List (List ℕ))) (number : ℕ) (left : List (List (List ℕ))) (history : List ℕ) (p : Course) → IsUnder net (header ∷ behind) number left history p → left ≡ [] → AreAllTaken net behind history p
-under-all net behind number left history p under none =
-    let same : behind ≡ under.records = one-after header behind under.records (under.are ∙ ap (λ l. header ∷ (under.records ++ l)) none ∙ ap (λ l. header ∷ l) (append-nil under.records)) in
-    record { steps = under.steps; reads = rw same under.reads; history_is = under.history_is; come = under.come }
-
-module _ (net : Net) (all behind : List (List (List ℕ))) (history : List ℕ) (p : Course) (are : all ≡ header ∷ behind) (taken : AreAllTaken net behind history p) where
+module _ (net : Net) (all : List (List (List ℕ))) (draft : HistoryDraft) (taken : HasAfterHeader header all (λ records. HasTaken net records draft)) where
   -- all rounds are done
-  pub taken-all : IsLawful net history → AreHistoryRecords net all history
-  taken-all lawful = record { records = behind; are = are; steps = taken.steps; reads = taken.reads; history_is = taken.history_is; lawful = lawful }
+  pub taken-all : IsLawful net draft.steps.items → AreHistoryRecords net all draft.steps.items
+  taken-all lawful = record { records = taken.records; are = taken.are; steps = taken.after.steps; reads = taken.after.reads; history_is = taken.after.history_is; lawful = lawful }
 
   -- or not all
-  pub taken-short : (IsLawful net history → ⊥) → AreFaulty net all Short
+  pub taken-short : (IsLawful net draft.steps.items → ⊥) → AreFaulty net all Short
   taken-short other = record {
-    records = behind;
-    are = are;
+    records = taken.records;
+    are = taken.are;
     after = record {
-      history = history;
-      done = p.done;
-      under_way = record { steps = taken.steps; reads = taken.reads; history_is = taken.history_is; way = way-of net history p taken.come };
+      history = draft.steps.items;
+      done = draft.progress.done;
+      under_way = under-way net taken.records draft taken.after;
       early = (
-          let most = taken.come.way.most in
-          let rounds = taken.come.rounds in
-          elim (cases_lt p.done p.rounds) [ inl less ↦ omega (arith, less, rounds) | inr more ↦ absurd (other (come-over net history p taken.come (omega (arith, most, more)))) ]);
+          let most = taken.after.come.way.most in
+          let rounds = taken.after.come.rounds in
+          elim (cases_lt draft.progress.done draft.progress.rounds) [ inl less ↦ omega (arith, less, rounds) | inr more ↦ absurd (other (come-over net draft.steps.items draft.progress taken.after.come (omega (arith, most, more)))) ]);
     };
   }
 

@@ -6,6 +6,7 @@ use Rattle.net_numbers.specs.Numbers.{Net}
 use Rattle.histories.specs.Progress.{Course, HasCome}
 use Rattle.delay_report.specs.declared.faults.HistoryFault.{HistoryFault}
 use Rattle.delay_report.specs.declared.faults.HistoryFault.TheVariants.{NoMemory, Row, Node, Extra, Turn}
+use Rattle.delay_report.specs.declared.texts.HistoryDraft.{HistoryDraft}
 use Rattle.delay_report.specs.Entries.{steps_of}
 use Rattle.delay_report.specs.Faults.{IsAtExtra, IsAtNode, IsAtRow, IsAtTurn}
 
@@ -30,9 +31,13 @@ pub record AreTaken (net : Net) (fields : List (List ℕ)) (old new : List ℕ) 
   pub new_is : new ≡ old ++ more
   pub come : HasCome net new p
 
--- the steps of all these records were taken, and they are this history
-pub record AreAllTaken (net : Net) (records : List (List (List ℕ))) (history : List ℕ) (p : Course) : Type 0 where
+-- the draft has the steps of all these records
+pub record HasTaken (net : Net) (records : List (List (List ℕ))) (draft : HistoryDraft) : Type 0 where
   pub steps : List (List ℕ)
   pub reads : each (steps_of net) records ≡ Some steps
-  pub history_is : history ≡ concat steps
-  pub come : HasCome net history p
+  pub history_is : draft.steps.items ≡ concat steps
+  pub come : HasCome net draft.steps.items draft.progress
+
+-- the record with this number is at fault after what the draft has
+abbrev pub IsRefused : Net → HistoryDraft → List (List ℕ) → ℕ → HistoryFault → Type 0
+IsRefused net draft fields number fault = IsEntryFault net draft.steps.items fields number fault

@@ -1,20 +1,18 @@
 //! The file of a history.
-ghost use Rattle.std.specs.Prelude.{◌≡◌, ◌<◌, ◌≤◌, ◌^◌, ◌∷◌, ℕ, List, [], IfErr, IfOk, OnOk, length};
+ghost use Rattle.std.specs.Prelude.{◌<◌, ◌^◌, ℕ, List, IfErr, IfOk, OnOk, length};
 ghost use Rattle.csv.specs.Records.{fields_of};
 ghost use Rattle.histories.specs.Histories.{IsLawful};
 ghost use Rattle.histories.specs.Progress.{HasCome};
-ghost use Rattle.record_text.specs.Reading.{IsReading, left_of};
 ghost use Rattle.road_net.specs.Network.{IsNetwork};
-ghost use Rattle.world_records.specs.Records.{header};
-ghost use Rattle.delay_report.specs.Faults.{AreFaulty, IsTextFault, Refuses};
-ghost use Rattle.delay_report.specs.Taken.{AreAllTaken, AreTaken, IsEntryFault};
-ghost use Rattle.delay_report.specs.Texts.{AreHistoryRecords, IsHistoryText};
+ghost use Rattle.delay_report.specs.Faults.{IsTextFault, Refuses};
+ghost use Rattle.delay_report.specs.Taken.{AreTaken, IsEntryFault};
+ghost use Rattle.delay_report.specs.Texts.{IsHistoryText};
 
 use crate::entries::read_step;
 use crate::faults::HistoryFault;
-use csv::{ByteRecord, Reader};
+use csv::ByteRecord;
 use histories::{History, Progress, Stop};
-use record_text::{next_record, open};
+use record_text::{RecordTaker, take_records};
 use road_net::Network;
 use std::alloc::Global;
 use world_records::is_header;
@@ -34,63 +32,54 @@ pub fn read_history(alloc: Global, bytes: &[u8], net: &Network) -> Result<Histor
     ensures refused { IfErr result (λ fault. Refuses fault ((h : List ℕ) → ¬ IsHistoryText net.now bytes.now h)) }
     ensures first { IfErr result (IsTextFault net.now bytes.now) }
 {
-    let mut reader = open(alloc, bytes);
-    let mut row = ByteRecord::new(alloc);
-    read_records(alloc, net, &mut reader, &mut row)
-}
-
-/// The history of the records that are left, the first of which must be the header.
-fn read_records(
-    alloc: Global,
-    net: &Network,
-    reader: &mut Reader<&[u8]>,
-    row: &mut ByteRecord,
-) -> Result<History, HistoryFault>
-    requires reading { IsReading reader.old }
-    requires few { length (left_of reader.old) ≤ 2 ^ 32 }
-    ensures ok { IfOk result (AreHistoryRecords net.now (left_of reader.old)) }
-    ensures lawful { IfOk result (IsLawful net.now) }
-    ensures refused { IfErr result (λ fault.
-        Refuses fault ((h : List ℕ) → ¬ AreHistoryRecords net.now (left_of reader.old) h)) }
-    ensures first { IfErr result (AreFaulty net.now (left_of reader.old)) }
-{
-    if !next_record(reader, row)? {
+    let mut draft = HistoryDraft {
+        steps: Vec::new(alloc),
+        progress: Progress::new(net),
+    };
+    if !take_records(alloc, bytes, net, &mut draft)? {
         return Err(HistoryFault::Header);
     }
-    if !is_header(row) {
-        return Err(HistoryFault::Header);
-    }
-    let mut progress = Progress::new(net);
-    let mut steps = Vec::new(alloc);
-    take_steps(net, reader, row, &mut progress, &mut steps)?;
+    let HistoryDraft { steps, progress } = draft;
     if !progress.is_over() {
         return Err(HistoryFault::Short);
     }
     Ok(History::new(steps))
 }
 
-/// Takes the steps that the records after the header tell.
-fn take_steps(
-    net: &Network,
-    reader: &mut Reader<&[u8]>,
-    row: &mut ByteRecord,
-    progress: &mut Progress,
-    steps: &mut Vec<u32>,
-) -> Result<(), HistoryFault>
-    requires network { IsNetwork net.now }
-    requires reading { IsReading reader.old }
-    requires few { length (left_of reader.old) < 2 ^ 32 }
-    requires none { steps.old.items ≡ [] }
-    requires come { HasCome net.now [] progress.old }
-    ensures taken { OnOk result (AreAllTaken net.now (left_of reader.old) steps.new.items progress.new) }
-    ensures first { IfErr result (AreFaulty net.now (header ∷ left_of reader.old)) }
-{
-    let mut number = 0;
-    while next_record(reader, row)? {
-        number += 1;
-        take_step(net, row, number, progress, steps)?;
+/// The history that the records so far tell.
+#[derive(Drop)]
+struct HistoryDraft {
+    /// Their steps.
+    steps: Vec<u32>,
+    /// How far the steps have come.
+    progress: Progress,
+}
+
+impl RecordTaker for HistoryDraft {
+    ghost use Rattle.world_records.specs.Records as records;
+    ghost use Rattle.delay_report.specs.Taken.{HasTaken, IsRefused};
+
+    type Fault = HistoryFault;
+
+    ghost header = { records.header };
+
+    ghost has_taken = { HasTaken };
+
+    ghost at_fault = { IsRefused };
+
+    fn is_header(row: &ByteRecord) -> bool {
+        is_header(row)
     }
-    Ok(())
+
+    fn take(
+        &mut self,
+        _alloc: Global,
+        net: &Network,
+        row: &ByteRecord,
+        number: u32,
+    ) -> Result<(), HistoryFault> {
+        take_step(net, row, number, &mut self.progress, &mut self.steps)
+    }
 }
 
 /// Appends the step that the record with this number tells, if it tells one, to the steps so far.
