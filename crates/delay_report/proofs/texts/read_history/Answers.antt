@@ -1,10 +1,10 @@
 use Rattle.std.proofs.Common.{arith}
 use Rattle.std.proofs.lemmas.Result.{err_from_is_err_and, IfErr-weaker}
 use Rattle.record_text.specs.Records.{records_of}
-use Rattle.record_text.proofs.WalkLaws.{counted-few, taken-after}
+use Rattle.record_text.proofs.WalkLaws.{counted-few}
 use Rattle.world_records.proofs.RecordLaws.{few-records}
 use Rattle.delay_report.specs.Faults.{AreFaulty}
-use Rattle.delay_report.proofs.TextLaws.{first-fault, records-refuse, taken-all, taken-short}
+use Rattle.delay_report.proofs.TextLaws.{first-fault, records-refuse}
 use Rattle.delay_report.proofs.texts.read_history.Goals as goal
 
 pub take_records-requires-clause-few : goal.take_records-requires-clause-few

@@ -6,7 +6,7 @@ use Rattle.world_records.proofs.RecordLaws.{few-records}
 use Rattle.world_records.specs.Records.{header}
 use Rattle.sheets.specs.Entries.{AreTaken}
 use Rattle.sheets.specs.Faults.{AreFaulty}
-use Rattle.sheets.proofs.TextLaws.{first-fault, records-refuse, taken-all, taken-none, taken-rows, taken-shape, taken-short}
+use Rattle.sheets.proofs.TextLaws.{first-fault, records-refuse, taken-all, taken-rows, taken-shape, taken-short}
 use Rattle.sheets.proofs.texts.read_sheet.Goals as goal
 
 pub take_records-requires-clause-few : goal.take_records-requires-clause-few
