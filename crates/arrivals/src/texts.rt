@@ -25,10 +25,11 @@ pub fn read_arrivals(alloc: Global, bytes: &[u8], net: &Network) -> Result<Arriv
     ensures first { IfErr result (IsTextFault net.now bytes.now) }
 {
     let mut arrivals = Arrivals::none(alloc, net);
-    if !take_records(alloc, bytes, net, &mut arrivals)? {
-        return Err(RowFault::Header);
+    match take_records(alloc, bytes, net, &mut arrivals) {
+        Ok(true) => Ok(arrivals),
+        Ok(false) => Err(RowFault::Header),
+        Err(fault) => Err(fault),
     }
-    Ok(arrivals)
 }
 
 impl RecordTaker for Arrivals {

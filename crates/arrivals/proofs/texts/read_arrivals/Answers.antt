@@ -1,11 +1,9 @@
-use Rattle.std.proofs.lemmas.Result.{err_from_is_err_and, IfErr-weaker}
 use Rattle.record_text.specs.Records.{records_of}
 use Rattle.record_text.proofs.WalkLaws.{taken-after}
 use Rattle.arrivals.specs.Records.{header}
 use Rattle.arrivals.specs.Stored.{HasTaken}
-use Rattle.arrivals.specs.Texts.{AreFaulty}
 use Rattle.arrivals.proofs.TallyLaws.{tally-arrivals}
-use Rattle.arrivals.proofs.TextLaws.{first-fault, records-refuse, taken-all, taken-few, taken-none}
+use Rattle.arrivals.proofs.TextLaws.{first-fault, records-refuse, taken-few, taken-none}
 use Rattle.arrivals.proofs.texts.read_arrivals.Goals as goal
 
 pub take_records-requires-clause-few : goal.take_records-requires-clause-few
@@ -14,21 +12,13 @@ take_records-requires-clause-few c = taken-few c.args.net.now (records_of c.args
 pub take_records-requires-clause-none : goal.take_records-requires-clause-none
 take_records-requires-clause-none c = taken-none c.args.net.now _ c.none-arrivals.ensures.none
 
-pub returns-in_err-take_records-clause-first : goal.returns-in_err-take_records-clause-first
-returns-in_err-take_records-clause-first c =
-    let p = err_from_is_err_and c.from_residual.result c.from_residual.ensures.1 in
-    rw (p.1, p.2) (first-fault c.args.net.now (records_of c.args.bytes.now) _ c.in_err-take_records.ensures.first)
+pub returns-in-Err-clause-first : goal.returns-in-Err-clause-first
+returns-in-Err-clause-first c = first-fault c.args.net.now (records_of c.args.bytes.now) _ c.in-Err.ensures.first
 
-pub returns-in_err-take_records-clause-refused : goal.returns-in_err-take_records-clause-refused
-returns-in_err-take_records-clause-refused c =
-    let all = records_of c.args.bytes.now in
-    IfErr-weaker c.from_residual.result (AreFaulty c.args.net.now all) _ (records-refuse c.args.net.now all) (returns-in_err-take_records-clause-first c)
+pub returns-in-Err-clause-refused : goal.returns-in-Err-clause-refused
+returns-in-Err-clause-refused c = records-refuse c.args.net.now (records_of c.args.bytes.now) _ (returns-in-Err-clause-first c)
 
-pub returns-clause-ok : goal.returns-clause-ok
-returns-clause-ok c =
-    taken-all c.args.net.now _ _ (taken-after header (HasTaken c.args.net.now) (records_of c.args.bytes.now) c.take_records.new.taker _ c.if-not-branch.false c.in_ok-take_records.ensures.taken)
-
-pub returns-clause-arrivals : goal.returns-clause-arrivals
-returns-clause-arrivals c =
-    let taken = taken-after header (HasTaken c.args.net.now) (records_of c.args.bytes.now) c.take_records.new.taker _ c.if-not-branch.false c.in_ok-take_records.ensures.taken in
+pub returns-in-Ok-true-clause-arrivals : goal.returns-in-Ok-true-clause-arrivals
+returns-in-Ok-true-clause-arrivals c =
+    let taken = taken-after header (HasTaken c.args.net.now) (records_of c.args.bytes.now) c.take_records.new.taker _ c.in-Ok-true.field-0-test c.in-Ok-true.ensures.taken in
     tally-arrivals c.args.net.now taken.after.rows _ taken.after.tally
