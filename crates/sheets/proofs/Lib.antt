@@ -1,3 +1,4 @@
 pub mod DraftLaws
 pub mod FieldLaws
 pub mod TextLaws
+pub mod WrittenLaws
