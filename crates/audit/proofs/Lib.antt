@@ -1,1 +1,3 @@
+pub mod CleanTexts
+pub mod CutLaws
 mod Reasons

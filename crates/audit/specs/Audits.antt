@@ -12,6 +12,7 @@ use Rattle.net_simulator.specs.Sums.{link_totals, totals}
 use Rattle.net_simulator.specs.Worlds.{line_in, standing_by}
 use Rattle.net_simulator.specs.declared.totals.LinkTotals.{LinkTotals}
 use Rattle.net_simulator.specs.declared.totals.Totals.{Totals}
+use Rattle.sheets.specs.Texts.{IsSheetText}
 use Rattle.sheets.specs.declared.sheet.Sheet.{Sheet}
 use Rattle.audit.specs.declared.findings.AuditWhy.{AuditWhy}
 use Rattle.audit.specs.declared.findings.AuditWhy.TheVariants.{Span, Next, Link, Total}
@@ -46,6 +47,13 @@ pub record IsClean (net : Net) (arriving : ℕ → ℕ → ℕ) (s : Sheet) : Ty
   pub lawful : AreLawful net s.lines
   pub links : (l : ℕ) → l < length net.link_names → IsLinkShown net arriving s l
   pub all : s.totals ≡ all_shown net arriving s.lines
+
+-- the bytes are the text of one sheet and of no other, and this sheet is clean for the network and what arrives
+pub record IsCleanText (net : Net) (arriving : ℕ → ℕ → ℕ) (bytes : List ℕ) : Type 0 where
+  pub sheet : Sheet
+  pub is_text : IsSheetText net bytes sheet
+  pub only : (other : Sheet) → IsSheetText net bytes other → other ≡ sheet
+  pub clean : IsClean net arriving sheet
 
 -- ---- why a sheet is not clean
 

@@ -1,0 +1,110 @@
+-- The text of records that tell a clean sheet is a clean text.
+use Rattle.std.proofs.Common.{ℕ, ◌*◌, ◌<◌, ◌≤◌, List, [], ◌∷◌, ◌++◌, length, All, nat_lt, Option, sym, ◌∙◌, subst, inl, inr, arith}
+use Rattle.std.proofs.lemmas.Bool.{cases_Bool, ltb-true}
+use Rattle.std.proofs.lemmas.List.{length-map}
+use Rattle.std.proofs.lemmas.List.Elements.{All-cons, All-head, All-nil, All-tail}
+use Rattle.phase_plan.specs.Phases.{IsPlan}
+use Rattle.phase_plan.specs.declared.Phase.{Phase}
+use Rattle.phase_plan.proofs.RingLaws.{phase-bounds}
+use Rattle.net_numbers.specs.Numbers.{Net}
+use Rattle.net_numbers.specs.Outline.{plan_at}
+use Rattle.road_net.specs.Network.{IsNetwork}
+use Rattle.road_net.proofs.TotalLaws.{total-le}
+use Rattle.control_flow.specs.Greens.{IsGreen}
+use Rattle.control_flow.specs.declared.greens.Green.{Green}
+use Rattle.net_simulator.specs.Flow.{Passed}
+use Rattle.net_simulator.specs.Sums.{AreFew, delay, link_totals, totals}
+use Rattle.net_simulator.specs.Worlds.{line_in, standing_by}
+use Rattle.net_simulator.proofs.Conserving.{left-entered}
+use Rattle.net_simulator.proofs.Passing.{delay-small, entered-small, gone-most, on-road-most, sound-at}
+use Rattle.net_simulator.proofs.Sums.{total-of}
+use Rattle.signal_safety.proofs.Lines.{plan-is}
+use Rattle.sheets.specs.declared.sheet.Sheet.{Sheet}
+use Rattle.sheets.specs.Texts.{HasShape, IsSheetText}
+use Rattle.sheets.specs.Written.{AreToldCounts, AreToldSums, CanBeTold, IsPassedOver, IsToldGreen, begun_before, cut_at, sheet_records}
+use Rattle.sheets.proofs.TextLaws.{one-sheet}
+use Rattle.sheets.proofs.WrittenLaws.{written-sheet}
+use Rattle.world_records.specs.Records.{header, records_text}
+use Rattle.audit.specs.Audits.{IsClean, IsCleanText, end_of_run, past_under}
+use Rattle.audit.proofs.CutLaws.{cut-clean, cut-line}
+
+-- the greens of a plan that begin before a second can be told
+told-greens : (plan : List Phase) (end : ℕ) → IsPlan plan → end ≤ 18000 → (rows : List Green) → All (IsGreen plan) rows → All IsToldGreen (begun_before end rows)
+told-greens plan end p early [] greens = All-nil IsToldGreen
+told-greens plan end p early (row ∷ rows) greens =
+    let rest = told-greens plan end p early rows (All-tail (IsGreen plan) row rows greens) in
+    elim (cases_Bool (nat_lt row.from end)) [
+      | inr other ↦ rw other rest
+      | inl begun ↦
+          let green = All-head (IsGreen plan) row rows greens in
+          let times = phase-bounds plan row.phase p green.phase in
+          let before = ltb-true row.from end begun in
+          rw begun (All-cons IsToldGreen row (begun_before end rows)
+          (record {
+            phase = omega (arith, green.phase, p.count.1);
+            from = omega (arith, before, early);
+            to = omega (arith, green.greatest, times.greatest.1, before, early);
+          }) rest)
+    ]
+
+-- what the world has counted at the end of the run can be told
+module _ (net : Net) (network : IsNetwork net) (arriving : ℕ → ℕ → ℕ) (few : AreFew net arriving) (lines : List (List Green)) where
+  abbrev shown : ℕ → ℕ → Option (ℕ × ℕ)
+  shown = standing_by (line_in lines)
+
+  abbrev end : ℕ
+  end = end_of_run net
+
+  early : end ≤ 18000
+  early =
+      let step = network.outline.run.step.1 in
+      let rounds = network.outline.run.rounds.1 in
+      product net.run.rounds net.run.step rounds step
+    where
+      product : (a b : ℕ) → a ≤ 600 → b ≤ 30 → a * b ≤ 18000
+      product a b small short = grind (arith, small, short)
+
+  told-counts : (l : ℕ) → l < length net.link_names → AreToldCounts (link_totals net (past_under net arriving lines) end l)
+  told-counts l below =
+      let entered = entered-small net network arriving shown few end l below in
+      record {
+        entered = omega (arith, entered, early);
+        left = omega (arith, left-entered net (past_under net arriving lines) end (sound-at net network arriving shown end) l end below (omega arith), entered, early);
+        delay = omega (arith, delay-small net network arriving shown few end l below, early);
+      }
+
+  told-sums : AreToldSums (totals net arriving (past_under net arriving lines) end)
+  told-sums =
+      let past : ℕ → ℕ → Passed = past_under net arriving lines in
+      let each = total-le (delay net past end) (λ l. 36000000000000) (length net.link_names) (λ l below. omega (arith, delay-small net network arriving shown few end l below, early)) in
+      record {
+        entered = omega (arith, few end);
+        left = omega (arith, gone-most net network arriving shown few end);
+        on = omega (arith, on-road-most net network arriving shown few end);
+        delay = omega (arith, each, total-of 36000000000000 (length net.link_names), network.outline.link_count.1);
+      }
+
+module _ (net : Net) (network : IsNetwork net) (arriving : ℕ → ℕ → ℕ) (few : AreFew net arriving) (s : Sheet) (shape : HasShape net s) (clean : IsClean net arriving s) where
+  -- a clean sheet can be told
+  can-told : CanBeTold net (cut_at (end_of_run net) s)
+  can-told = record {
+    lines = length-map s.lines (begun_before (end_of_run net)) ∙ shape.lines;
+    links = shape.links;
+    greens = λ node below. subst (All IsToldGreen) (sym (cut-line (end_of_run net) s.lines node))
+        (told-greens (plan_at net node) (end_of_run net) (plan-is net network node below) (early net network arriving few s.lines) (line_in s.lines node) (clean.lawful node below).greens);
+    counts = λ l below. subst AreToldCounts (sym (clean.links l below)) (told-counts net network arriving few s.lines l below);
+    totals = subst AreToldSums (sym clean.all) (told-sums net network arriving few s.lines);
+  }
+
+  -- The text of records that tell it, with the greens alone that begin before the end of the run, is a clean text; other records may
+  -- stand before these that a sheet passes over.
+  pub clean-text : (passed : List (List (List ℕ))) → All IsPassedOver passed → IsCleanText net arriving (records_text (header ∷ (passed ++ sheet_records net (end_of_run net) s)))
+  clean-text passed over =
+      let bytes : List ℕ = records_text (header ∷ (passed ++ sheet_records net (end_of_run net) s)) in
+      let text : IsSheetText net bytes (cut_at (end_of_run net) s) = written-sheet net network passed over (end_of_run net) s can-told in
+      record {
+        sheet = cut_at (end_of_run net) s;
+        is_text = text;
+        only = λ other is. one-sheet net _ other (cut_at (end_of_run net) s) is text;
+        clean = cut-clean net arriving s clean;
+      }
