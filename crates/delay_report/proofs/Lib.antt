@@ -1,3 +1,4 @@
+pub mod CleanLaws
 pub mod EntryLaws
 pub mod RenderLaws
 pub mod ReportLaws

@@ -1,15 +1,14 @@
 -- A report is a text of its history.
-use Rattle.std.proofs.Common.{◌≡◌, ℕ, ◌+◌, ◌<◌, codes, List, [], ◌∷◌, ◌++◌, length, get_or, map, filter, Option, Some, All, refl, sym, ap, ◌∙◌, subst, inl, inr, arith, append-nil, nat_lt, slice_index_or}
+use Rattle.std.proofs.Common.{◌≡◌, ℕ, ◌+◌, ◌<◌, codes, List, [], ◌∷◌, ◌++◌, length, get_or, map, filter, Some, All, refl, sym, ap, ◌∙◌, subst, inl, inr, arith, append-nil, nat_lt, slice_index_or}
 use Rattle.std.specs.List.{concat, flat_map, range_with_len}
 use Rattle.std.proofs.lemmas.Bool.{cases_Bool}
 use Rattle.std.proofs.lemmas.List.Folds.{concat-append}
 use Rattle.std.proofs.lemmas.List.Elements.{All-cons, All-head, All-tail}
 use Rattle.std.proofs.lemmas.List.FromFn.{fill_by_all, get_or-range_with_len, length-range_with_len}
-use Rattle.std.proofs.lemmas.Option.{same_Some}
 use Rattle.std.proofs.lemmas.Slice.Eq.{bytes_eq-Decides}
 use Rattle.std.specs.Str.{bytes_eq}
 use Rattle.foundation.specs.Options.{each}
-use Rattle.foundation.proofs.EachLaws.{each-cons, each-good}
+use Rattle.foundation.proofs.EachLaws.{each-good}
 use Rattle.foundation.proofs.PositionLaws.{position-first}
 use Rattle.histories.specs.Histories.{IsLawful, round_at, step_at, version_at}
 use Rattle.histories.specs.Steps.{board_steps}
@@ -23,17 +22,12 @@ use Rattle.runs.specs.declared.records.RunRecord.{RunRecord}
 use Rattle.schedule_meaning.specs.declared.planners.Answer.{Answer}
 use Rattle.schedule_meaning.specs.declared.planners.Answer.TheVariants.{Plan, NoPlan}
 use Rattle.world_records.specs.Records.{green_record, green_records, header, link_record_of, total_record}
+use Rattle.sheets.proofs.WrittenLaws.{each-both}
 use Rattle.delay_report.specs.Entries.{steps_of}
 use Rattle.delay_report.specs.Reports.{answer_fields, plan_record, report_records, report_text, step_record, step_record_at}
 use Rattle.delay_report.specs.Texts.{AreHistoryRecords, IsHistoryText}
 use Rattle.world_records.proofs.RecordLaws.{HasField, header-first, read-records}
 use Rattle.delay_report.proofs.WalkLaws.{node-below}
-
-each-both : {X Y : Type 0} (f : X → Option Y) (xs xs' : List X) (ys ys' : List Y) → each f xs ≡ Some ys → each f xs' ≡ Some ys' → each f (xs ++ xs') ≡ Some (ys ++ ys')
-each-both f [] xs' ys ys' first second = second ∙ ap (λ l. Some (l ++ ys')) (same_Some [] ys first)
-each-both f (x ∷ xs) xs' ys ys' first second =
-    let (y, zs, here, more, last) = each-cons f x xs ys first in
-    rw (here, each-both f xs xs' zs ys' more second) (ap (λ l. Some (l ++ ys')) (sym last))
 
 -- the steps that records tell are this history
 record Tells (net : Net) (records : List (List (List ℕ))) (history : List ℕ) : Type 0 where

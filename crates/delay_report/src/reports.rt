@@ -1,8 +1,13 @@
 //! The report of a run.
-ghost use Rattle.std.specs.Prelude.{◌≡◌, ℕ, List, ◌++◌, IfOk, OnOk};
+ghost use Rattle.std.specs.Prelude.{◌≡◌, ℕ, ◌≤◌, List, ◌++◌, IfOk, OnOk};
+ghost use Rattle.arrivals.specs.Rows.{most_of_all};
+ghost use Rattle.audit.specs.Audits.{IsCleanText};
 ghost use Rattle.histories.specs.Histories.{IsLawful};
+ghost use Rattle.net_simulator.specs.Sums.{arrived};
 ghost use Rattle.runs.specs.Complete.{IsComplete};
+ghost use Rattle.runs.specs.Promises.{IsKeptRun};
 ghost use Rattle.runs.specs.Runs as runs;
+ghost use Rattle.runs.specs.Runs.{arriving_by};
 ghost use Rattle.runs.specs.declared.records.RunRecord.{RunRecord};
 ghost use Rattle.delay_report.specs.Reports.{outcome_records, records_text, report_text, steps_records};
 ghost use Rattle.road_net.specs.Network.{IsNetwork};
@@ -98,7 +103,8 @@ fn end_of_run(net: &Network) -> u32
     net.run().rounds * net.run().step
 }
 
-/// The report of a lawful history is a text of that history, and a text is a text of one history at most.
+/// The report of a lawful history is a text of that history, and a text is a text of one history at most. The report of
+/// each run, where no more arrives than arrivals may bring, is the text of one sheet, which is clean.
 ///
 /// docs/FORMATS.md, "Report".
 pub fn law_of_reports(net: &Network)
@@ -106,6 +112,9 @@ pub fn law_of_reports(net: &Network)
         → IsHistoryText net.now (report_text net.now run history) history }
     ensures one { (bytes one other : List ℕ) → IsHistoryText net.now bytes one → IsHistoryText net.now bytes other
         → one ≡ other }
+    ensures clean { (run : RunRecord) (history : List ℕ) (enters : ℕ → ℕ → ℕ) → IsKeptRun net.now enters history run
+        → ((n : ℕ) → arrived net.now (arriving_by enters) n ≤ most_of_all)
+        → IsCleanText net.now (arriving_by enters) (report_text net.now run history) }
 {
     let _nodes = net.nodes();
 }

@@ -1,3 +1,4 @@
+use Rattle.delay_report.proofs.CleanLaws.{report-clean}
 use Rattle.delay_report.proofs.ReportLaws.{reads-back}
 use Rattle.delay_report.proofs.TextLaws.{one-history}
 use Rattle.delay_report.proofs.reports.law_of_reports.Goals as goal
@@ -7,3 +8,6 @@ returns-clause-reads_back c = λ run history lawful. reads-back c.args.net.now c
 
 pub returns-clause-one : goal.returns-clause-one
 returns-clause-one c = λ bytes one other. one-history c.args.net.now _ one other
+
+pub returns-clause-clean : goal.returns-clause-clean
+returns-clause-clean c = λ run history enters kept few. report-clean c.args.net.now c.nodes-nodes.ensures.network enters few history run kept

@@ -1,0 +1,91 @@
+-- The report of a run is a clean text.
+use Rattle.std.proofs.Common.{◌≡◌, ℕ, ◌<◌, codes, List, ◌∷◌, ◌++◌, length, map, get_or, All, refl, sym, ap, ◌∙◌, subst, arith, append_assoc}
+use Rattle.std.specs.Fmt.{decimal}
+use Rattle.std.specs.List.{join_with_byte, range_with_len}
+use Rattle.std.proofs.lemmas.List.Elements.{All-append, All-map}
+use Rattle.std.proofs.lemmas.List.FromFn.{get_or-map-range_with_len, length-map-range_with_len}
+use Rattle.histories.specs.Histories.{step_at}
+use Rattle.histories.specs.Steps.{board_steps}
+use Rattle.histories.specs.declared.steps.BoardStep.{BoardStep}
+use Rattle.histories.specs.declared.steps.BoardStep.TheVariants.{Read, Publish}
+use Rattle.intersection_actor.specs.Commits.{Commitment}
+use Rattle.intersection_actor.specs.declared.records.PlanRecord.{PlanRecord}
+use Rattle.net_numbers.specs.Numbers.{Net}
+use Rattle.net_numbers.specs.Outline.{node_name_at}
+use Rattle.road_net.specs.Network.{IsNetwork}
+use Rattle.net_simulator.specs.Counts.{counts_at, no_totals}
+use Rattle.net_simulator.specs.Flow.{Passed}
+use Rattle.net_simulator.specs.Sums.{AreFew, link_totals, totals}
+use Rattle.net_simulator.specs.Worlds.{line_in, standing_by}
+use Rattle.schedule_meaning.specs.declared.planners.Answer.{Answer}
+use Rattle.schedule_meaning.specs.declared.planners.Answer.TheVariants.{Plan, NoPlan}
+use Rattle.runs.specs.Promises.{IsKeptRun}
+use Rattle.runs.specs.Runs.{arriving_by, end_of_run, past_by, line_before, shown_by}
+use Rattle.runs.specs.declared.records.RunRecord.{RunRecord}
+use Rattle.runs.proofs.Past.{past-at-nodes}
+use Rattle.sheets.specs.declared.sheet.Sheet.{Sheet}
+use Rattle.sheets.specs.Texts.{HasShape}
+use Rattle.sheets.specs.Told.{told}
+use Rattle.sheets.specs.Written.{IsPassedOver, sheet_records}
+use Rattle.audit.specs.Audits.{IsClean, IsCleanText, past_under}
+use Rattle.audit.proofs.CleanTexts.{clean-text}
+use Rattle.world_records.specs.Records.{header, records_text}
+use Rattle.delay_report.specs.Reports.{answer_fields, plan_record, report_records, report_text, step_record, step_record_at, used_text}
+
+-- the records of steps and of plans are passed over
+step-over : (net : Net) (round node : ℕ) (versions : ℕ → ℕ) (step : BoardStep) → IsPassedOver (step_record net round node versions step)
+unfolding told
+step-over net round node versions (Read link) = refl
+step-over net round node versions (Publish link) = refl
+
+answer-over : (a b c : List ℕ) (answer : Answer) → IsPassedOver (codes "plan" ∷ a ∷ b ∷ c ∷ answer_fields answer)
+unfolding told
+answer-over a b c (Plan sequence delay) = refl
+answer-over a b c NoPlan = refl
+
+plan-over : (net : Net) (plan : PlanRecord) → IsPassedOver (plan_record net plan)
+plan-over net plan = answer-over (decimal plan.round) (node_name_at net plan.node) (join_with_byte 59 (map (used_text net) plan.used)) plan.answer
+
+module _ (net : Net) (network : IsNetwork net) (enters : ℕ → ℕ → ℕ) (few : AreFew net (arriving_by enters)) (history : List ℕ) (run : RunRecord) (kept : IsKeptRun net enters history run) where
+  abbrev end : ℕ
+  end = end_of_run net
+
+  abbrev made : ℕ → ℕ → Commitment
+  made = kept.run.made
+
+  -- what the report says of greens and totals, with the last line of each node
+  abbrev sheet : Sheet
+  sheet = record { lines = run.timelines; links = run.links; totals = run.totals }
+
+  -- the world moved as the last lines show
+  same-past : past_by net enters made end ≡ past_under net (arriving_by enters) run.timelines
+  same-past = sym (past-at-nodes net network (arriving_by enters) (standing_by (line_in run.timelines)) (shown_by net made) end (λ x node before below. kept.kept.greens x node before below))
+
+  counted : (l : ℕ) → l < length net.link_names → counts_at run.links l ≡ link_totals net (past_by net enters made end) end l
+  counted l below = ap (λ links. counts_at links l) kept.run.by.links ∙ get_or-map-range_with_len (link_totals net (past_by net enters made end) end) 0 (length net.link_names) l l no_totals below (omega arith)
+
+  sheet-clean : IsClean net (arriving_by enters) sheet
+  sheet-clean = record {
+    lawful = kept.kept.lawful;
+    links = λ l below. counted l below ∙ ap (λ (p : ℕ → ℕ → Passed). link_totals net p end l) same-past;
+    all = kept.run.by.all ∙ ap (λ (p : ℕ → ℕ → Passed). totals net (arriving_by enters) p end) same-past;
+  }
+
+  sheet-shape : HasShape net sheet
+  sheet-shape = record {
+    lines = ap length kept.run.by.timelines ∙ length-map-range_with_len (line_before net made net.run.rounds) 0 (length net.node_names);
+    links = ap length kept.run.by.links ∙ length-map-range_with_len (link_totals net (past_by net enters made end) end) 0 (length net.link_names);
+  }
+
+  -- the records of the report
+  pub report-clean : IsCleanText net (arriving_by enters) (report_text net run history)
+  unfolding report_records
+  report-clean =
+      let steps : List (List (List ℕ)) = map (step_record_at net history) (range_with_len 0 (length history)) in
+      let plans : List (List (List ℕ)) = map (plan_record net) run.plans in
+      let over : All IsPassedOver (steps ++ plans) =
+      All-append IsPassedOver steps plans
+      (All-map IsPassedOver (step_record_at net history) (range_with_len 0 (length history)) (λ k d inside. step-over net _ _ _ (step_at (board_steps net) history _)))
+      (All-map IsPassedOver (plan_record net) run.plans (λ k d inside. plan-over net (get_or run.plans k d))) in
+      subst (λ (records : List (List (List ℕ))). IsCleanText net (arriving_by enters) (records_text (header ∷ records))) (append_assoc steps plans (sheet_records net end sheet))
+      (clean-text net network (arriving_by enters) few sheet sheet-shape sheet-clean (steps ++ plans) over)
