@@ -1,12 +1,14 @@
 -- What the network commands write: reports of runs, and instances that were planned in them.
 use Rattle.std.specs.Prelude.{◌≡◌, ℕ, List, Contains, Some}
 use Rattle.arrivals.specs.Amounts.{Amounts, entering}
+use Rattle.audit.specs.Audits.{IsCleanText}
 use Rattle.delay_report.specs.Reports.{report_text}
 use Rattle.dp_certificate.specs.Certificates.{Claim}
 use Rattle.histories.specs.Histories.{IsLawful, turn_order}
 use Rattle.intersection_actor.specs.declared.records.PlanRecord.{PlanRecord}
 use Rattle.net_numbers.specs.Numbers.{Net, number_of}
 use Rattle.runs.specs.Promises.{IsKeptRun}
+use Rattle.runs.specs.Runs.{arriving_by}
 use Rattle.runs.specs.declared.records.RunRecord.{RunRecord}
 use Rattle.scenario_gen.specs.Grids.{IsGrid}
 use Rattle.schedule_meaning.specs.Best.{IsLeast}
@@ -25,11 +27,12 @@ pub record IsRunOf (net : Net) (enters : ℕ → ℕ → ℕ) (history : List �
   pub lawful : IsLawful net history
   pub kept : IsKeptRun net enters history run
 
--- the bytes are the report of the run of this history
+-- The bytes are the report of the run of this history, and the text of one sheet, which is clean: an audit finds nothing in it.
 pub record Headline (net : Net) (enters : ℕ → ℕ → ℕ) (history : List ℕ) (bytes : List ℕ) : Type 0 where
   pub run : RunRecord
   pub runs : IsRunOf net enters history run
   pub report : bytes ≡ report_text net run history
+  pub clean : IsCleanText net (arriving_by enters) bytes
 
 -- The headline for the history that the bytes are a text of, and of no other: which one it is, the machine decides.
 pub record ToldHeadline (net : Net) (enters : ℕ → ℕ → ℕ) (bytes : List ℕ) : Type 0 where

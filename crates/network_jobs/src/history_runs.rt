@@ -6,7 +6,7 @@ ghost use Rattle.runs.specs.Complete.{IsComplete};
 ghost use Rattle.commands.specs.Headline.{Headline, IsRunOf};
 
 use arrivals::Arrivals;
-use delay_report::render;
+use delay_report::{law_of_reports, render};
 use histories::History;
 use net_core::run;
 use pruned_dp::BoundPlanner;
@@ -43,6 +43,9 @@ pub fn report(
     requires lawful { IsLawful net.now h.now }
     ensures { IfOk result (λ text. Headline net.now (entering arrivals.now) h.now text.items) }
 {
+    let _nodes = net.nodes();
+    // It is called for its clause `clean`.
+    law_of_reports(net);
     let run = kept_run(alloc, net, arrivals, h)?;
     render(alloc, net, &run, h)
 }

@@ -182,6 +182,7 @@ pub(crate) fn report<R: Threads + Wait + Sync, G: Gate + Sync>(
     requires { AreArrivals net.now arrivals.now }
     ensures { IfOk result (λ text. ToldHeadline net.now (entering arrivals.now) text.items) }
 {
+    let _nodes = net.nodes();
     let logged = play(rt, alloc, net, arrivals, gate)?;
     law_of_runs(net);
     law_of_reports(net);
