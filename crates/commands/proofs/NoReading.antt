@@ -9,6 +9,9 @@ use Rattle.arrivals.specs.declared.rows.RowFault.TheVariants as row
 use Rattle.delay_report.specs.Faults as histories
 use Rattle.delay_report.specs.declared.faults.HistoryFault.{HistoryFault}
 use Rattle.delay_report.specs.declared.faults.HistoryFault.TheVariants as history
+use Rattle.sheets.specs.Faults as sheets
+use Rattle.sheets.specs.declared.faults.SheetFault.{SheetFault}
+use Rattle.sheets.specs.declared.faults.SheetFault.TheVariants as sheet
 
 -- of a network
 pub no_network : (fault : NetFault) (fact : Type 0) → Unless fault fact → fault ≢ net.NoMemory → fact
@@ -24,3 +27,8 @@ no_arrivals _ fact refuses other = refuses
 pub no_history : (fault : HistoryFault) (fact : Type 0) → histories.Refuses fault fact → fault ≢ history.NoMemory → fact
 no_history history.NoMemory fact refuses other = absurd (other refl)
 no_history _ fact refuses other = refuses
+
+-- of a sheet
+pub no_sheet : (fault : SheetFault) (fact : Type 0) → sheets.Refuses fault fact → fault ≢ sheet.NoMemory → fact
+no_sheet sheet.NoMemory fact refuses other = absurd (other refl)
+no_sheet _ fact refuses other = refuses

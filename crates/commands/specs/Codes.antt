@@ -20,8 +20,10 @@ use Rattle.arrivals.specs.declared.rows.RowFault.{RowFault}
 use Rattle.arrivals.specs.declared.rows.RowFault.TheVariants as row
 use Rattle.delay_report.specs.declared.faults.HistoryFault.{HistoryFault}
 use Rattle.delay_report.specs.declared.faults.HistoryFault.TheVariants as history
+use Rattle.sheets.specs.declared.faults.SheetFault.{SheetFault}
+use Rattle.sheets.specs.declared.faults.SheetFault.TheVariants as sheet
 use Rattle.commands.specs.declared.bad_texts.BadText.{BadText}
-use Rattle.commands.specs.declared.bad_texts.BadText.TheVariants.{Long, Fault, Certificate, Network, Arrivals, History}
+use Rattle.commands.specs.declared.bad_texts.BadText.TheVariants.{Long, Fault, Certificate, Network, Arrivals, History, Sheet}
 
 -- the name of a time of a phase, as the phase line of a text has it
 abbrev pub field_name : Field → List ℕ
@@ -104,6 +106,15 @@ history_code (history.Extra n) = codes "extra " ++ decimal n
 history_code (history.Turn n) = codes "turn " ++ decimal n
 history_code history.Short = codes "short"
 
+-- the code of a fault of a sheet: the header, the first row at fault, from 1, or that it ends too early; `NoMemory` has none
+abbrev pub sheet_code : SheetFault → List ℕ
+sheet_code sheet.NoMemory = []
+sheet_code sheet.Header = codes "header"
+sheet_code (sheet.Row n) = codes "row " ++ decimal n
+sheet_code (sheet.Extra n) = codes "extra " ++ decimal n
+sheet_code (sheet.Name n) = codes "name " ++ decimal n
+sheet_code sheet.Short = codes "short"
+
 -- the code of what is wrong with a text: it is long, or the first line that has not its form, from 1, or else the fault
 -- of the phases, or else that of the instance; `NoMemory` is no fault of a text and has no code
 abbrev pub code_of : BadText → List ℕ
@@ -116,3 +127,4 @@ code_of (Certificate fault) = cert_code fault
 code_of (Network fault) = net_code fault
 code_of (Arrivals fault) = row_code fault
 code_of (History fault) = history_code fault
+code_of (Sheet fault) = sheet_code fault

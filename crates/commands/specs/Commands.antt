@@ -8,18 +8,24 @@ use Rattle.dp_certificate.specs.Proves.{Proves}
 use Rattle.dp_certificate.specs.Whole.{IsWhole}
 use Rattle.pruned_dp.specs.Bounded.{IsBounded}
 use Rattle.certificate_form.specs.CertificateText.{certificate_text}
+use Rattle.audit.specs.Audits as audits
+use Rattle.audit.specs.Audits.{IsClean}
+use Rattle.audit.specs.declared.findings.AuditWhy.{AuditWhy}
 use Rattle.cert_checker.specs.Verdicts.{IsWhy}
 use Rattle.cert_checker.specs.declared.Why.{Why}
 use Rattle.histories.specs.Histories.{turn_order}
 use Rattle.net_numbers.specs.Numbers.{number_of}
+use Rattle.net_simulator.specs.Worlds.{line_in}
 use Rattle.road_net.specs.Upgrade.{IsUpgraded}
+use Rattle.runs.specs.Runs.{arriving_by}
 use Rattle.scenario_gen.specs.Grids.{AreRounds}
 use Rattle.scenario_gen.specs.Layout.{IsSide}
+use Rattle.signal_safety.specs.Safe.{IsSafe}
 use Rattle.commands.specs.Answers.{answer_text}
 use Rattle.commands.specs.Headline.{Headline, IsGridSummary, IsPlannedText, ToldHeadline}
 use Rattle.commands.specs.Limits.{most_bytes}
-use Rattle.commands.specs.Texts.{AllSaid, CertificateText, InstanceText, NetworkText, Next, NoMore, IsTextFor, Texts, history_texts, network_texts}
-use Rattle.commands.specs.Verdicts.{accepted_line, rejected_line}
+use Rattle.commands.specs.Texts.{AllSaid, CertificateText, InstanceText, NetworkText, Next, NoMore, IsTextFor, Texts, history_texts, network_texts, sheet_texts}
+use Rattle.commands.specs.Verdicts.{accepted_line, rejected_line, unclean_line}
 use Rattle.commands.specs.declared.words.Command.{Command}
 use Rattle.commands.specs.declared.words.Command.TheVariants as command
 use Rattle.commands.specs.declared.refusals.Named.{Named}
@@ -35,6 +41,7 @@ pub data Call : Type 0 where
   Replay : (net arr hist : List ℕ) → Call
   Net : (net arr : List ℕ) → Call
   Instance : (net arr hist node : List ℕ) → (round : ℕ) → Call
+  Audit : (net arr report : List ℕ) → Call
   Grid : (number side rounds : ℕ) → Call
   Upgrade : (net : List ℕ) → Call
 
@@ -48,6 +55,7 @@ words_of (Turns net arr) = codes "turns" ∷ net ∷ arr ∷ []
 words_of (Replay net arr hist) = codes "replay" ∷ net ∷ arr ∷ hist ∷ []
 words_of (Net net arr) = codes "net" ∷ net ∷ arr ∷ []
 words_of (Instance net arr hist node round) = codes "instance" ∷ net ∷ arr ∷ hist ∷ node ∷ decimal round ∷ []
+words_of (Audit net arr report) = codes "audit" ∷ net ∷ arr ∷ report ∷ []
 words_of (Grid number side rounds) = codes "grid" ∷ decimal number ∷ decimal side ∷ decimal rounds ∷ []
 words_of (Upgrade net) = codes "upgrade" ∷ net ∷ []
 
@@ -72,6 +80,7 @@ texts_of (Turns net arr) = network_texts net arr (λ network. NoMore)
 texts_of (Replay net arr hist) = history_texts net arr hist
 texts_of (Net net arr) = network_texts net arr (λ network. NoMore)
 texts_of (Instance net arr hist node round) = history_texts net arr hist
+texts_of (Audit net arr report) = sheet_texts net arr report
 texts_of (Grid number side rounds) = NoMore
 texts_of (Upgrade net) = Next NetworkText net (λ network. NoMore)
 
@@ -84,7 +93,7 @@ pub record IsAcceptedText (bytes : List ℕ) (c : Claim) : Type 0 where
   pub proves : Proves c
 
 -- what is written where the work is done; of the texts of a network `said.0` is the network, `said.1.0` what enters it, and
--- `said.1.1.0` the history
+-- `said.1.1.0` the history or the sheet
 abbrev pub IsTextOf : (call : Call) → AllSaid (texts_of call) → List ℕ → Type 0
 IsTextOf (Plan file) said bytes = (answer : Answer) × IsBest said.0 answer × IsLeast said.0 answer × (bytes ≡ answer_text answer)
 IsTextOf (Certify file) said bytes = (c : Claim) × (c.problem ≡ said.0) × IsWhole c.problem c.entries × IsBest c.problem c.answer × (bytes ≡ certificate_text c) × IsAcceptedText bytes c
@@ -94,17 +103,23 @@ IsTextOf (Turns net arr) said bytes = Headline said.0 said.1.0 (turn_order said.
 IsTextOf (Replay net arr hist) said bytes = Headline said.0 said.1.0 said.1.1.0 bytes
 IsTextOf (Net net arr) said bytes = ToldHeadline said.0 said.1.0 bytes
 IsTextOf (Instance net arr hist node round) said bytes = IsPlannedText said.0 said.1.0 said.1.1.0 node round bytes
+IsTextOf (Audit net arr report) said bytes =
+    IsClean said.0 (arriving_by said.1.0) said.1.1.0 × IsSafe said.0 (line_in said.1.1.0.lines) × (bytes ≡ accepted_line)
 IsTextOf (Grid number side rounds) said bytes = IsGridSummary number side rounds bytes
 IsTextOf (Upgrade net) said bytes = IsUpgraded bytes said.0
 
--- the verdict of a command goes against its texts; only `check` judges
+-- the verdict of a command goes against its texts; only `check` and `audit` judge
 abbrev pub IsAgainst : (call : Call) → AllSaid (texts_of call) → Type 0
 IsAgainst (Check file) said = ¬ Proves said.0
+IsAgainst (Audit net arr report) said = ¬ IsClean said.0 (arriving_by said.1.0) said.1.1.0
 IsAgainst _ said = ⊥
 
 -- what is written where the verdict goes against the texts
 abbrev pub IsRejectionOf : (call : Call) → AllSaid (texts_of call) → List ℕ → Type 0
 IsRejectionOf (Check file) said bytes = (why : Why) × (¬ Proves said.0) × IsWhy said.0 why × (bytes ≡ rejected_line why)
+IsRejectionOf (Audit net arr report) said bytes =
+    (why : AuditWhy) × (¬ IsClean said.0 (arriving_by said.1.0) said.1.1.0) × audits.IsWhy said.0 (arriving_by said.1.0) said.1.1.0 why
+    × (bytes ≡ unclean_line said.0 why)
 IsRejectionOf _ said bytes = ⊥
 
 -- what a word of the command names is not in its texts: the network has no such node, or it has, and fewer rounds
@@ -127,5 +142,6 @@ call_of (command.Turns net arr) = Turns net.now arr.now
 call_of (command.Replay net arr hist) = Replay net.now arr.now hist.now
 call_of (command.Net net arr) = Net net.now arr.now
 call_of (command.Instance net arr hist node round) = Instance net.now arr.now hist.now node.now round
+call_of (command.Audit net arr report) = Audit net.now arr.now report.now
 call_of (command.Grid number side rounds) = Grid number side rounds
 call_of (command.Upgrade net) = Upgrade net.now

@@ -16,9 +16,13 @@ use Rattle.arrivals.specs.declared.rows.RowFault.TheVariants as row
 use Rattle.delay_report.specs.Faults as histories
 use Rattle.delay_report.specs.Texts.{IsHistoryText}
 use Rattle.delay_report.specs.declared.faults.HistoryFault.TheVariants as history
+use Rattle.sheets.specs.Faults.{IsSheetFault}
+use Rattle.sheets.specs.Texts.{IsSheetText}
+use Rattle.sheets.specs.declared.faults.SheetFault.TheVariants as sheet
+use Rattle.sheets.specs.declared.sheet.Sheet as sheets
 use Rattle.commands.specs.Limits.{most_bytes}
 use Rattle.commands.specs.declared.bad_texts.BadText.{BadText}
-use Rattle.commands.specs.declared.bad_texts.BadText.TheVariants.{Long, Fault, Certificate, Network, Arrivals, History}
+use Rattle.commands.specs.declared.bad_texts.BadText.TheVariants.{Long, Fault, Certificate, Network, Arrivals, History, Sheet}
 use Rattle.commands.specs.declared.refusals.TextPlace.{TextPlace}
 use Rattle.commands.specs.declared.refusals.TextPlace.TheVariants.{First, Second, Third}
 
@@ -29,15 +33,17 @@ pub data Kind : Type 0 where
   NetworkText : Kind
   ArrivalsText : (net : Net) → Kind
   HistoryText : (net : Net) → Kind
+  SheetText : (net : Net) → Kind
 
--- what a text of this kind says: an instance, a certificate, a network, what enters each link in each second, or the node of
--- each board step
+-- what a text of this kind says: an instance, a certificate, a network, what enters each link in each second, the node of each
+-- board step, or the greens and totals of a report
 abbrev pub Said : Kind → Type 0
 Said InstanceText = Problem
 Said CertificateText = Claim
 Said NetworkText = Net
 Said (ArrivalsText net) = ℕ → ℕ → ℕ
 Said (HistoryText net) = List ℕ
+Said (SheetText net) = sheets.Sheet
 
 -- the arrivals of a text bring this
 pub record IsBroughtBy (net : Net) (text : List ℕ) (enters : ℕ → ℕ → ℕ) : Type 0 where
@@ -52,6 +58,7 @@ IsTextFor CertificateText text c = IsCertificate c × cert.IsCertificateText tex
 IsTextFor NetworkText text net = IsNetworkText text net
 IsTextFor (ArrivalsText net) text enters = IsBroughtBy net text enters
 IsTextFor (HistoryText net) text history = IsHistoryText net text history
+IsTextFor (SheetText net) text sheet = IsSheetText net text sheet
 
 -- a text is read as this: it is within the limit, and is the text of it
 abbrev pub Reads : (kind : Kind) → List ℕ → Said kind → Type 0
@@ -64,6 +71,7 @@ IsFault CertificateText text (Certificate fault) = cert.IsTextFault text fault �
 IsFault NetworkText text (Network fault) = IsCause text fault × (fault ≢ net.NoMemory)
 IsFault (ArrivalsText net) text (Arrivals fault) = arrivals.IsTextFault net text fault × (fault ≢ row.NoMemory)
 IsFault (HistoryText net) text (History fault) = histories.IsTextFault net text fault × (fault ≢ history.NoMemory)
+IsFault (SheetText net) text (Sheet fault) = IsSheetFault net text fault × (fault ≢ sheet.NoMemory)
 IsFault _ text _ = ⊥
 
 -- why a text is refused: it is longer than the limit; or it is within the limit, and this is its first fault
@@ -99,9 +107,17 @@ pub data Texts : Type 0 where
 abbrev pub network_texts : List ℕ → List ℕ → (Net → Texts) → Texts
 network_texts net arr rest = Next NetworkText net (λ network. Next (ArrivalsText network) arr (λ enters. rest network))
 
--- a network's text, one of arrivals at it, and one of a history of it
+-- a network's text, one of arrivals at it, and one of a kind that holds the network
+abbrev pub three_texts : (Net → Kind) → List ℕ → List ℕ → List ℕ → Texts
+three_texts kind net arr third = network_texts net arr (λ network. Next (kind network) third (λ said. NoMore))
+
+-- the third a history of the network
 abbrev pub history_texts : List ℕ → List ℕ → List ℕ → Texts
-history_texts net arr hist = network_texts net arr (λ network. Next (HistoryText network) hist (λ history. NoMore))
+history_texts net arr hist = three_texts HistoryText net arr hist
+
+-- the third a report, of which the sheet is read
+abbrev pub sheet_texts : List ℕ → List ℕ → List ℕ → Texts
+sheet_texts net arr report = three_texts SheetText net arr report
 
 -- what such texts say, one after another
 abbrev pub AllSaid : Texts → Type 0

@@ -1,6 +1,6 @@
 //! What is wrong with a text, and its code.
 ghost use Rattle.std.specs.Prelude.{◌≡◌, ◌∷◌, ◌++◌, OnOk};
-ghost use Rattle.commands.specs.Codes.{cert_code, code_of, field_name, history_code, instance_code, net_code, part_name, place_text, plan_code, row_code};
+ghost use Rattle.commands.specs.Codes.{cert_code, code_of, field_name, history_code, instance_code, net_code, part_name, place_text, plan_code, row_code, sheet_code};
 
 use super::pieces::{push_one, push_two};
 use arrivals::RowFault;
@@ -10,6 +10,7 @@ use dp_certificate::CertFault;
 use net_draft::{NetFault, Place, Section};
 use phase_plan::{Field, PlanFault};
 use schedule_meaning::{InstanceFault, TextFault};
+use sheets::SheetFault;
 use std::alloc::AllocError;
 
 /// What is wrong with a text.
@@ -29,6 +30,8 @@ pub enum BadText {
     Arrivals(RowFault),
     /// It is within the limit, and no history's of the network that was read before it.
     History(HistoryFault),
+    /// It is within the limit, and no report's of the network that was read before it.
+    Sheet(SheetFault),
 }
 
 /// Appends the code of what is wrong with a text to a line. `Err`: out of memory.
@@ -45,6 +48,7 @@ pub fn push_code(line: &mut Vec<u8>, why: BadText) -> Result<(), AllocError>
         BadText::Network(fault) => push_net_code(line, fault),
         BadText::Arrivals(fault) => push_row_code(line, fault),
         BadText::History(fault) => push_history_code(line, fault),
+        BadText::Sheet(fault) => push_sheet_code(line, fault),
     }
 }
 
@@ -179,5 +183,19 @@ fn push_history_code(line: &mut Vec<u8>, fault: HistoryFault) -> Result<(), Allo
         HistoryFault::Extra(number) => push_one(line, b"extra ", u64::from(number)),
         HistoryFault::Turn(number) => push_one(line, b"turn ", u64::from(number)),
         HistoryFault::Short => line.extend_from_slice(b"short"),
+    }
+}
+
+// Appends the code of a fault of a sheet.
+fn push_sheet_code(line: &mut Vec<u8>, fault: SheetFault) -> Result<(), AllocError>
+    ensures { OnOk result (line.new.items ≡ line.old.items ++ sheet_code fault) }
+{
+    match fault {
+        SheetFault::NoMemory => Err(AllocError),
+        SheetFault::Header => line.extend_from_slice(b"header"),
+        SheetFault::Row(number) => push_one(line, b"row ", u64::from(number)),
+        SheetFault::Extra(number) => push_one(line, b"extra ", u64::from(number)),
+        SheetFault::Name(number) => push_one(line, b"name ", u64::from(number)),
+        SheetFault::Short => line.extend_from_slice(b"short"),
     }
 }

@@ -15,7 +15,11 @@ pub use bad_texts::BadText;
 pub use ending::{Made, end};
 pub use pieces::{push_one, push_two};
 pub use refusals::{Named, Refusal, TextPlace, refuse};
-pub use scenes::{HistoryScene, Scene, fetch_history_scene, fetch_scene};
+pub use scenes::{
+    HistoryScene, Scene, SheetScene, fetch_history_scene, fetch_scene, fetch_sheet_scene,
+};
 pub use status::Status;
-pub use texts::{fetch_arrivals, fetch_certificate, fetch_history, fetch_instance, fetch_network};
+pub use texts::{
+    fetch_arrivals, fetch_certificate, fetch_history, fetch_instance, fetch_network, fetch_sheet,
+};
 pub use words::{Command, command_of};

@@ -1,17 +1,19 @@
 //! The texts that the network commands begin with.
-ghost use Rattle.std.specs.Prelude.{◌≡◌, IfErr, IfOk, OnOk};
+ghost use Rattle.std.specs.Prelude.{◌≡◌, ◌<◌, ◌^◌, All, IfErr, IfOk, OnOk, length};
 ghost use Rattle.arrivals.specs.Amounts.{AreArrivals, entering};
 ghost use Rattle.net_numbers.specs.Numbers.{Net};
 ghost use Rattle.commands.specs.Stops.{StopsIn};
 ghost use Rattle.histories.specs.Histories.{IsLawful};
-ghost use Rattle.commands.specs.Texts.{AreIn, ArrivalsText, IsIn, NetworkText, Texts, history_texts, network_texts};
+ghost use Rattle.commands.specs.Texts.{AreIn, ArrivalsText, IsIn, NetworkText, Texts, history_texts, network_texts, sheet_texts};
+ghost use Rattle.sheets.specs.Texts.{HasShape};
 
 use super::refusals::{Refusal, TextPlace};
-use super::texts::{fetch_arrivals, fetch_history, fetch_network};
+use super::texts::{fetch_arrivals, fetch_history, fetch_network, fetch_sheet};
 use arrivals::Arrivals;
 use histories::History;
 use outside_world::Shelf;
 use road_net::Network;
+use sheets::Sheet;
 use std::alloc::Global;
 
 /// A network, and arrivals at it.
@@ -75,4 +77,38 @@ pub fn fetch_history_scene<S: Shelf>(
     let scene = fetch_scene(alloc, shelf, net, arr)?;
     let history = fetch_history(alloc, shelf, TextPlace::Third, hist, &scene.network)?;
     Ok(HistoryScene { scene, history })
+}
+
+/// A network, arrivals at it, and what a report says of both.
+#[derive(Drop)]
+pub struct SheetScene {
+    /// The network and the arrivals.
+    pub scene: Scene,
+    /// The greens and totals of the report.
+    pub sheet: Sheet,
+}
+
+/// The network of a command's first text, the arrivals at it of its second, and the sheet of the report of its third. The sheet
+/// has the network's shape, and each of its lines has fewer than 2^32 rows.
+///
+/// `Err`: that of the first text that can't be had, as `fetch_network` and its like say.
+pub fn fetch_sheet_scene<S: Shelf>(
+    alloc: Global,
+    shelf: &mut S,
+    net: &str,
+    arr: &str,
+    report: &str,
+) -> Result<SheetScene, Refusal>
+    ensures texts { IfOk result (λ all. AreIn (S.state shelf.old).files (sheet_texts net.now arr.now report.now)
+        (all.scene.network, (entering all.scene.arrivals, (all.sheet, tt)))) }
+    ensures entered { IfOk result (λ all. AreArrivals all.scene.network all.scene.arrivals) }
+    ensures shape { IfOk result (λ all. HasShape all.scene.network all.sheet) }
+    ensures rows { IfOk result (λ all. All (λ rows. length rows < 2 ^ 32) all.sheet.lines) }
+    ensures ok { OnOk result (S.state shelf.new ≡ S.state shelf.old) }
+    ensures refused { IfErr result
+        (StopsIn (sheet_texts net.now arr.now report.now) (S.state shelf.old) (S.state shelf.new)) }
+{
+    let scene = fetch_scene(alloc, shelf, net, arr)?;
+    let sheet = fetch_sheet(alloc, shelf, TextPlace::Third, report, &scene.network)?;
+    Ok(SheetScene { scene, sheet })
 }

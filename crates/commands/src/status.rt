@@ -9,7 +9,7 @@ ghost use Rattle.commands.specs.Refusals.{exit_status};
 pub enum Status {
     /// The work is done, and what it gives is written.
     Done = 0,
-    /// A certificate was rejected, and the verdict is written.
+    /// A certificate or a report was rejected, and the verdict is written.
     Rejected = 1,
     /// The words are no command.
     Usage = 2,

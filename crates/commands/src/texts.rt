@@ -1,10 +1,11 @@
 //! The texts of a command, fetched from the shelf and read.
-ghost use Rattle.std.specs.Prelude.{◌≡◌, ◌≤◌, IfOk, IfErr, OnOk, IsSome, Some, length};
+ghost use Rattle.std.specs.Prelude.{◌≡◌, ◌<◌, ◌≤◌, ◌^◌, All, IfOk, IfErr, OnOk, IsSome, Some, length};
 ghost use Rattle.arrivals.specs.Amounts.{AreArrivals, entering};
 ghost use Rattle.histories.specs.Histories.{IsLawful};
 ghost use Rattle.commands.specs.Stops.{StopsAt};
 ghost use Rattle.commands.specs.Limits.{most_bytes};
-ghost use Rattle.commands.specs.Texts.{ArrivalsText, CertificateText, HistoryText, InstanceText, IsIn, Kind, NetworkText, text_of};
+ghost use Rattle.sheets.specs.Texts.{HasShape};
+ghost use Rattle.commands.specs.Texts.{ArrivalsText, CertificateText, HistoryText, InstanceText, IsIn, Kind, NetworkText, SheetText, text_of};
 
 use super::bad_texts::BadText;
 use super::refusals::{Refusal, TextPlace};
@@ -17,6 +18,7 @@ use net_draft::NetFault;
 use outside_world::{Shelf, ShelfFault};
 use road_net::{Network, read_network};
 use schedule_meaning::{Instance, TextFault, read_instance};
+use sheets::{Sheet, SheetFault, read_sheet};
 use std::alloc::Global;
 
 /// The greatest length of a text, in bytes.
@@ -174,6 +176,35 @@ pub fn fetch_history<S: Shelf>(
         Err(fault) => Err(Refusal::Bad {
             text: place,
             why: BadText::History(fault),
+        }),
+    }
+}
+
+/// What a report says of a network, of the text at this place. The sheet has the network's shape, and each of its lines
+/// has fewer than 2^32 rows.
+///
+/// `Err`: `Unread` where the shelf fails, `Bad` where the text is too long or is none of its kind, `NoMemory` where memory runs out.
+pub fn fetch_sheet<S: Shelf>(
+    alloc: Global,
+    shelf: &mut S,
+    place: TextPlace,
+    file: &str,
+    net: &Network,
+) -> Result<Sheet, Refusal>
+    ensures text { IfOk result (IsIn (S.state shelf.old).files file.now (SheetText net.now)) }
+    ensures shape { IfOk result (HasShape net.now) }
+    ensures rows { IfOk result (λ sheet. All (λ rows. length rows < 2 ^ 32) sheet.lines) }
+    ensures ok { OnOk result (S.state shelf.new ≡ S.state shelf.old) }
+    ensures refused { IfErr result (λ why. StopsAt why place (SheetText net.now) file.now (S.state shelf.old)
+        (S.state shelf.new)) }
+{
+    let text = fetch_text(alloc, shelf, place, file)?;
+    match read_sheet(alloc, &text, net) {
+        Ok(sheet) => Ok(sheet),
+        Err(SheetFault::NoMemory) => Err(Refusal::NoMemory),
+        Err(fault) => Err(Refusal::Bad {
+            text: place,
+            why: BadText::Sheet(fault),
         }),
     }
 }

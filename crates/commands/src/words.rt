@@ -53,6 +53,12 @@ pub enum Command<'a> {
         node: &'a str,
         round: u32,
     },
+    /// Writes the verdict on what a report says of greens and totals.
+    Audit {
+        net: &'a str,
+        arr: &'a str,
+        report: &'a str,
+    },
     /// Writes the summary of the run of the turn order on the grid of a number.
     Grid {
         number: u64,
@@ -105,6 +111,10 @@ pub fn command_of(words: &[Text]) -> Option<Command<'_>>
                 node,
                 round,
             })
+        }
+        "audit" => {
+            let (net, arr, report) = three_words(rest)?;
+            Some(Command::Audit { net, arr, report })
         }
         "grid" => {
             let (number, side, rounds) = grid_numbers(rest)?;

@@ -1,4 +1,5 @@
 pub mod Delays
+pub mod Findings
 pub mod Headlines
 pub mod Missed
 pub mod Planned

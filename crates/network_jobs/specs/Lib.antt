@@ -1,3 +1,4 @@
 pub mod Args
+pub mod Findings
 pub mod Merged
 pub mod Missing

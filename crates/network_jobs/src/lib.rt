@@ -1,7 +1,8 @@
 //! The commands over a network: the report of the turn order's run, that of a history's run, that of a run in threads, the instance
-//! that a node planned in one, the summary of a run on a grid, and a network as a file of version 2.
+//! that a node planned in one, the verdict on a report, the summary of a run on a grid, and a network as a file of version 2.
 #![tactic(auto)]
 
+mod audits;
 mod calls;
 mod grid;
 mod history_runs;
@@ -14,6 +15,7 @@ mod summary;
 mod turns;
 mod upgrade;
 
+pub use audits::audit_job;
 pub use grid::grid_job;
 pub use instance::instance_job;
 pub use laws::{law_of_instances, law_of_replays};

@@ -1,5 +1,5 @@
 -- That `check` accepts what `certify` writes.
-use Rattle.std.proofs.Common.{◌≡◌, ℕ, ◌+◌, ◌*◌, ◌≤◌, ◌∙◌, List, length, arith, refl, subst, sym}
+use Rattle.std.proofs.Common.{◌≡◌, ℕ, ◌≤◌, ◌∙◌, List, length, arith, refl, subst, sym}
 use Rattle.switch_rules.specs.Bounds.{most_clusters, most_entries}
 use Rattle.schedule_meaning.specs.Best.{IsBest}
 use Rattle.schedule_meaning.specs.Instances.{Problem}

@@ -11,7 +11,9 @@ use super::plan::plan_job;
 use board_model::Gate;
 use commands::{Command, Refusal, Status, command_of, refuse};
 use foundation::text::Text;
-use network_jobs::{grid_job, instance_job, net_job, replay_job, turns_job, upgrade_job};
+use network_jobs::{
+    audit_job, grid_job, instance_job, net_job, replay_job, turns_job, upgrade_job,
+};
 use outside_world::{Shelf, Sink};
 use std::alloc::Global;
 use std::sync::Wait;
@@ -78,6 +80,9 @@ fn run<R: Threads + Wait + Sync, S: Shelf, O: Sink, E: Sink, G: Gate + Sync>(
             node,
             round,
         } => instance_job(alloc, net, arr, hist, node, round, shelf, out, err),
+        Command::Audit { net, arr, report } => {
+            audit_job(alloc, net, arr, report, shelf, out, err)
+        }
         Command::Grid {
             number,
             side,
