@@ -1,16 +1,46 @@
 -- The turning of a ring that stops at all unmarked phases, and maybe at others: it is lawful, and ends late enough.
-use Rattle.std.proofs.Common.{◌≡◌, ℕ, zero, suc, ◌+◌, ◌-◌, ◌<◌, ◌≤◌, Bool, cond, ltb, List, [], ◌∷◌, ◌++◌, length, refl, sym, ap, ◌∙◌, arith, append_assoc}
-use Rattle.std.proofs.lemmas.Bool.{cond_below, cond_above, cond_both, ltb-true, ltb-false}
+use Rattle.std.proofs.Common.{◌≡◌, ℕ, zero, suc, ◌+◌, ◌-◌, ◌<◌, ◌≤◌, Bool, true, cond, eqb, ltb, List, [], ◌∷◌, ◌++◌, length, filter, refl, sym, ap, ◌∙◌, arith, append_assoc}
+use Rattle.std.specs.List.{range_with_len}
+use Rattle.std.proofs.Math.Bool.{or-false}
+use Rattle.std.proofs.lemmas.Bool.{cond_below, cond_above, cond_both, eqb-true, ltb-true, ltb-false, or_parts}
+use Rattle.std.proofs.lemmas.List.{nil_from_length}
 use Rattle.std.proofs.lemmas.List.Elements.{All-nil, All-cons, All-weaker}
-use Rattle.phase_plan.specs.Phases.{IsPlan, first_up, phase_at}
+use Rattle.phase_plan.specs.Phases.{IsPlan, first_up, is_unmarked_at, phase_at}
 use Rattle.phase_plan.specs.declared.Phase.{Phase}
-use Rattle.phase_plan.proofs.RingLaws.{PassesMarked, first-up, phase-bounds}
+use Rattle.phase_plan.proofs.RingLaws.{PassesMarked, first-up, passes-marked, phase-bounds}
 use Rattle.switch_rules.specs.Serving.{IsHead}
 use Rattle.switch_rules.specs.declared.Head.{Head}
 use Rattle.control_flow.specs.declared.greens.Green.{Green}
 use Rattle.control_flow.specs.Greens.{end_of, IsGreen, IsLawful, GoesOn, BeginBy}
-use Rattle.control_flow.specs.Timelines.{green_after, turning, turned}
+use Rattle.control_flow.specs.Timelines.{calls_for, green_after, stops_at, turning, turned}
 use Rattle.control_flow.proofs.RowLaws.{lawful-nil, lawful-cons}
+
+-- the phases at which a ring stops that stops at the called ones too
+
+-- it passes over marked phases alone
+pub passes-called : (plan : List Phase) (calls : List ℕ) → PassesMarked plan (stops_at plan calls)
+passes-called plan calls k e = passes-marked plan k (or_parts (is_unmarked_at plan k) (calls_for calls k) e).0
+
+-- without calls it stops at the unmarked ones
+pub none-called : (plan : List Phase) → stops_at plan [] ≡ is_unmarked_at plan
+none-called plan = λ i k. or-false (is_unmarked_at plan k) i
+
+pub first-uncalled : (plan : List Phase) (calls : List ℕ) (s : ℕ) → eqb (length calls) 0 ≡ true → first_up plan (is_unmarked_at plan) s ≡ first_up plan (stops_at plan calls) s
+first-uncalled plan calls s e =
+    ap (λ (stops : ℕ → Bool). first_up plan stops s) (sym (none-called plan))
+    ∙ ap (λ (cs : List ℕ). first_up plan (stops_at plan cs) s) (sym (nil_from_length calls (eqb-true (length calls) 0 e)))
+
+-- its next stop is a phase of the plan
+pub next-below : (plan : List Phase) (calls : List ℕ) (s k : ℕ) → IsPlan plan → s < length plan → k ≡ first_up plan (stops_at plan calls) s → k < length plan
+next-below plan calls s k p h is = (let below = (first-up plan (stops_at plan calls) s p (passes-called plan calls) h).below in omega (arith, is, below))
+
+-- those from a phase on are the phase, where the ring stops there, and those after it
+pub stops-first : (stops : ℕ → Bool) (k high : ℕ) (stop : Bool) → k < high → stops k ≡ stop
+    → filter stops (range_with_len k (high - k)) ≡ cond stop (k ∷ filter stops (range_with_len (k + 1) (high - (k + 1)))) (filter stops (range_with_len (k + 1) (high - (k + 1))))
+stops-first stops k high stop h is =
+    let rest = filter stops (range_with_len (k + 1) (high - (k + 1))) in
+    let e : high - k ≡ suc (high - (k + 1)) = omega arith in
+    ap (λ (n : ℕ). filter stops (range_with_len k n)) e ∙ ap (λ (b : Bool). cond b (k ∷ rest) rest) is
 
 -- what the timelines from a head have in common
 pub record IsLineFrom (plan : List Phase) (head : Head) (until : ℕ) (rows : List Green) : Type 0 where

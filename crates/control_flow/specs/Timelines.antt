@@ -1,5 +1,5 @@
 -- The timeline of a plan of servings, and that of no plan.
-use Rattle.std.specs.Prelude.{◌≡◌, ℕ, zero, suc, Bool, ◌+◌, ◌-◌, ◌<◌, ◌≤◌, max, min, nat_lt, if◌then◌else◌, List, [], ◌∷◌, ◌++◌, length, Ok}
+use Rattle.std.specs.Prelude.{◌≡◌, ℕ, zero, suc, Bool, true, ◌+◌, ◌-◌, ◌<◌, ◌≤◌, max, min, nat_lt, if◌then◌else◌, List, [], ◌∷◌, ◌++◌, ◌||◌, length, slice_index, Ok}
 use Rattle.phase_plan.specs.Phases.{first_up, is_unmarked_at, passed_numbers, phase_at, passing, switch_time}
 use Rattle.phase_plan.specs.declared.Phase.{Phase}
 use Rattle.switch_rules.specs.Serving.{IsCluster, earliest_end, head_after, serving}
@@ -77,6 +77,14 @@ abbrev pub turned : List Phase → (ℕ → Bool) → Head → ℕ → ℕ → L
 turned plan stops head to until =
     record { phase = head.phase; from = head.since; to = to } ∷ turning plan stops (until + 1) until head.phase to
 
+-- whether a phase is called, by a number for each phase: it has one above 0
+abbrev pub calls_for : List ℕ → ℕ → Bool
+calls_for calls k = nat_lt 0 (slice_index calls k)
+
+-- whether the ring stops at a phase: it is unmarked, or called
+abbrev pub stops_at : List Phase → List ℕ → ℕ → Bool
+stops_at plan calls k = is_unmarked_at plan k || calls_for calls k
+
 -- the timeline of servings from a head: a green that goes on is one row; a green that is left for a new one ends as late
 -- as it may, and the ring passes to the new one; the last green is held as long as it may, and then the ring turns, stopping
 -- at unmarked phases
@@ -90,3 +98,7 @@ line_of plan head (k ∷ ks) (s ∷ ss) until =
 -- the timeline with no plan: the green of the head ends as soon as it may, and then the ring turns in the same way
 abbrev pub rotation_of : List Phase → Head → ℕ → List Green
 rotation_of plan head until = turned plan (is_unmarked_at plan) head (earliest_end plan head) until
+
+-- the head of every signal at second 0
+abbrev pub first_head : Head
+first_head = record { phase = 0; since = 0; at = 0; fresh = true }

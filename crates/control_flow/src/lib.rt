@@ -3,10 +3,11 @@
 
 pub mod greens;
 mod lawful_rows;
+mod ring;
 mod seconds;
 mod splicing;
 mod timelines;
 
 pub use lawful_rows::{follows, is_green, is_lawful};
 pub use seconds::{colour, green_at, head_at};
-pub use timelines::{rotation, timeline};
+pub use timelines::{rotation, rotation_by_calls, timeline};

@@ -2,13 +2,14 @@
 
 ghost use Rattle.std.specs.Prelude.{◌≡◌, ℕ, ◌+◌, ◌-◌, ◌<◌, ◌≤◌, ◌++◌, filter, length, All, OnOk, IfOk};
 ghost use Rattle.std.specs.List.{range_with_len};
-ghost use Rattle.phase_plan.specs.Phases.{IsPlan, is_unmarked_at, passed_numbers};
+ghost use Rattle.phase_plan.specs.Phases.{IsPlan, is_unmarked_at, passed_numbers, phase_at};
 ghost use Rattle.switch_rules.specs.Bounds.{latest_time};
-ghost use Rattle.switch_rules.specs.Serving.{IsHead, earliest_green};
+ghost use Rattle.switch_rules.specs.Serving.{IsHead, earliest_end, earliest_green};
 ghost use Rattle.control_flow.specs.Greens.{AreApart, BeginBy, GoesOn, IsLawful, end_of};
-ghost use Rattle.control_flow.specs.Timelines.{AreServings, HasGreens, line_of, rotation_of, turned, left_for, last_end, shortest_greens, begin_after, green_after};
+ghost use Rattle.control_flow.specs.Timelines.{AreServings, HasGreens, line_of, rotation_of, turned, left_for, last_end, shortest_greens, begin_after, stops_at};
 
 use super::greens::{Green, Timeline};
+use super::ring::turn;
 use phase_plan::PhasePlan;
 use std::alloc::{AllocError, Global};
 use switch_rules::{Head, Served, earliest_end};
@@ -58,7 +59,7 @@ pub fn timeline(
         };
     }
     let latest = current.since + plan.phase(current.phase).greatest;
-    turn(plan, &current, latest, until, &mut rows)?;
+    turn(plan, &[], &current, latest, until, &mut rows)?;
     Ok(Timeline::from_rows(rows))
 }
 
@@ -86,9 +87,42 @@ pub fn rotation(
 {
     // Called for its clause: the phases are a plan.
     law_of_plans(plan);
-    let mut rows = Vec::new(alloc);
     let earliest = earliest_end(plan, head);
-    turn(plan, head, earliest, until, &mut rows)?;
+    rotation_by_calls(alloc, plan, head, earliest, &[], until)
+}
+
+/// The timeline of a green that ends at a given second: the green of the head ends at `to`, and then the ring turns, each
+/// green of its least length, until one ends after second `until`. The ring stops at the phases that are unmarked, and at
+/// those that are called: that have a number above 0 in `calls`, where a phase without a number has 0.
+///
+/// The head is one of the plan, and `at` and `until` are at most 104,000. `to` is not before the green may end, nor after
+/// it has to. `Err`: out of memory.
+///
+/// docs/RULES.md, "Timeline".
+pub fn rotation_by_calls(
+    alloc: Global,
+    plan: &PhasePlan,
+    head: &Head,
+    to: u32,
+    calls: &[u32],
+    until: u32,
+) -> Result<Timeline, AllocError>
+    requires head { IsHead plan.now head.now }
+    requires reach { head.now.at ≤ latest_time }
+    requires earliest { earliest_end plan.now head.now ≤ to }
+    requires latest { to ≤ head.now.since + (phase_at plan.now head.now.phase).greatest }
+    requires until { until ≤ latest_time }
+    ensures value { IfOk result (λ line. line ≡ turned plan.now (stops_at plan.now calls.now) head.now to until) }
+    ensures lawful { IfOk result (λ line. IsLawful plan.now line) }
+    ensures apart { IfOk result (λ line. AreApart plan.now line) }
+    ensures begin { IfOk result (λ line. GoesOn head.now line) }
+    ensures end { IfOk result (λ line. until < end_of line) }
+    ensures begins_by { (n : ℕ) → head.now.since ≤ n → until + 20 ≤ n → IfOk result (BeginBy n) }
+{
+    // Called for its clause: the phases are a plan.
+    law_of_plans(plan);
+    let mut rows = Vec::new(alloc);
+    turn(plan, calls, head, to, until, &mut rows)?;
     Ok(Timeline::from_rows(rows))
 }
 
@@ -189,52 +223,4 @@ fn add_shortest(
         from = to + times.yellow + times.clear;
     }
     Ok(from)
-}
-
-/// Adds the green of a head up to `to`, and then greens of the ring, each of its least length, until one ends after
-/// `until`.
-fn turn(
-    plan: &PhasePlan,
-    head: &Head,
-    to: u32,
-    until: u32,
-    rows: &mut Vec<Green>,
-) -> Result<(), AllocError>
-    requires plan { IsPlan plan.now }
-    requires phase { head.now.phase < length plan.now }
-    requires to { to ≤ 105000 }
-    requires until { until ≤ latest_time }
-    ensures { OnOk result (rows.new.items ≡ rows.old.items ++ turned plan.now (is_unmarked_at plan.now) head.now to until) }
-{
-    let mut last = Green {
-        phase: head.phase,
-        from: head.since,
-        to,
-    };
-    rows.push(last)?;
-    while last.to <= until {
-        last = green_after(plan, &last);
-        rows.push(last)?;
-    }
-    Ok(())
-}
-
-/// The green of the first unmarked phase up the ring after a row, as early as it may be, of its least length.
-fn green_after(plan: &PhasePlan, row: &Green) -> Green
-    requires plan { IsPlan plan.now }
-    requires phase { row.now.phase < length plan.now }
-    requires to { row.now.to ≤ latest_time }
-    ensures value { result ≡ green_after plan.now (is_unmarked_at plan.now) row.now.phase row.now.to }
-    ensures phase { result.phase < length plan.now }
-    ensures later { row.now.to < result.to }
-    ensures bounds { result.to ≤ 105000 }
-{
-    let times = plan.phase(row.phase);
-    let phase = plan.next(row.phase);
-    let from = row.to + times.yellow + times.clear;
-    Green {
-        phase,
-        from,
-        to: from + plan.phase(phase).least,
-    }
 }

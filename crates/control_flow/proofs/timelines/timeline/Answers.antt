@@ -1,11 +1,11 @@
-use Rattle.std.proofs.Common.{◌≡◌, List, Vec, Global, rules, sym, ap, subst, ◌∙◌, arith}
+use Rattle.std.proofs.Common.{◌≡◌, ℕ, ◌+◌, ◌++◌, Bool, List, Vec, Global, rules, sym, ap, subst, ◌∙◌, arith}
 use Rattle.control_flow.specs.declared.greens.Green.{Green}
 use Rattle.control_flow.specs.Greens.{BeginBy, IsLawful}
-use Rattle.control_flow.specs.Timelines.{line_of, HasGreens}
+use Rattle.control_flow.specs.Timelines.{line_of, turned, HasGreens}
 use Rattle.control_flow.proofs.ServingLaws.{IsServingOf-keeps, IsServingOf-head}
 use Rattle.control_flow.proofs.ApartLaws.{are-apart}
 use Rattle.control_flow.proofs.OrderLaws.{order-lawful}
-use Rattle.control_flow.proofs.TurningLaws.{IsLineFrom}
+use Rattle.control_flow.proofs.TurningLaws.{IsLineFrom, none-called}
 use Rattle.control_flow.proofs.MakingLaws.{line_of-line, line_of-by, line_of-greens, next-serving, line-kept, line-left, line-over}
 use Rattle.control_flow.proofs.timelines.timeline.Goals as goal
 use Rattle.control_flow.proofs.timelines.timeline.Goals.{then-not-next+in_ok-leave, else-not-next}
@@ -60,6 +60,7 @@ made : (c : goal.In_ok-turn) → c.turn.new.rows.items ≡ line_of c.args.plan.n
 made c =
     let l = c.loop-index in
     c.in_ok-turn.ensures
+    ∙ ap (λ (stops : ℕ → Bool). l.rows.items ++ turned c.args.plan.now stops l.current (l.current.since + c.phase.result.now.greatest) c.args.until) (none-called c.args.plan.now)
     ∙ line-over c.args.plan.now l.current c.phase.result.now c.args.phases.now c.args.served.now l.index c.args.until l.rows.items _ c.loop-index-test.false c.phase.ensures.value l.invariant.rows
 
 made-lawful : (c : goal.In_ok-turn) → IsLawful c.args.plan.now c.turn.new.rows.items
@@ -72,12 +73,16 @@ value : (c : goal.After-from_rows) → c.from_rows.result ≡ line_of c.args.pla
 value c =
     let l = c.loop-index in
     c.from_rows.ensures ∙ c.in_ok-turn.ensures
+    ∙ ap (λ (stops : ℕ → Bool). l.rows.items ++ turned c.args.plan.now stops l.current (l.current.since + c.phase.result.now.greatest) c.args.until) (none-called c.args.plan.now)
     ∙ line-over c.args.plan.now l.current c.phase.result.now c.args.phases.now c.args.served.now l.index c.args.until l.rows.items _ c.loop-index-test.false c.phase.ensures.value l.invariant.rows
 
 line : (c : goal.After-from_rows) → IsLineFrom c.args.plan.now c.args.head.now c.args.until c.from_rows.result
 line c =
     let facts = line_of-line c.args.plan.now c.args.phases.now c.args.served.now c.args.head.now c.args.until c.law_of_plans.ensures c.requires.head c.requires.reach c.requires.servings in
     subst (IsLineFrom c.args.plan.now c.args.head.now c.args.until) (sym (value c)) facts
+
+pub returns-clause-value : goal.returns-clause-value
+returns-clause-value c = value c
 
 pub returns-clause-greens : goal.returns-clause-greens
 returns-clause-greens c =
