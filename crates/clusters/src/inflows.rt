@@ -68,9 +68,11 @@ fn link_outflow(
     Ok(amounts)
 }
 
-/// The queue of a link, and what comes on it.
+/// The queue of a link, and what comes on it; of a link that is not sensed, nothing.
+///
+/// docs/RULES.md, "What a node sees".
 #[tactic(auto, unfolding(crate::specs::Inflow::sense_of))]
-fn sensed_of(sensed: &Sensed, l: u32) -> (u32, &[u32])
+pub fn sensed_of(sensed: &Sensed, l: u32) -> (u32, &[u32])
     ensures queue { result.0 ≡ (sense_of sensed.entry.now l).queue }
     ensures coming { result.1.now ≡ (sense_of sensed.entry.now l).coming }
 {
