@@ -1,0 +1,5 @@
+mod NearLaws
+mod LineLaws
+mod ReportLaws
+mod RunLaws
+mod WorkedRows

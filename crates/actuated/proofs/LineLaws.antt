@@ -1,0 +1,82 @@
+-- What the line from a head keeps, and how a line goes on.
+use Rattle.std.proofs.Common.{◌≡◌, ℕ, ◌+◌, ◌<◌, ◌≤◌, List, Some, length, map, sym, ap, subst, ◌∙◌, arith}
+use Rattle.std.specs.List.{range_with_len}
+use Rattle.std.proofs.lemmas.Bool.{cond_both}
+use Rattle.phase_plan.specs.Phases.{IsPlan, phase_at}
+use Rattle.phase_plan.specs.declared.Phase.{Phase}
+use Rattle.phase_plan.proofs.RingLaws.{phase-bounds}
+use Rattle.switch_rules.specs.Serving.{IsHead, earliest_end}
+use Rattle.switch_rules.specs.declared.Head.{Head}
+use Rattle.control_flow.specs.Greens.{BeginBy, IsContinued, end_of, head_at, spliced}
+use Rattle.control_flow.specs.Timelines.{first_head, rotation_of, stops_at}
+use Rattle.control_flow.specs.declared.greens.Green.{Green}
+use Rattle.control_flow.proofs.TurningLaws.{passes-called, turned-by, turned-line}
+use Rattle.net_numbers.specs.Numbers.{Net}
+use Rattle.net_numbers.specs.Outline.{plan_at}
+use Rattle.net_simulator.specs.Flow.{Passed, past_of}
+use Rattle.net_simulator.specs.Senses.{sense}
+use Rattle.net_simulator.specs.Worlds.{Stands, WorldState, standing_by}
+use Rattle.road_net.specs.Network.{IsNetwork}
+use Rattle.road_net.specs.declared.senses.Sensed.{Sensed}
+use Rattle.signal_safety.proofs.Lines.{plan-is}
+use Rattle.signal_safety.proofs.Rounds.{IsLine, IsNext, IsSoonHead, KeepsLine, head-of, rotation-next, spliced-keeps}
+use Rattle.actuated.specs.Calls.{act_line, calling, held_until, is_held}
+use Rattle.actuated.specs.ActRuns.{IsNextLine}
+use Rattle.actuated.specs.Rounds.{IsRenewed}
+
+-- the green of a head ends within its bounds
+pub ends-between : (plan : List Phase) (head : Head) (calls : List ℕ) → IsPlan plan → IsHead plan head
+    → (earliest_end plan head ≤ held_until plan head calls) × (held_until plan head calls ≤ head.since + (phase_at plan head.phase).greatest)
+ends-between plan head calls p h =
+    let times = phase-bounds plan head.phase p h.phase in
+    let most : ℕ = head.since + (phase_at plan head.phase).greatest in
+    let fits : earliest_end plan head ≤ most = omega (arith, h.within, times.greatest) in
+    cond_both (is_held calls head.phase) most (earliest_end plan head) (λ to. (earliest_end plan head ≤ to) × (to ≤ most))
+    (λ e. (fits, omega arith))
+    (λ e. (omega arith, fits))
+
+pub act-next : (plan : List Phase) (head : Head) (calls : List ℕ) (until : ℕ) → IsPlan plan → IsSoonHead plan head → until + 20 ≤ 100000 → IsNext plan head (act_line plan head calls until)
+act-next plan head calls until p h soon =
+    let ends = ends-between plan head calls p h.is in
+    let to : ℕ = held_until plan head calls in
+    let line = turned-line plan (stops_at plan calls) p (passes-called plan calls) head to until h.is (omega (arith, h.reach)) (omega (arith, ends.0)) ends.1 (omega (arith, ends.0)) in
+    record {
+      line = record { lawful = line.lawful; begins = turned-by plan (stops_at plan calls) p (passes-called plan calls) head to until 100000 h.is.phase h.since soon };
+      goes = line.begin;
+    }
+
+module _ (net : Net) (network : IsNetwork net) (node : ℕ) (below : node < length net.node_names) where
+  plan : IsPlan (plan_at net node)
+  plan = plan-is net network node below
+
+  pub first-is-line : IsLine (plan_at net node) (rotation_of (plan_at net node) first_head 0)
+  first-is-line =
+      let count = plan.count.0 in
+      (rotation-next (plan_at net node) first_head 0 plan (record { is = record { phase = omega arith; begun = omega arith; within = omega arith }; since = omega arith; reach = omega arith }) (omega arith)).line
+
+  pub next-keeps : (past : ℕ → ℕ → Passed) (n : ℕ) (old new : List Green) → n ≤ 18000 → IsLine (plan_at net node) old → IsNextLine net past n node old new → KeepsLine (plan_at net node) old n new
+  next-keeps past n old new early line next =
+      let look = network.outline.run.look.1 in
+      let head = head-of (plan_at net node) old n next.head line (omega arith) next.at in
+      subst (KeepsLine (plan_at net node) old n) (sym next.is) (spliced-keeps (plan_at net node) old n next.head _ plan line next.at (act-next (plan_at net node) next.head _ (n + net.run.look) plan head (omega arith)))
+
+-- what a node makes of its line
+pub renewed : (net : Net) (w : WorldState) (node : ℕ) (old next new : List Green) (head : Head) (sensed : Sensed) (calls : List ℕ) (until : ℕ)
+    → net.run.step ≤ net.run.look → head_at (plan_at net node) old w.second ≡ Some head
+    → next ≡ act_line (plan_at net node) head calls until → calls ≡ map (calling net node sensed) (range_with_len 0 (length (plan_at net node))) → until ≡ w.second + net.run.look
+    → ((arriving : ℕ → ℕ → ℕ) (lines : ℕ → List Green) → Stands net arriving (standing_by lines) w → sensed ≡ sense net (past_of net arriving (standing_by lines) w.second) w.second node)
+    → new ≡ spliced old next → IsContinued (plan_at net node) old w.second next new → BeginBy 100000 old → BeginBy 100000 next → until < end_of next
+    → IsRenewed net w node old new
+renewed net w node old next new head sensed calls until within at made called soon seen is continued first more ends = record {
+  next = λ arriving lines stands. record {
+    head = head;
+    at = at;
+    is =
+        is
+        ∙ ap (spliced old) (made
+        ∙ ap (λ (cs : List ℕ). act_line (plan_at net node) head cs until) (called ∙ ap (λ (s : Sensed). map (calling net node s) (range_with_len 0 (length (plan_at net node)))) (seen arriving lines stands))
+        ∙ ap (λ u. act_line (plan_at net node) head (map (calling net node (sense net (past_of net arriving (standing_by lines) w.second) w.second node)) (range_with_len 0 (length (plan_at net node)))) u) soon);
+  };
+  past = continued.past;
+  ready = record { lawful = continued.lawful; begins = continued.begins_by 100000 first more; ahead = omega (arith, continued.end, ends, soon, within) };
+}

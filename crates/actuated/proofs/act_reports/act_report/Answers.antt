@@ -1,0 +1,16 @@
+use Rattle.std.proofs.lemmas.Result.{IfOk-weaker}
+use Rattle.std.proofs.Common.{◌≡◌, Vec, Global, ℕ, subst}
+use Rattle.actuated.specs.Reports.{act_text}
+use Rattle.actuated.proofs.ReportLaws.{report-parts}
+use Rattle.actuated.proofs.act_reports.act_report.Goals as goal
+use Rattle.world_records.specs.Written.{HasWritten}
+
+pub returns : goal.returns
+returns c =
+    IfOk-weaker c.finish.result _ (λ (text : Vec ℕ Global). text.items ≡ act_text c.args.net.now c.args.run.now)
+    (λ text says. says (act_text c.args.net.now c.args.run.now)
+    (report-parts c.args.net.now c.args.run.now c.as_slice.result.now c.as_slice-2.result.now c.end_of_run.result
+    c.start-out.result c.write_header.new.out c.write_greens.new.out c.write_links.new.out c.write_totals.new.out
+    c.as_slice.ensures c.as_slice-2.ensures c.end_of_run.ensures (subst (HasWritten c.start-out.result) c.new.ensures.items c.start-out.ensures)
+    c.in_ok-write_header.ensures c.in_ok-write_greens.ensures c.in_ok-write_links.ensures c.in_ok-write_totals.ensures))
+    c.finish.ensures

@@ -1,0 +1,34 @@
+use Rattle.std.proofs.Common.{◌∙◌}
+use Rattle.net_simulator.specs.Arriving.{arriving_of}
+use Rattle.actuated.proofs.RunLaws.{ended, none-acted}
+use Rattle.actuated.proofs.act_runs.run_actuated.Goals as goal
+
+pub play_rounds-requires-clause-first : goal.play_rounds-requires-clause-first
+play_rounds-requires-clause-first c =
+    none-acted c.args.net.now (arriving_of c.args.arrivals.now) c.in_ok-lines.lines.items c.in_ok-world.world c.in_ok-lines.ensures c.in_ok-world.ensures.second
+    (λ shown. c.in_ok-world.ensures.stands (arriving_of c.args.arrivals.now) shown)
+
+pub returns-clause-run : goal.returns-clause-run
+returns-clause-run c =
+    (ended c.args.net.now c.nodes.ensures.network (arriving_of c.args.arrivals.now) c.play_rounds.new.world (record { timelines = c.from_vec.result; links = c.from_vec-2.result; totals = c.totals.result }) c.play_rounds.new.lines.items
+    c.from_vec.ensures c.in_ok-play_rounds.ensures (c.from_vec-2.ensures ∙ c.in_ok-links.ensures) c.totals.ensures.value).is_run
+
+pub returns-clause-shape : goal.returns-clause-shape
+returns-clause-shape c =
+    (ended c.args.net.now c.nodes.ensures.network (arriving_of c.args.arrivals.now) c.play_rounds.new.world (record { timelines = c.from_vec.result; links = c.from_vec-2.result; totals = c.totals.result }) c.play_rounds.new.lines.items
+    c.from_vec.ensures c.in_ok-play_rounds.ensures (c.from_vec-2.ensures ∙ c.in_ok-links.ensures) c.totals.ensures.value).shape
+
+pub returns-clause-safe : goal.returns-clause-safe
+returns-clause-safe c =
+    (ended c.args.net.now c.nodes.ensures.network (arriving_of c.args.arrivals.now) c.play_rounds.new.world (record { timelines = c.from_vec.result; links = c.from_vec-2.result; totals = c.totals.result }) c.play_rounds.new.lines.items
+    c.from_vec.ensures c.in_ok-play_rounds.ensures (c.from_vec-2.ensures ∙ c.in_ok-links.ensures) c.totals.ensures.value).safe
+
+pub returns-clause-greens : goal.returns-clause-greens
+returns-clause-greens c =
+    (ended c.args.net.now c.nodes.ensures.network (arriving_of c.args.arrivals.now) c.play_rounds.new.world (record { timelines = c.from_vec.result; links = c.from_vec-2.result; totals = c.totals.result }) c.play_rounds.new.lines.items
+    c.from_vec.ensures c.in_ok-play_rounds.ensures (c.from_vec-2.ensures ∙ c.in_ok-links.ensures) c.totals.ensures.value).greens
+
+pub returns-clause-clean : goal.returns-clause-clean
+returns-clause-clean c =
+    (ended c.args.net.now c.nodes.ensures.network (arriving_of c.args.arrivals.now) c.play_rounds.new.world (record { timelines = c.from_vec.result; links = c.from_vec-2.result; totals = c.totals.result }) c.play_rounds.new.lines.items
+    c.from_vec.ensures c.in_ok-play_rounds.ensures (c.from_vec-2.ensures ∙ c.in_ok-links.ensures) c.totals.ensures.value).clean

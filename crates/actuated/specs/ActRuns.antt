@@ -1,0 +1,77 @@
+-- A run of the controller: what each node makes of its line in each round, by what it senses then, and the record of the run.
+use Rattle.std.specs.Prelude.{◌≡◌, ℕ, ◌+◌, ◌*◌, ◌<◌, List, Option, Some, length, map}
+use Rattle.std.specs.List.{range_with_len}
+use Rattle.control_flow.specs.Greens.{head_at, spliced, standing}
+use Rattle.control_flow.specs.Timelines.{first_head, rotation_of}
+use Rattle.control_flow.specs.declared.greens.Green.{Green}
+use Rattle.switch_rules.specs.declared.Head.{Head}
+use Rattle.net_numbers.specs.Numbers.{Net}
+use Rattle.net_numbers.specs.Outline.{plan_at}
+use Rattle.net_simulator.specs.Flow.{Passed, past_of}
+use Rattle.net_simulator.specs.Senses.{sense}
+use Rattle.net_simulator.specs.Sums.{link_totals, totals}
+use Rattle.net_simulator.specs.Worlds.{line_in}
+use Rattle.signal_safety.specs.Rounds.{line_before, shown_by}
+use Rattle.sheets.specs.declared.sheet.Sheet.{Sheet}
+use Rattle.audit.specs.Audits.{end_of_run}
+use Rattle.actuated.specs.Calls.{act_line, calling}
+use Rattle.actuated.specs.declared.records.ActRecord.{ActRecord}
+
+-- Below, `made round node` is the line of a node in a round, and `under shown n` what passed the links in the first n seconds where
+-- the signals show this: of a world without bounds `past_of net arriving`.
+
+-- the first line of a node: the ring turns from second 0
+abbrev pub first_line : Net → ℕ → List Green
+first_line net node = rotation_of (plan_at net node) first_head 0
+
+-- what calls for each phase of a node in second n
+abbrev pub calls_at : Net → (ℕ → ℕ → Passed) → ℕ → ℕ → List ℕ
+calls_at net past n node = map (calling net node (sense net past n node)) (range_with_len 0 (length (plan_at net node)))
+
+-- the next line of a node in second n: the old one, spliced with that from its head by what the node senses
+pub record IsNextLine (net : Net) (past : ℕ → ℕ → Passed) (n node : ℕ) (old next : List Green) : Type 0 where
+  pub head : Head
+  pub at : head_at (plan_at net node) old n ≡ Some head
+  pub is : next ≡ spliced old (act_line (plan_at net node) head (calls_at net past n node) (n + net.run.look))
+
+-- a node acts in a round: its line becomes the next one when the round begins
+abbrev pub Acts : Net → ((ℕ → ℕ → Option (ℕ × ℕ)) → ℕ → ℕ → ℕ → Passed) → (ℕ → ℕ → List Green) → ℕ → ℕ → Type 0
+Acts net under made round node =
+    IsNextLine net (under (shown_by net made) (round * net.run.step)) (round * net.run.step) node
+    (line_before (first_line net) made round node) (made round node)
+
+-- each node of the network acts in each of the first `rounds` rounds
+abbrev pub AllAct : Net → ((ℕ → ℕ → Option (ℕ × ℕ)) → ℕ → ℕ → ℕ → Passed) → (ℕ → ℕ → List Green) → ℕ → Type 0
+AllAct net under made rounds = (round node : ℕ) → round < rounds → node < length net.node_names → Acts net under made round node
+
+-- what passes the links until the last round is over
+abbrev pub past_by : Net → (ℕ → ℕ → ℕ) → (ℕ → ℕ → List Green) → ℕ → ℕ → Passed
+past_by net arriving made = past_of net arriving (shown_by net made) (end_of_run net)
+
+-- The record of a run, where `arriving second link` comes from outside: the nodes act in all rounds; it has the last line of each
+-- node, and what the world has counted of each link and in all when the last round is over.
+pub record IsActRunBy (net : Net) (arriving : ℕ → ℕ → ℕ) (made : ℕ → ℕ → List Green) (run : ActRecord) : Type 0 where
+  pub acts : AllAct net (past_of net arriving) made net.run.rounds
+  pub timelines : run.timelines ≡ map (line_before (first_line net) made net.run.rounds) (range_with_len 0 (length net.node_names))
+  pub links : run.links ≡ map (link_totals net (past_by net arriving made) (end_of_run net)) (range_with_len 0 (length net.link_names))
+  pub all : run.totals ≡ totals net arriving (past_by net arriving made) (end_of_run net)
+
+-- the record of the run of a network and arrivals
+pub record IsActRun (net : Net) (arriving : ℕ → ℕ → ℕ) (run : ActRecord) : Type 0 where
+  pub made : ℕ → ℕ → List Green
+  pub by : IsActRunBy net arriving made run
+
+-- in each second of the run the last lines show the greens, with the same begin, by which the world moved
+abbrev pub ShowsGreens : Net → (ℕ → ℕ → List Green) → ActRecord → Type 0
+ShowsGreens net made run =
+    (second node : ℕ) → second < end_of_run net → node < length net.node_names
+    → standing (line_in run.timelines node) second ≡ shown_by net made second node
+
+-- what a record says of greens and totals
+abbrev pub sheet_of : ActRecord → Sheet
+sheet_of run = record { lines = run.timelines; links = run.links; totals = run.totals }
+
+-- a record with a line for each node, and totals of each link
+pub record HasShape (net : Net) (run : ActRecord) : Type 0 where
+  pub lines : length run.timelines ≡ length net.node_names
+  pub links : length run.links ≡ length net.link_names

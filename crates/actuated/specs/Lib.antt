@@ -1,0 +1,5 @@
+pub mod Calls
+pub mod ActRuns
+pub mod Reports
+pub mod Rounds
+pub use Rattle.control_flow.specs.Timelines

@@ -1,0 +1,98 @@
+//! The run of a network under actuated control.
+
+ghost use Rattle.std.specs.Prelude.{◌≡◌, IfOk, OnOk, length, map};
+ghost use Rattle.std.specs.List.{range_with_len};
+ghost use Rattle.arrivals.specs.Amounts.{AreArrivals};
+ghost use Rattle.audit.specs.Audits.{AreLawful, IsClean};
+ghost use Rattle.net_simulator.specs.Arriving.{arriving_of};
+ghost use Rattle.net_simulator.specs.Counts.{IsBalanced, counts_at};
+ghost use Rattle.net_simulator.specs.Worlds.{line_in};
+ghost use Rattle.signal_safety.specs.Safe.{IsSafe};
+ghost use Rattle.actuated.specs.ActRuns.{HasShape, IsActRun, ShowsGreens, sheet_of};
+ghost use Rattle.actuated.specs.Rounds.{HaveActed};
+
+use super::records::ActRecord;
+use super::renewing::{first_lines, renew_lines};
+use arrivals::Arrivals;
+use control_flow::greens::Timeline;
+use foundation::items::Items;
+use net_simulator::{Lines, LinkTotals, World};
+use road_net::Network;
+use std::alloc::{AllocError, Global};
+
+/// The run of a network under actuated control, from second 0 up to the end of the last round: when a round begins, the line
+/// of each node goes on by what the node senses then; and then the world moves by the lines up to the next round.
+///
+/// All lines are lawful, and the network is safe. The last lines show the greens, with the same begin, by which the world
+/// moved. The totals are what the world shows under the last lines, and what entered has left or is on the links.
+///
+/// `Err`: out of memory.
+///
+/// docs/RULES.md, "Actuated control".
+pub fn run_actuated(
+    alloc: Global,
+    net: &Network,
+    arrivals: &Arrivals,
+) -> Result<ActRecord, AllocError>
+    requires { AreArrivals net.now arrivals.now }
+    ensures run { IfOk result (IsActRun net.now (arriving_of arrivals.now)) }
+    ensures shape { IfOk result (HasShape net.now) }
+    ensures lawful { IfOk result (λ run. AreLawful net.now run.timelines) }
+    ensures safe { IfOk result (λ run. IsSafe net.now (line_in run.timelines)) }
+    ensures greens { IfOk result (λ run. (is : IsActRun net.now (arriving_of arrivals.now) run)
+        → ShowsGreens net.now is.made run) }
+    ensures clean { IfOk result (λ run. IsClean net.now (arriving_of arrivals.now) (sheet_of run)) }
+    ensures whole { IfOk result (λ run. IsBalanced run.totals) }
+{
+    // Called for its clause `network`.
+    let _ = net.nodes();
+    let mut lines = first_lines(alloc, net)?;
+    let mut world = World::new(alloc, net)?;
+    play_rounds(alloc, net, arrivals, &mut lines, &mut world)?;
+    let links = list_totals(alloc, net, &world)?;
+    Ok(ActRecord {
+        timelines: Items::from_vec(lines),
+        links: Items::from_vec(links),
+        totals: world.totals(),
+    })
+}
+
+/// Plays all rounds from the first one.
+fn play_rounds(
+    alloc: Global,
+    net: &Network,
+    arrivals: &Arrivals,
+    lines: &mut Vec<Timeline>,
+    world: &mut World,
+) -> Result<(), AllocError>
+    requires arrivals { AreArrivals net.now arrivals.now }
+    requires first { HaveActed net.now (arriving_of arrivals.now) 0 lines.old.items world.old }
+    ensures { OnOk result (HaveActed net.now (arriving_of arrivals.now) net.now.run.rounds lines.new.items world.new) }
+{
+    let mut calls = Vec::with_capacity(alloc, 4)?;
+    let run = net.run();
+    for _round in 0..run.rounds {
+        renew_lines(alloc, net, world, lines, &mut calls)?;
+        world.advance(
+            net,
+            &Lines {
+                all: lines.as_slice(),
+            },
+            arrivals,
+            run.step,
+        );
+    }
+    Ok(())
+}
+
+/// What the world has counted of each link.
+fn list_totals(alloc: Global, net: &Network, world: &World) -> Result<Vec<LinkTotals>, AllocError>
+    requires { length world.now.counts ≡ length net.now.link_names }
+    ensures { IfOk result (λ links. links.items ≡ map (counts_at world.now.counts) (range_with_len 0 (length net.now.link_names))) }
+{
+    let mut links = Vec::with_capacity(alloc, net.links() as usize)?;
+    for link in 0..net.links() {
+        links.push(world.link_totals(link))?;
+    }
+    Ok(links)
+}

@@ -1,0 +1,81 @@
+//! What calls for the phases of a node.
+
+ghost use Rattle.std.specs.Prelude.{◌≡◌, ◌≢◌, ◌<◌, ◌≤◌, AllPairs, IfOk, OnOk, length, map, sum, sum_by};
+ghost use Rattle.std.specs.List.{range_with_len};
+ghost use Rattle.net_numbers.specs.Outline.{plan_at};
+ghost use Rattle.road_net.specs.Senses.{IsSensedOf, amount};
+ghost use Rattle.actuated.specs.Calls as spec;
+ghost use Rattle.actuated.specs.Calls.{calling, near};
+
+use clusters::sensed_of;
+use road_net::{Network, Sensed};
+use std::alloc::AllocError;
+
+/// What calls for a phase of a node, in thousandths of a vehicle, at most 2,000,000,000: on the links of the phase, what waits
+/// at their ends, and what reaches these in this second and in each of the next `gap` ones.
+///
+/// What is sensed is of the node.
+///
+/// docs/RULES.md, "Actuated control".
+pub fn calling(net: &Network, node: u32, sensed: &Sensed, phase: u8) -> u32
+    requires node { node < length net.now.node_names }
+    requires phase { phase < length (plan_at net.now node) }
+    requires sensed { IsSensedOf net.now node sensed.now }
+    ensures { result ≡ calling net.now node sensed.entry.now phase }
+{
+    all_near(sensed, net.run().gap, net.phase_links(node, phase))
+}
+
+/// What calls for each phase of a node, written into a list. `Err`: out of memory.
+pub(crate) fn list_calls(
+    net: &Network,
+    node: u32,
+    sensed: &Sensed,
+    calls: &mut Vec<u32>,
+) -> Result<(), AllocError>
+    requires node { node < length net.now.node_names }
+    requires sensed { IsSensedOf net.now node sensed.now }
+    ensures { OnOk result (calls.new.items
+        ≡ map (calling net.now node sensed.entry.now) (range_with_len 0 (length (plan_at net.now node)))) }
+{
+    calls.clear();
+    for phase in 0..net.plan(node).count() {
+        calls.push(calling(net, node, sensed, phase))?;
+    }
+    Ok(())
+}
+
+/// What is near on these links.
+fn all_near(sensed: &Sensed, gap: u32, links: &[u32]) -> u32
+    requires amounts { sum_by amount sensed.now.links ≤ 2000000000 }
+    requires links { AllPairs (λ a b. a ≢ b) links.now }
+    ensures { result ≡ sum_by (near sensed.entry.now gap) links.now }
+{
+    let mut all = 0;
+    for link in links {
+        all += near(sensed, gap, *link);
+    }
+    all
+}
+
+/// What waits at the end of a link, or reaches it now or within `gap` seconds after.
+fn near(sensed: &Sensed, gap: u32, link: u32) -> u32
+    requires { sum_by amount sensed.now.links ≤ 2000000000 }
+    ensures { result ≡ spec.near sensed.entry.now gap link }
+{
+    let (queue, coming) = sensed_of(sensed, link);
+    let seconds = coming.len().min(gap as usize + 1);
+    queue + sum_of(&coming[..seconds])
+}
+
+/// The sum of amounts.
+fn sum_of(amounts: &[u32]) -> u32
+    requires { sum amounts.now ≤ 2000000000 }
+    ensures { result ≡ sum amounts.now }
+{
+    let mut all = 0;
+    for amount in amounts {
+        all += *amount;
+    }
+    all
+}

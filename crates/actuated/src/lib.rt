@@ -1,0 +1,16 @@
+//! Actuated control: each node holds a green while vehicles call for its phase, by what the node itself senses, and else lets the
+//! ring turn; the run of a network under it, and its report.
+#![tactic(auto)]
+
+mod act_lines;
+mod act_reports;
+mod act_runs;
+mod calls;
+mod records;
+mod renewing;
+
+pub use act_lines::act_line;
+pub use act_reports::act_report;
+pub use act_runs::run_actuated;
+pub use calls::calling;
+pub use records::ActRecord;
