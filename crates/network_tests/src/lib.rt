@@ -1,7 +1,9 @@
 //! Tests of what no clause of a network's crates says and no command shows: splits, smoothed series, windows, the world of the
-//! worked network second by second, what is written of it, and audits of its report.
+//! worked network second by second, its run under actuated control, what is written of it, and audits of its report.
 #![tactic(auto)]
 
+#[cfg(test)]
+mod actuated_runs;
 #[cfg(test)]
 mod audits;
 #[cfg(test)]
