@@ -2,8 +2,8 @@
 use Rattle.std.proofs.Common.{◌≡◌, ℕ, List, [], ◌∷◌, length, map, Vec, subst}
 use Rattle.std.specs.List.{flat_map, range_with_len}
 use Rattle.csv.specs.declared.writer.Writer.{Writer}
-use Rattle.audit.specs.Audits.{end_of_run}
 use Rattle.control_flow.specs.declared.greens.Green.{Green}
+use Rattle.net_simulator.specs.Sums.{end_of_run}
 use Rattle.net_simulator.specs.declared.totals.LinkTotals.{LinkTotals}
 use Rattle.net_numbers.specs.Numbers.{Net}
 use Rattle.world_records.specs.Records.{green_records, header, link_record_of, total_record}

@@ -7,7 +7,7 @@ use Rattle.std.proofs.lemmas.List.FromFn.{fill_by_all, get_or-map-range_with_len
 use Rattle.std.proofs.lemmas.Nat.{div_below}
 use Rattle.std.proofs.Math.Nat.{div-lt_iff_lt-mul, mul-le-mul_right}
 use Rattle.arrivals.specs.Amounts.{Amounts, AreArrivals}
-use Rattle.audit.specs.Audits.{IsClean, end_of_run}
+use Rattle.audit.specs.Audits.{IsClean}
 use Rattle.control_flow.specs.Greens.{standing}
 use Rattle.control_flow.specs.declared.greens.Green.{Green}
 use Rattle.net_numbers.specs.Numbers.{Net}
@@ -15,7 +15,7 @@ use Rattle.net_numbers.specs.Outline.{plan_at}
 use Rattle.net_simulator.specs.Arriving.{arriving_of}
 use Rattle.net_simulator.specs.Counts.{counts_at, no_totals}
 use Rattle.net_simulator.specs.Flow.{Passed, passed_in, past_of}
-use Rattle.net_simulator.specs.Sums.{link_totals, totals}
+use Rattle.net_simulator.specs.Sums.{end_of_run, link_totals, totals}
 use Rattle.net_simulator.specs.Worlds.{IsWorldOf, Stands, WorldState, line_in, standing_by}
 use Rattle.net_simulator.specs.declared.totals.LinkTotals.{LinkTotals}
 use Rattle.net_simulator.proofs.FlowLaws.{history-same}

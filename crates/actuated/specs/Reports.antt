@@ -1,8 +1,8 @@
 -- The report of a run: its records, and its text.
 use Rattle.std.specs.Prelude.{ℕ, List, [], ◌∷◌, ◌++◌, length, map}
 use Rattle.std.specs.List.{flat_map, range_with_len}
-use Rattle.audit.specs.Audits.{end_of_run}
 use Rattle.net_numbers.specs.Numbers.{Net}
+use Rattle.net_simulator.specs.Sums.{end_of_run}
 use Rattle.world_records.specs.Records.{green_records, header, link_record_of, records_text, total_record}
 use Rattle.actuated.specs.declared.records.ActRecord.{ActRecord}
 

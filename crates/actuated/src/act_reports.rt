@@ -1,11 +1,11 @@
 //! The report of a run.
 
 ghost use Rattle.std.specs.Prelude.{◌≡◌, IfOk};
-ghost use Rattle.audit.specs.Audits as audits;
 ghost use Rattle.actuated.specs.ActRuns.{HasShape};
 ghost use Rattle.actuated.specs.Reports.{act_text};
 
 use super::records::ActRecord;
+use net_simulator::end_of_run;
 use road_net::Network;
 use std::alloc::{AllocError, Global};
 use world_records::{finish, start, write_greens, write_header, write_links, write_totals};
@@ -24,11 +24,4 @@ pub fn act_report(alloc: Global, net: &Network, run: &ActRecord) -> Result<Vec<u
     write_links(net, run.links.as_slice(), &mut out)?;
     write_totals(run.totals, &mut out)?;
     finish(out)
-}
-
-/// The second after the last round.
-fn end_of_run(net: &Network) -> u32
-    ensures { result ≡ audits.end_of_run net.now }
-{
-    net.run().rounds * net.run().step
 }

@@ -13,7 +13,7 @@ use Rattle.road_net.proofs.TotalLaws.{total-le}
 use Rattle.control_flow.specs.Greens.{IsGreen}
 use Rattle.control_flow.specs.declared.greens.Green.{Green}
 use Rattle.net_simulator.specs.Flow.{Passed}
-use Rattle.net_simulator.specs.Sums.{AreFew, delay, link_totals, totals}
+use Rattle.net_simulator.specs.Sums.{AreFew, delay, end_of_run, link_totals, totals}
 use Rattle.net_simulator.specs.Worlds.{line_in, standing_by}
 use Rattle.net_simulator.proofs.Conserving.{left-entered}
 use Rattle.net_simulator.proofs.Passing.{delay-small, entered-small, gone-most, on-road-most, sound-at}
@@ -25,7 +25,7 @@ use Rattle.sheets.specs.Written.{AreToldCounts, AreToldSums, CanBeTold, IsPassed
 use Rattle.sheets.proofs.TextLaws.{one-sheet}
 use Rattle.sheets.proofs.WrittenLaws.{written-sheet}
 use Rattle.world_records.specs.Records.{header, records_text}
-use Rattle.audit.specs.Audits.{IsClean, IsCleanText, end_of_run, past_under}
+use Rattle.audit.specs.Audits.{IsClean, IsCleanText, past_under}
 use Rattle.audit.proofs.CutLaws.{cut-clean, cut-line}
 
 -- the greens of a plan that begin before a second can be told

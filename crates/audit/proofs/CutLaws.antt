@@ -10,12 +10,12 @@ use Rattle.control_flow.specs.Greens.{Follows, IsLawful, covers, green_at, row_a
 use Rattle.control_flow.specs.declared.greens.Green.{Green}
 use Rattle.control_flow.proofs.RowLaws.{lawful-cons, lawful-first, lawful-next, lawful-nil, lawful-tail}
 use Rattle.net_simulator.specs.Flow.{Passed, passed_in}
-use Rattle.net_simulator.specs.Sums.{link_totals, totals}
+use Rattle.net_simulator.specs.Sums.{end_of_run, link_totals, totals}
 use Rattle.net_simulator.specs.Worlds.{line_in, standing_by}
 use Rattle.net_simulator.proofs.FlowLaws.{history-same}
 use Rattle.sheets.specs.declared.sheet.Sheet.{Sheet}
 use Rattle.sheets.specs.Written.{begun_before, cut_at}
-use Rattle.audit.specs.Audits.{IsClean, end_of_run, past_under}
+use Rattle.audit.specs.Audits.{IsClean, past_under}
 
 -- no row of a lawful line begins before a second that its first row does not begin before
 late-none : (plan : List Phase) (end : ℕ) (row : Green) (rows : List Green) → IsLawful plan (row ∷ rows) → end ≤ row.from → begun_before end rows ≡ []

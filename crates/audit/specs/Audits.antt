@@ -1,5 +1,5 @@
 -- When a sheet is clean, and else the first reason why it is not.
-use Rattle.std.specs.Prelude.{◌≡◌, ◌≢◌, ℕ, ◌-◌, ◌*◌, ◌<◌, ◌≤◌, List, length}
+use Rattle.std.specs.Prelude.{◌≡◌, ◌≢◌, ℕ, ◌-◌, ◌<◌, ◌≤◌, List, length}
 use Rattle.foundation.specs.Firsts.{IsFirstWithout, FromOne}
 use Rattle.phase_plan.specs.declared.Phase.{Phase}
 use Rattle.net_numbers.specs.Numbers.{Net}
@@ -8,7 +8,7 @@ use Rattle.control_flow.specs.Greens.{Follows, IsGreen, IsLawful, row_at}
 use Rattle.control_flow.specs.declared.greens.Green.{Green}
 use Rattle.net_simulator.specs.Counts.{counts_at}
 use Rattle.net_simulator.specs.Flow.{Passed, past_of}
-use Rattle.net_simulator.specs.Sums.{link_totals, totals}
+use Rattle.net_simulator.specs.Sums.{end_of_run, link_totals, totals}
 use Rattle.net_simulator.specs.Worlds.{line_in, standing_by}
 use Rattle.net_simulator.specs.declared.totals.LinkTotals.{LinkTotals}
 use Rattle.net_simulator.specs.declared.totals.Totals.{Totals}
@@ -18,10 +18,6 @@ use Rattle.audit.specs.declared.findings.AuditWhy.{AuditWhy}
 use Rattle.audit.specs.declared.findings.AuditWhy.TheVariants.{Span, Next, Link, Total}
 use Rattle.audit.specs.declared.findings.Finding.{Finding}
 use Rattle.audit.specs.declared.findings.Finding.TheVariants.{Clean, Bad}
-
--- the second after the last round
-abbrev pub end_of_run : Net → ℕ
-end_of_run net = net.run.rounds * net.run.step
 
 -- what passes the links until then under these lines
 abbrev pub past_under : Net → (ℕ → ℕ → ℕ) → List (List Green) → ℕ → ℕ → Passed

@@ -1,8 +1,8 @@
 //! What a sheet says of links and totals, against what the world shows under its lines.
 
-ghost use Rattle.std.specs.Prelude.{◌≡◌, ◌↔◌, ℕ, ◌<◌, ◌≤◌, IfNone, IfOk, IfSome, IsTrue, length};
+ghost use Rattle.std.specs.Prelude.{◌≡◌, ◌↔◌, ℕ, ◌<◌, IfNone, IfOk, IfSome, IsTrue, length};
 ghost use Rattle.arrivals.specs.Amounts.{AreArrivals};
-ghost use Rattle.audit.specs.Audits.{AreLawful, IfBad, IsClean, IsWhy, end_of_run as end_of};
+ghost use Rattle.audit.specs.Audits.{AreLawful, IfBad, IsClean, IsWhy};
 ghost use Rattle.foundation.specs.Firsts.{IsFirstWithout};
 ghost use Rattle.net_simulator.specs.Arriving.{arriving_of};
 ghost use Rattle.net_simulator.specs.Counts.{counts_at};
@@ -10,7 +10,7 @@ ghost use Rattle.net_simulator.specs.Counts.{counts_at};
 use super::findings::{AuditWhy, Finding};
 use arrivals::Arrivals;
 use control_flow::greens::Timeline;
-use net_simulator::{Lines, LinkTotals, Totals, World, play};
+use net_simulator::{Lines, LinkTotals, Totals, World, end_of_run, play};
 use road_net::Network;
 use std::alloc::{AllocError, Global};
 
@@ -39,14 +39,6 @@ pub(crate) fn compare(
         return Ok(Finding::Bad(AuditWhy::Total));
     }
     Ok(Finding::Clean)
-}
-
-/// The second after the last round.
-fn end_of_run(net: &Network) -> u32
-    ensures value { result ≡ end_of net.now }
-    ensures bound { result ≤ 18000 }
-{
-    net.run().rounds * net.run().step
 }
 
 /// Whether this is what the world has counted of the whole network.

@@ -15,14 +15,14 @@ use Rattle.net_numbers.specs.Outline.{node_name_at}
 use Rattle.road_net.specs.Network.{IsNetwork}
 use Rattle.net_simulator.specs.Counts.{counts_at, no_totals}
 use Rattle.net_simulator.specs.Flow.{Passed}
-use Rattle.net_simulator.specs.Sums.{AreFew, link_totals, totals}
+use Rattle.net_simulator.specs.Sums.{AreFew, end_of_run, link_totals, totals}
 use Rattle.net_simulator.specs.Worlds.{line_in, standing_by}
 use Rattle.schedule_meaning.specs.declared.planners.Answer.{Answer}
 use Rattle.schedule_meaning.specs.declared.planners.Answer.TheVariants.{Plan, NoPlan}
 use Rattle.runs.specs.Promises.{IsKeptRun}
-use Rattle.runs.specs.Runs.{arriving_by, end_of_run, past_by, line_before, shown_by}
+use Rattle.runs.specs.Runs.{arriving_by, past_by, line_before, shown_by}
 use Rattle.runs.specs.declared.records.RunRecord.{RunRecord}
-use Rattle.runs.proofs.Past.{past-at-nodes}
+use Rattle.net_simulator.proofs.AtNodes.{past-at-nodes}
 use Rattle.sheets.specs.declared.sheet.Sheet.{Sheet}
 use Rattle.sheets.specs.Texts.{HasShape}
 use Rattle.sheets.specs.Told.{told}

@@ -6,7 +6,6 @@ ghost use Rattle.histories.specs.Histories.{IsLawful};
 ghost use Rattle.net_simulator.specs.Sums.{arrived};
 ghost use Rattle.runs.specs.Complete.{IsComplete};
 ghost use Rattle.runs.specs.Promises.{IsKeptRun};
-ghost use Rattle.runs.specs.Runs as runs;
 ghost use Rattle.runs.specs.Runs.{arriving_by};
 ghost use Rattle.runs.specs.declared.records.RunRecord.{RunRecord};
 ghost use Rattle.delay_report.specs.Reports.{outcome_records, records_text, report_text, steps_records};
@@ -16,6 +15,7 @@ ghost use Rattle.delay_report.specs.Texts.{IsHistoryText};
 use crate::plans::write_plans;
 use crate::steps::write_steps;
 use histories::History;
+use net_simulator::end_of_run;
 use road_net::Network;
 use runs::RunRecord;
 use std::alloc::{AllocError, Global};
@@ -94,13 +94,6 @@ pub fn join_report(net: &Network, steps: Vec<u8>, outcome: &[u8]) -> Result<Vec<
     let mut text = steps;
     text.extend_from_slice(outcome)?;
     Ok(text)
-}
-
-/// The second at which a run ends.
-fn end_of_run(net: &Network) -> u32
-    ensures { result ≡ runs.end_of_run net.now }
-{
-    net.run().rounds * net.run().step
 }
 
 /// The report of a lawful history is a text of that history, and a text is a text of one history at most. The report of

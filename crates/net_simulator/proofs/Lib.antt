@@ -7,4 +7,5 @@ pub mod Keeping
 pub mod Conserving
 pub mod Passing
 pub mod Seeing
+pub mod AtNodes
 mod WorkedRow

@@ -1,5 +1,5 @@
 -- Sums over the links of a network.
-use Rattle.std.specs.Prelude.{ℕ, ◌+◌, ◌-◌, ◌≤◌, Option, None, Some, length}
+use Rattle.std.specs.Prelude.{ℕ, ◌+◌, ◌-◌, ◌*◌, ◌≤◌, Option, None, Some, length}
 use Rattle.net_numbers.specs.Numbers.{Net}
 use Rattle.net_numbers.specs.Outline.{link_at}
 use Rattle.road_net.specs.Totals.{total}
@@ -44,3 +44,7 @@ totals net arriving past n = record {
   on = on_road net past n;
   delay = total (delay net past n) (length net.link_names);
 }
+
+-- the second after the last round
+abbrev pub end_of_run : Net → ℕ
+end_of_run net = net.run.rounds * net.run.step

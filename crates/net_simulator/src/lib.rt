@@ -10,6 +10,6 @@ mod totals;
 mod world;
 
 pub use lights::Lights;
-pub use lines::{Lines, play};
+pub use lines::{Lines, end_of_run, play};
 pub use totals::{LinkTotals, Totals};
 pub use world::{World, law_of_lights};

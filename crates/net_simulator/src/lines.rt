@@ -3,6 +3,7 @@
 ghost use Rattle.std.specs.Prelude.{◌≡◌, ◌≤◌, IfOk};
 ghost use Rattle.arrivals.specs.Amounts.{AreArrivals};
 ghost use Rattle.net_simulator.specs.Arriving.{arriving_of};
+ghost use Rattle.net_simulator.specs.Sums as sums;
 ghost use Rattle.net_simulator.specs.Worlds.{Stands, line_in, standing_by};
 
 use super::lights::Lights;
@@ -55,4 +56,14 @@ pub fn play<'a>(
     let mut world = World::new(alloc, net)?;
     world.advance(net, lines, arrivals, seconds);
     Ok(world)
+}
+
+/// The second after the last round of a network's run, at most 18,000.
+///
+/// docs/RULES.md, "Run".
+pub fn end_of_run(net: &Network) -> u32
+    ensures value { result ≡ sums.end_of_run net.now }
+    ensures bound { result ≤ 18000 }
+{
+    net.run().rounds * net.run().step
 }

@@ -13,7 +13,7 @@ use Rattle.road_net.specs.Network.{IsNetwork}
 use Rattle.road_net.specs.declared.senses.Sensed.{Sensed}
 use Rattle.std.specs.Prelude.{List}
 use Rattle.runs.specs.Runs.{Commits, arriving_by, line_before, past_by, sensed_in, shown_by}
-use Rattle.runs.proofs.Past.{past-at-nodes}
+use Rattle.net_simulator.proofs.AtNodes.{past-at-nodes}
 
 module _ (net : Net) (network : IsNetwork net) (enters : ℕ → ℕ → ℕ) (made other : ℕ → ℕ → Commitment) where
   -- the commits before a round are the same

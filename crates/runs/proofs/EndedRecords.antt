@@ -12,7 +12,7 @@ use Rattle.net_simulator.specs.Sums.{link_totals, totals}
 use Rattle.net_simulator.specs.Worlds.{WorldState, Stands}
 use Rattle.runs.specs.Runs.{AllCommit, IsRunBy, arriving_by, line_before, shown_by}
 use Rattle.runs.specs.declared.records.RunRecord.{RunRecord}
-use Rattle.runs.proofs.Past.{map-range-same}
+use Rattle.runs.proofs.SameParts.{map-range-same}
 use Rattle.runs.specs.Ending.{IsRecordOf, records_in, round_by_round}
 use Rattle.runs.proofs.Queues.{columns, map-by}
 

@@ -5,7 +5,7 @@ pub mod Expected
 pub mod Heard
 pub mod Keep
 pub mod One
-pub mod Past
+pub mod SameParts
 pub mod Places
 pub mod PlanLaws
 pub mod Plannable

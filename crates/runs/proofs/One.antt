@@ -12,14 +12,14 @@ use Rattle.histories.proofs.Versions.{version-law}
 use Rattle.intersection_actor.specs.Commits.{record_of}
 use Rattle.net_numbers.specs.Numbers.{Net}
 use Rattle.net_simulator.specs.Flow.{Passed}
-use Rattle.net_simulator.specs.Sums.{link_totals, totals}
+use Rattle.net_simulator.specs.Sums.{end_of_run, link_totals, totals}
 use Rattle.road_net.specs.Network.{IsNetwork, heard_links}
-use Rattle.runs.specs.Runs.{IsRun, arriving_by, end_of_run, forecast_at, hearing, line_before, past_by, plans_in, plans_of, sensed_in, told_in}
+use Rattle.runs.specs.Runs.{IsRun, arriving_by, forecast_at, hearing, line_before, past_by, plans_in, plans_of, sensed_in, told_in}
 use Rattle.runs.specs.declared.records.RunRecord.{RunRecord}
 use Rattle.runs.proofs.Agree.{SameBefore, commit-moved, lines-same, past-same}
 use Rattle.runs.proofs.Committed.{one-commit}
 use Rattle.runs.proofs.Heard.{Ends, heard-at, heard-count, heard-ends}
-use Rattle.runs.proofs.Past.{flat-range-same, map-range-same}
+use Rattle.runs.proofs.SameParts.{flat-range-same, map-range-same}
 use Rattle.runs.proofs.Places.{StandsAt, comes-first, first-small, place-of, published}
 
 module _ (net : Net) (network : IsNetwork net) (enters : ℕ → ℕ → ℕ) (h : List ℕ) (lawful : IsLawful net h) (one other : RunRecord) (a : IsRun net enters h one) (b : IsRun net enters h other) where

@@ -5,7 +5,7 @@ use Rattle.std.proofs.lemmas.List.{length-map, map-append, take_all, take_more, 
 use Rattle.std.proofs.Math.Seq.{drop-nil}
 use Rattle.std.proofs.Math.Nat.{mul-le-mul_right}
 use Rattle.std.proofs.lemmas.Grind.{flat_map-append}
-use Rattle.runs.proofs.Past.{flat-range-same}
+use Rattle.runs.proofs.SameParts.{flat-range-same}
 use Rattle.runs.specs.Ending.{first_of_each, round_by_round, without_first}
 
 -- a list whose elements are told by their places

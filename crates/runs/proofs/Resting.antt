@@ -18,7 +18,8 @@ use Rattle.road_net.specs.Network.{IsNetwork}
 use Rattle.signal_safety.proofs.Rounds.{shows}
 use Rattle.runs.specs.Runs.{AllCommit, arriving_by, line_before, sensed_in, shown_by}
 use Rattle.runs.proofs.Keep.{all-keep}
-use Rattle.runs.proofs.Past.{map-range-same, past-at-nodes}
+use Rattle.net_simulator.proofs.AtNodes.{past-at-nodes}
+use Rattle.runs.proofs.SameParts.{map-range-same}
 use Rattle.schedule_meaning.specs.declared.planners.Answer.TheVariants.{NoPlan}
 use Rattle.runs.specs.Resting.{AreNew, Rests, records_of}
 

@@ -5,10 +5,11 @@ use Rattle.control_flow.specs.declared.greens.Green.{Green}
 use Rattle.intersection_actor.specs.Commits.{Commitment}
 use Rattle.net_numbers.specs.Numbers.{Net}
 use Rattle.net_numbers.specs.Outline.{plan_at}
+use Rattle.net_simulator.specs.Sums.{end_of_run}
 use Rattle.schedule_meaning.specs.Best.{IsLeast}
 use Rattle.signal_safety.specs.Safe.{IsSafe}
 use Rattle.runs.specs.Plans.{IsPlannedFrom, NamesVersions, NeverOlder}
-use Rattle.runs.specs.Runs.{IsRun, end_of_run, shown_by}
+use Rattle.runs.specs.Runs.{IsRun, shown_by}
 use Rattle.runs.specs.declared.records.RunRecord.{RunRecord}
 
 -- the last line of a node

@@ -18,7 +18,7 @@ use Rattle.net_numbers.specs.Numbers.{Net}
 use Rattle.net_numbers.specs.Outline.{plan_at}
 use Rattle.net_simulator.specs.Flow.{Passed, past_of}
 use Rattle.net_simulator.specs.Senses.{sense}
-use Rattle.net_simulator.specs.Sums.{link_totals, totals}
+use Rattle.net_simulator.specs.Sums.{end_of_run, link_totals, totals}
 use Rattle.outflow.specs.Outflow.{departures, told_forecast}
 use Rattle.road_net.specs.declared.senses.Sensed.{Sensed}
 use Rattle.runs.specs.declared.records.RunRecord.{RunRecord}
@@ -77,10 +77,6 @@ plans_in net heard made round = map (λ node. record_of node round (heard round 
 
 abbrev pub plans_of : Net → (ℕ → ℕ → List Heard) → (ℕ → ℕ → Commitment) → ℕ → List PlanRecord
 plans_of net heard made rounds = flat_map (plans_in net heard made) (range_with_len 0 rounds)
-
--- the second after the last round
-abbrev pub end_of_run : Net → ℕ
-end_of_run net = net.run.rounds * net.run.step
 
 -- The record of a run in which the nodes hear this: they commit in all rounds; it has their plan records by round and node, the
 -- last line of each node, and what the world has counted of each link and in all when the last round is over.

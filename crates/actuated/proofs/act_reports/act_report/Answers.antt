@@ -11,6 +11,6 @@ returns c =
     (λ text says. says (act_text c.args.net.now c.args.run.now)
     (report-parts c.args.net.now c.args.run.now c.as_slice.result.now c.as_slice-2.result.now c.end_of_run.result
     c.start-out.result c.write_header.new.out c.write_greens.new.out c.write_links.new.out c.write_totals.new.out
-    c.as_slice.ensures c.as_slice-2.ensures c.end_of_run.ensures (subst (HasWritten c.start-out.result) c.new.ensures.items c.start-out.ensures)
+    c.as_slice.ensures c.as_slice-2.ensures c.end_of_run.ensures.value (subst (HasWritten c.start-out.result) c.new.ensures.items c.start-out.ensures)
     c.in_ok-write_header.ensures c.in_ok-write_greens.ensures c.in_ok-write_links.ensures c.in_ok-write_totals.ensures))
     c.finish.ensures

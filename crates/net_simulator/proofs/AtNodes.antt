@@ -1,7 +1,7 @@
 -- What passes the links depends only on what the nodes of the network show before.
 use Rattle.std.proofs.Common.{◌≡◌, ℕ, zero, suc, ◌+◌, ◌<◌, ◌≤◌, List, [], ◌∷◌, ◌++◌, Option, Some, None, length, map, refl, sym, ap, subst, ◌∙◌, inl, inr, arith}
 use Rattle.std.specs.Prelude.{IfSome}
-use Rattle.std.specs.List.{flat_map, range_with_len}
+use Rattle.std.specs.List.{range_with_len}
 use Rattle.std.proofs.lemmas.Bool.{cases_lt}
 use Rattle.std.proofs.lemmas.List.{get_or_past}
 use Rattle.std.proofs.lemmas.List.Elements.{All-get_or}
@@ -45,12 +45,3 @@ module _ (net : Net) (network : IsNetwork net) (arriving : ℕ → ℕ → ℕ) 
 
   pub past-at-nodes : (n : ℕ) → ((x node : ℕ) → x < n → node < length net.node_names → shown x node ≡ seen x node) → past_of net arriving shown n ≡ past_of net arriving seen n
   past-at-nodes n same = ap passed_in (history-at-nodes n same)
-
--- lists made of equal parts
-pub map-range-same : {X : Type 0} (f g : ℕ → X) (s n : ℕ) → ((k : ℕ) → s ≤ k → k < s + n → f k ≡ g k) → map f (range_with_len s n) ≡ map g (range_with_len s n)
-map-range-same f g s zero same = refl
-map-range-same f g s (suc n) same = ap (λ x. x ∷ map f (range_with_len (s + 1) n)) (same s (omega arith) (omega arith)) ∙ ap (λ l. g s ∷ l) (map-range-same f g (s + 1) n (λ k least most. same k (omega arith) (omega arith)))
-
-pub flat-range-same : {X : Type 0} (f g : ℕ → List X) (s n : ℕ) → ((k : ℕ) → s ≤ k → k < s + n → f k ≡ g k) → flat_map f (range_with_len s n) ≡ flat_map g (range_with_len s n)
-flat-range-same f g s zero same = refl
-flat-range-same f g s (suc n) same = ap (λ x. x ++ flat_map f (range_with_len (s + 1) n)) (same s (omega arith) (omega arith)) ∙ ap (λ l. g s ++ l) (flat-range-same f g (s + 1) n (λ k least most. same k (omega arith) (omega arith)))
