@@ -25,7 +25,8 @@ use Rattle.signal_safety.specs.Rounds.{line_before, shown_by}
 use Rattle.signal_safety.specs.Safe.{IsSafe}
 use Rattle.signal_safety.proofs.Lines.{safe}
 use Rattle.signal_safety.proofs.Rounds.{AllKeep, shows, all-keep as lines-keep}
-use Rattle.actuated.specs.ActRuns.{AllAct, HasShape, IsActRun, IsNextLine, ShowsGreens, first_line, past_by, sheet_of}
+use Rattle.sheets.specs.Texts.{HasShape}
+use Rattle.actuated.specs.ActRuns.{AllAct, IsActRun, IsNextLine, ShowsGreens, first_line, past_by, sheet_of}
 use Rattle.actuated.specs.Rounds.{AreFirstLines, AreRenewed, HaveActed, IsReady, IsRenewed}
 use Rattle.actuated.specs.declared.records.ActRecord.{ActRecord}
 use Rattle.actuated.proofs.LineLaws.{first-is-line, next-keeps}
@@ -211,7 +212,7 @@ module _ (net : Net) (network : IsNetwork net) (arriving : ℕ → ℕ → ℕ) 
     };
   }
 
-  pub ended-shape : HasShape net run
+  pub ended-shape : HasShape net (sheet_of run)
   ended-shape = record { lines = a.count; links = link-count }
 
   pub ended-clean : IsClean net arriving (sheet_of run)
@@ -240,7 +241,7 @@ module _ (net : Net) (network : IsNetwork net) (arriving : ℕ → ℕ → ℕ) 
 -- the record of lines that have acted in all rounds, and what it keeps
 pub record HasEnded (net : Net) (arriving : ℕ → ℕ → ℕ) (run : ActRecord) : Type 0 where
   pub is_run : IsActRun net arriving run
-  pub shape : HasShape net run
+  pub shape : HasShape net (sheet_of run)
   pub safe : IsSafe net (line_in run.timelines)
   pub greens : (is : IsActRun net arriving run) → ShowsGreens net is.made run
   pub clean : IsClean net arriving (sheet_of run)

@@ -69,8 +69,3 @@ ShowsGreens net made run =
 -- what a record says of greens and totals
 abbrev pub sheet_of : ActRecord → Sheet
 sheet_of run = record { lines = run.timelines; links = run.links; totals = run.totals }
-
--- a record with a line for each node, and totals of each link
-pub record HasShape (net : Net) (run : ActRecord) : Type 0 where
-  pub lines : length run.timelines ≡ length net.node_names
-  pub links : length run.links ≡ length net.link_names

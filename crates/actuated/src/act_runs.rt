@@ -8,7 +8,8 @@ ghost use Rattle.net_simulator.specs.Arriving.{arriving_of};
 ghost use Rattle.net_simulator.specs.Counts.{IsBalanced, counts_at};
 ghost use Rattle.net_simulator.specs.Worlds.{line_in};
 ghost use Rattle.signal_safety.specs.Safe.{IsSafe};
-ghost use Rattle.actuated.specs.ActRuns.{HasShape, IsActRun, ShowsGreens, sheet_of};
+ghost use Rattle.sheets.specs.Texts.{HasShape};
+ghost use Rattle.actuated.specs.ActRuns.{IsActRun, ShowsGreens, sheet_of};
 ghost use Rattle.actuated.specs.Rounds.{HaveActed};
 
 use super::records::ActRecord;
@@ -36,7 +37,7 @@ pub fn run_actuated(
 ) -> Result<ActRecord, AllocError>
     requires { AreArrivals net.now arrivals.now }
     ensures run { IfOk result (IsActRun net.now (arriving_of arrivals.now)) }
-    ensures shape { IfOk result (HasShape net.now) }
+    ensures shape { IfOk result (λ run. HasShape net.now (sheet_of run)) }
     ensures lawful { IfOk result (λ run. AreLawful net.now run.timelines) }
     ensures safe { IfOk result (λ run. IsSafe net.now (line_in run.timelines)) }
     ensures greens { IfOk result (λ run. (is : IsActRun net.now (arriving_of arrivals.now) run)
