@@ -22,6 +22,7 @@ use Rattle.scenario_gen.specs.Grids.{AreRounds}
 use Rattle.scenario_gen.specs.Layout.{IsSide}
 use Rattle.signal_safety.specs.Safe.{IsSafe}
 use Rattle.commands.specs.Answers.{answer_text}
+use Rattle.commands.specs.Controllers.{IsActuatedReport, IsComparison}
 use Rattle.commands.specs.Headline.{Headline, IsGridSummary, IsPlannedText, ToldHeadline}
 use Rattle.commands.specs.Limits.{most_bytes}
 use Rattle.commands.specs.Texts.{AllSaid, CertificateText, InstanceText, NetworkText, Next, NoMore, IsTextFor, Texts, history_texts, network_texts, sheet_texts}
@@ -41,6 +42,8 @@ pub data Call : Type 0 where
   Replay : (net arr hist : List ℕ) → Call
   Net : (net arr : List ℕ) → Call
   Instance : (net arr hist node : List ℕ) → (round : ℕ) → Call
+  Actuate : (net arr : List ℕ) → Call
+  Compare : (net arr : List ℕ) → Call
   Audit : (net arr report : List ℕ) → Call
   Grid : (number side rounds : ℕ) → Call
   Upgrade : (net : List ℕ) → Call
@@ -55,6 +58,8 @@ words_of (Turns net arr) = codes "turns" ∷ net ∷ arr ∷ []
 words_of (Replay net arr hist) = codes "replay" ∷ net ∷ arr ∷ hist ∷ []
 words_of (Net net arr) = codes "net" ∷ net ∷ arr ∷ []
 words_of (Instance net arr hist node round) = codes "instance" ∷ net ∷ arr ∷ hist ∷ node ∷ decimal round ∷ []
+words_of (Actuate net arr) = codes "actuate" ∷ net ∷ arr ∷ []
+words_of (Compare net arr) = codes "compare" ∷ net ∷ arr ∷ []
 words_of (Audit net arr report) = codes "audit" ∷ net ∷ arr ∷ report ∷ []
 words_of (Grid number side rounds) = codes "grid" ∷ decimal number ∷ decimal side ∷ decimal rounds ∷ []
 words_of (Upgrade net) = codes "upgrade" ∷ net ∷ []
@@ -80,6 +85,8 @@ texts_of (Turns net arr) = network_texts net arr (λ network. NoMore)
 texts_of (Replay net arr hist) = history_texts net arr hist
 texts_of (Net net arr) = network_texts net arr (λ network. NoMore)
 texts_of (Instance net arr hist node round) = history_texts net arr hist
+texts_of (Actuate net arr) = network_texts net arr (λ network. NoMore)
+texts_of (Compare net arr) = network_texts net arr (λ network. NoMore)
 texts_of (Audit net arr report) = sheet_texts net arr report
 texts_of (Grid number side rounds) = NoMore
 texts_of (Upgrade net) = Next NetworkText net (λ network. NoMore)
@@ -103,6 +110,8 @@ IsTextOf (Turns net arr) said bytes = Headline said.0 said.1.0 (turn_order said.
 IsTextOf (Replay net arr hist) said bytes = Headline said.0 said.1.0 said.1.1.0 bytes
 IsTextOf (Net net arr) said bytes = ToldHeadline said.0 said.1.0 bytes
 IsTextOf (Instance net arr hist node round) said bytes = IsPlannedText said.0 said.1.0 said.1.1.0 node round bytes
+IsTextOf (Actuate net arr) said bytes = IsActuatedReport said.0 said.1.0 bytes
+IsTextOf (Compare net arr) said bytes = IsComparison said.0 said.1.0 bytes
 IsTextOf (Audit net arr report) said bytes =
     IsClean said.0 (arriving_by said.1.0) said.1.1.0 × IsSafe said.0 (line_in said.1.1.0.lines) × (bytes ≡ accepted_line)
 IsTextOf (Grid number side rounds) said bytes = IsGridSummary number side rounds bytes
@@ -142,6 +151,8 @@ call_of (command.Turns net arr) = Turns net.now arr.now
 call_of (command.Replay net arr hist) = Replay net.now arr.now hist.now
 call_of (command.Net net arr) = Net net.now arr.now
 call_of (command.Instance net arr hist node round) = Instance net.now arr.now hist.now node.now round
+call_of (command.Actuate net arr) = Actuate net.now arr.now
+call_of (command.Compare net arr) = Compare net.now arr.now
 call_of (command.Audit net arr report) = Audit net.now arr.now report.now
 call_of (command.Grid number side rounds) = Grid number side rounds
 call_of (command.Upgrade net) = Upgrade net.now

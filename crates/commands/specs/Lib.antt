@@ -1,6 +1,7 @@
 pub mod Answers
 pub mod Codes
 pub mod Commands
+pub mod Controllers
 pub mod Ending
 pub mod Headline
 pub mod Limits

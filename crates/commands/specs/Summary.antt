@@ -2,6 +2,7 @@
 use Rattle.std.specs.Prelude.{ℕ, Bool, true, false, List, [], ◌∷◌, ◌++◌, codes, count_by, length, map, sum_by}
 use Rattle.std.specs.Fmt.{decimal}
 use Rattle.intersection_actor.specs.declared.records.PlanRecord.{PlanRecord}
+use Rattle.net_simulator.specs.declared.totals.Totals.{Totals}
 use Rattle.text_lines.specs.Lines.{line}
 use Rattle.runs.specs.declared.records.RunRecord.{RunRecord}
 use Rattle.schedule_meaning.specs.declared.planners.Answer.{Answer}
@@ -27,6 +28,10 @@ planned_delays plans = sum_by (λ (plan : PlanRecord). planned_delay plan.answer
 abbrev pub number_line : List ℕ → List ℕ → List ℕ
 number_line word numbers = line (word ∷ map decimal numbers)
 
+-- a line of a word and what was counted in all: what entered, left, is on the links, and waited
+abbrev pub totals_line : List ℕ → Totals → List ℕ
+totals_line word totals = number_line word (totals.entered ∷ totals.left ∷ totals.on ∷ totals.delay ∷ [])
+
 -- The five lines: what was asked for, how many plans there are, how many of them are none, the delays that the others plan, and what
 -- was counted in all.
 abbrev pub summary_text : ℕ → ℕ → ℕ → RunRecord → List ℕ
@@ -35,4 +40,4 @@ summary_text number side rounds run =
     ++ number_line (codes "plans") (length run.plans ∷ [])
     ++ number_line (codes "none") (none_count run.plans ∷ [])
     ++ number_line (codes "delay") (planned_delays run.plans ∷ [])
-    ++ number_line (codes "total") (run.totals.entered ∷ run.totals.left ∷ run.totals.on ∷ run.totals.delay ∷ [])
+    ++ totals_line (codes "total") run.totals

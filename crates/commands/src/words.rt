@@ -53,6 +53,16 @@ pub enum Command<'a> {
         node: &'a str,
         round: u32,
     },
+    /// Writes the report of the run under actuated control.
+    Actuate {
+        net: &'a str,
+        arr: &'a str,
+    },
+    /// Writes what two runs counted in all: that of the turn order, and that under actuated control.
+    Compare {
+        net: &'a str,
+        arr: &'a str,
+    },
     /// Writes the verdict on what a report says of greens and totals.
     Audit {
         net: &'a str,
@@ -111,6 +121,14 @@ pub fn command_of(words: &[Text]) -> Option<Command<'_>>
                 node,
                 round,
             })
+        }
+        "actuate" => {
+            let (net, arr) = two_words(rest)?;
+            Some(Command::Actuate { net, arr })
+        }
+        "compare" => {
+            let (net, arr) = two_words(rest)?;
+            Some(Command::Compare { net, arr })
         }
         "audit" => {
             let (net, arr, report) = three_words(rest)?;

@@ -1,35 +1,19 @@
 //! The command `grid NUMBER SIDE ROUNDS`.
-ghost use Rattle.std.specs.Prelude.{◌≤◌, IfOk, length};
-ghost use Rattle.arrivals.specs.Amounts.{AreArrivals, entering};
-ghost use Rattle.histories.specs.Histories as histories;
+ghost use Rattle.std.specs.Prelude.{IfOk};
 ghost use Rattle.outside_world.specs.Shelf.{ShelfState};
 ghost use Rattle.scenario_gen.specs.Grids.{AreRounds};
 ghost use Rattle.scenario_gen.specs.Layout.{IsSide};
 ghost use Rattle.commands.specs.Commands.{Grid};
 ghost use Rattle.commands.specs.Ending.{Makes};
-ghost use Rattle.commands.specs.Headline.{IsGridSummary, IsRunOf};
+ghost use Rattle.commands.specs.Headline.{IsGridSummary};
 ghost use Rattle.commands.specs.Outcome.{Outcome};
 
-use super::history_runs::kept_run;
+use super::history_runs::run_of_turns;
 use super::summary::summary;
-use arrivals::Arrivals;
 use commands::{Made, Refusal, Status, end};
-use histories::turn_order;
 use outside_world::Sink;
-use road_net::Network;
-use runs::RunRecord;
 use scenario_gen::grid;
 use std::alloc::{AllocError, Global};
-
-// The run of the turn order.
-fn run_of_turns(alloc: Global, net: &Network, arrivals: &Arrivals) -> Result<RunRecord, AllocError>
-    requires { AreArrivals net.now arrivals.now }
-    ensures kept { IfOk result (IsRunOf net.now (entering arrivals.now) (histories.turn_order net.now)) }
-    ensures few { IfOk result (λ run. length run.plans ≤ 38400) }
-{
-    let history = turn_order(alloc, net)?;
-    kept_run(alloc, net, arrivals, &history)
-}
 
 // The summary of the run of the turn order on the grid of a number.
 fn summary_of_grid(

@@ -1,13 +1,14 @@
 //! The run of a history, planned by the bounded table, and its report.
 ghost use Rattle.std.specs.Prelude.{◌≤◌, IfOk, length};
 ghost use Rattle.arrivals.specs.Amounts.{AreArrivals, entering};
+ghost use Rattle.histories.specs.Histories as histories;
 ghost use Rattle.histories.specs.Histories.{IsLawful};
 ghost use Rattle.runs.specs.Complete.{IsComplete};
 ghost use Rattle.commands.specs.Headline.{Headline, IsRunOf};
 
 use arrivals::Arrivals;
 use delay_report::{law_of_reports, render};
-use histories::History;
+use histories::{History, turn_order};
 use net_core::run;
 use pruned_dp::BoundPlanner;
 use road_net::Network;
@@ -30,6 +31,20 @@ pub fn kept_run(
     let _nodes = net.nodes();
     law_of_runs(net);
     run(alloc, net, arrivals, h, &mut BoundPlanner::new(alloc))
+}
+
+/// The run of the turn order, with all that it keeps; it has at most 38,400 plans. `Err`: out of memory.
+pub fn run_of_turns(
+    alloc: Global,
+    net: &Network,
+    arrivals: &Arrivals,
+) -> Result<RunRecord, AllocError>
+    requires { AreArrivals net.now arrivals.now }
+    ensures kept { IfOk result (IsRunOf net.now (entering arrivals.now) (histories.turn_order net.now)) }
+    ensures few { IfOk result (λ run. length run.plans ≤ 38400) }
+{
+    let history = turn_order(alloc, net)?;
+    kept_run(alloc, net, arrivals, &history)
 }
 
 /// The report of the run of a lawful history. `Err`: out of memory.

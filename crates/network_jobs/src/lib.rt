@@ -1,9 +1,12 @@
-//! The commands over a network: the report of the turn order's run, that of a history's run, that of a run in threads, the instance
-//! that a node planned in one, the verdict on a report, the summary of a run on a grid, and a network as a file of version 2.
+//! The commands over a network: the report of the turn order's run, that of a history's run, that of a run in threads, and that of a
+//! run under actuated control; the totals of two controllers; the instance that a node planned in a run; the verdict on a report; the
+//! summary of a run on a grid; and a network as a file of version 2.
 #![tactic(auto)]
 
+mod actuate;
 mod audits;
 mod calls;
+mod compare;
 mod grid;
 mod history_runs;
 mod instance;
@@ -15,7 +18,9 @@ mod summary;
 mod turns;
 mod upgrade;
 
+pub use actuate::actuate_job;
 pub use audits::audit_job;
+pub use compare::compare_job;
 pub use grid::grid_job;
 pub use instance::instance_job;
 pub use laws::{law_of_instances, law_of_replays};

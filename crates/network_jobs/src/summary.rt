@@ -1,11 +1,12 @@
 //! The summary of a run.
-ghost use Rattle.std.specs.Prelude.{◌≡◌, ◌≤◌, All, IfOk, length};
+ghost use Rattle.std.specs.Prelude.{◌≡◌, ◌<◌, ◌≤◌, ◌++◌, All, IfOk, OnOk, length};
 ghost use Rattle.commands.specs.Summary as summary;
-ghost use Rattle.commands.specs.Summary.{is_no_plan, planned_delay, none_count, planned_delays, summary_text};
+ghost use Rattle.commands.specs.Summary.{is_no_plan, planned_delay, none_count, planned_delays, summary_text, totals_line};
 ghost use Rattle.schedule_meaning.specs.Best.{IsLeast};
 ghost use Rattle.switch_rules.specs.Bounds.{greatest_delay};
 
 use intersection_actor::PlanRecord;
+use net_simulator::Totals;
 use runs::RunRecord;
 use schedule_meaning::Answer;
 use std::alloc::{AllocError, Global};
@@ -24,7 +25,6 @@ pub fn summary(
     ensures { IfOk result (λ text. text.items ≡ summary_text number side rounds run.now) }
 {
     let plans = run.plans.as_slice();
-    let totals = run.totals;
     let mut text = Vec::new(alloc);
     push_line(
         &mut text,
@@ -34,12 +34,24 @@ pub fn summary(
     push_line(&mut text, b"plans", &[plans.len() as u64])?;
     push_line(&mut text, b"none", &[none_count(plans)])?;
     push_line(&mut text, b"delay", &[planned_delays(plans)])?;
-    push_line(
-        &mut text,
-        b"total",
-        &[totals.entered, totals.left, totals.on, totals.delay],
-    )?;
+    push_totals(&mut text, b"total", &run.totals)?;
     Ok(text)
+}
+
+/// Appends a line of a word and totals to a text. `Err`: out of memory.
+pub(crate) fn push_totals(
+    text: &mut Vec<u8>,
+    word: &[u8],
+    totals: &Totals,
+) -> Result<(), AllocError>
+    requires { length word.now < 70 }
+    ensures { OnOk result (text.new.items ≡ text.old.items ++ totals_line word.now totals.now) }
+{
+    push_line(
+        text,
+        word,
+        &[totals.entered, totals.left, totals.on, totals.delay],
+    )
 }
 
 // How many of these plans are none.

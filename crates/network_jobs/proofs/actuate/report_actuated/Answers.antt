@@ -1,0 +1,12 @@
+use Rattle.arrivals.specs.Amounts.{entering}
+use Rattle.net_simulator.proofs.Passing.{few-of}
+use Rattle.runs.specs.Runs.{arriving_by}
+use Rattle.network_jobs.proofs.actuate.report_actuated.Goals as goal
+
+pub returns : goal.returns
+returns c = record {
+  run = c.in_ok-run.run';
+  runs = c.in_ok-run.ensures.kept;
+  report = c.in_ok-text.ensures.text;
+  clean = c.in_ok-text.ensures.clean (arriving_by (entering c.args.arrivals.now)) (few-of c.args.net.now c.nodes-nodes.ensures.network c.args.arrivals.now c.requires) c.in_ok-run.ensures.clean;
+}

@@ -1,0 +1,79 @@
+//! The command `actuate NET ARR`.
+ghost use Rattle.std.specs.Prelude.{IfOk};
+ghost use Rattle.arrivals.specs.Amounts.{AreArrivals, entering};
+ghost use Rattle.commands.specs.Commands.{Actuate};
+ghost use Rattle.commands.specs.Controllers.{IsActuatedReport, IsActuatedRun};
+ghost use Rattle.commands.specs.Ending.{Makes};
+ghost use Rattle.commands.specs.Outcome.{Outcome};
+ghost use Rattle.sheets.specs.Texts.{HasShape};
+ghost use Rattle.audit.specs.Audits.{IsClean};
+ghost use Rattle.actuated.specs.ActRuns.{sheet_of};
+ghost use Rattle.runs.specs.Runs.{arriving_by};
+
+use actuated::{ActRecord, act_report, run_actuated};
+use arrivals::Arrivals;
+use commands::{Made, Refusal, Status, end, fetch_scene};
+use outside_world::{Shelf, Sink};
+use road_net::Network;
+use std::alloc::{AllocError, Global};
+
+/// The run of a network under actuated control, with all that it keeps. `Err`: out of memory.
+pub(crate) fn actuated_run(
+    alloc: Global,
+    net: &Network,
+    arrivals: &Arrivals,
+) -> Result<ActRecord, AllocError>
+    requires { AreArrivals net.now arrivals.now }
+    ensures kept { IfOk result (IsActuatedRun net.now (entering arrivals.now)) }
+    ensures shape { IfOk result (λ run. HasShape net.now (sheet_of run)) }
+    ensures clean { IfOk result (λ run. IsClean net.now (arriving_by (entering arrivals.now)) (sheet_of run)) }
+{
+    run_actuated(alloc, net, arrivals)
+}
+
+// The report of the run under actuated control.
+fn report_actuated(alloc: Global, net: &Network, arrivals: &Arrivals) -> Result<Vec<u8>, AllocError>
+    requires { AreArrivals net.now arrivals.now }
+    ensures { IfOk result (λ text. IsActuatedReport net.now (entering arrivals.now) text.items) }
+{
+    // Called for its clause `network`.
+    let _nodes = net.nodes();
+    let run = actuated_run(alloc, net, arrivals)?;
+    let text = act_report(alloc, net, &run)?;
+    Ok(text)
+}
+
+// The report of the run under actuated control, with the network and the arrivals in the files.
+fn actuate_files<S: Shelf>(
+    alloc: Global,
+    shelf: &mut S,
+    net: &str,
+    arr: &str,
+) -> Result<Made, Refusal>
+    ensures { Makes (Actuate net.now arr.now) (S.state shelf.old) (S.state shelf.new) result }
+{
+    let scene = fetch_scene(alloc, shelf, net, arr)?;
+    let text = report_actuated(alloc, &scene.network, &scene.arrivals)?;
+    Ok(Made::Done(text))
+}
+
+/// The command `actuate NET ARR`: writes the report of the run under actuated control, with the network and the arrivals in the
+/// files. Its greens are lawful and the network is safe under them; it has no plans and no board steps.
+///
+/// Each status has its cause, and each refusal writes its line to `err`, as `signal` says.
+///
+/// docs/FORMATS.md, "Words".
+pub fn actuate_job<S: Shelf, O: Sink, E: Sink>(
+    alloc: Global,
+    net: &str,
+    arr: &str,
+    shelf: &mut S,
+    out: &mut O,
+    err: &mut E,
+) -> Status
+    ensures { Outcome (Actuate net.now arr.now)
+        (record { shelf = S.state shelf.old; out = O.state out.old; err = E.state err.old })
+        (record { shelf = S.state shelf.new; out = O.state out.new; err = E.state err.new }) result }
+{
+    end(alloc, actuate_files(alloc, shelf, net, arr), out, err)
+}

@@ -1,0 +1,83 @@
+//! The command `compare NET ARR`.
+ghost use Rattle.std.specs.Prelude.{IfOk};
+ghost use Rattle.arrivals.specs.Amounts.{AreArrivals, entering};
+ghost use Rattle.commands.specs.Commands.{Compare};
+ghost use Rattle.commands.specs.Controllers.{AreActuatedTotals, ArePlannedTotals, IsComparison};
+ghost use Rattle.commands.specs.Ending.{Makes};
+ghost use Rattle.commands.specs.Outcome.{Outcome};
+
+use super::actuate::actuated_run;
+use super::history_runs::run_of_turns;
+use super::summary::push_totals;
+use arrivals::Arrivals;
+use commands::{Made, Refusal, Status, end, fetch_scene};
+use net_simulator::Totals;
+use outside_world::{Shelf, Sink};
+use road_net::Network;
+use std::alloc::{AllocError, Global};
+
+// The totals of the run of the turn order.
+fn planned_totals(alloc: Global, net: &Network, arrivals: &Arrivals) -> Result<Totals, AllocError>
+    requires { AreArrivals net.now arrivals.now }
+    ensures { IfOk result (ArePlannedTotals net.now (entering arrivals.now)) }
+{
+    let run = run_of_turns(alloc, net, arrivals)?;
+    Ok(run.totals)
+}
+
+// The totals of the run under actuated control.
+fn actuated_totals(alloc: Global, net: &Network, arrivals: &Arrivals) -> Result<Totals, AllocError>
+    requires { AreArrivals net.now arrivals.now }
+    ensures { IfOk result (AreActuatedTotals net.now (entering arrivals.now)) }
+{
+    let run = actuated_run(alloc, net, arrivals)?;
+    Ok(run.totals)
+}
+
+// The totals of both runs. The first leaves nothing in memory when the second begins.
+fn comparison(alloc: Global, net: &Network, arrivals: &Arrivals) -> Result<Vec<u8>, AllocError>
+    requires { AreArrivals net.now arrivals.now }
+    ensures { IfOk result (λ text. IsComparison net.now (entering arrivals.now) text.items) }
+{
+    let planned = planned_totals(alloc, net, arrivals)?;
+    let actuated = actuated_totals(alloc, net, arrivals)?;
+    let mut text = Vec::new(alloc);
+    push_totals(&mut text, b"planned", &planned)?;
+    push_totals(&mut text, b"actuated", &actuated)?;
+    Ok(text)
+}
+
+// The totals of both runs, with the network and the arrivals in the files.
+fn compare_files<S: Shelf>(
+    alloc: Global,
+    shelf: &mut S,
+    net: &str,
+    arr: &str,
+) -> Result<Made, Refusal>
+    ensures { Makes (Compare net.now arr.now) (S.state shelf.old) (S.state shelf.new) result }
+{
+    let scene = fetch_scene(alloc, shelf, net, arr)?;
+    let text = comparison(alloc, &scene.network, &scene.arrivals)?;
+    Ok(Made::Done(text))
+}
+
+/// The command `compare NET ARR`: writes what the run of the turn order counts in all, and what that under actuated control
+/// counts, with the network and the arrivals in the files. It says nothing of which makes less delay.
+///
+/// Each status has its cause, and each refusal writes its line to `err`, as `signal` says.
+///
+/// docs/FORMATS.md, "Words".
+pub fn compare_job<S: Shelf, O: Sink, E: Sink>(
+    alloc: Global,
+    net: &str,
+    arr: &str,
+    shelf: &mut S,
+    out: &mut O,
+    err: &mut E,
+) -> Status
+    ensures { Outcome (Compare net.now arr.now)
+        (record { shelf = S.state shelf.old; out = O.state out.old; err = E.state err.old })
+        (record { shelf = S.state shelf.new; out = O.state out.new; err = E.state err.new }) result }
+{
+    end(alloc, compare_files(alloc, shelf, net, arr), out, err)
+}
