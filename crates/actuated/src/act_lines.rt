@@ -15,12 +15,12 @@ use phase_plan::PhasePlan;
 use std::alloc::{AllocError, Global};
 use switch_rules::{Head, earliest_end};
 
-/// The line from a head by what calls for each phase: the green of the head is held as long as it may while its phase is
-/// called or no other is, and else ends as soon as it may. Then the ring turns, each green of its least length, until one
-/// ends after second `until`; it stops at the phases that are unmarked or called.
+/// The line from a head by what calls for each phase: the green of the head is held as long as it may while its phase
+/// is called or no other is, and else ends as soon as it may. Then the ring turns, each green of its least length,
+/// until one ends after second `until`; it stops at the phases that are unmarked or called.
 ///
-/// The head is one of the plan, `at` and `until` are at most 104,000, and there is a number for each phase. `Err`: out of
-/// memory.
+/// The head is one of the plan, `at` and `until` are at most 104,000, and there is a number for each phase. `Err`:
+/// out of memory.
 ///
 /// docs/RULES.md, "Actuated control".
 pub fn act_line(

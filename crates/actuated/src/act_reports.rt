@@ -14,9 +14,9 @@ use road_net::Network;
 use std::alloc::{AllocError, Global};
 use world_records::{finish, start, write_greens, write_header, write_links, write_totals};
 
-/// The report of a run: the header, the greens that begin before the end of the run, by node and time, the totals of each link,
-/// and all totals. It has no steps and no plans. The record has the network's shape. Where what it says is clean, the text is read
-/// as a clean sheet. `Err`: out of memory.
+/// The report of a run: the header, the greens that begin before the end of the run, by node and time, the totals of
+/// each link, and all totals. It has no steps and no plans. The record has the network's shape. Where what it says is
+/// clean, the text is read as a clean sheet. `Err`: out of memory.
 ///
 /// docs/FORMATS.md, "Report".
 pub fn act_report(alloc: Global, net: &Network, run: &ActRecord) -> Result<Vec<u8>, AllocError>

@@ -21,11 +21,13 @@ use net_simulator::{Lines, LinkTotals, World};
 use road_net::Network;
 use std::alloc::{AllocError, Global};
 
-/// The run of a network under actuated control, from second 0 up to the end of the last round: when a round begins, the line
-/// of each node goes on by what the node senses then; and then the world moves by the lines up to the next round.
+/// The run of a network under actuated control, from second 0 up to the end of the last round: when a round begins,
+/// the line of each node goes on by what the node senses then; and then the world moves by the lines up to the next
+/// round.
 ///
-/// All lines are lawful, and the network is safe. The last lines show the greens, with the same begin, by which the world
-/// moved. The totals are what the world shows under the last lines, and what entered has left or is on the links.
+/// All lines are lawful, and the network is safe. The last lines show the greens, with the same begin, by which the
+/// world moved. The totals are what the world shows under the last lines, and what entered has left or is on the
+/// links.
 ///
 /// `Err`: out of memory.
 ///
@@ -89,7 +91,8 @@ fn play_rounds(
 /// What the world has counted of each link.
 fn list_totals(alloc: Global, net: &Network, world: &World) -> Result<Vec<LinkTotals>, AllocError>
     requires { length world.now.counts ≡ length net.now.link_names }
-    ensures { IfOk result (λ links. links.items ≡ map (counts_at world.now.counts) (range_with_len 0 (length net.now.link_names))) }
+    ensures { IfOk result (λ links. links.items
+        ≡ map (counts_at world.now.counts) (range_with_len 0 (length net.now.link_names))) }
 {
     let mut links = Vec::with_capacity(alloc, net.links() as usize)?;
     for link in 0..net.links() {

@@ -11,7 +11,7 @@ use clusters::sensed_of;
 use road_net::{Network, Sensed};
 use std::alloc::AllocError;
 
-/// What calls for a phase of a node, in thousandths of a vehicle, at most 2,000,000,000: on the links of the phase, what waits
+/// What calls for a phase of a node, in thousandths of a vehicle: on the links of the phase, what waits
 /// at their ends, and what reaches these in this second and in each of the next `gap` ones.
 ///
 /// What is sensed is of the node.

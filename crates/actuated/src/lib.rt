@@ -1,5 +1,5 @@
-//! Actuated control: each node holds a green while vehicles call for its phase, by what the node itself senses, and else lets the
-//! ring turn; the run of a network under it, and its report.
+//! Actuated control: each node holds a green while vehicles call for its phase, by what the node itself senses, and
+//! else lets the ring turn; the run of a network under it, and its report.
 #![tactic(auto)]
 
 mod act_lines;

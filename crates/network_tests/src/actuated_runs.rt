@@ -5,8 +5,8 @@ use arrivals::read_arrivals;
 use std::test::Fail;
 use worked_network::{ONE_VEHICLE, network};
 
-/// The report of the run: nothing calls at a before second 9, so its first green is held up to second 10, when the vehicle arrives
-/// and calls for the other phase. The vehicle waits for seven seconds, and then leaves in two.
+/// The report of the run: nothing calls at a before second 9, so its first green is held up to second 10, when the
+/// vehicle arrives and calls for the other phase. The vehicle waits for seven seconds, and then leaves in two.
 const REPORT: &str = "kind,round,node,x,y,z,w\n\
     green,,a,0,0,10,\ngreen,,a,1,15,45,\ngreen,,b,0,0,30,\n\
     link,,,sa,1000,1000,7500\nlink,,,ab,1000,0,0\nlink,,,ba,0,0,0\nlink,,,sb,0,0,0\nlink,,,xb,0,0,0\n\
