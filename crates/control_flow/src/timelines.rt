@@ -91,12 +91,12 @@ pub fn rotation(
     rotation_by_calls(alloc, plan, head, earliest, &[], until)
 }
 
-/// The timeline of a green that ends at a given second: the green of the head ends at `to`, and then the ring turns, each
-/// green of its least length, until one ends after second `until`. The ring stops at the phases that are unmarked, and at
-/// those that are called: that have a number above 0 in `calls`, where a phase without a number has 0.
+/// The timeline of a green that ends at a given second: the green of the head ends at `to`, and then the ring turns,
+/// each green of its least length, until one ends after second `until`. The ring stops at the phases that are
+/// unmarked or called: those with a number above 0 in `calls`, where a phase without a number has 0.
 ///
-/// The head is one of the plan, and `at` and `until` are at most 104,000. `to` is not before the green may end, nor after
-/// it has to. `Err`: out of memory.
+/// The head is one of the plan, and `at` and `until` are at most 104,000. `to` is not before the green may end, nor
+/// after it has to. `Err`: out of memory.
 ///
 /// docs/RULES.md, "Timeline".
 pub fn rotation_by_calls(
