@@ -1,9 +1,10 @@
 -- Which actors are of a network, and what a commit makes of an actor.
-use Rattle.std.specs.Prelude.{◌≡◌, ℕ, ◌+◌, ◌*◌, ◌<◌, ◌≤◌, ◌++◌, [], ◌∷◌, Contains, true, length, map}
+use Rattle.std.specs.Prelude.{◌≡◌, ℕ, ◌+◌, ◌*◌, ◌<◌, ◌≤◌, ◌++◌, [], ◌∷◌, Contains, length, map}
 use Rattle.switch_rules.specs.Sequences.{AreNextServings}
 use Rattle.switch_rules.specs.declared.Head.{Head}
 use Rattle.control_flow.specs.Greens.{BeginBy, IsLawful, colour_at, end_of, standing}
 use Rattle.control_flow.specs.Timelines.{rotation_of}
+pub use Rattle.control_flow.specs.Timelines.{first_head}
 use Rattle.net_numbers.specs.Numbers.{Net}
 use Rattle.net_numbers.specs.Outline.{plan_at}
 use Rattle.road_net.specs.Network.{heard_links, told_links}
@@ -50,10 +51,6 @@ pub record IsOf (net : Net) (a : Acting) : Type 0 where
   pub lawful : IsLawful (plan_at net a.node) a.line
   pub begins : BeginBy 100000 a.line
   pub round : IsInRound net a a.want
-
--- the head of every signal at second 0
-abbrev pub first_head : Head
-first_head = record { phase = 0; since = 0; at = 0; fresh = true }
 
 -- a new actor of a node: the ring turns from second 0, nothing is planned, and no round has begun
 pub record IsNew (net : Net) (n : ℕ) (a : Acting) : Type 0 where
