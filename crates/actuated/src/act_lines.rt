@@ -1,4 +1,4 @@
-//! The line from a head by what calls for each phase.
+//! The timeline from a head by what calls for each phase.
 
 ghost use Rattle.std.specs.Prelude.{◌≡◌, ℕ, ◌+◌, ◌<◌, ◌≤◌, IfOk, length, nat_lt};
 ghost use Rattle.std.specs.List.{list_any};
@@ -15,9 +15,9 @@ use phase_plan::PhasePlan;
 use std::alloc::{AllocError, Global};
 use switch_rules::{Head, earliest_end};
 
-/// The line from a head by what calls for each phase: the green of the head is held as long as it may while its phase
-/// is called or no other is, and else ends as soon as it may. Then the ring turns, each green of its least length,
-/// until one ends after second `until`; it stops at the phases that are unmarked or called.
+/// The timeline from a head by what calls for each phase: the green of the head is held as long as it may while its
+/// phase is called or no other is, and else ends as soon as it may. Then the ring turns, each green of its least
+/// length, until one ends after second `until`; it stops at the phases that are unmarked or called.
 ///
 /// The head is one of the plan, `at` and `until` are at most 104,000, and there is a number for each phase. `Err`:
 /// out of memory.

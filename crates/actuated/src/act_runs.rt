@@ -22,12 +22,12 @@ use road_net::Network;
 use std::alloc::{AllocError, Global};
 
 /// The run of a network under actuated control, from second 0 up to the end of the last round: when a round begins,
-/// the line of each node goes on by what the node senses then; and then the world moves by the lines up to the next
-/// round.
+/// the timeline of each node goes on by what the node senses then; and then the world moves by the timelines up to
+/// the next round.
 ///
-/// All lines are lawful, and the network is safe. The last lines show the greens, with the same begin, by which the
-/// world moved. The totals are what the world shows under the last lines, and what entered has left or is on the
-/// links.
+/// All timelines are lawful, and the network is safe. The last timelines show the greens, with the same begin, by
+/// which the world moved. The totals are what the world shows under the last timelines, and what entered has left or
+/// is on the links.
 ///
 /// `Err`: out of memory.
 ///

@@ -1,4 +1,4 @@
-//! How the lines of the nodes go on when a round begins.
+//! How the timelines of the nodes go on when a round begins.
 
 ghost use Rattle.std.specs.Prelude.{◌≡◌, ℕ, ◌<◌, IfOk, OnOk, length};
 ghost use Rattle.net_numbers.specs.Outline.{plan_at};
@@ -15,7 +15,7 @@ use road_net::Network;
 use std::alloc::{AllocError, Global};
 use switch_rules::Head;
 
-/// The first line of a node.
+/// The first timeline of a node.
 fn first_line(alloc: Global, net: &Network, node: u32) -> Result<Timeline, AllocError>
     requires { node < length net.now.node_names }
     ensures value { IfOk result (λ line. line ≡ spec.first_line net.now node) }
@@ -33,7 +33,7 @@ fn first_line(alloc: Global, net: &Network, node: u32) -> Result<Timeline, Alloc
     rotation(alloc, plan, &first, 0)
 }
 
-/// The first lines of all nodes.
+/// The first timelines of all nodes.
 pub(crate) fn first_lines(alloc: Global, net: &Network) -> Result<Vec<Timeline>, AllocError>
     ensures { IfOk result (λ lines. AreFirstLines net.now (length net.now.node_names) lines.items) }
 {
@@ -44,7 +44,7 @@ pub(crate) fn first_lines(alloc: Global, net: &Network) -> Result<Vec<Timeline>,
     Ok(lines)
 }
 
-/// A node's line goes on by what the node senses. What calls is written into a list.
+/// A node's timeline goes on by what the node senses. What calls is written into a list.
 fn renew_line(
     alloc: Global,
     net: &Network,
@@ -68,7 +68,7 @@ fn renew_line(
     Ok(())
 }
 
-/// The line of each node goes on.
+/// The timeline of each node goes on.
 pub(crate) fn renew_lines(
     alloc: Global,
     net: &Network,
