@@ -1,5 +1,5 @@
 //! What comes to the end of an exit link, second by second.
-ghost use Rattle.std.specs.Prelude.{◌≡◌, ◌+◌, ◌-◌, ◌<◌, ◌≤◌, ℕ, All, IfOk, length, slice_get, slice_index, option_copied, sum_by};
+ghost use Rattle.std.specs.Prelude.{◌≡◌, ◌+◌, ◌-◌, ◌<◌, ◌≤◌, ℕ, All, length, replicate, slice_get, slice_index, option_copied, sum_by};
 ghost use Rattle.net_numbers.specs.Outline.{plan_at};
 ghost use Rattle.road_net.specs.Joins.{part_between, share_of};
 ghost use Rattle.clusters.specs.Sound.{AreOfNode};
@@ -10,40 +10,39 @@ ghost use Rattle.outflow.specs.Steps.{AreArriving, IsShareInto};
 use crate::servings::Servings;
 use clusters::{Parts, Platoon, Window};
 use road_net::{Network, Turn, part_of_turn};
-use std::alloc::{AllocError, Global};
 
-/// What comes to the end of an exit link in each second from `now` on, as long as the network looks ahead.
-pub(crate) fn exit_flow(
-    alloc: Global,
+/// Fills in what comes to the end of an exit link in each second from `now` on, as long as the network looks ahead; nothing
+/// is filled in yet.
+pub(crate) fn add_exit_flow(
+    amounts: &mut [u32],
     net: &Network,
     node: u32,
     window: &Window,
     servings: &Servings,
     exit: u32,
     now: u32,
-) -> Result<Vec<u32>, AllocError>
+)
+    requires amounts { amounts.old ≡ replicate net.now.run.look 0 }
     requires node { node < length net.now.node_names }
     requires now { now ≤ 18000 }
     requires exit { exit < length net.now.link_names }
     requires platoons { AreOfNode net.now node now window.now.lists }
     requires served { AreServed (plan_at net.now node) window.now.lists servings.now.phases.now
         servings.now.served.now }
-    ensures { IfOk result (λ amounts. AreArriving net.now exit now
-        (departures window.now.lists (counts_of window.now.lists) servings.now.phases.now servings.now.served.now) amounts.items) }
+    ensures { AreArriving net.now exit now (departures window.now.lists (counts_of window.now.lists)
+        servings.now.phases.now servings.now.served.now) amounts.new }
 {
     let travel = net.link(exit).travel;
-    let mut amounts = vec![in alloc; 0; net.run().look as usize]?;
     let mut taken = [0usize; 4];
     for (i, phase) in servings.phases.iter().enumerate() {
         let k = *phase as usize;
         let Some(platoon) = platoon_at(window.lists.as_slice()[k].as_slice(), taken[k]) else {
-            return Ok(amounts);
+            return;
         };
         taken[k] += 1;
         let first = servings.served[i].start as usize + travel as usize - now as usize;
-        add_platoon(amounts.as_mut_slice(), net, &platoon.parts, first, exit);
+        add_platoon(amounts, net, &platoon.parts, first, exit);
     }
-    Ok(amounts)
 }
 
 /// The platoon with this place, if there is one.

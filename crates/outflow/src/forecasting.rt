@@ -7,7 +7,7 @@ ghost use Rattle.net_numbers.specs.Outline.{link_at, plan_at};
 ghost use Rattle.outflow.specs.Outflow.{AreServed, departures, told_forecast, positive_rows};
 ghost use Rattle.road_net.specs.Network.{exit_links};
 
-use crate::exit_flow::exit_flow;
+use crate::exit_flow::add_exit_flow;
 use crate::servings::Servings;
 use board_model::{Forecast, Row};
 use clusters::Window;
@@ -48,8 +48,10 @@ pub fn forecast(
     // The exit is one of these links, so it exists.
     let _exits = net.exit_links(node);
     let servings = Servings { phases, served };
-    let amounts = exit_flow(alloc, net, node, w, &servings, exit, now)?;
-    rows(alloc, now, amounts.as_slice())
+    let mut places = [0; 180];
+    let amounts = &mut places[..net.run().look as usize];
+    add_exit_flow(amounts, net, node, w, &servings, exit, now);
+    rows(alloc, now, amounts)
 }
 
 /// The rows of the seconds in which something comes, the first amount being that of the second `now`.
