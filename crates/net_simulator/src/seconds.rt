@@ -21,7 +21,8 @@ use road_net::{Network, part_of_turn};
 /// Looks once at the light of each node.
 pub(crate) fn look<T: Lights>(greens: &mut [Option<Green>], net: &Network, lights: &T, second: u32)
     requires { length greens.old ≡ length net.now.node_names }
-    ensures { (n : ℕ) → n < length net.now.node_names → slice_index_or greens.new n None ≡ green_at (T.lines lights.now n) second }
+    ensures { (n : ℕ) → n < length net.now.node_names
+        → slice_index_or greens.new n None ≡ green_at (T.lines lights.now n) second }
 {
     for node in 0..net.nodes() {
         greens[node as usize] = lights.green(node, second);
@@ -80,7 +81,8 @@ fn goes(
 ) -> u32
     requires link { l < length net.now.link_names }
     requires greens { length greens.now ≡ length net.now.node_names }
-    requires begun { (n : ℕ) → n < length net.now.node_names → IfSome (slice_index_or greens.now n None) (λ g. g.from ≤ second) }
+    requires begun { (n : ℕ) → n < length net.now.node_names
+        → IfSome (slice_index_or greens.now n None) (λ g. g.from ≤ second) }
     requires waits { length waits.now ≡ length net.now.link_names * 128 }
     ensures value { result ≡ goes net.now greens.now waits.now second l waiting (link_at net.now l).to }
     ensures most { result ≤ waiting }
@@ -134,11 +136,13 @@ pub(crate) fn leave(
     requires recent { length recent.now ≡ length net.now.link_names * 128 }
     requires waits { length waits.now ≡ length net.now.link_names * 128 }
     requires greens { length greens.now ≡ length net.now.node_names }
-    requires begun { (n : ℕ) → n < length net.now.node_names → IfSome (slice_index_or greens.now n None) (λ g. g.from ≤ second) }
+    requires begun { (n : ℕ) → n < length net.now.node_names
+        → IfSome (slice_index_or greens.now n None) (λ g. g.from ≤ second) }
     requires second { second < 18000 }
     requires fits { (l : ℕ) → l < length net.now.link_names → waits_at net.now queues.old recent.now second l < 2 ^ 32 }
     ensures leaving { (l : ℕ) → l < length net.now.link_names → slice_index leaving.new l ≡
-        goes net.now greens.now waits.now second l (waits_at net.now queues.old recent.now second l) (link_at net.now l).to }
+        goes net.now greens.now waits.now second l (waits_at net.now queues.old recent.now second l)
+        (link_at net.now l).to }
     ensures queues { (l : ℕ) → l < length net.now.link_names → slice_index queues.new l ≡
         waits_at net.now queues.old recent.now second l - slice_index leaving.new l }
     ensures out { result ≡ goes_out net.now leaving.new }
@@ -181,7 +185,8 @@ pub(crate) fn enter(recent: &mut [u32], net: &Network, leaving: &[u32], second: 
     requires recent { length recent.old ≡ length net.now.link_names * 128 }
     requires leaving { length leaving.now ≡ length net.now.link_names }
     requires fits { (k : ℕ) → k < length net.now.link_names → cell recent.old k second
-        + total (λ l. split_of (turns_at net.now l) (slice_index leaving.now l) k) (length net.now.link_names) < 2 ^ 32 }
+        + total (λ l. split_of (turns_at net.now l) (slice_index leaving.now l) k) (length net.now.link_names)
+        < 2 ^ 32 }
     ensures here { (k : ℕ) → k < length net.now.link_names → cell recent.new k second ≡ cell recent.old k second
         + total (λ l. split_of (turns_at net.now l) (slice_index leaving.now l) k) (length net.now.link_names) }
     ensures others { (k y : ℕ) → y % 128 ≢ second % 128 → cell recent.new k y ≡ cell recent.old k y }
@@ -226,7 +231,8 @@ pub(crate) fn count(
     requires fits { (l : ℕ) → l < links → FitsSeconds second (counts_at counts.old l) }
     requires second { second < 18000 }
     ensures counts { (l : ℕ) → l < links → counts_at counts.new l ≡
-        counted (counts_at counts.old l) (cell recent.now l second) (slice_index leaving.now l) (slice_index queues.now l) }
+        counted (counts_at counts.old l) (cell recent.now l second) (slice_index leaving.now l)
+        (slice_index queues.now l) }
     ensures waits { result ≡ all_of queues.now links }
     ensures most { result ≤ links * 4294967295 }
 {

@@ -1,6 +1,6 @@
 //! What a node sees.
 
-ghost use Rattle.std.specs.Prelude.{◌≡◌, ◌+◌, ◌-◌, ◌*◌, ◌≤◌, ◌<◌, All, IfOk, length, map, slice_index};
+ghost use Rattle.std.specs.Prelude.{◌≡◌, ◌+◌, ◌-◌, ◌*◌, ◌≤◌, ◌<◌, All, IfOk, OnOk, length, map, slice_index};
 ghost use Rattle.net_numbers.specs.Outline.{link_at};
 ghost use Rattle.net_simulator.specs.Senses.{seen_by};
 
@@ -8,58 +8,75 @@ use super::rows;
 use foundation::items::Items;
 use road_net::{LinkSense, Network};
 use std::alloc::{AllocError, Global};
+use std::mem;
 
-/// What is seen of these links in a second.
+/// What is seen in a second: the links of a network, and what a world keeps of them.
+#[derive(Drop)]
+pub(crate) struct Sight<'a> {
+    pub(crate) net: &'a Network,
+    pub(crate) queues: &'a [u32],
+    pub(crate) recent: &'a [u32],
+    pub(crate) stood: &'a [u32],
+    pub(crate) second: u32,
+}
+
+/// What is seen of these links, in the memory of a list that is no longer needed.
 pub(crate) fn sense_links(
     alloc: Global,
-    net: &Network,
+    sight: &Sight,
     links: &[u32],
-    queues: &[u32],
-    recent: &[u32],
-    stood: &[u32],
-    second: u32,
+    spare: Vec<LinkSense>,
 ) -> Result<Vec<LinkSense>, AllocError>
-    requires links { All (λ l. l < length net.now.link_names) links.now }
-    requires queues { length queues.now ≡ length net.now.link_names }
-    requires recent { length recent.now ≡ length net.now.link_names * 128 }
-    requires stood { length stood.now ≡ length net.now.link_names }
-    requires second { second ≤ 18000 }
-    ensures { IfOk result (λ s. s.items ≡ map (seen_by net.now queues.now recent.now stood.now second) links.now) }
+    requires links { All (λ l. l < length sight.now.net.now.link_names) links.now }
+    requires queues { length sight.now.queues.now ≡ length sight.now.net.now.link_names }
+    requires recent { length sight.now.recent.now ≡ length sight.now.net.now.link_names * 128 }
+    requires stood { length sight.now.stood.now ≡ length sight.now.net.now.link_names }
+    requires second { sight.now.second ≤ 18000 }
+    ensures { IfOk result (λ s. s.items ≡ map (seen_by sight.now.net.now sight.now.queues.now sight.now.recent.now
+        sight.now.stood.now sight.now.second) links.now) }
 {
-    let mut senses = Vec::with_capacity(alloc, links.len())?;
-    for &l in links {
-        senses.push(sense_link(alloc, net, l, queues, recent, stood, second)?)?;
+    let mut senses = spare;
+    senses.resize_with(links.len(), || unseen(alloc))?;
+    for (place, &link) in links.iter().enumerate() {
+        see(alloc, sight, link, &mut senses[place])?;
     }
     Ok(senses)
 }
 
-/// What is seen of a link in a second: its queue, what is on its way to its end, and for how long a queue has stood.
-fn sense_link(
-    alloc: Global,
-    net: &Network,
-    l: u32,
-    queues: &[u32],
-    recent: &[u32],
-    stood: &[u32],
-    second: u32,
-) -> Result<LinkSense, AllocError>
-    requires link { l < length net.now.link_names }
-    requires queues { length queues.now ≡ length net.now.link_names }
-    requires recent { length recent.now ≡ length net.now.link_names * 128 }
-    requires stood { length stood.now ≡ length net.now.link_names }
-    requires second { second ≤ 18000 }
-    ensures { IfOk result (λ s. s ≡ seen_by net.now queues.now recent.now stood.now second l) }
-{
-    let travel = net.link(l).travel;
-    let first = second + 128 - travel;
-    let mut coming = Vec::with_capacity(alloc, travel as usize)?;
-    for i in 0..travel {
-        coming.push(rows::at(recent, l, first + i))?;
+/// What is known of a link that is not seen yet.
+fn unseen(alloc: Global) -> LinkSense {
+    LinkSense {
+        link: 0,
+        queue: 0,
+        coming: Items::from_vec(Vec::new(alloc)),
+        stood: 0,
     }
-    Ok(LinkSense {
-        link: l,
-        queue: queues[l as usize],
+}
+
+/// Sees a link: its queue, what is on its way to its end, and for how long a queue has stood.
+fn see(alloc: Global, sight: &Sight, link: u32, sense: &mut LinkSense) -> Result<(), AllocError>
+    requires link { link < length sight.now.net.now.link_names }
+    requires queues { length sight.now.queues.now ≡ length sight.now.net.now.link_names }
+    requires recent { length sight.now.recent.now ≡ length sight.now.net.now.link_names * 128 }
+    requires stood { length sight.now.stood.now ≡ length sight.now.net.now.link_names }
+    requires second { sight.now.second ≤ 18000 }
+    ensures { OnOk result (sense.new ≡ seen_by sight.now.net.now sight.now.queues.now sight.now.recent.now
+        sight.now.stood.now sight.now.second link) }
+{
+    let travel = sight.net.link(link).travel;
+    let first = sight.second + 128 - travel;
+    let nothing = Items::from_vec(Vec::new(alloc));
+    let mut coming = mem::replace(&mut sense.coming, nothing).into_vec();
+    coming.clear();
+    coming.reserve(travel as usize)?;
+    for i in 0..travel {
+        coming.push(rows::at(sight.recent, link, first + i))?;
+    }
+    *sense = LinkSense {
+        link,
+        queue: sight.queues[link as usize],
         coming: Items::from_vec(coming),
-        stood: stood[l as usize],
-    })
+        stood: sight.stood[link as usize],
+    };
+    Ok(())
 }

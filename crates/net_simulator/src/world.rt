@@ -13,13 +13,14 @@ ghost use Rattle.net_simulator.specs.Worlds.{WorldState, Stands, IsWorldOf, stan
 ghost use Rattle.road_net.specs.Senses.{IsSensedOf};
 
 use super::lights::Lights;
+use super::seconds;
+use super::sensing::{Sight, sense_links};
 use super::totals::{LinkTotals, Totals};
-use super::{seconds, sensing};
 use arrivals::Arrivals;
 use control_flow::greens::Green;
 use foundation::items::Items;
 use foundation::threads::CrossesThreads;
-use road_net::{Network, Sensed};
+use road_net::{LinkSense, Network, Sensed};
 use std::alloc::{AllocError, Global};
 use std::marker::Model;
 
@@ -49,7 +50,16 @@ impl Model for World {
 
     ghost Value = { WorldState };
 
-    ghost view = { λ w. record { second = w.second; nodes = length w.greens.items; queues = w.queues.items; recent = w.recent.items; waits = w.waits.items; stood = w.stood.items; counts = w.counts.items; totals = w.totals } };
+    ghost view = { λ w. record {
+      second = w.second;
+      nodes = length w.greens.items;
+      queues = w.queues.items;
+      recent = w.recent.items;
+      waits = w.waits.items;
+      stood = w.stood.items;
+      counts = w.counts.items;
+      totals = w.totals;
+    } };
 
     ghost invariant = { λ w. (length w.leaving.items ≡ length w.queues.items) × IsBalanced w.totals };
 }
@@ -135,15 +145,38 @@ impl World {
             → IfOk result (λ s. s ≡
             sense net.now (past_of net.now arriving (standing_by lines) self.now.second) self.now.second node) }
     {
-        let links = sensing::sense_links(
-            alloc,
+        self.sense_again(alloc, net, node, Vec::new(alloc))
+    }
+
+    /// What a node of the network sees of its entry links, as `sense` answers it, in the memory of what it saw before.
+    /// It takes more only where that is too little; what stands in `spare` does not matter.
+    ///
+    /// `Err`: out of memory.
+    ///
+    /// docs/RULES.md, "What a node sees".
+    pub fn sense_again(
+        &self,
+        alloc: Global,
+        net: &Network,
+        node: u32,
+        spare: Vec<LinkSense>,
+    ) -> Result<Sensed, AllocError>
+        requires node { node < length net.now.node_names }
+        requires world { IsWorldOf net.now self.now }
+        ensures sensed { IfOk result (IsSensedOf net.now node) }
+        ensures value { (arriving : ℕ → ℕ → ℕ) (lines : ℕ → List Green)
+            → Stands net.now arriving (standing_by lines) self.now
+            → IfOk result (λ s. s ≡
+            sense net.now (past_of net.now arriving (standing_by lines) self.now.second) self.now.second node) }
+    {
+        let sight = Sight {
             net,
-            net.entry_links(node),
-            self.queues.as_slice(),
-            self.recent.as_slice(),
-            self.stood.as_slice(),
-            self.second,
-        )?;
+            queues: self.queues.as_slice(),
+            recent: self.recent.as_slice(),
+            stood: self.stood.as_slice(),
+            second: self.second,
+        };
+        let links = sense_links(alloc, &sight, net.entry_links(node), spare)?;
         Ok(Sensed {
             now: self.second,
             links: Items::from_vec(links),
@@ -229,27 +262,29 @@ fn pass_second<T: Lights>(
     requires arrivals { AreArrivals moment.now.net.now moment.now.arrivals.now }
     requires greens { (n : ℕ) → n < length moment.now.net.now.node_names
         → slice_index_or moment.now.greens.now n None ≡ green_at (T.lines moment.now.lights.now n) moment.now.second }
-    requires stands { Stands moment.now.net.now (arriving_of moment.now.arrivals.now) (standing_by (T.lines moment.now.lights.now)) (record {
-      second = moment.now.second;
-      nodes = length moment.now.greens.now;
-      queues = queues.old;
-      recent = recent.old;
-      waits = waits.old;
-      stood = stood.old;
-      counts = counts.old;
-      totals = moment.now.totals;
-    }) }
+    requires stands { Stands moment.now.net.now (arriving_of moment.now.arrivals.now)
+        (standing_by (T.lines moment.now.lights.now)) (record {
+          second = moment.now.second;
+          nodes = length moment.now.greens.now;
+          queues = queues.old;
+          recent = recent.old;
+          waits = waits.old;
+          stood = stood.old;
+          counts = counts.old;
+          totals = moment.now.totals;
+        }) }
     ensures whole { IsBalanced result }
-    ensures stands { Stands moment.now.net.now (arriving_of moment.now.arrivals.now) (standing_by (T.lines moment.now.lights.now)) (record {
-      second = moment.now.second + 1;
-      nodes = length moment.now.greens.now;
-      queues = queues.new;
-      recent = recent.new;
-      waits = waits.new;
-      stood = stood.new;
-      counts = counts.new;
-      totals = result;
-    }) }
+    ensures stands { Stands moment.now.net.now (arriving_of moment.now.arrivals.now)
+        (standing_by (T.lines moment.now.lights.now)) (record {
+          second = moment.now.second + 1;
+          nodes = length moment.now.greens.now;
+          queues = queues.new;
+          recent = recent.new;
+          waits = waits.new;
+          stood = stood.new;
+          counts = counts.new;
+          totals = result;
+        }) }
 {
     let net = moment.net;
     let x = moment.second;

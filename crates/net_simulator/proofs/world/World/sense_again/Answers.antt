@@ -4,7 +4,7 @@ use Rattle.road_net.specs.Senses.{IsSensedOf}
 use Rattle.road_net.specs.Network.{entry_links}
 use Rattle.net_simulator.specs.Arriving.{arriving_of}
 use Rattle.net_simulator.proofs.Seeing.{gathered, below-names, is-sensed}
-use Rattle.net_simulator.proofs.world.World.sense.Goals as goal
+use Rattle.net_simulator.proofs.world.World.sense_again.Goals as goal
 
 pub returns-clause-value : goal.returns-clause-value
 returns-clause-value c arriving lines stands =
