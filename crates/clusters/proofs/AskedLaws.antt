@@ -21,7 +21,7 @@ use Rattle.clusters.specs.Cuts.{filled, first_of}
 use Rattle.clusters.specs.Platoons.{ArePlatoons, ArePlatoonsBy, ArePlatoonsOf, load_of, most_of, platoons_at, streams_of, together}
 use Rattle.clusters.specs.Sound.{AreOfNode, AreSoundOf, AreSpacedClusters, IsPlatoon, cluster_lists, clusters_of}
 use Rattle.clusters.specs.Steps.{ArePlatoonsAsked, IsAge, IsHold, span_at, span_with}
-use Rattle.clusters.specs.UnderLoad.{AreExpected, AreExpectedIn, AsksNothing, aged_load_of, held, held_in, span_in_green, span_of, with_first_held}
+use Rattle.clusters.specs.UnderLoad.{AreExpected, AreExpectedIn, AsksNothing, aged_load_of, with_held_load, held_in, span_in_green, span_of, with_first_held}
 use Rattle.clusters.specs.Windows.{IsRising}
 use Rattle.clusters.proofs.LoadLaws.{aged_load-none}
 use Rattle.clusters.proofs.PlatoonLaws.{ArePhases, aged-sound, phases-clusters, phases-node, phases-rising}
@@ -110,7 +110,7 @@ asked-expected net node k head sensed heard age split plain list a s are h =
     }
 
 -- A load that is held changes nothing else.
-held-cluster : (hold : ℕ) (p : Platoon) → 1 ≤ hold → IsCluster p.cluster → IsCluster (held hold p).cluster
+held-cluster : (hold : ℕ) (p : Platoon) → 1 ≤ hold → IsCluster p.cluster → IsCluster (with_held_load hold p).cluster
 held-cluster hold p some c =
     let once = mul-le 1 p.cluster.load hold p.cluster.load some (omega arith) in
     record {
@@ -120,22 +120,22 @@ held-cluster hold p some c =
       len = c.len;
     }
 
-same-arrival : (hold : ℕ) (p : Platoon) (ps : List Platoon) (k : ℕ) → (cluster_at (clusters_of (held hold p ∷ ps)) k).arr ≡ (cluster_at (clusters_of (p ∷ ps)) k).arr
+same-arrival : (hold : ℕ) (p : Platoon) (ps : List Platoon) (k : ℕ) → (cluster_at (clusters_of (with_held_load hold p ∷ ps)) k).arr ≡ (cluster_at (clusters_of (p ∷ ps)) k).arr
 same-arrival hold p ps zero = refl
 same-arrival hold p ps (suc k) = refl
 
-same-length : (hold : ℕ) (p : Platoon) (ps : List Platoon) (k : ℕ) → (cluster_at (clusters_of (held hold p ∷ ps)) k).len ≡ (cluster_at (clusters_of (p ∷ ps)) k).len
+same-length : (hold : ℕ) (p : Platoon) (ps : List Platoon) (k : ℕ) → (cluster_at (clusters_of (with_held_load hold p ∷ ps)) k).len ≡ (cluster_at (clusters_of (p ∷ ps)) k).len
 same-length hold p ps zero = refl
 same-length hold p ps (suc k) = refl
 
-held-sound : (net : Net) (node phase now hold : ℕ) (p : Platoon) (ps : List Platoon) → 1 ≤ hold → AreSoundOf net node phase now (p ∷ ps) → AreSoundOf net node phase now (held hold p ∷ ps)
+held-sound : (net : Net) (node phase now hold : ℕ) (p : Platoon) (ps : List Platoon) → 1 ≤ hold → AreSoundOf net node phase now (p ∷ ps) → AreSoundOf net node phase now (with_held_load hold p ∷ ps)
 held-sound net node phase now hold p ps some h =
     let P : Platoon → Type 0 = IsPlatoon net now (phase_links_at net node phase) in
     let first : IsPlatoon net now (phase_links_at net node phase) p = All-head P p ps h.parts in
     record {
-      parts = All-cons P (held hold p) ps (record { arr = first.arr; order = first.order; parts = first.parts; whole = first.whole }) (All-tail P p ps h.parts);
+      parts = All-cons P (with_held_load hold p) ps (record { arr = first.arr; order = first.order; parts = first.parts; whole = first.whole }) (All-tail P p ps h.parts);
       clusters = record {
-        each = All-cons IsCluster (held hold p).cluster (clusters_of ps) (held-cluster hold p some (All-head IsCluster p.cluster (clusters_of ps) h.clusters.each)) (All-tail IsCluster p.cluster (clusters_of ps) h.clusters.each);
+        each = All-cons IsCluster (with_held_load hold p).cluster (clusters_of ps) (held-cluster hold p some (All-head IsCluster p.cluster (clusters_of ps) h.clusters.each)) (All-tail IsCluster p.cluster (clusters_of ps) h.clusters.each);
         spaced = λ k lt. rw (same-arrival hold p ps k, same-length hold p ps k, same-arrival hold p ps (k + 1)) (h.clusters.spaced k lt);
       };
       rising = record { few = h.rising.few; rising = h.rising.rising };
@@ -146,7 +146,7 @@ first-sound net node phase now at None list ok h = h
 first-sound net node phase now at (Some hold) [] ok h = h
 first-sound net node phase now at (Some hold) (p ∷ ps) ok h = tested (nat_le p.cluster.arr at)
   where
-    tested : (arrived : Bool) → AreSoundOf net node phase now ((if arrived then held hold p else p) ∷ ps)
+    tested : (arrived : Bool) → AreSoundOf net node phase now ((if arrived then with_held_load hold p else p) ∷ ps)
     tested true = held-sound net node phase now hold p ps ok.0 h
     tested false = h
 

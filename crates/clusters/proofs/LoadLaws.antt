@@ -13,7 +13,7 @@ use Rattle.clusters.specs.declared.vehicle_groups.Part.{Part}
 use Rattle.clusters.specs.Inflow.{sense_of}
 use Rattle.clusters.specs.Platoons.{load_of, part_of, whole_of}
 use Rattle.clusters.specs.Steps.{AreOfLinks, IsAge}
-use Rattle.clusters.specs.UnderLoad.{aged, aged_load_of}
+use Rattle.clusters.specs.UnderLoad.{amount_load, aged_load_of}
 
 -- the weight of a link of a network
 pub weight-bounds : (net : Net) (l : ℕ) → IsOutline net → l < length net.link_names → (1 ≤ (link_at net l).weight) × ((link_at net l).weight ≤ greatest_weight)
@@ -23,7 +23,7 @@ weight-bounds net l h there = (All-get_or (IsLink (length net.node_names)) net.l
 abbrev pub IsCounting : (ℕ → ℕ) → Type 0
 IsCounting counts = (amount : ℕ) → (amount ≤ counts amount) × (counts amount ≤ greatest_weight * amount)
 
-aged-bounds : (age : Option ℕ) (weight stood : ℕ) → IsAge age → 1 ≤ weight → weight ≤ greatest_weight → IsCounting (aged age weight stood)
+aged-bounds : (age : Option ℕ) (weight stood : ℕ) → IsAge age → 1 ≤ weight → weight ≤ greatest_weight → IsCounting (amount_load age weight stood)
 aged-bounds None weight stood ok some few amount =
     let least = mul-le 1 amount weight amount some (omega arith) in
     (omega (arith, least), mul-le weight amount greatest_weight amount few (omega arith))
@@ -44,23 +44,23 @@ sum-bounds counts (a ∷ amounts) h =
     (omega (arith, whole, counted, rest.0, (h a).0), omega (arith, whole, counted, rest.1, (h a).1))
 
 -- with no age it is the weight by their sum
-pub aged-none : (weight stood : ℕ) (amounts : List ℕ) → sum_by (aged None weight stood) amounts ≡ weight * sum amounts
+pub aged-none : (weight stood : ℕ) (amounts : List ℕ) → sum_by (amount_load None weight stood) amounts ≡ weight * sum amounts
 aged-none weight stood [] = omega arith
 aged-none weight stood (a ∷ amounts) =
-    sum_by-cons (aged None weight stood) a amounts ∙ ap (λ n. weight * a + n) (aged-none weight stood amounts)
+    sum_by-cons (amount_load None weight stood) a amounts ∙ ap (λ n. weight * a + n) (aged-none weight stood amounts)
     ∙ sym (ap (λ n. weight * n) (sum_by-cons (λ (x : ℕ). x) a amounts) ∙ mul-add weight a (sum amounts))
 
 pub whole-load : (age : Option ℕ) (link : Link) (net : Net) (l stood whole : ℕ) (amounts : List ℕ) → age ≡ None → link ≡ link_at net l → whole ≡ sum amounts
-    → link.weight * whole ≡ sum_by (aged age (link_at net l).weight stood) amounts
+    → link.weight * whole ≡ sum_by (amount_load age (link_at net l).weight stood) amounts
 whole-load age link net l stood whole amounts none at all =
     ap (λ (k : Link). k.weight * whole) at ∙ ap (λ n. (link_at net l).weight * n) all ∙ sym (aged-none (link_at net l).weight stood amounts)
-    ∙ sym (ap (λ a. sum_by (aged a (link_at net l).weight stood) amounts) none)
+    ∙ sym (ap (λ a. sum_by (amount_load a (link_at net l).weight stood) amounts) none)
 
 pub aged_load-none : (net : Net) (sensed : Sensed) → aged_load_of None net sensed ≡ load_of net
 aged_load-none net sensed = λ i part. aged-none (link_at net part.link).weight (sense_of sensed part.link).stood part.amounts i
 
 -- what an amount counts, by the weight that has grown
-pub aged-grown : (age weight stood amount grown : ℕ) → grown ≡ weight * (age + min stood (3 * age)) → min (greatest_weight * amount) (amount * grown / age) ≡ aged (Some age) weight stood amount
+pub aged-grown : (age weight stood amount grown : ℕ) → grown ≡ weight * (age + min stood (3 * age)) → min (greatest_weight * amount) (amount * grown / age) ≡ amount_load (Some age) weight stood amount
 aged-grown age weight stood amount grown e =
     ap (λ n. min (greatest_weight * amount) (n / age)) (ap (λ g. amount * g) e ∙ sym (mul_assoc amount weight (age + min stood (3 * age))))
 
@@ -89,7 +89,7 @@ loads-between age net sensed first end (s ∷ streams) ok h links =
     let parts : List Part = map (part_of first end) streams in
     let rest : IsLoading (aged_load_of age net sensed) parts = loads-between age net sensed first end streams ok h (All-tail (λ (t : Part). t.link < length net.link_names) s streams links) in
     let weight = weight-bounds net s.link h (All-head (λ (t : Part). t.link < length net.link_names) s streams links) in
-    let one = sum-bounds (aged age (link_at net s.link).weight (sense_of sensed s.link).stood) part.amounts (aged-bounds age (link_at net s.link).weight (sense_of sensed s.link).stood ok weight.0 weight.1) in
+    let one = sum-bounds (amount_load age (link_at net s.link).weight (sense_of sensed s.link).stood) part.amounts (aged-bounds age (link_at net s.link).weight (sense_of sensed s.link).stood ok weight.0 weight.1) in
     let whole = sum_by-cons (λ (p : Part). sum p.amounts) part parts in
     let load = sum_by-cons (aged_load_of age net sensed) part parts in
     record {

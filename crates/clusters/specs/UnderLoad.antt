@@ -29,23 +29,23 @@ span_of net node head now k series x =
 
 -- What an amount counts on a link of this weight whose queue has stood for so long: with an age the weight grows by itself in as
 -- many seconds, up to four times itself and never above 20.
-abbrev pub aged : Option ℕ → ℕ → ℕ → ℕ → ℕ
-aged None weight stood amount = weight * amount
-aged (Some age) weight stood amount = min (greatest_weight * amount) (amount * weight * (age + min stood (3 * age)) / age)
+abbrev pub amount_load : Option ℕ → ℕ → ℕ → ℕ → ℕ
+amount_load None weight stood amount = weight * amount
+amount_load (Some age) weight stood amount = min (greatest_weight * amount) (amount * weight * (age + min stood (3 * age)) / age)
 
 -- what a part counts
 abbrev pub aged_load_of : Option ℕ → Net → Sensed → Part → ℕ
-aged_load_of age net sensed part = sum_by (aged age (link_at net part.link).weight (sense_of sensed part.link).stood) part.amounts
+aged_load_of age net sensed part = sum_by (amount_load age (link_at net part.link).weight (sense_of sensed part.link).stood) part.amounts
 
 -- the platoon with a load that counts so many times, and at most 20 times its size
-abbrev pub held : ℕ → Platoon → Platoon
-held hold p = record { cluster = record p.cluster { load = min (greatest_weight * p.cluster.size) (hold * p.cluster.load) }; parts = p.parts }
+abbrev pub with_held_load : ℕ → Platoon → Platoon
+with_held_load hold p = record { cluster = record p.cluster { load = min (greatest_weight * p.cluster.size) (hold * p.cluster.load) }; parts = p.parts }
 
 -- the same of the first of these platoons, where it has arrived by this second; without a hold the platoons as they are
 abbrev pub with_first_held : Option ℕ → ℕ → List Platoon → List Platoon
 with_first_held None at list = list
 with_first_held (Some hold) at [] = []
-with_first_held (Some hold) at (p ∷ ps) = (if nat_le p.cluster.arr at then held hold p else p) ∷ ps
+with_first_held (Some hold) at (p ∷ ps) = (if nat_le p.cluster.arr at then with_held_load hold p else p) ∷ ps
 
 -- the platoons of phase k, where the standing green can serve the first at once and it counts as often as the network asks
 abbrev pub held_in : Net → Head → ℕ → List Platoon → List Platoon

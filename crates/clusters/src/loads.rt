@@ -4,7 +4,7 @@ ghost use Rattle.net_numbers.specs.Outline.{link_at};
 ghost use Rattle.clusters.specs.Inflow.{sense_of};
 ghost use Rattle.clusters.specs.Steps.{IsAge};
 ghost use Rattle.clusters.specs.Sound.{AreSpacedClusters, clusters_of};
-ghost use Rattle.clusters.specs.UnderLoad.{aged, with_first_held};
+ghost use Rattle.clusters.specs.UnderLoad.{amount_load, with_first_held};
 ghost use Rattle.switch_rules.specs.Bounds.{greatest_size, greatest_weight};
 
 use crate::inflows::stood_on;
@@ -28,7 +28,7 @@ pub(crate) fn load_on(
     requires few { whole ≤ 900000 }
     requires small { All (λ amount. amount ≤ 5000) amounts.now }
     ensures value { result ≡
-        sum_by (aged age (link_at net.now link).weight (sense_of sensed.entry.now link).stood) amounts.now }
+        sum_by (amount_load age (link_at net.now link).weight (sense_of sensed.entry.now link).stood) amounts.now }
     ensures most { result ≤ greatest_weight * whole }
 {
     let weight = net.link(link).weight;
@@ -44,13 +44,13 @@ fn aged_load(age: u32, weight: u32, stood: u32, amounts: &[u32]) -> u32
     requires weight { (1 ≤ weight) × (weight ≤ greatest_weight) }
     requires few { sum amounts.now ≤ 900000 }
     requires small { All (λ amount. amount ≤ 5000) amounts.now }
-    ensures value { result ≡ sum_by (aged (Some age) weight stood) amounts.now }
+    ensures value { result ≡ sum_by (amount_load (Some age) weight stood) amounts.now }
     ensures most { result ≤ greatest_weight * sum amounts.now }
 {
     let grown = grown_weight(age, weight, stood);
     let mut load = 0;
     for amount in amounts {
-        load += aged(age, grown, *amount);
+        load += amount_load(age, grown, *amount);
     }
     load
 }
@@ -66,7 +66,7 @@ fn grown_weight(age: u32, weight: u32, stood: u32) -> u32
 }
 
 /// What an amount counts where the weight by the age has grown to this, and at most 20 times itself.
-fn aged(age: u32, grown: u32, amount: u32) -> u32
+fn amount_load(age: u32, grown: u32, amount: u32) -> u32
     requires age { 1 ≤ age }
     requires grown { grown ≤ 288000 }
     requires amount { amount ≤ 5000 }

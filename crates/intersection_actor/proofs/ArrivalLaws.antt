@@ -12,7 +12,7 @@ use Rattle.net_numbers.specs.Numbers.{Net}
 use Rattle.road_net.specs.declared.senses.Sensed.{Sensed}
 use Rattle.clusters.specs.Platoons.{ArePlatoonsBy, platoon_of, platoons_at, together}
 use Rattle.clusters.specs.Sound.{cluster_lists, clusters_of}
-use Rattle.clusters.specs.UnderLoad.{AreExpected, AreExpectedIn, held, with_first_held}
+use Rattle.clusters.specs.UnderLoad.{AreExpected, AreExpectedIn, with_first_held, with_held_load}
 use Rattle.clusters.specs.Windows.{IsWindow, counts_of}
 use Rattle.clusters.specs.declared.vehicle_groups.Part.{Part}
 use Rattle.clusters.specs.declared.vehicle_groups.Platoon.{Platoon}
@@ -42,7 +42,7 @@ first-soon second None at list h = h
 first-soon second (Some hold) at [] h = h
 first-soon second (Some hold) at (p ∷ ps) h =
     let soon : ComesBy second p = All-head (ComesBy second) p ps h in
-    All-cons (ComesBy second) _ ps (cond_both (nat_le p.cluster.arr at) (held hold p) p (ComesBy second) (λ yes. soon) (λ no. soon)) (All-tail (ComesBy second) p ps h)
+    All-cons (ComesBy second) _ ps (cond_both (nat_le p.cluster.arr at) (with_held_load hold p) p (ComesBy second) (λ yes. soon) (λ no. soon)) (All-tail (ComesBy second) p ps h)
 
 expected-soon : (net : Net) (node : ℕ) (head : Head) (sensed : Sensed) (k : ℕ) (streams : List Part) (list : List Platoon) → AreExpectedIn net node head sensed k streams list → All (ComesBy (sensed.now + net.run.look)) list
 expected-soon net node head sensed k streams list h =

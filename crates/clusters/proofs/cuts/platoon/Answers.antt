@@ -1,7 +1,7 @@
 use Rattle.std.proofs.Common.{◌∙◌, ◌≤◌, ap, arith, length, sum, sum_by, slice_range}
 use Rattle.net_numbers.specs.Outline.{link_at}
 use Rattle.clusters.specs.Inflow.{sense_of}
-use Rattle.clusters.specs.UnderLoad.{aged, aged_load_of}
+use Rattle.clusters.specs.UnderLoad.{amount_load, aged_load_of}
 use Rattle.clusters.proofs.TogetherLaws.{All-slice_range, sizing-more, stream-few, stream-small}
 use Rattle.clusters.proofs.cuts.platoon.Goals as goal
 
@@ -31,6 +31,6 @@ loop-stream-preserved c =
     let total = c.total-amount.ensures ∙ ap (λ xs. sum (slice_range xs c.args.first c.args.end)) c.as_slice.ensures in
     let load =
     c.load_on.ensures.value
-    ∙ ap (λ xs. sum_by (aged c.args.age (link_at c.args.net.now c.stream-item.result.link).weight (sense_of c.args.sensed.now c.stream-item.result.link).stood) (slice_range xs c.args.first c.args.end)) c.as_slice.ensures in
+    ∙ ap (λ xs. sum_by (amount_load c.args.age (link_at c.args.net.now c.stream-item.result.link).weight (sense_of c.args.sensed.now c.stream-item.result.link).stood) (slice_range xs c.args.first c.args.end)) c.as_slice.ensures in
     sizing-more (aged_load_of c.args.age c.args.net.now c.args.sensed.now) c.args.first c.args.end c.as_slice-stream-items.result.now c.loop-stream.stream-index c.loop-stream.size c.loop-stream.load c.total-amount.result c.load_on.result c.stream-item.result
     c.loop-stream.invariant (omega arith) c.stream-item.is (rw c.as_slice-stream-items.ensures c.requires.amounts) c.requires.end total load c.load_on.ensures.most
