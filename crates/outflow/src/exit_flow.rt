@@ -9,7 +9,7 @@ ghost use Rattle.outflow.specs.Steps.{AreArriving, IsShareInto};
 
 use crate::servings::Servings;
 use clusters::{Parts, Platoon, Window};
-use road_net::{Network, Turn, part_of_turn};
+use road_net::{Network, Turn};
 
 /// Fills in what comes to the end of an exit link in each second from `now` on, as long as the network looks ahead; nothing
 /// is filled in yet.
@@ -82,8 +82,21 @@ fn add_part(amounts: &mut [u32], part: &[u32], first: usize, share: (u32, u32))
         return;
     }
     for j in 0..part.len().min(amounts.len() - first) {
-        amounts[first + j] += part_of_turn(part[j], share.0, share.1);
+        amounts[first + j] += part_of_amount(part[j], share.0, share.1);
     }
+}
+
+/// The part of what leaves in one second that makes a turn: `part_of_turn` of so small an amount, in 32 bits.
+fn part_of_amount(amount: u32, before: u32, share: u32) -> u32
+    requires share { before + share ≤ 1000 }
+    requires small { amount ≤ 5000 }
+    ensures value { result ≡ part_between amount before (before + share) }
+    ensures bounds { result ≤ amount }
+{
+    if amount == 0 {
+        return 0;
+    }
+    amount * (before + share) / 1000 - amount * before / 1000
 }
 
 /// The share of the turns before the one into the exit, and its own share; nothing where no turn leads there.
