@@ -110,7 +110,8 @@ fn problem(
     requires since { head.now.since ≤ 100000 }
     requires lists { length window.now.lists ≡ length plan.now }
     requires plannable { ArePlannable (cluster_lists window.now.lists) }
-    ensures { IfOk result (λ i. i ≡ record { plan = plan.now; head = head.now; lists = cluster_lists window.now.lists }) }
+    ensures { IfOk result (λ i. i
+        ≡ record { plan = plan.now; head = head.now; lists = cluster_lists window.now.lists }) }
 {
     // Called for its clause `plan`, and not for the count.
     let _ = plan.count();
@@ -201,7 +202,8 @@ fn next_line(
     requires phases { schedule.now.phases ≡ phases_of schedule.now.answer }
     requires served { AreServings plan.now head.now schedule.now.phases schedule.now.served }
     requires greens { All (λ (s : Served). s.green ≤ 100000) schedule.now.served }
-    ensures value { IfOk result (λ line. line ≡ line_for plan.now head.now schedule.now.answer schedule.now.served until) }
+    ensures value { IfOk result (λ line. line
+        ≡ line_for plan.now head.now schedule.now.answer schedule.now.served until) }
     ensures next { IfOk result (IsNextLine plan.now head.now until) }
 {
     let phases = schedule.phases.as_slice();
