@@ -11,10 +11,11 @@ use control_flow::rotation;
 use foundation::items::Items;
 use foundation::threads::CrossesThreads;
 use outflow::forecast;
-use road_net::{Network, Sensed};
+use road_net::{LinkSense, Network, Sensed};
 use schedule_meaning::Planner;
 use std::alloc::{AllocError, Global};
 use std::marker::Model;
+use std::mem::replace;
 use switch_rules::{Head, Served};
 
 /// A node that runs its rounds: it senses, reads what its neighbours tell, plans, and tells them what it will send.
@@ -30,6 +31,8 @@ pub struct Actor {
     /// The links that it reads in its round.
     reads: Vec<u32>,
     sensed: Sensed,
+    /// The memory of what it sensed in an earlier round.
+    spare: Vec<LinkSense>,
     heard: Vec<Heard>,
     window: Window,
     phases: Items<u8>,
@@ -64,7 +67,8 @@ impl Actor {
     ghost use Rattle.control_flow.specs.Greens.{end_of};
     ghost use Rattle.net_numbers.specs.Numbers.{Net};
     ghost use Rattle.road_net.specs.Senses.{IsSensedOf};
-    ghost use Rattle.intersection_actor.specs.Acting.{IsPublish, begun, resting, tells_from, told_at, wanting, with_heard};
+    ghost use Rattle.intersection_actor.specs.Acting.{IsPublish, begun, resting};
+    ghost use Rattle.intersection_actor.specs.Acting.{tells_from, told_at, wanting, with_heard};
     ghost use Rattle.intersection_actor.specs.Rounds.{IsCommitted, IsNew, IsOf, KeepsPast};
     ghost use Rattle.intersection_actor.specs.Steps.{IsPlanned};
     ghost use Rattle.clusters.specs.Windows.{counts_of};
@@ -94,6 +98,7 @@ impl Actor {
             round: 0,
             reads: Vec::new(alloc),
             sensed: nothing_sensed(alloc),
+            spare: Vec::new(alloc),
             heard: Vec::new(alloc),
             window: empty_window(alloc),
             phases: Items::from_vec(Vec::new(alloc)),
@@ -139,6 +144,15 @@ impl Actor {
         (line, records)
     }
 
+    /// A list whose memory what it senses next may take: that of an earlier round. What stands in it does not matter.
+    ///
+    /// docs/RULES.md, "A node's round".
+    pub fn take_spare(&mut self, alloc: Global) -> Vec<LinkSense>
+        ensures { self.new ≡ self.old }
+    {
+        replace(&mut self.spare, Vec::new(alloc))
+    }
+
     /// Begins a round, in whose first second the node senses this: it wants to read the first link on which it hears another
     /// node, or to plan where it hears none.
     ///
@@ -167,7 +181,8 @@ impl Actor {
         self.want = next_read(reads.as_slice(), 0);
         self.round = round;
         self.reads = reads;
-        self.sensed = sensed;
+        let Sensed { links, .. } = replace(&mut self.sensed, sensed);
+        self.spare = links.into_vec();
         self.heard.clear();
         Ok(())
     }
@@ -275,8 +290,8 @@ impl Actor {
         requires of { IsOf net.now self.now }
         requires want { IsPublish self.now.want }
         ensures value { (link : ℕ) → self.now.want ≡ Want.Publish link
-            → IfOk result (λ rows. rows ≡ told_forecast net.now link self.now.sensed.now (departures self.now.window.lists
-            (counts_of self.now.window.lists) self.now.phases self.now.served)) }
+            → IfOk result (λ rows. rows ≡ told_forecast net.now link self.now.sensed.now
+            (departures self.now.window.lists (counts_of self.now.window.lists) self.now.phases self.now.served)) }
     {
         let Want::Publish(link) = self.want else {
             unreachable!()
@@ -321,8 +336,9 @@ impl Actor {
         ensures rests { self.new ≡ resting self.old }
         ensures of { (net : Net) → IsOf net self.old → IsOf net self.new }
     {
-        self.reads = Vec::new(alloc);
-        self.sensed = nothing_sensed(alloc);
+        self.reads.clear();
+        let Sensed { links, .. } = replace(&mut self.sensed, nothing_sensed(alloc));
+        self.spare = links.into_vec();
         self.heard.clear();
         self.window = empty_window(alloc);
         self.phases = Items::from_vec(Vec::new(alloc));

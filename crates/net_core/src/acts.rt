@@ -62,7 +62,8 @@ pub(crate) fn begin<P: Planner>(
         actor.new) }
     ensures of { IsOf net.now actor.new }
 {
-    let sensed = world.sense(alloc, net, node)?;
+    let spare = actor.take_spare(alloc);
+    let sensed = world.sense_again(alloc, net, node, spare)?;
     actor.begin(alloc, net, round, sensed)?;
     settle(alloc, net, actor, planner)
 }

@@ -31,7 +31,8 @@ pub fn begin<'a, S: LinkSlot, G: Gate>(
     ensures refused { OnErr result (actor.new ≡ actor.old) }
 {
     let net = setting.net;
-    let sensed = world.sense(setting.alloc, net, pass.number())?;
+    let spare = actor.take_spare(setting.alloc);
+    let sensed = world.sense_again(setting.alloc, net, pass.number(), spare)?;
     actor.begin(setting.alloc, net, setting.round, sensed)
 }
 

@@ -11,4 +11,4 @@ begun-as : {E : Type 0} (r : Result (Unit {0}) E) (net : Net) (round : ℕ) (sen
 begun-as r net round sensed s a mid new e begins settles = subst (λ (m : Acting). OnOk r (Settles net m.want m new)) (begins ∙ ap (λ (x : Sensed). begun net round x a) e) settles
 
 pub returns-clause-begun : goal.returns-clause-begun
-returns-clause-begun g c = λ arriving lines stands. begun-as c.settle.result c.args.net.now c.args.round c.in_ok-sensed.sensed _ c.args.actor.now _ _ (c.in_ok-sensed.ensures.value arriving lines stands) c.in_ok-begin.ensures.ok c.settle.ensures.settles
+returns-clause-begun g c = λ arriving lines stands. begun-as c.settle.result c.args.net.now c.args.round c.in_ok-sensed.sensed _ c.args.actor.now _ _ (c.in_ok-sensed.ensures.value arriving lines stands) (c.in_ok-begin.ensures.ok ∙ ap (begun c.args.net.now c.args.round c.in_ok-sensed.sensed) c.take_spare-spare.ensures) c.settle.ensures.settles
