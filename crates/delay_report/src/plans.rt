@@ -15,6 +15,9 @@ use std::alloc::{AllocError, Global};
 use text_lines::push_number;
 use world_records::{digits_of, write_record};
 
+// The capacity for a version in the text of a plan, in bytes: the name of a link and a number are seldom longer.
+const ROOM_FOR_A_VERSION: usize = 16;
+
 /// Writes the records of plans.
 pub(crate) fn write_plans(
     alloc: Global,
@@ -75,7 +78,7 @@ fn used_text(alloc: Global, net: &Network, used: &[Used]) -> Result<Vec<u8>, All
     requires { All (λ u. u.link < length net.now.link_names) used.now }
     ensures { IfOk result (λ text. text.items ≡ join_with_byte 59 (map (report.used_text net.now) used.now)) }
 {
-    let mut text = Vec::new(alloc);
+    let mut text = Vec::with_capacity(alloc, used.len().saturating_mul(ROOM_FOR_A_VERSION))?;
     for (place, version) in used.iter().enumerate() {
         push_semicolon(place, &mut text)?;
         push_version(net, *version, &mut text)?;
@@ -108,7 +111,7 @@ fn push_version(net: &Network, used: Used, text: &mut Vec<u8>) -> Result<(), All
 fn phase_digits(alloc: Global, phases: &[u8]) -> Result<Vec<u8>, AllocError>
     ensures { IfOk result (λ text. text.items ≡ flat_map decimal phases.now) }
 {
-    let mut text = Vec::new(alloc);
+    let mut text = Vec::with_capacity(alloc, phases.len())?;
     for phase in phases {
         push_number(&mut text, u64::from(*phase))?;
     }
