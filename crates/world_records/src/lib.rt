@@ -1,10 +1,12 @@
 //! The records of what the signals showed and the world counted, in reports and files like them; and records, written one after another.
 #![tactic(auto)]
 
+mod digits;
 mod entries;
 mod records;
 mod world;
 
+pub use digits::{Digits, digits_of};
 pub use entries::{is_header, seven_fields, write_header};
-pub use records::{digits_of, finish, start, write_record};
+pub use records::{finish, start, write_record};
 pub use world::{write_greens, write_links, write_totals};

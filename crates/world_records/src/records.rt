@@ -1,11 +1,9 @@
 //! Records, written one after another.
 ghost use Rattle.std.specs.Prelude.{◌≡◌, [], ◌∷◌, ℕ, List, IfOk, OnOk, map};
-ghost use Rattle.std.specs.Fmt.{decimal};
 ghost use Rattle.world_records.specs.Written.{Adds, HasWritten};
 
 use csv::Writer;
 use std::alloc::AllocError;
-use text_lines::Line;
 
 /// A writer that appends records to a text.
 ///
@@ -32,15 +30,4 @@ pub fn write_record(out: &mut Writer<Vec<u8>>, fields: &[&[u8]]) -> Result<(), A
     ensures { OnOk result (Adds out.old out.new (map (λ f. f.now) fields.now ∷ [])) }
 {
     out.write_fields(fields).ok().ok_or(AllocError)
-}
-
-/// The digits of a number, as a field of a record.
-///
-/// docs/FORMATS.md, "Numbers and lines".
-pub fn digits_of(n: u64) -> Line
-    ensures { result ≡ decimal n }
-{
-    let mut line = Line::new();
-    line.put_number(n);
-    line
 }

@@ -4,7 +4,8 @@ ghost use Rattle.std.specs.List.{flat_map, range_with_len};
 ghost use Rattle.world_records.specs.Records.{green_record, green_records, link_record, link_record_of, total_record};
 ghost use Rattle.world_records.specs.Written.{Adds};
 
-use crate::records::{digits_of, write_record};
+use crate::digits::digits_of;
+use crate::records::write_record;
 use control_flow::greens::{Green, Timeline};
 use csv::Writer;
 use net_simulator::{LinkTotals, Totals};

@@ -1,6 +1,6 @@
-use Rattle.std.proofs.Common.{length, ap, arith}
-use Rattle.text_lines.proofs.LineLaws.{digits-long}
-use Rattle.world_records.proofs.records.digits_of.Goals as goal
+use Rattle.std.proofs.Common.{rules}
+use Rattle.std.proofs.lemmas.Fmt.{length-decimal-le}
+use Rattle.world_records.proofs.digits.digits_of.Goals as goal
 
-pub put_number-requires : goal.put_number-requires
-put_number-requires c = omega (arith, digits-long c.args.n (omega arith), ap length c.new-line.ensures)
+pub write_digits-start-requires : goal.write_digits-start-requires
+write_digits-start-requires c = search (rules, length-decimal-le 20)
