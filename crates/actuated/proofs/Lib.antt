@@ -1,5 +1,6 @@
 mod NearLaws
 mod LineLaws
+mod OneRun
 mod ReportLaws
 mod RunLaws
 mod WorkedRows

@@ -1,6 +1,6 @@
 //! The run of a network under actuated control.
 
-ghost use Rattle.std.specs.Prelude.{◌≡◌, IfOk, OnOk, length, map};
+ghost use Rattle.std.specs.Prelude.{◌≡◌, ℕ, IfOk, OnOk, length, map};
 ghost use Rattle.std.specs.List.{range_with_len};
 ghost use Rattle.arrivals.specs.Amounts.{AreArrivals};
 ghost use Rattle.audit.specs.Audits.{AreLawful, IsClean};
@@ -11,6 +11,7 @@ ghost use Rattle.signal_safety.specs.Safe.{IsSafe};
 ghost use Rattle.sheets.specs.Texts.{HasShape};
 ghost use Rattle.actuated.specs.ActRuns.{IsActRun, ShowsGreens, sheet_of};
 ghost use Rattle.actuated.specs.Rounds.{HaveActed};
+ghost use Rattle.actuated.specs.declared.records.ActRecord as spec;
 
 use super::records::ActRecord;
 use super::renewing::{first_lines, renew_lines};
@@ -58,6 +59,16 @@ pub fn run_actuated(
         links: Items::from_vec(links),
         totals: world.totals(),
     })
+}
+
+/// A network has one run under actuated control for what arrives at it: two records of it are the same.
+///
+/// docs/RULES.md, "Actuated control".
+pub fn law_of_one_run(net: &Network)
+    ensures { (arriving : ℕ → ℕ → ℕ) (one other : spec.ActRecord)
+        → IsActRun net.now arriving one → IsActRun net.now arriving other → one ≡ other }
+{
+    let _nodes = net.nodes();
 }
 
 /// Plays all rounds from the first one.

@@ -11,6 +11,6 @@ mod renewing;
 
 pub use act_lines::act_line;
 pub use act_reports::act_report;
-pub use act_runs::run_actuated;
+pub use act_runs::{law_of_one_run, run_actuated};
 pub use calls::calling;
 pub use records::ActRecord;
