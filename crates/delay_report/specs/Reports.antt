@@ -14,7 +14,7 @@ use Rattle.net_simulator.specs.Sums.{end_of_run}
 use Rattle.runs.specs.declared.records.RunRecord.{RunRecord}
 use Rattle.schedule_meaning.specs.declared.planners.Answer.{Answer}
 use Rattle.schedule_meaning.specs.declared.planners.Answer.TheVariants.{Plan, NoPlan}
-use Rattle.world_records.specs.Records.{green_records, header, link_record_of, total_record}
+use Rattle.world_records.specs.Records.{header, shown_records}
 pub use Rattle.world_records.specs.Records.{records_text}
 
 -- The record of a board step of a node in a round: the link, and the version that is read, or else made, where `versions` counts
@@ -48,10 +48,7 @@ steps_records net history = header ∷ map (step_record_at net history) (range_w
 -- those of the outcome of a run: the plans by round and node; the greens by node and time; the links; and all totals
 abbrev pub outcome_records : Net → RunRecord → List (List (List ℕ))
 outcome_records net run =
-    map (plan_record net) run.plans
-    ++ (flat_map (green_records net run.timelines (end_of_run net)) (range_with_len 0 (length net.node_names))
-    ++ (map (link_record_of net run.links) (range_with_len 0 (length net.link_names))
-    ++ total_record run.totals ∷ []))
+    map (plan_record net) run.plans ++ shown_records net run.timelines run.links run.totals (end_of_run net)
 
 -- the records of a report: the steps of the history, and after them the outcome of the run
 unfoldable pub report_records : Net → RunRecord → List ℕ → List (List (List ℕ))

@@ -1,12 +1,11 @@
 -- The records by which a sheet is told. No public clause names these definitions.
-use Rattle.std.specs.Prelude.{◌≡◌, ℕ, ◌<◌, ◌^◌, List, [], ◌∷◌, ◌++◌, Some, All, filter, length, map, nat_lt, slice_index_or}
-use Rattle.std.specs.List.{flat_map, range_with_len}
+use Rattle.std.specs.Prelude.{◌≡◌, ℕ, ◌<◌, ◌^◌, List, [], Some, All, filter, length, map, nat_lt, slice_index_or}
 use Rattle.control_flow.specs.declared.greens.Green.{Green}
 use Rattle.net_numbers.specs.Numbers.{Net}
 use Rattle.net_simulator.specs.Counts.{counts_at}
 use Rattle.net_simulator.specs.declared.totals.LinkTotals.{LinkTotals}
 use Rattle.net_simulator.specs.declared.totals.Totals.{Totals}
-use Rattle.world_records.specs.Records.{green_records, link_record_of, total_record}
+use Rattle.world_records.specs.Records.{shown_records}
 use Rattle.sheets.specs.declared.sheet.Sheet.{Sheet}
 use Rattle.sheets.specs.Told.{Passed, told_of}
 
@@ -23,9 +22,7 @@ cut_at end s = record { lines = map (begun_before end) s.lines; links = s.links;
 
 -- the records of the greens that begin before a second, by node and time, of the totals of each link, and of all totals
 abbrev pub sheet_records : Net → ℕ → Sheet → List (List (List ℕ))
-sheet_records net end s =
-    flat_map (green_records net s.lines end) (range_with_len 0 (length net.node_names))
-    ++ (map (link_record_of net s.links) (range_with_len 0 (length net.link_names)) ++ total_record s.totals ∷ [])
+sheet_records net end s = shown_records net s.lines s.links s.totals end
 
 -- numbers that a sheet can have: a phase is one of 8 bits, times are ones of 32, and totals ones of 64
 pub record IsToldGreen (green : Green) : Type 0 where

@@ -1,7 +1,7 @@
 -- The records of what the signals showed and the world counted, and the text of records.
-use Rattle.std.specs.Prelude.{codes, nat_lt, ℕ, List, [], ◌∷◌, filter, map, slice_index_or}
+use Rattle.std.specs.Prelude.{codes, nat_lt, ℕ, List, [], ◌∷◌, ◌++◌, filter, length, map, slice_index_or}
 use Rattle.std.specs.Fmt.{decimal}
-use Rattle.std.specs.List.{flat_map}
+use Rattle.std.specs.List.{flat_map, range_with_len}
 use Rattle.csv.specs.Writing.{default_writer, row_text}
 use Rattle.control_flow.specs.declared.greens.Green.{Green}
 use Rattle.net_numbers.specs.Numbers.{Net}
@@ -36,6 +36,13 @@ link_record_of net links link = link_record net link (slice_index_or links link 
 -- the record of all totals
 abbrev pub total_record : Totals → List (List ℕ)
 total_record totals = codes "total" ∷ [] ∷ [] ∷ decimal totals.entered ∷ decimal totals.left ∷ decimal totals.on ∷ decimal totals.delay ∷ []
+
+-- the records of what the signals showed and the world counted: the greens that begin before a second, by node and time; the totals of
+-- each link; and all totals
+abbrev pub shown_records : Net → List (List Green) → List LinkTotals → Totals → ℕ → List (List (List ℕ))
+shown_records net lines links totals end =
+    flat_map (green_records net lines end) (range_with_len 0 (length net.node_names))
+    ++ (map (link_record_of net links) (range_with_len 0 (length net.link_names)) ++ total_record totals ∷ [])
 
 -- the text of records, as `csv` writes them
 abbrev pub records_text : List (List (List ℕ)) → List ℕ
