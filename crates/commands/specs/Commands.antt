@@ -70,6 +70,17 @@ IsWithin (Instance net arr hist node round) = round < 2 ^ 32
 IsWithin (Grid number side rounds) = (number < 2 ^ 64) × IsSide side × AreRounds rounds
 IsWithin _ = Unit {0}
 
+-- a command over a network and what enters it
+abbrev pub IsOverNetwork : Call → Type 0
+IsOverNetwork (Turns net arr) = Unit {0}
+IsOverNetwork (Replay net arr hist) = Unit {0}
+IsOverNetwork (Net net arr) = Unit {0}
+IsOverNetwork (Instance net arr hist node round) = Unit {0}
+IsOverNetwork (Actuate net arr) = Unit {0}
+IsOverNetwork (Compare net arr) = Unit {0}
+IsOverNetwork (Audit net arr report) = Unit {0}
+IsOverNetwork _ = ⊥
+
 -- these are the words of this command
 pub record IsCall (words : List (List ℕ)) (call : Call) : Type 0 where
   pub words_are : words ≡ words_of call

@@ -3,7 +3,7 @@ ghost use Rattle.std.specs.Prelude.{◌≡◌, ◌≢◌, ◌^◌, ◌<◌, ◌�
 ghost use Rattle.std.specs.Fmt.{decimal};
 ghost use Rattle.scenario_gen.specs.Grids.{AreRounds};
 ghost use Rattle.scenario_gen.specs.Layout.{IsSide};
-ghost use Rattle.commands.specs.Commands.{Call, IsCall, call_of};
+ghost use Rattle.commands.specs.Commands.{Call, IsCall, IsOverNetwork, call_of};
 
 use foundation::text::Text;
 use number_words::{number_u32, number_u64, number_within};
@@ -100,6 +100,27 @@ pub fn command_of(words: &[Text]) -> Option<Command<'_>>
         "check" => Some(Command::Check {
             file: only_word(rest)?,
         }),
+        "grid" => {
+            let (number, side, rounds) = grid_numbers(rest)?;
+            Some(Command::Grid {
+                number,
+                side,
+                rounds,
+            })
+        }
+        "upgrade" => Some(Command::Upgrade {
+            net: only_word(rest)?,
+        }),
+        _ => network_command(word.as_str(), rest),
+    }
+}
+
+// The command of this word over a network and what enters it, with these words after it.
+fn network_command<'a>(word: &str, rest: &'a [Text]) -> Option<Command<'a>>
+    ensures some { IfSome result (λ command. IsCall (word.now ∷ rest.now) (call_of command)) }
+    ensures none { IfNone result ((call : Call) → IsOverNetwork call → ¬ IsCall (word.now ∷ rest.now) call) }
+{
+    match word {
         "turns" => {
             let (net, arr) = two_words(rest)?;
             Some(Command::Turns { net, arr })
@@ -134,17 +155,6 @@ pub fn command_of(words: &[Text]) -> Option<Command<'_>>
             let (net, arr, report) = three_words(rest)?;
             Some(Command::Audit { net, arr, report })
         }
-        "grid" => {
-            let (number, side, rounds) = grid_numbers(rest)?;
-            Some(Command::Grid {
-                number,
-                side,
-                rounds,
-            })
-        }
-        "upgrade" => Some(Command::Upgrade {
-            net: only_word(rest)?,
-        }),
         _ => None,
     }
 }
