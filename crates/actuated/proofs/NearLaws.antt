@@ -8,7 +8,7 @@ use Rattle.clusters.proofs.SeenLaws.{sense-within}
 use Rattle.road_net.specs.Senses.{amount}
 use Rattle.road_net.specs.declared.senses.LinkSense.{LinkSense}
 use Rattle.road_net.specs.declared.senses.Sensed.{Sensed}
-use Rattle.actuated.specs.Calls.{near}
+use Rattle.actuated.specs.Calls.{amount_near}
 
 -- a sum over numbers that differ, of which one counts c and the others the same
 others-same : (k : ℕ) (g h : ℕ → ℕ) → ((l : ℕ) → k ≢ l → g l ≡ h l) → (ls : List ℕ) → All (λ l. k ≢ l) ls → sum_by g ls ≡ sum_by h ls
@@ -44,16 +44,16 @@ found-within (x ∷ xs) ls differ =
     )
 
 -- what is near on links that differ
-pub near-within : (sensed : Sensed) (gap : ℕ) (ls : List ℕ) → AllPairs (λ a b. a ≢ b) ls → sum_by (near sensed gap) ls ≤ sum_by amount sensed.links
+pub near-within : (sensed : Sensed) (gap : ℕ) (ls : List ℕ) → AllPairs (λ a b. a ≢ b) ls → sum_by (amount_near sensed gap) ls ≤ sum_by amount sensed.links
 unfolding sense_of found
 near-within sensed gap ls differ =
-    let less = sum_by-le-sum_by (near sensed gap) (λ l. amount (found sensed.links l)) ls (λ l. omega (arith, sum_by-take-le (λ n. n) (found sensed.links l).coming (gap + 1))) in
+    let less = sum_by-le-sum_by (amount_near sensed gap) (λ l. amount (found sensed.links l)) ls (λ l. omega (arith, sum_by-take-le (λ n. n) (found sensed.links l).coming (gap + 1))) in
     omega (arith, less, found-within sensed.links ls differ)
 
 -- on one link more
 pub near-more : (sensed : Sensed) (gap : ℕ) (ls : List ℕ) (i d : ℕ) → i < length ls → AllPairs (λ a b. a ≢ b) ls
-    → sum_by (near sensed gap) (take i ls) + near sensed gap (get_or ls i d) ≤ sum_by amount sensed.links
-near-more sensed gap ls i d inside differ = omega (arith, sum_by_more_le (near sensed gap) ls i d inside, near-within sensed gap ls differ)
+    → sum_by (amount_near sensed gap) (take i ls) + amount_near sensed gap (get_or ls i d) ≤ sum_by amount sensed.links
+near-more sensed gap ls i d inside differ = omega (arith, sum_by_more_le (amount_near sensed gap) ls i d inside, near-within sensed gap ls differ)
 
 take-min : (xs : List ℕ) (n : ℕ) → take (min (length xs) n) xs ≡ take n xs
 take-min xs n = elim (cases_lt n (length xs)) [
@@ -63,7 +63,7 @@ take-min xs n = elim (cases_lt n (length xs)) [
 
 -- what is near on a link, by what was found of it
 pub near-is : (sensed : Sensed) (gap link queue seconds : ℕ) (coming front : List ℕ) → queue ≡ (sense_of sensed link).queue → coming ≡ (sense_of sensed link).coming
-    → seconds ≡ min (length coming) (gap + 1) → front ≡ take seconds coming → queue + sum front ≡ near sensed gap link
+    → seconds ≡ min (length coming) (gap + 1) → front ≡ take seconds coming → queue + sum front ≡ amount_near sensed gap link
 near-is sensed gap link queue seconds coming front q c s f =
     let all : sum front ≡ sum (take (gap + 1) (sense_of sensed link).coming) = ap sum (f ∙ ap (λ n. take n coming) s ∙ take-min coming (gap + 1)) ∙ ap (λ (xs : List ℕ). sum (take (gap + 1) xs)) c in
     omega (arith, q, all)

@@ -17,7 +17,7 @@ use Rattle.actuated.specs.Calls.{act_line, calling}
 use Rattle.actuated.specs.declared.records.ActRecord.{ActRecord}
 
 -- Below, `made round node` is the line of a node in a round, and `under shown n` what passed the links in the first n seconds where
--- the signals show this: of a world without bounds `past_of net arriving`.
+-- the signals show this: in the world, `past_of net arriving`.
 
 -- the first line of a node: the ring turns from second 0
 abbrev pub first_line : Net → ℕ → List Green

@@ -13,12 +13,12 @@ use Rattle.net_numbers.specs.Outline.{phase_links_at}
 use Rattle.road_net.specs.declared.senses.Sensed.{Sensed}
 
 -- what waits at the end of a link, or reaches it now or within so many seconds after
-abbrev pub near : Sensed → ℕ → ℕ → ℕ
-near sensed gap link = (sense_of sensed link).queue + sum (take (gap + 1) (sense_of sensed link).coming)
+abbrev pub amount_near : Sensed → ℕ → ℕ → ℕ
+amount_near sensed gap link = (sense_of sensed link).queue + sum (take (gap + 1) (sense_of sensed link).coming)
 
 -- what calls for a phase of a node: what is near on its links
 abbrev pub calling : Net → ℕ → Sensed → ℕ → ℕ
-calling net node sensed k = sum_by (near sensed net.run.gap) (phase_links_at net node k)
+calling net node sensed k = sum_by (amount_near sensed net.run.gap) (phase_links_at net node k)
 
 -- whether another phase than this is called
 abbrev pub another_calls : List ℕ → ℕ → Bool

@@ -16,7 +16,7 @@ use world_records::{finish, start, write_greens, write_header, write_links, writ
 
 /// The report of a run: the header, the greens that begin before the end of the run, by node and time, the totals of
 /// each link, and all totals. It has no steps and no plans. The record has the network's shape. Where what it says is
-/// clean, the text is read as a clean sheet. `Err`: out of memory.
+/// clean for arrivals of at most 2,000,000,000 in all, the text is read as a clean sheet. `Err`: out of memory.
 ///
 /// docs/FORMATS.md, "Report".
 pub fn act_report(alloc: Global, net: &Network, run: &ActRecord) -> Result<Vec<u8>, AllocError>
@@ -26,6 +26,7 @@ pub fn act_report(alloc: Global, net: &Network, run: &ActRecord) -> Result<Vec<u
         → IsClean net.now arriving (sheet_of run.now)
         → IfOk result (λ text. IsCleanText net.now arriving text.items) }
 {
+    // Called for its clause `network`.
     let _nodes = net.nodes();
     let mut out = start(Vec::new(alloc));
     write_header(&mut out)?;

@@ -5,7 +5,7 @@ ghost use Rattle.std.specs.List.{range_with_len};
 ghost use Rattle.net_numbers.specs.Outline.{plan_at};
 ghost use Rattle.road_net.specs.Senses.{IsSensedOf, amount};
 ghost use Rattle.actuated.specs.Calls as spec;
-ghost use Rattle.actuated.specs.Calls.{calling, near};
+ghost use Rattle.actuated.specs.Calls.{calling, amount_near};
 
 use clusters::sensed_of;
 use road_net::{Network, Sensed};
@@ -23,7 +23,7 @@ pub fn calling(net: &Network, node: u32, sensed: &Sensed, phase: u8) -> u32
     requires sensed { IsSensedOf net.now node sensed.now }
     ensures { result ≡ calling net.now node sensed.entry.now phase }
 {
-    all_near(sensed, net.run().gap, net.phase_links(node, phase))
+    all_near_amounts(sensed, net.run().gap, net.phase_links(node, phase))
 }
 
 /// What calls for each phase of a node, written into a list. `Err`: out of memory.
@@ -46,22 +46,22 @@ pub(crate) fn list_calls(
 }
 
 /// What is near on these links.
-fn all_near(sensed: &Sensed, gap: u32, links: &[u32]) -> u32
+fn all_near_amounts(sensed: &Sensed, gap: u32, links: &[u32]) -> u32
     requires amounts { sum_by amount sensed.now.links ≤ 2000000000 }
     requires links { AllPairs (λ a b. a ≢ b) links.now }
-    ensures { result ≡ sum_by (near sensed.entry.now gap) links.now }
+    ensures { result ≡ sum_by (amount_near sensed.entry.now gap) links.now }
 {
     let mut all = 0;
     for link in links {
-        all += near(sensed, gap, *link);
+        all += amount_near(sensed, gap, *link);
     }
     all
 }
 
 /// What waits at the end of a link, or reaches it now or within `gap` seconds after.
-fn near(sensed: &Sensed, gap: u32, link: u32) -> u32
+fn amount_near(sensed: &Sensed, gap: u32, link: u32) -> u32
     requires { sum_by amount sensed.now.links ≤ 2000000000 }
-    ensures { result ≡ spec.near sensed.entry.now gap link }
+    ensures { result ≡ spec.amount_near sensed.entry.now gap link }
 {
     let (queue, coming) = sensed_of(sensed, link);
     let seconds = coming.len().min(gap as usize + 1);

@@ -43,8 +43,8 @@ pub record AreActuatedTotals (net : Net) (enters : ℕ → ℕ → ℕ) (totals 
 
 -- the bytes are two lines: what the run of the turn order has counted in all, and what that under actuated control has
 pub record IsComparison (net : Net) (enters : ℕ → ℕ → ℕ) (bytes : List ℕ) : Type 0 where
-  pub planned : Totals
-  pub are_planned : ArePlannedTotals net enters planned
-  pub actuated : Totals
-  pub are_actuated : AreActuatedTotals net enters actuated
-  pub lines : bytes ≡ totals_line (codes "planned") planned ++ totals_line (codes "actuated") actuated
+  pub of_plans : Totals
+  pub are_of_plans : ArePlannedTotals net enters of_plans
+  pub of_calls : Totals
+  pub are_of_calls : AreActuatedTotals net enters of_calls
+  pub lines : bytes ≡ totals_line (codes "planned") of_plans ++ totals_line (codes "actuated") of_calls

@@ -30,7 +30,7 @@ pub enum BadText {
     Arrivals(RowFault),
     /// It is within the limit, and no history's of the network that was read before it.
     History(HistoryFault),
-    /// It is within the limit, and no report's of the network that was read before it.
+    /// It is within the limit, and is read as no sheet of the network that was read before it.
     Sheet(SheetFault),
 }
 

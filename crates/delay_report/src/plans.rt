@@ -16,7 +16,7 @@ use text_lines::push_number;
 use world_records::{digits_of, write_record};
 
 // The capacity for a version in the text of a plan, in bytes: the name of a link and a number are seldom longer.
-const ROOM_FOR_A_VERSION: usize = 16;
+const CAPACITY_OF_A_VERSION: usize = 16;
 
 /// Writes the records of plans.
 pub(crate) fn write_plans(
@@ -78,7 +78,7 @@ fn used_text(alloc: Global, net: &Network, used: &[Used]) -> Result<Vec<u8>, All
     requires { All (λ u. u.link < length net.now.link_names) used.now }
     ensures { IfOk result (λ text. text.items ≡ join_with_byte 59 (map (report.used_text net.now) used.now)) }
 {
-    let mut text = Vec::with_capacity(alloc, used.len().saturating_mul(ROOM_FOR_A_VERSION))?;
+    let mut text = Vec::with_capacity(alloc, used.len().saturating_mul(CAPACITY_OF_A_VERSION))?;
     for (place, version) in used.iter().enumerate() {
         push_semicolon(place, &mut text)?;
         push_version(net, *version, &mut text)?;

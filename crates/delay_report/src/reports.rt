@@ -23,10 +23,10 @@ use world_records::{finish, start, write_greens, write_header, write_links, writ
 
 // The capacity for a step of a report, in bytes, so that the text seldom has to move as it grows: the record takes some 28, and what
 // follows the steps a third as much again.
-const ROOM_FOR_A_STEP: usize = 40;
+const CAPACITY_OF_A_STEP: usize = 40;
 
 // The capacity for a plan, in bytes: its record takes some 60, and the greens and links after the plans few more for each.
-const ROOM_FOR_A_PLAN: usize = 80;
+const CAPACITY_OF_A_PLAN: usize = 80;
 
 /// The report of a run of a history, from which `read_history` reads the history again. `Err`: out of memory.
 ///
@@ -54,8 +54,8 @@ pub fn render_steps(alloc: Global, net: &Network, h: &History) -> Result<Vec<u8>
     ensures text { IfOk result (λ text. text.items ≡ records_text (steps_records net.now h.now)) }
     ensures network { OnOk result (IsNetwork net.now) }
 {
-    let room = h.steps().len().saturating_mul(ROOM_FOR_A_STEP);
-    let mut out = start(Vec::with_capacity(alloc, room)?);
+    let capacity = h.steps().len().saturating_mul(CAPACITY_OF_A_STEP);
+    let mut out = start(Vec::with_capacity(alloc, capacity)?);
     write_header(&mut out)?;
     write_steps(alloc, net, h.steps(), &mut out)?;
     finish(out)
@@ -73,7 +73,7 @@ pub fn render_outcome(
     requires { IsComplete net.now run.now }
     ensures { IfOk result (λ all. all.items ≡ text.items ++ records_text (outcome_records net.now run.now)) }
 {
-    text.reserve(run.plans.len().saturating_mul(ROOM_FOR_A_PLAN))?;
+    text.reserve(run.plans.len().saturating_mul(CAPACITY_OF_A_PLAN))?;
     let mut out = start(text);
     write_plans(alloc, net, run.plans.as_slice(), &mut out)?;
     write_greens(net, run.timelines.as_slice(), end_of_run(net), &mut out)?;

@@ -54,7 +54,8 @@ fn push_row(
     row: u32,
 ) -> Result<(), AllocError>
     requires { node < length net.now.node_names }
-    ensures { OnOk result (line.new.items ≡ line.old.items ++ (word.now ++ node_name_at net.now node ++ 32 ∷ decimal row)) }
+    ensures { OnOk result (line.new.items
+        ≡ line.old.items ++ (word.now ++ node_name_at net.now node ++ 32 ∷ decimal row)) }
 {
     line.extend_from_slice(word)?;
     line.extend_from_slice(net.node_name(node).as_bytes())?;

@@ -39,11 +39,11 @@ fn comparison(alloc: Global, net: &Network, arrivals: &Arrivals) -> Result<Vec<u
     requires { AreArrivals net.now arrivals.now }
     ensures { IfOk result (λ text. IsComparison net.now (entering arrivals.now) text.items) }
 {
-    let planned = planned_totals(alloc, net, arrivals)?;
-    let actuated = actuated_totals(alloc, net, arrivals)?;
+    let of_plans = planned_totals(alloc, net, arrivals)?;
+    let of_calls = actuated_totals(alloc, net, arrivals)?;
     let mut text = Vec::new(alloc);
-    push_totals(&mut text, b"planned", &planned)?;
-    push_totals(&mut text, b"actuated", &actuated)?;
+    push_totals(&mut text, b"planned", &of_plans)?;
+    push_totals(&mut text, b"actuated", &of_calls)?;
     Ok(text)
 }
 

@@ -29,6 +29,8 @@ impl Model for Digits {
 
 impl Digits {
     /// The digits, from the first to the last.
+    ///
+    /// docs/FORMATS.md, "Numbers and lines".
     #[inline]
     pub fn as_bytes(&self) -> &[u8]
         ensures { result.now ≡ self.now }

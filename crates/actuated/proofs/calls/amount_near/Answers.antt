@@ -1,6 +1,6 @@
 use Rattle.std.proofs.Common.{take, refl, arith}
 use Rattle.actuated.proofs.NearLaws.{front-within}
-use Rattle.actuated.proofs.calls.near.Goals as goal
+use Rattle.actuated.proofs.calls.amount_near.Goals as goal
 
 pub sum_of-requires : goal.sum_of-requires
 sum_of-requires c =
