@@ -1,6 +1,6 @@
 -- No public clause names these: where a key stands among entries.
-use Rattle.std.specs.Prelude.{◌≡◌, ℕ, ◌-◌, ◌<◌, ◌≤◌, ◌⊎◌, List, length}
-use Rattle.dp_certificate.specs.Certificates.{Claim, IsBefore, digits_of, entry_at}
+use Rattle.std.specs.Prelude.{◌≡◌, ℕ, ◌<◌, ◌≤◌, ◌⊎◌, List, length}
+use Rattle.dp_certificate.specs.Certificates.{Claim, entry_at}
 use Rattle.dp_certificate.specs.NextEntry.{stage_of_next}
 use Rattle.dp_certificate.specs.Proves.{HasEntry, IsTooDear, key_of_entry}
 use Rattle.dp_certificate.specs.declared.Entry.{Entry}
@@ -8,18 +8,6 @@ use Rattle.dp_certificate.specs.declared.Entry.{Entry}
 -- it is an entry again, of no more delay, or too dear
 abbrev pub IsMet : Claim → Entry → Type 0
 IsMet c next = HasEntry c.entries (key_of_entry next) next.delay ⊎ IsTooDear c.problem c.answer (stage_of_next next)
-
--- an entry with this key, if there is one, stands from low to high: the keys below are before it, and those from high
--- on are not
-pub record IsSpan (entries : List Entry) (key : Entry) (low high : ℕ) : Type 0 where
-  pub rise : low ≤ high
-  pub within : high ≤ length entries
-  pub below : 0 < low → IsBefore (digits_of (entry_at entries (low - 1))) (digits_of key)
-  pub here : high < length entries → ¬ IsBefore (digits_of (entry_at entries high)) (digits_of key)
-
--- the one place where it stands
-abbrev pub IsPlace : List Entry → Entry → ℕ → Type 0
-IsPlace entries key place = IsSpan entries key place place
 
 -- at this place an entry has the key of another and at most its delay
 pub record StandsAt (entries : List Entry) (place : ℕ) (next : Entry) : Type 0 where

@@ -1,7 +1,7 @@
 //! Where entries may be found. Nothing rests on a hint but time: each is tested where it is used.
 
-use crate::search::{has_entry, place_of};
-use dp_certificate::Entry;
+use crate::search::has_entry;
+use dp_certificate::{Entry, place_of};
 
 /// How many places are kept for each of four phases: one for each second since which a green may last, modulo 1024.
 const SECONDS: usize = 1024;

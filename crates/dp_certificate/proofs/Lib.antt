@@ -1,5 +1,6 @@
-pub mod LimitLaws
 mod LowerBoundLaws
+pub mod KeyPlaces
+pub mod LimitLaws
 pub mod NextLaws
 pub mod RestLaws
 pub mod Servings

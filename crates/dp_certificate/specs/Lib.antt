@@ -4,6 +4,7 @@ pub mod Limits
 pub mod LowerBound
 pub mod NextEntry
 pub mod Numbers
+pub mod Places
 pub mod Prefixes
 pub mod Proves
 pub mod Whole

@@ -4,11 +4,13 @@
 mod certificates;
 mod lower_bound;
 mod next_entry;
+mod places;
 
 pub use certificates::{CertFault, Certificate, list_lengths};
 use foundation::threads::CrossesThreads;
 pub use lower_bound::{RemainingCost, rest_of};
 pub use next_entry::serve_next;
+pub use places::place_of;
 
 /// One entry of a table of least delays: a key, which is what decides how a plan can go on, with a delay.
 ///

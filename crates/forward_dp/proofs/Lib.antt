@@ -8,11 +8,11 @@ mod Growing
 mod KeyOrder
 mod Meeting
 mod Merging
-mod OrderLaws
 mod Parting
-mod RowLaws
-mod Wholes
 pub mod Bounds
 pub mod Keeping
+pub mod OrderLaws
 pub mod Reaching
+pub mod RowLaws
 pub mod Shapes
+pub mod Wholes

@@ -46,14 +46,14 @@ if-each P None h = tt
 if-each P (Some x) h = h x refl
 
 -- the entry of a fit prefix is that of its stage
-entry-same : (p : Problem) (e : Entry) (o : IsOfPrefix p e) → e ≡ entry_for o.stage o.stage.delay
+pub entry-same : (p : Problem) (e : Entry) (o : IsOfPrefix p e) → e ≡ entry_for o.stage o.stage.delay
 unfolding entry_for
 entry-same p e o =
     ap (λ (k : Key). let x : Entry = record { counts = k.counts; phase = k.phase; since = k.since; at = k.at; delay = e.delay } in x) o.key
     ∙ ap (entry_for o.stage) o.delay
 
 -- and is within its bounds
-entry-bounds : (p : Problem) → IsInstance p → (e : Entry) → IsOfPrefix p e → IsEntry p e
+pub entry-bounds : (p : Problem) → IsInstance p → (e : Entry) → IsOfPrefix p e → IsEntry p e
 unfolding entry_for
 entry-bounds p lawful e o =
     let s = o.stage in

@@ -9,7 +9,7 @@ ghost use Rattle.dp_certificate.specs.Prefixes.{HasAllKeys, Key};
 ghost use Rattle.dp_certificate.specs.Proves.{Proves};
 ghost use Rattle.dp_certificate.specs.Whole.{IsWhole};
 
-use crate::answer_of;
+use crate::best_answer;
 use crate::lists::Lists;
 use crate::live_rows::DroppedRows;
 use crate::table::{row_capacity, table};
@@ -74,7 +74,7 @@ pub fn certify_within<L: Ledger>(
         mut rows,
     } = Lists::new(alloc).for_table(i)?;
     table(i, limit, &mut past, &mut reached, &mut rows, steps)?;
-    let answer = answer_of(alloc, i, &rows)?;
+    let answer = best_answer(alloc, i, &rows)?;
     past.take(rows.earlier.as_slice())?;
     past.take(rows.latest.as_slice())?;
     let instance = i.copy(alloc)?;

@@ -109,13 +109,13 @@ pub fn layered_in<L: Ledger>(
         mut rows,
     } = replace(lists, Lists::new(alloc)).for_table(i)?;
     table(i, limit, &mut past, &mut reached, &mut rows, steps)?;
-    let answer = answer_of(alloc, i, &rows)?;
+    let answer = best_answer(alloc, i, &rows)?;
     *lists = Lists { reached, rows };
     Ok(answer)
 }
 
 /// The answer of the best of the rows of whole sequences.
-fn answer_of(alloc: Global, i: &Instance, rows: &Rows) -> Result<Answer, AllocError>
+fn best_answer(alloc: Global, i: &Instance, rows: &Rows) -> Result<Answer, AllocError>
     requires { HasAnswers i.now rows.now }
     ensures best { IfOk result (IsBest i.now) }
     ensures instance { IsInstance i.now }

@@ -19,8 +19,8 @@ of_lawful-requires-clause-few g c =
 pub of_lawful-requires-clause-short : goal.of_lawful-requires-clause-short
 of_lawful-requires-clause-short g c = best-short c.args.i.now c.in_ok-answer.answer c.in_ok-answer.ensures.instance c.in_ok-answer.ensures.best
 
-pub answer_of-requires : goal.answer_of-requires
-answer_of-requires g c = record { limit = c.args.limit; gone = c.in_ok-table.ensures.whole.0; delay = c.requires; made = c.in_ok-table.ensures.whole.2 }
+pub best_answer-requires : goal.best_answer-requires
+best_answer-requires g c = record { limit = c.args.limit; gone = c.in_ok-table.ensures.whole.0; delay = c.requires; made = c.in_ok-table.ensures.whole.2 }
 
 pub returns-clause-table : goal.returns-clause-table
 returns-clause-table g c = (certified-parts c.args.i.now c.in_ok-instance.instance c.args.limit c.in_ok-table.ensures.whole.0 c.table.new.rows c.as_slice.result.now c.as_slice-2.result.now c.take-2.new.self.entries.items c.in_ok-answer.answer c.of_lawful.result c.in_ok-answer.ensures.instance c.requires c.in_ok-table.ensures.whole.2 c.as_slice.ensures.value c.as_slice-2.ensures.value (c.in_ok-take-2.ensures.taken _ (c.in_ok-take.ensures.taken _ c.in_ok-table.ensures.whole.1) (c.take-2.ensures.keeps_entries ∙ c.take.ensures.keeps_entries ∙ c.table.ensures.keeps_entries)) c.in_ok-answer.ensures.best c.in_ok-instance.ensures c.of_lawful.ensures).table

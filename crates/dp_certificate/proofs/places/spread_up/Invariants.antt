@@ -1,6 +1,6 @@
 use Rattle.std.proofs.Common.{◌-◌, ◌<◌, ◌≤◌, length}
 use Rattle.dp_certificate.specs.Certificates.{IsBefore, digits_of, entry_at}
-use Rattle.cert_checker.proofs.search.spread_up.Given as goal
+use Rattle.dp_certificate.proofs.places.spread_up.Given as goal
 
 -- the entry below low is before the key
 abbrev pub invariant-loop-step : goal.invariant-loop-step

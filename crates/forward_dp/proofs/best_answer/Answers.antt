@@ -2,7 +2,7 @@ use Rattle.std.proofs.Common.{ap, sym, ◌∙◌}
 use Rattle.schedule_meaning.specs.declared.planners.Answer.{Answer}
 use Rattle.schedule_meaning.specs.declared.planners.Answer.TheVariants.{Plan}
 use Rattle.forward_dp.proofs.Wholes.{last-cell, none-best, some-best}
-use Rattle.forward_dp.proofs.answer_of.Goals as goal
+use Rattle.forward_dp.proofs.best_answer.Goals as goal
 
 pub returns-in_default-clause-best : goal.returns-in_default-clause-best
 returns-in_default-clause-best c =

@@ -1,6 +1,6 @@
 use Rattle.std.proofs.Common.{◌-◌}
-use Rattle.cert_checker.specs.Places.{IsSpan}
-use Rattle.cert_checker.proofs.search.narrow.Given as goal
+use Rattle.dp_certificate.specs.Places.{IsSpan}
+use Rattle.dp_certificate.proofs.places.narrow.Given as goal
 
 -- the place is still in the span
 abbrev pub invariant-loop-low : goal.invariant-loop-low

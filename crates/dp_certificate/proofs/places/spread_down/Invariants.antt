@@ -1,6 +1,6 @@
 use Rattle.std.proofs.Common.{◌+◌, ◌<◌, ◌≤◌, length}
 use Rattle.dp_certificate.specs.Certificates.{IsBefore, digits_of, entry_at}
-use Rattle.cert_checker.proofs.search.spread_down.Given as goal
+use Rattle.dp_certificate.proofs.places.spread_down.Given as goal
 
 -- the entry at high is not before the key, and high has come down by less than a step
 abbrev pub invariant-loop-step : goal.invariant-loop-step

@@ -1,0 +1,4 @@
+pub mod Joins
+pub mod Pieces
+pub use Rattle.dp_certificate.specs.Certificates
+pub use Rattle.schedule_meaning.specs.Instances

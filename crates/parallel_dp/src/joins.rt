@@ -1,0 +1,123 @@
+//! Two lists of entries joined into one.
+
+ghost use Rattle.std.specs.Prelude.{◌≡◌, ◌<◌, ◌≤◌, ◌⊎◌, ◌++◌, List, length, IfOk};
+ghost use Rattle.schedule_meaning.specs.Instances.{Problem};
+ghost use Rattle.dp_certificate.specs.Certificates.{AreRising, IsBefore, digits_of};
+ghost use Rattle.dp_certificate.specs.Proves.{key_of_entry};
+ghost use Rattle.dp_certificate.specs.declared.Entry.{Entry as Line};
+ghost use Rattle.parallel_dp.specs.Joins.{IsFirstOfBoth};
+ghost use Rattle.parallel_dp.specs.Pieces.{IsJoinOf, IsNextOf};
+
+use dp_certificate::Entry;
+use std::alloc::{AllocError, Global};
+use std::cmp::Ordering;
+
+/// The law of pieces: the join of what is next after two lists is what is next after both as one. So it is the same
+/// list, however the entries are cut into pieces. It does nothing when it runs.
+///
+/// docs/RULES.md, "Layers in pieces".
+pub fn law_of_pieces()
+    ensures joined { (p : Problem) (xs ys a b joined : List Line) → IsNextOf p xs a → IsNextOf p ys b
+        → IsJoinOf a b joined → IsNextOf p (xs ++ ys) joined }
+    ensures same { (p : Problem) (xs ys a b joined next : List Line) → IsNextOf p xs a → IsNextOf p ys b
+        → IsJoinOf a b joined → IsNextOf p (xs ++ ys) next → next ≡ joined }
+    ensures only { (p : Problem) (xs one other : List Line) → IsNextOf p xs one → IsNextOf p xs other
+        → one ≡ other }
+{}
+
+/// Two lists of entries as one: their keys, each once, with the least delay. The keys of each list rise.
+/// `Err`: out of memory.
+///
+/// docs/RULES.md, "Layers in pieces".
+pub fn join_pieces(
+    alloc: Global,
+    a: Vec<Entry>,
+    b: Vec<Entry>,
+) -> Result<Vec<Entry>, AllocError>
+    requires first { AreRising a.items }
+    requires second { AreRising b.items }
+    ensures { IfOk result (λ v. IsJoinOf a.items b.items v.items) }
+{
+    join(alloc, a.as_slice(), b.as_slice())
+}
+
+/// Two lists as one.
+fn join(alloc: Global, a: &[Entry], b: &[Entry]) -> Result<Vec<Entry>, AllocError>
+    requires first { AreRising a.now }
+    requires second { AreRising b.now }
+    ensures { IfOk result (λ v. IsJoinOf a.now b.now v.items) }
+{
+    let mut joined = Vec::new(alloc);
+    joined.reserve(a.len().max(b.len()))?;
+    let mut left = 0;
+    let mut right = 0;
+    while left < a.len() || right < b.len() {
+        let (entry, after_left, after_right) = first_of_both(a, b, left, right);
+        joined.push(entry)?;
+        left = after_left;
+        right = after_right;
+    }
+    Ok(joined)
+}
+
+/// Of what is left of two lists from these places on, the entry with the first key, with the least delay where both
+/// have one; and the places after it.
+fn first_of_both(a: &[Entry], b: &[Entry], left: usize, right: usize) -> (Entry, usize, usize)
+    requires some { (left < length a.now) ⊎ (right < length b.now) }
+    requires first { left ≤ length a.now }
+    requires second { right ≤ length b.now }
+    ensures { IsFirstOfBoth a.now b.now left right result.0 result.1 result.2 }
+{
+    if left == a.len() {
+        return (b[right], left, right + 1);
+    }
+    if right == b.len() {
+        return (a[left], left + 1, right);
+    }
+    let first = a[left];
+    let second = b[right];
+    match order(&first, &second) {
+        Ordering::Less => (first, left + 1, right),
+        Ordering::Greater => (second, left, right + 1),
+        Ordering::Equal => (cheaper(&first, &second), left + 1, right + 1),
+    }
+}
+
+/// How the keys of two entries stand.
+fn order(first: &Entry, second: &Entry) -> Ordering
+    ensures less { result ≡ Ordering.Less → IsBefore (digits_of first.now) (digits_of second.now) }
+    ensures greater { result ≡ Ordering.Greater → IsBefore (digits_of second.now) (digits_of first.now) }
+    ensures same { result ≡ Ordering.Equal → key_of_entry first.now ≡ key_of_entry second.now }
+{
+    if first.is_before(second) {
+        return Ordering::Less;
+    }
+    if second.is_before(first) {
+        return Ordering::Greater;
+    }
+    law_of_keys(first, second);
+    Ordering::Equal
+}
+
+/// Of two entries neither of which is before the other the keys are the same.
+fn law_of_keys(first: &Entry, second: &Entry)
+    ensures { (IsBefore (digits_of first.now) (digits_of second.now) → ⊥)
+        → (IsBefore (digits_of second.now) (digits_of first.now) → ⊥)
+        → key_of_entry first.now ≡ key_of_entry second.now }
+{
+    let _ = first.counts[0];
+    let _ = second.counts[0];
+}
+
+/// Of two entries the one with less delay.
+fn cheaper(first: &Entry, second: &Entry) -> Entry
+    ensures either { (result ≡ first.now) ⊎ (result ≡ second.now) }
+    ensures first { result.delay ≤ first.now.delay }
+    ensures second { result.delay ≤ second.now.delay }
+{
+    if second.delay < first.delay {
+        *second
+    } else {
+        *first
+    }
+}

@@ -1,0 +1,8 @@
+//! The layers of the forward table, each extended in pieces that are joined.
+#![tactic(auto)]
+
+mod joins;
+
+
+pub use joins::{join_pieces, law_of_pieces};
+
