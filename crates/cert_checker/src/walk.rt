@@ -12,7 +12,7 @@ ghost use Rattle.cert_checker.specs.Places.{IsMet};
 ghost use Rattle.cert_checker.specs.Verdicts.{IsFirstNot, IsOpenAt};
 
 use super::hints::Hints;
-use dp_certificate::{Certificate, Entry, rest_of, serve_next};
+use dp_certificate::{Certificate, Entry, next_after, rest_of};
 use foundation::steps::Steps;
 use schedule_meaning::{Answer, Instance};
 use std::sync::ledger::Ledger;
@@ -56,35 +56,6 @@ fn open_phase<L: Ledger>(
         }
     }
     None
-}
-
-/// What is served next after an entry by a phase; none where no cluster is left, or where its serving is unfit.
-fn next_after<L: Ledger>(
-    i: &Instance,
-    entry: &Entry,
-    phase: u8,
-    steps: &mut Steps<L>,
-) -> Option<Entry>
-    requires phase { phase < length i.now.plan }
-    requires few { length i.now.plan ≤ 4 }
-    requires entry { IsEntry i.now entry.now }
-    ensures value { option_map stage_of_next result ≡ stage_after i.now (stage_of_entry i.now entry.now) phase }
-    ensures bounds { IfSome result (IsNext i.now) }
-    ensures steps { steps.new ≤ steps.old + 1 }
-{
-    let cluster = cluster_at(i, phase, entry.counts[phase as usize])?;
-    let (_, next) = serve_next(i, entry, phase, cluster, steps)?;
-    Some(next)
-}
-
-/// The cluster of a phase that stands at this index, from 0.
-fn cluster_at(i: &Instance, phase: u8, index: u8) -> Option<&Cluster>
-    requires phase { phase < length i.now.plan }
-    ensures none { IfNone result (slice_get (list_at i.now.lists phase) index ≡ None) }
-    ensures some { IfSome result (λ cluster. (slice_get (list_at i.now.lists phase) index ≡ Some cluster.now)
-        × IsCluster cluster.now) }
-{
-    i.list(phase).get(usize::from(index))
 }
 
 /// Whether what is served next, if anything, is an entry of no more delay, or too dear.

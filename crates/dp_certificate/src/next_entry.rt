@@ -1,8 +1,8 @@
 //! What is served next after an entry.
 
-ghost use Rattle.std.specs.Prelude.{◌≡◌, ◌+◌, ◌<◌, ◌≤◌, IfSome, Ok, Some, false, length, slice_get, slice_index};
+ghost use Rattle.std.specs.Prelude.{◌≡◌, ◌+◌, ◌<◌, ◌≤◌, IfNone, IfSome, None, Ok, Some, false, length, slice_get, slice_index};
 ghost use Rattle.std.specs.Option.{option_map};
-ghost use Rattle.switch_rules.specs.Serving.{serving};
+ghost use Rattle.switch_rules.specs.Serving.{IsCluster, serving};
 ghost use Rattle.schedule_meaning.specs.Instances.{list_at};
 ghost use Rattle.dp_certificate.specs.Certificates.{IsEntry, head_of};
 ghost use Rattle.dp_certificate.specs.NextEntry.{IsNext, stage_of_next};
@@ -50,6 +50,38 @@ pub fn serve_next<L: Ledger>(
         delay: entry.delay + served.cost,
     };
     Some((served, next))
+}
+
+/// What is next after an entry by a phase, as an entry; none where no cluster of it is left, or where its serving is
+/// unfit. It is at most one step.
+///
+/// docs/RULES.md, "Table".
+pub fn next_after<L: Ledger>(
+    i: &Instance,
+    entry: &Entry,
+    phase: u8,
+    steps: &mut Steps<L>,
+) -> Option<Entry>
+    requires phase { phase < length i.now.plan }
+    requires few { length i.now.plan ≤ 4 }
+    requires entry { IsEntry i.now entry.now }
+    ensures value { option_map stage_of_next result ≡ stage_after i.now (stage_of_entry i.now entry.now) phase }
+    ensures bounds { IfSome result (IsNext i.now) }
+    ensures steps { steps.new ≤ steps.old + 1 }
+{
+    let cluster = cluster_at(i, phase, entry.counts[phase as usize])?;
+    let (_, next) = serve_next(i, entry, phase, cluster, steps)?;
+    Some(next)
+}
+
+/// The cluster of a phase at this index, from 0.
+fn cluster_at(i: &Instance, phase: u8, index: u8) -> Option<&Cluster>
+    requires phase { phase < length i.now.plan }
+    ensures none { IfNone result (slice_get (list_at i.now.lists phase) index ≡ None) }
+    ensures some { IfSome result (λ cluster. (slice_get (list_at i.now.lists phase) index ≡ Some cluster.now)
+        × IsCluster cluster.now) }
+{
+    i.list(phase).get(usize::from(index))
 }
 
 /// The head that an entry stands for: its green is fresh at the start alone, and there as the instance's is.

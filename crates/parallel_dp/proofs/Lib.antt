@@ -1,3 +1,4 @@
 mod Joining
+mod NextLaws
 mod PieceLaws
 mod Rising

@@ -2,7 +2,7 @@
 #![tactic(auto)]
 
 mod joins;
-
+mod next;
 
 pub use joins::{join_pieces, law_of_pieces};
-
+pub use next::extend;
