@@ -12,7 +12,7 @@ ghost use Rattle.cert_checker.specs.Places.{IsMet};
 ghost use Rattle.cert_checker.specs.Verdicts.{IsFirstNot, IsOpenAt};
 
 use super::hints::Hints;
-use dp_certificate::{Certificate, Entry, next_after, rest_of};
+use dp_certificate::{Certificate, Entry, is_all_served, next_after, rest_of};
 use foundation::steps::Steps;
 use schedule_meaning::{Answer, Instance};
 use std::sync::ledger::Ledger;
@@ -100,19 +100,6 @@ fn is_ended(c: &Certificate, entry: &Entry) -> bool
     ensures { IsTrue result ↔ IsEnded c.now entry.now }
 {
     !is_all_served(c.instance(), &entry.counts) || is_no_cheaper(c.answer(), entry)
-}
-
-/// Whether nothing is left.
-fn is_all_served(i: &Instance, counts: &[u8; 4]) -> bool
-    requires { (k : ℕ) → slice_index counts.now k ≤ length (list_at i.now.lists k) }
-    ensures { IsTrue result ↔ ((k : ℕ) → slice_index counts.now k ≡ length (list_at i.now.lists k)) }
-{
-    for phase in 0..i.plan().count() {
-        if usize::from(counts[phase as usize]) != i.list(phase).len() {
-            return false;
-        }
-    }
-    true
 }
 
 /// Whether an entry does not undercut the answer.

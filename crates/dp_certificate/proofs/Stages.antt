@@ -122,7 +122,7 @@ pub stage-after-phase : (p : Problem) → IsInstance p → (s t : Stage) (k : �
 stage-after-phase p lawful s t k e = step-begins p s t k e (λ c r ec er same. omega (arith, listed-phase p k (get_or s.counts k 0) c ec, lawful.lists))
 
 -- and a prefix names phases of the plan alone
-from-phases : (p : Problem) → IsInstance p → (u : List ℕ) (s t : Stage) → stage_from p s u ≡ Some t → All (λ k. k < length p.plan) u
+pub from-phases : (p : Problem) → IsInstance p → (u : List ℕ) (s t : Stage) → stage_from p s u ≡ Some t → All (λ k. k < length p.plan) u
 from-phases p lawful [] s t e = All-nil (λ k. k < length p.plan)
 from-phases p lawful (k ∷ u) s t e = from-begins p s t k u e (λ next en rest.
     All-cons (λ k. k < length p.plan) k u (stage-after-phase p lawful s next k en) (from-phases p lawful u next t rest))

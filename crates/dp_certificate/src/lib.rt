@@ -9,7 +9,7 @@ mod places;
 pub use certificates::{CertFault, Certificate, list_lengths};
 use foundation::threads::CrossesThreads;
 pub use lower_bound::{RemainingCost, rest_of};
-pub use next_entry::{next_after, serve_next};
+pub use next_entry::{is_all_served, next_after, serve_next};
 pub use places::place_of;
 
 /// One entry of a table of least delays: a key, which is what decides how a plan can go on, with a delay.

@@ -1,6 +1,6 @@
 //! What is served next after an entry.
 
-ghost use Rattle.std.specs.Prelude.{◌≡◌, ◌+◌, ◌<◌, ◌≤◌, IfNone, IfSome, None, Ok, Some, false, length, slice_get, slice_index};
+ghost use Rattle.std.specs.Prelude.{◌≡◌, ℕ, ◌+◌, ◌<◌, ◌≤◌, ◌↔◌, IfNone, IfSome, IsTrue, None, Ok, Some, false, length, slice_get, slice_index};
 ghost use Rattle.std.specs.Option.{option_map};
 ghost use Rattle.switch_rules.specs.Serving.{IsCluster, serving};
 ghost use Rattle.schedule_meaning.specs.Instances.{list_at};
@@ -82,6 +82,21 @@ fn cluster_at(i: &Instance, phase: u8, index: u8) -> Option<&Cluster>
         × IsCluster cluster.now) }
 {
     i.list(phase).get(usize::from(index))
+}
+
+/// Whether no cluster is left of any phase, where these are served.
+///
+/// docs/RULES.md, "Table".
+pub fn is_all_served(i: &Instance, counts: &[u8; 4]) -> bool
+    requires { (k : ℕ) → slice_index counts.now k ≤ length (list_at i.now.lists k) }
+    ensures { IsTrue result ↔ ((k : ℕ) → slice_index counts.now k ≡ length (list_at i.now.lists k)) }
+{
+    for phase in 0..i.plan().count() {
+        if usize::from(counts[phase as usize]) != i.list(phase).len() {
+            return false;
+        }
+    }
+    true
 }
 
 /// The head that an entry stands for: its green is fresh at the start alone, and there as the instance's is.

@@ -51,7 +51,7 @@ first-bounds p lawful = record {
   delay = omega arith;
 }
 
-from-bounds : (p : Problem) → IsInstance p → (u : List ℕ) (n m : ℕ) (s t : Stage) → m ≡ n + length u → IsStage p n s → stage_from p s u ≡ Some t → IsStage p m t
+pub from-bounds : (p : Problem) → IsInstance p → (u : List ℕ) (n m : ℕ) (s t : Stage) → m ≡ n + length u → IsStage p n s → stage_from p s u ≡ Some t → IsStage p m t
 from-bounds p lawful [] n m s t count stage e =
     let there : IsStage p n t = subst (IsStage p n) (some-same s t e) stage in
     subst (λ i. IsStage p i t) (let same : n ≡ m = omega arith in same) there

@@ -1,8 +1,9 @@
 mod Beginnings
 mod Cells
+mod CompletedEntries
+mod Completing
 mod Digits
 mod Draining
-mod Few
 mod Filling
 mod Growing
 mod KeyOrder
@@ -10,6 +11,7 @@ mod Meeting
 mod Merging
 mod Parting
 pub mod Bounds
+pub mod Few
 pub mod Keeping
 pub mod OrderLaws
 pub mod Reaching

@@ -1,3 +1,4 @@
+pub mod Completions
 pub mod Greens
 pub mod Groups
 pub mod Halves

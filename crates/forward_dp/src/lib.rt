@@ -15,6 +15,7 @@ ghost use Rattle.forward_dp.specs.Tables.{HasAnswers};
 
 mod answers;
 mod certifying;
+mod completions;
 mod greens;
 mod groups;
 mod lists;
@@ -25,6 +26,7 @@ mod table;
 
 use answers::sequence_of;
 pub use certifying::{certify, certify_within};
+pub use completions::answer_of;
 use dp_certificate::list_lengths;
 use foundation::items::Items;
 use foundation::steps::Steps;
@@ -148,7 +150,9 @@ fn best_of(rows: &[Row]) -> Option<Row>
 }
 
 /// How many clusters there are in all.
-fn places(i: &Instance) -> u32
+///
+/// docs/RULES.md, "Table".
+pub fn places(i: &Instance) -> u32
     ensures value { result ≡ sum (counts_of i.now.lists) }
     ensures instance { IsInstance i.now }
 {

@@ -66,7 +66,7 @@ pub(crate) fn row_capacity(i: &Instance) -> usize
 }
 
 /// The row of the sequence of no places.
-fn first_row(i: &Instance) -> Row
+pub(crate) fn first_row(i: &Instance) -> Row
     ensures row { result ≡ record {
       entry = record {
         counts = 0 ∷ 0 ∷ 0 ∷ 0 ∷ [];

@@ -1,6 +1,6 @@
 use Rattle.std.proofs.Common.{◌≡◌, ℕ, ◌<◌, length, get_or}
 use Rattle.schedule_meaning.specs.Instances.{list_at}
-use Rattle.cert_checker.proofs.walk.is_all_served.Given as goal
+use Rattle.dp_certificate.proofs.next_entry.is_all_served.Given as goal
 
 -- the phases so far have nothing left
 abbrev pub invariant-loop-phase : goal.invariant-loop-phase
