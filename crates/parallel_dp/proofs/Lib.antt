@@ -1,4 +1,6 @@
 mod Joining
+mod LayerLaws
 mod NextLaws
 mod PieceLaws
 mod Rising
+mod TableSize

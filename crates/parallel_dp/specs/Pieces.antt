@@ -1,5 +1,5 @@
 -- What is reached from entries by one serving each, and what lists of such entries are together.
-use Rattle.std.specs.Prelude.{◌≡◌, ℕ, ◌⊎◌, List, length, All, Contains, Some}
+use Rattle.std.specs.Prelude.{◌≡◌, ℕ, ◌*◌, ◌<◌, ◌≤◌, ◌⊎◌, List, [], length, take, drop, slice_index_or, All, Contains, Some}
 use Rattle.schedule_meaning.specs.Instances.{Problem}
 use Rattle.dp_certificate.specs.Certificates.{AreRising}
 use Rattle.dp_certificate.specs.Prefixes.{Stage, key_of, stage_after, stage_of}
@@ -49,3 +49,24 @@ pub record IsLed (p : Problem) (served : ℕ) (s : Stage) : Type 0 where
 -- a layer: the keys that fit prefixes of this many servings reach, with the least delay
 abbrev pub IsLayer : Problem → ℕ → List Entry → Type 0
 IsLayer p served entries = AreLeastOf (IsLed p served) entries
+
+-- several lists as one: their keys, each once, with the least delay
+pub record IsJoinOfAll (lists : List (List Entry)) (joined : List Entry) : Type 0 where
+  pub rising : AreRising joined
+  pub each : All (λ e. (list : List Entry) × Contains lists list × Contains list e) joined
+  pub all : (list : List Entry) (e : Entry) → Contains lists list → Contains list e → HasEntry joined (key_of_entry e) e.delay
+
+-- the piece of a layer from this multiple of the width on
+abbrev pub piece_of : List Entry → ℕ → ℕ → List Entry
+piece_of layer width k = take width (drop (k * width) layer)
+
+-- lists of what is next after each piece
+pub record AreNextOfPieces (p : Problem) (layer : List Entry) (width : ℕ) (lists : List (List Entry)) : Type 0 where
+  pub enough : length layer < length lists * width
+  pub each : (k : ℕ) → k < length lists → IsNextOf p (piece_of layer width k) (slice_index_or lists k [])
+
+-- a fit prefix of at most this many servings leads here
+pub record IsLedWithin (p : Problem) (most : ℕ) (s : Stage) : Type 0 where
+  pub prefix : List ℕ
+  pub few : length prefix ≤ most
+  pub leads : stage_of p prefix ≡ Some s

@@ -1,0 +1,102 @@
+//! The whole table by its layers, as a certificate.
+
+ghost use Rattle.std.specs.Prelude.{◌≡◌, ◌<◌, ◌≤◌, IfOk, length};
+ghost use Rattle.switch_rules.specs.Bounds.{most_clusters, most_entries};
+ghost use Rattle.schedule_meaning.specs.Best.{IsBest};
+ghost use Rattle.dp_certificate.specs.Numbers.{sequence_of};
+ghost use Rattle.dp_certificate.specs.Proves.{Proves};
+ghost use Rattle.dp_certificate.specs.Whole.{IsWhole};
+ghost use Rattle.schedule_meaning.specs.Instances.{IsInstance};
+ghost use Rattle.parallel_dp.specs.Pieces.{IsLayer};
+
+use crate::join_pieces;
+use crate::layers::{copy, next_layer};
+use dp_certificate::{Certificate, Entry};
+use forward_dp::{answer_of, places};
+use foundation::steps::Steps;
+use schedule_meaning::{Answer, Instance};
+use std::alloc::{AllocError, Global};
+use std::marker::Brand;
+use std::sync::ledger::{Blank, Ledger};
+use std::thread::Threads;
+
+/// The whole table with the best answer, as `forward_dp::certify` makes it, layer by layer: each layer is extended from
+/// the one before in pieces of this width, in threads, and the pieces are joined. The width changes nothing of the
+/// certificate.
+///
+/// It returns, also where no thread can be started: the calling thread then does the work. `Err`: out of memory.
+///
+/// docs/RULES.md, "Layers in pieces".
+pub fn certify_par(
+    rt: &(impl Threads + Sync),
+    alloc: Global,
+    i: &Instance,
+    width: u32,
+) -> Result<Certificate, AllocError>
+    requires { (1 ≤ width) × (width ≤ 4096) }
+    ensures instance { IfOk result (λ c. c.problem ≡ i.now) }
+    ensures whole { IfOk result (λ c. IsWhole i.now c.entries) }
+    ensures best { IfOk result (λ c. IsBest i.now c.answer) }
+    ensures proves { IfOk result Proves }
+    ensures few { IfOk result (λ c. (length c.entries ≤ most_entries)
+        × (length (sequence_of c.answer) ≤ most_clusters)) }
+{
+    let entries = whole_table(rt, alloc, i, width as usize)?;
+    let answer = answer_in_ledger::<Brand>(alloc, i, entries.as_slice(), Blank::new(1))?;
+    let instance = i.copy(alloc)?;
+    Ok(Certificate::of_lawful(instance, entries, answer))
+}
+
+/// The answer out of the whole table, its servings counted in the ledger of this blank.
+fn answer_in_ledger<L: Ledger>(
+    alloc: Global,
+    i: &Instance,
+    entries: &[Entry],
+    blank: Blank,
+) -> Result<Answer, AllocError>
+    requires name { blank.name ≡ L.name }
+    requires parts { blank.parts ≡ L.parts }
+    requires some { 0 < L.parts }
+    requires whole { IsWhole i.now entries.now }
+    ensures { IfOk result (IsBest i.now) }
+{
+    let mut steps = Steps::<L>::new(blank);
+    answer_of(alloc, i, entries, &mut steps)
+}
+
+/// The whole table, layer by layer.
+fn whole_table(
+    rt: &(impl Threads + Sync),
+    alloc: Global,
+    i: &Instance,
+    width: usize,
+) -> Result<Vec<Entry>, AllocError>
+    requires { (0 < width) × (width ≤ 4096) }
+    ensures whole { IfOk result (λ v. IsWhole i.now v.items) }
+    ensures instance { IsInstance i.now }
+{
+    let count = places(i);
+    let mut layer = first_layer(alloc, i)?;
+    let mut whole = copy(alloc, layer.as_slice())?;
+    for _ in 0..count {
+        layer = next_layer(rt, alloc, i, layer.as_slice(), width)?;
+        whole = join_pieces(alloc, whole, copy(alloc, layer.as_slice())?)?;
+    }
+    Ok(whole)
+}
+
+/// The layer of no servings: the entry of the start.
+fn first_layer(alloc: Global, i: &Instance) -> Result<Vec<Entry>, AllocError>
+    ensures { IfOk result (λ v. IsLayer i.now 0 v.items) }
+{
+    let head = i.head();
+    let mut layer = Vec::with_capacity(alloc, 1)?;
+    layer.push(Entry {
+        counts: [0; 4],
+        phase: head.phase,
+        since: head.since,
+        at: head.at,
+        delay: 0,
+    })?;
+    Ok(layer)
+}
