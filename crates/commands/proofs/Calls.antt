@@ -3,7 +3,7 @@ use Rattle.std.proofs.Common.{rules, ◌≡◌, ℕ, List, [], ◌∷◌, true, 
 use Rattle.std.proofs.lemmas.Bool.{false≢true}
 use Rattle.std.proofs.lemmas.Fmt.{decimal_injective}
 use Rattle.std.specs.Str.{bytes_eq}
-use Rattle.commands.specs.Commands.{Actuate, Audit, Call, IsCall, Certify, CertifyBound, Check, Compare, Grid, Instance, Net, Plan, Replay, Turns, Upgrade, words_of}
+use Rattle.commands.specs.Commands.{Actuate, Audit, Call, IsCall, Certify, CertifyBound, CertifyPar, Check, Compare, Grid, Instance, Net, Plan, Replay, Turns, Upgrade, words_of}
 
 -- the first word
 first : List (List ℕ) → List ℕ
@@ -26,6 +26,11 @@ unfolding first
 one_call words (Plan f) (Plan g) is other = let e = is.words_are in let d = other.words_are in cc
 one_call words (Certify f) (Certify g) is other = let e = is.words_are in let d = other.words_are in cc
 one_call words (CertifyBound f) (CertifyBound g) is other = let e = is.words_are in let d = other.words_are in cc
+one_call words (CertifyPar f w) (CertifyPar g v) is other =
+    let e = is.words_are in
+    let d = other.words_are in
+    let width : w ≡ v = decimal_injective w v (omega (arith, is.within.1)) (omega (arith, other.within.1)) (cc) in
+    cc
 one_call words (Check f) (Check g) is other = let e = is.words_are in let d = other.words_are in cc
 one_call words (Turns n a) (Turns m b) is other = let e = is.words_are in let d = other.words_are in cc
 one_call words (Replay n a h) (Replay m b i) is other = let e = is.words_are in let d = other.words_are in cc

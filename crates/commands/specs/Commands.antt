@@ -2,6 +2,7 @@
 use Rattle.std.specs.Prelude.{◌≡◌, ℕ, ◌^◌, ◌<◌, ◌≤◌, List, [], ◌∷◌, None, IsSome, codes, length}
 use Rattle.std.specs.Fmt.{decimal}
 use Rattle.schedule_meaning.specs.Best.{IsBest, IsLeast}
+use Rattle.schedule_meaning.specs.Instances.{Problem}
 use Rattle.schedule_meaning.specs.declared.planners.Answer.{Answer}
 use Rattle.dp_certificate.specs.Certificates.{Claim}
 use Rattle.dp_certificate.specs.Proves.{Proves}
@@ -37,6 +38,7 @@ pub data Call : Type 0 where
   Plan : (file : List ℕ) → Call
   Certify : (file : List ℕ) → Call
   CertifyBound : (file : List ℕ) → Call
+  CertifyPar : (file : List ℕ) → (width : ℕ) → Call
   Check : (file : List ℕ) → Call
   Turns : (net arr : List ℕ) → Call
   Replay : (net arr hist : List ℕ) → Call
@@ -53,6 +55,7 @@ abbrev pub words_of : Call → List (List ℕ)
 words_of (Plan file) = codes "plan" ∷ file ∷ []
 words_of (Certify file) = codes "certify" ∷ file ∷ []
 words_of (CertifyBound file) = codes "certify_bound" ∷ file ∷ []
+words_of (CertifyPar file width) = codes "certify_par" ∷ file ∷ decimal width ∷ []
 words_of (Check file) = codes "check" ∷ file ∷ []
 words_of (Turns net arr) = codes "turns" ∷ net ∷ arr ∷ []
 words_of (Replay net arr hist) = codes "replay" ∷ net ∷ arr ∷ hist ∷ []
@@ -66,6 +69,7 @@ words_of (Upgrade net) = codes "upgrade" ∷ net ∷ []
 
 -- the numbers of a command are within their bounds
 abbrev pub IsWithin : Call → Type 0
+IsWithin (CertifyPar file width) = (1 ≤ width) × (width ≤ 4096)
 IsWithin (Instance net arr hist node round) = round < 2 ^ 32
 IsWithin (Grid number side rounds) = (number < 2 ^ 64) × IsSide side × AreRounds rounds
 IsWithin _ = Unit {0}
@@ -91,6 +95,7 @@ abbrev pub texts_of : Call → Texts
 texts_of (Plan file) = Next InstanceText file (λ said. NoMore)
 texts_of (Certify file) = Next InstanceText file (λ said. NoMore)
 texts_of (CertifyBound file) = Next InstanceText file (λ said. NoMore)
+texts_of (CertifyPar file width) = Next InstanceText file (λ said. NoMore)
 texts_of (Check file) = Next CertificateText file (λ said. NoMore)
 texts_of (Turns net arr) = network_texts net arr (λ network. NoMore)
 texts_of (Replay net arr hist) = history_texts net arr hist
@@ -110,12 +115,19 @@ pub record IsAcceptedText (bytes : List ℕ) (c : Claim) : Type 0 where
   pub only : (other : Claim) → IsTextFor CertificateText bytes other → other ≡ c
   pub proves : Proves c
 
+-- the bytes are the text of a certificate of the instance, with the best answer and the whole table
+abbrev pub IsWholeCertificate : Problem → List ℕ → Type 0
+IsWholeCertificate p bytes =
+    (c : Claim) × (c.problem ≡ p) × IsWhole c.problem c.entries × IsBest c.problem c.answer × (bytes ≡ certificate_text c)
+    × IsAcceptedText bytes c
+
 -- what is written where the work is done; of the texts of a network `said.0` is the network, `said.1.0` what enters it, and
 -- `said.1.1.0` the history or the sheet
 abbrev pub IsTextOf : (call : Call) → AllSaid (texts_of call) → List ℕ → Type 0
 IsTextOf (Plan file) said bytes = (answer : Answer) × IsBest said.0 answer × IsLeast said.0 answer × (bytes ≡ answer_text answer)
-IsTextOf (Certify file) said bytes = (c : Claim) × (c.problem ≡ said.0) × IsWhole c.problem c.entries × IsBest c.problem c.answer × (bytes ≡ certificate_text c) × IsAcceptedText bytes c
+IsTextOf (Certify file) said bytes = IsWholeCertificate said.0 bytes
 IsTextOf (CertifyBound file) said bytes = (c : Claim) × (c.problem ≡ said.0) × IsBounded c.problem c.entries × IsBest c.problem c.answer × (bytes ≡ certificate_text c) × IsAcceptedText bytes c
+IsTextOf (CertifyPar file width) said bytes = IsWholeCertificate said.0 bytes
 IsTextOf (Check file) said bytes = Proves said.0 × IsLeast said.0.problem said.0.answer × (bytes ≡ accepted_line)
 IsTextOf (Turns net arr) said bytes = Headline said.0 said.1.0 (turn_order said.0) bytes
 IsTextOf (Replay net arr hist) said bytes = Headline said.0 said.1.0 said.1.1.0 bytes
@@ -157,6 +169,7 @@ abbrev pub call_of : Command → Call
 call_of (command.Plan file) = Plan file.now
 call_of (command.Certify file) = Certify file.now
 call_of (command.CertifyBound file) = CertifyBound file.now
+call_of (command.CertifyPar file width) = CertifyPar file.now width
 call_of (command.Check file) = Check file.now
 call_of (command.Turns net arr) = Turns net.now arr.now
 call_of (command.Replay net arr hist) = Replay net.now arr.now hist.now

@@ -25,6 +25,11 @@ pub enum Command<'a> {
     CertifyBound {
         file: &'a str,
     },
+    /// Writes the certificate of an instance, the layers of its table extended in pieces of a width.
+    CertifyPar {
+        file: &'a str,
+        width: u32,
+    },
     /// Writes the verdict on a certificate.
     Check {
         file: &'a str,
@@ -97,6 +102,10 @@ pub fn command_of(words: &[Text]) -> Option<Command<'_>>
         "certify_bound" => Some(Command::CertifyBound {
             file: only_word(rest)?,
         }),
+        "certify_par" => {
+            let (file, width) = word_and_width(rest)?;
+            Some(Command::CertifyPar { file, width })
+        }
         "check" => Some(Command::Check {
             file: only_word(rest)?,
         }),
@@ -166,6 +175,20 @@ fn only_word(words: &[Text]) -> Option<&str>
 {
     match words {
         [word] => Some(word.as_str()),
+        _ => None,
+    }
+}
+
+// The word and the width of pieces after it, where there are just these.
+fn word_and_width(words: &[Text]) -> Option<(&str, u32)>
+    ensures some { IfSome result (λ w. (words.now ≡ w.0.now ∷ decimal w.1 ∷ []) × (1 ≤ w.1) × (w.1 ≤ 4096)) }
+    ensures none { IfNone result ((a : List ℕ) (n : ℕ) → 1 ≤ n → n ≤ 4096 → words.now ≢ a ∷ decimal n ∷ []) }
+{
+    match words {
+        [first, last] => {
+            let width = number_within(last.as_str(), 1, 4096)?;
+            Some((first.as_str(), width))
+        }
         _ => None,
     }
 }

@@ -5,6 +5,7 @@
 mod answers;
 mod certificates;
 mod certify;
+mod certify_par;
 mod check;
 mod delivery;
 mod plan;
@@ -13,6 +14,7 @@ mod top;
 mod verdicts;
 
 pub use certify::{certify_bound_job, certify_job};
+pub use certify_par::certify_par_job;
 pub use check::check_job;
 pub use commands::Status;
 pub use network_jobs::{

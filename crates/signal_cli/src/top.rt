@@ -6,6 +6,7 @@ ghost use Rattle.commands.specs.Refusals.{Says};
 ghost use Rattle.commands.specs.declared.refusals.Refusal.TheVariants as refusal;
 
 use super::certify::{certify_bound_job, certify_job};
+use super::certify_par::certify_par_job;
 use super::check::check_job;
 use super::plan::plan_job;
 use board_model::Gate;
@@ -70,6 +71,9 @@ fn run<R: Threads + Wait + Sync, S: Shelf, O: Sink, E: Sink, G: Gate + Sync>(
         Command::Plan { file } => plan_job(alloc, file, shelf, out, err),
         Command::Certify { file } => certify_job(alloc, file, shelf, out, err),
         Command::CertifyBound { file } => certify_bound_job(alloc, file, shelf, out, err),
+        Command::CertifyPar { file, width } => {
+            certify_par_job(rt, alloc, file, width, shelf, out, err)
+        }
         Command::Check { file } => check_job(alloc, file, shelf, out, err),
         Command::Turns { net, arr } => turns_job(alloc, net, arr, shelf, out, err),
         Command::Replay { net, arr, hist } => replay_job(alloc, net, arr, hist, shelf, out, err),
