@@ -16,6 +16,8 @@ use Rattle.sheets.specs.Texts.{IsSheetText}
 use Rattle.sheets.specs.declared.sheet.Sheet.{Sheet}
 use Rattle.audit.specs.declared.findings.AuditWhy.{AuditWhy}
 use Rattle.audit.specs.declared.findings.AuditWhy.TheVariants.{Span, Next, Link, Total}
+use Rattle.audit.specs.declared.findings.Audited.{Audited}
+use Rattle.audit.specs.declared.findings.Audited.TheVariants as audited
 use Rattle.audit.specs.declared.findings.Finding.{Finding}
 use Rattle.audit.specs.declared.findings.Finding.TheVariants.{Clean, Bad}
 
@@ -86,3 +88,12 @@ IsWhy net arriving s Total =
 abbrev pub IfBad : Finding → (AuditWhy → Type 0) → Type 0
 IfBad Clean P = Unit {0}
 IfBad (Bad why) P = P why
+
+-- this holds of the lines of a clean sheet, and this of the reason why it is not clean
+abbrev pub IfClean : Audited → (List (List Green) → Type 0) → Type 0
+IfClean (audited.Clean lines) P = P lines
+IfClean (audited.Bad why) P = Unit {0}
+
+abbrev pub IfUnclean : Audited → (AuditWhy → Type 0) → Type 0
+IfUnclean (audited.Clean lines) P = Unit {0}
+IfUnclean (audited.Bad why) P = P why

@@ -1,5 +1,7 @@
 //! What an audit finds.
 
+use control_flow::greens::Timeline;
+use foundation::items::Items;
 use foundation::threads::CrossesThreads;
 
 /// Why a sheet is not clean: the first that is so, in this order. Nodes and links are numbered from 0, and the rows of
@@ -33,3 +35,14 @@ pub enum Finding {
 }
 
 impl CrossesThreads for Finding {}
+
+/// The lines of a sheet that is clean, or why it is not.
+///
+/// docs/RULES.md, "Audit".
+#[derive(Drop)]
+pub enum Audited {
+    /// It is clean, and these are its lines, by node.
+    Clean(Items<Timeline>),
+    /// It is not.
+    Bad(AuditWhy),
+}

@@ -8,7 +8,7 @@ mod rows;
 
 ghost use Rattle.std.specs.Prelude.{◌≡◌, ◌↔◌, ◌<◌, ◌^◌, All, IfOk, length};
 ghost use Rattle.arrivals.specs.Amounts.{AreArrivals};
-ghost use Rattle.audit.specs.Audits.{IfBad, IsClean, IsWhy};
+ghost use Rattle.audit.specs.Audits.{IfBad, IfClean, IfUnclean, IsClean, IsWhy};
 ghost use Rattle.net_simulator.specs.Arriving.{arriving_of};
 ghost use Rattle.net_simulator.specs.Worlds.{line_in};
 ghost use Rattle.sheets.specs.Texts.{HasShape};
@@ -16,7 +16,8 @@ ghost use Rattle.signal_safety.specs.Safe.{IsSafe};
 
 use arrivals::Arrivals;
 use counts::compare;
-pub use findings::{AuditWhy, Finding};
+pub use findings::{AuditWhy, Audited, Finding};
+use foundation::items::Items;
 use lines::timelines;
 use road_net::Network;
 use rows::first_unlawful;
@@ -46,8 +47,34 @@ pub fn audit(
     ensures safe { IfOk result (λ f. f ≡ Finding.Clean → IsSafe net.now (line_in sheet.lines)) }
     ensures first { IfOk result (λ f. IfBad f (IsWhy net.now (arriving_of arrivals.now) sheet)) }
 {
+    match audit_lines(alloc, net, arrivals, sheet)? {
+        Audited::Clean(_) => Ok(Finding::Clean),
+        Audited::Bad(why) => Ok(Finding::Bad(why)),
+    }
+}
+
+/// The lines of a sheet, where `audit` finds that it is clean; else the first reason why it is not.
+///
+/// `Err`: out of memory.
+///
+/// docs/RULES.md, "Audit".
+pub fn audit_lines(
+    alloc: Global,
+    net: &Network,
+    arrivals: &Arrivals,
+    sheet: Sheet,
+) -> Result<Audited, AllocError>
+    requires shape { HasShape net.now sheet }
+    requires rows { All (λ rows. length rows < 2 ^ 32) sheet.lines }
+    requires arrivals { AreArrivals net.now arrivals.now }
+    ensures lines { IfOk result (λ a. IfClean a (λ lines. lines ≡ sheet.lines)) }
+    ensures clean { IfOk result (λ a. IfClean a (λ lines. IsClean net.now (arriving_of arrivals.now) sheet)) }
+    ensures safe { IfOk result (λ a. IfClean a (λ lines. IsSafe net.now (line_in sheet.lines))) }
+    ensures refused { IfOk result (λ a. IfUnclean a (λ why. ¬ IsClean net.now (arriving_of arrivals.now) sheet)) }
+    ensures first { IfOk result (λ a. IfUnclean a (IsWhy net.now (arriving_of arrivals.now) sheet)) }
+{
     if let Some(why) = first_unlawful(net, &sheet) {
-        return Ok(Finding::Bad(why));
+        return Ok(Audited::Bad(why));
     }
     let Sheet {
         lines,
@@ -55,12 +82,15 @@ pub fn audit(
         totals,
     } = sheet;
     let lines = timelines(alloc, lines.into_vec())?;
-    compare(
+    match compare(
         alloc,
         net,
         arrivals,
         lines.as_slice(),
         links.as_slice(),
         totals,
-    )
+    )? {
+        Finding::Clean => Ok(Audited::Clean(Items::from_vec(lines))),
+        Finding::Bad(why) => Ok(Audited::Bad(why)),
+    }
 }
