@@ -1,0 +1,3 @@
+pub mod Series
+pub mod Watches
+pub use Rattle.audit.specs.Audits
