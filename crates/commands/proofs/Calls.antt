@@ -3,7 +3,7 @@ use Rattle.std.proofs.Common.{rules, ◌≡◌, ℕ, List, [], ◌∷◌, true, 
 use Rattle.std.proofs.lemmas.Bool.{false≢true}
 use Rattle.std.proofs.lemmas.Fmt.{decimal_injective}
 use Rattle.std.specs.Str.{bytes_eq}
-use Rattle.commands.specs.Commands.{Actuate, Audit, Call, IsCall, Certify, CertifyBound, CertifyPar, Check, Compare, Grid, Instance, Net, Plan, Replay, Turns, Upgrade, words_of}
+use Rattle.commands.specs.Commands.{Actuate, Audit, Call, IsCall, Certify, CertifyBound, CertifyPar, Check, Compare, Grid, Instance, Net, Plan, Queues, Replay, Turns, Upgrade, words_of}
 
 -- the first word
 first : List (List ℕ) → List ℕ
@@ -43,6 +43,7 @@ one_call words (Instance n a h k r) (Instance m b i l q) is other =
 one_call words (Actuate n a) (Actuate m b) is other = let e = is.words_are in let d = other.words_are in cc
 one_call words (Compare n a) (Compare m b) is other = let e = is.words_are in let d = other.words_are in cc
 one_call words (Audit n a r) (Audit m b q) is other = let e = is.words_are in let d = other.words_are in cc
+one_call words (Queues n a r) (Queues m b q) is other = let e = is.words_are in let d = other.words_are in cc
 one_call words (Grid n s r) (Grid m t q) is other =
     let e = is.words_are in
     let d = other.words_are in

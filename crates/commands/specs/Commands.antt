@@ -10,13 +10,15 @@ use Rattle.dp_certificate.specs.Whole.{IsWhole}
 use Rattle.pruned_dp.specs.Bounded.{IsBounded}
 use Rattle.certificate_form.specs.CertificateText.{certificate_text}
 use Rattle.audit.specs.Audits as audits
-use Rattle.audit.specs.Audits.{IsClean}
+use Rattle.audit.specs.Audits.{IsClean, past_under}
 use Rattle.audit.specs.declared.findings.AuditWhy.{AuditWhy}
 use Rattle.cert_checker.specs.Verdicts.{IsWhy}
 use Rattle.cert_checker.specs.declared.Why.{Why}
 use Rattle.histories.specs.Histories.{turn_order}
 use Rattle.net_numbers.specs.Numbers.{number_of}
+use Rattle.net_simulator.specs.Sums.{end_of_run}
 use Rattle.net_simulator.specs.Worlds.{line_in}
+use Rattle.queue_series.specs.Series.{IsSeries}
 use Rattle.road_net.specs.Upgrade.{IsUpgraded}
 use Rattle.runs.specs.Runs.{arriving_by}
 use Rattle.scenario_gen.specs.Grids.{AreRounds}
@@ -47,6 +49,7 @@ pub data Call : Type 0 where
   Actuate : (net arr : List ℕ) → Call
   Compare : (net arr : List ℕ) → Call
   Audit : (net arr report : List ℕ) → Call
+  Queues : (net arr report : List ℕ) → Call
   Grid : (number side rounds : ℕ) → Call
   Upgrade : (net : List ℕ) → Call
 
@@ -64,6 +67,7 @@ words_of (Instance net arr hist node round) = codes "instance" ∷ net ∷ arr �
 words_of (Actuate net arr) = codes "actuate" ∷ net ∷ arr ∷ []
 words_of (Compare net arr) = codes "compare" ∷ net ∷ arr ∷ []
 words_of (Audit net arr report) = codes "audit" ∷ net ∷ arr ∷ report ∷ []
+words_of (Queues net arr report) = codes "queues" ∷ net ∷ arr ∷ report ∷ []
 words_of (Grid number side rounds) = codes "grid" ∷ decimal number ∷ decimal side ∷ decimal rounds ∷ []
 words_of (Upgrade net) = codes "upgrade" ∷ net ∷ []
 
@@ -83,6 +87,7 @@ IsOverNetwork (Instance net arr hist node round) = Unit {0}
 IsOverNetwork (Actuate net arr) = Unit {0}
 IsOverNetwork (Compare net arr) = Unit {0}
 IsOverNetwork (Audit net arr report) = Unit {0}
+IsOverNetwork (Queues net arr report) = Unit {0}
 IsOverNetwork _ = ⊥
 
 -- these are the words of this command
@@ -104,6 +109,7 @@ texts_of (Instance net arr hist node round) = history_texts net arr hist
 texts_of (Actuate net arr) = network_texts net arr (λ network. NoMore)
 texts_of (Compare net arr) = network_texts net arr (λ network. NoMore)
 texts_of (Audit net arr report) = sheet_texts net arr report
+texts_of (Queues net arr report) = sheet_texts net arr report
 texts_of (Grid number side rounds) = NoMore
 texts_of (Upgrade net) = Next NetworkText net (λ network. NoMore)
 
@@ -137,19 +143,26 @@ IsTextOf (Actuate net arr) said bytes = IsActuatedReport said.0 said.1.0 bytes
 IsTextOf (Compare net arr) said bytes = IsComparison said.0 said.1.0 bytes
 IsTextOf (Audit net arr report) said bytes =
     IsClean said.0 (arriving_by said.1.0) said.1.1.0 × IsSafe said.0 (line_in said.1.1.0.lines) × (bytes ≡ accepted_line)
+IsTextOf (Queues net arr report) said bytes =
+    IsClean said.0 (arriving_by said.1.0) said.1.1.0 × IsSafe said.0 (line_in said.1.1.0.lines)
+    × IsSeries said.0 (past_under said.0 (arriving_by said.1.0) said.1.1.0.lines) (end_of_run said.0) bytes
 IsTextOf (Grid number side rounds) said bytes = IsGridSummary number side rounds bytes
 IsTextOf (Upgrade net) said bytes = IsUpgraded bytes said.0
 
--- the verdict of a command goes against its texts; only `check` and `audit` judge
+-- the verdict of a command goes against its texts; only `check`, `audit` and `queues` judge
 abbrev pub IsAgainst : (call : Call) → AllSaid (texts_of call) → Type 0
 IsAgainst (Check file) said = ¬ Proves said.0
 IsAgainst (Audit net arr report) said = ¬ IsClean said.0 (arriving_by said.1.0) said.1.1.0
+IsAgainst (Queues net arr report) said = ¬ IsClean said.0 (arriving_by said.1.0) said.1.1.0
 IsAgainst _ said = ⊥
 
 -- what is written where the verdict goes against the texts
 abbrev pub IsRejectionOf : (call : Call) → AllSaid (texts_of call) → List ℕ → Type 0
 IsRejectionOf (Check file) said bytes = (why : Why) × (¬ Proves said.0) × IsWhy said.0 why × (bytes ≡ rejected_line why)
 IsRejectionOf (Audit net arr report) said bytes =
+    (why : AuditWhy) × (¬ IsClean said.0 (arriving_by said.1.0) said.1.1.0) × audits.IsWhy said.0 (arriving_by said.1.0) said.1.1.0 why
+    × (bytes ≡ unclean_line said.0 why)
+IsRejectionOf (Queues net arr report) said bytes =
     (why : AuditWhy) × (¬ IsClean said.0 (arriving_by said.1.0) said.1.1.0) × audits.IsWhy said.0 (arriving_by said.1.0) said.1.1.0 why
     × (bytes ≡ unclean_line said.0 why)
 IsRejectionOf _ said bytes = ⊥
@@ -178,5 +191,6 @@ call_of (command.Instance net arr hist node round) = Instance net.now arr.now hi
 call_of (command.Actuate net arr) = Actuate net.now arr.now
 call_of (command.Compare net arr) = Compare net.now arr.now
 call_of (command.Audit net arr report) = Audit net.now arr.now report.now
+call_of (command.Queues net arr report) = Queues net.now arr.now report.now
 call_of (command.Grid number side rounds) = Grid number side rounds
 call_of (command.Upgrade net) = Upgrade net.now

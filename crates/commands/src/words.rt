@@ -74,6 +74,12 @@ pub enum Command<'a> {
         arr: &'a str,
         report: &'a str,
     },
+    /// Writes the queues over time under the greens of a report that `audit` accepts.
+    Queues {
+        net: &'a str,
+        arr: &'a str,
+        report: &'a str,
+    },
     /// Writes the summary of the run of the turn order on the grid of a number.
     Grid {
         number: u64,
@@ -163,6 +169,10 @@ fn network_command<'a>(word: &str, rest: &'a [Text]) -> Option<Command<'a>>
         "audit" => {
             let (net, arr, report) = three_words(rest)?;
             Some(Command::Audit { net, arr, report })
+        }
+        "queues" => {
+            let (net, arr, report) = three_words(rest)?;
+            Some(Command::Queues { net, arr, report })
         }
         _ => None,
     }

@@ -18,8 +18,12 @@ use road_net::Network;
 use sheets::Sheet;
 use std::alloc::{AllocError, Global};
 
-// What is written for a sheet that is not clean.
-fn unclean_line(alloc: Global, net: &Network, why: AuditWhy) -> Result<Vec<u8>, AllocError>
+/// What is written for a sheet that is not clean. `Err`: out of memory.
+pub(crate) fn unclean_line(
+    alloc: Global,
+    net: &Network,
+    why: AuditWhy,
+) -> Result<Vec<u8>, AllocError>
     requires { NamesPart net.now why }
     ensures { IfOk result (λ line. line.items ≡ unclean_line net.now why) }
 {

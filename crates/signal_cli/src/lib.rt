@@ -18,8 +18,8 @@ pub use certify_par::certify_par_job;
 pub use check::check_job;
 pub use commands::Status;
 pub use network_jobs::{
-    actuate_job, audit_job, compare_job, grid_job, instance_job, net_job, replay_job, turns_job,
-    upgrade_job,
+    actuate_job, audit_job, compare_job, grid_job, instance_job, net_job, queues_job, replay_job,
+    turns_job, upgrade_job,
 };
 pub use plan::plan_job;
 pub use process::run;

@@ -13,8 +13,8 @@ use board_model::Gate;
 use commands::{Command, Refusal, Status, command_of, refuse};
 use foundation::text::Text;
 use network_jobs::{
-    actuate_job, audit_job, compare_job, grid_job, instance_job, net_job, replay_job, turns_job,
-    upgrade_job,
+    actuate_job, audit_job, compare_job, grid_job, instance_job, net_job, queues_job, replay_job,
+    turns_job, upgrade_job,
 };
 use outside_world::{Shelf, Sink};
 use std::alloc::Global;
@@ -89,6 +89,9 @@ fn run<R: Threads + Wait + Sync, S: Shelf, O: Sink, E: Sink, G: Gate + Sync>(
         Command::Compare { net, arr } => compare_job(alloc, net, arr, shelf, out, err),
         Command::Audit { net, arr, report } => {
             audit_job(alloc, net, arr, report, shelf, out, err)
+        }
+        Command::Queues { net, arr, report } => {
+            queues_job(alloc, net, arr, report, shelf, out, err)
         }
         Command::Grid {
             number,
