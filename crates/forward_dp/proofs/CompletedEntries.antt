@@ -212,16 +212,19 @@ one-more all first sequence done most own phase next f = more f.rest f.ahead f.p
   where
     more : (rest : List ℕ) → Follows all (By own phase next) rest f.left → f.whole ≡ sequence ++ rest → done + length rest ≤ most → (next < length all) × IsFollowing all first (completion_at all next) (sequence ++ phase ∷ []) (done + 1) most
     more [] a e few = absurd a
-    more (k ∷ ks) a e few = (a.2, record {
-      whole = f.whole;
-      cost = f.cost;
-      follows = f.follows;
-      rest = ks;
-      left = a.3;
-      ahead = a.4;
-      parts = e ∙ ap (λ n. sequence ++ n ∷ ks) (sym a.1) ∙ sym (append_assoc sequence (phase ∷ []) ks);
-      few = omega arith;
-    })
+    more (k ∷ ks) a e few = (
+      a.2,
+      record {
+        whole = f.whole;
+        cost = f.cost;
+        follows = f.follows;
+        rest = ks;
+        left = a.3;
+        ahead = a.4;
+        parts = e ∙ ap (λ n. sequence ++ n ∷ ks) (sym a.1) ∙ sym (append_assoc sequence (phase ∷ []) ks);
+        few = omega arith;
+      },
+    )
 
 to-end : (all : List Completion) (first here : Completion) (sequence : List ℕ) (done most : ℕ) (f : IsFollowing all first here sequence done most) → f.rest ≡ [] → (cost : ℕ) × Follows all first sequence cost
 to-end all first here sequence done most f none = (f.cost, subst (λ xs. Follows all first xs f.cost) (f.parts ∙ ap (λ xs. sequence ++ xs) none ∙ append-nil sequence) f.follows)

@@ -233,9 +233,9 @@ module _ (p : Problem) (lawful : IsInstance p) (n : ℕ) (s : Stage) (stage : Is
         elim (no-better ks e other) [
           | inl more ↦ inl (omega arith)
           | inr equal ↦ elim (cases_lt c e) [
-              | inl less ↦ inl less
-              | inr up ↦ inr (omega (arith, equal.0), earlier r c o begins ks e other)
-            ]
+            | inl less ↦ inl less
+            | inr up ↦ inr (omega (arith, equal.0), earlier r c o begins ks e other)
+          ]
         ]
       where
         some-value : (a b : ℕ) → Some a ≡ Some b → a ≡ b

@@ -186,13 +186,7 @@ fn law_of_instance(i: &Instance)
 
 /// The better of a completion and the one by a phase at this cost, which another completion goes on from: the former
 /// where they cost the same.
-fn better(
-    best: &Completion,
-    phase: u8,
-    cost: u64,
-    next: usize,
-    rest: &Completion,
-) -> Completion
+fn better(best: &Completion, phase: u8, cost: u64, next: usize, rest: &Completion) -> Completion
     requires { IfSome (cost_of rest.now) (λ left. cost + left < 2 ^ 64) }
     ensures { IsBetter best.now phase cost next rest.now result }
 {

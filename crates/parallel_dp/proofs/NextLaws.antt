@@ -20,23 +20,23 @@ use Rattle.parallel_dp.proofs.Rising.{Precedes, rising-push}
 more-before : (a b c d j k : ℕ) (us vs : List ℕ) → k < j → j < 4 → IsBefore (one_more (a ∷ b ∷ c ∷ d ∷ []) j ++ us) (one_more (a ∷ b ∷ c ∷ d ∷ []) k ++ vs)
 more-before a b c d j k us vs less few = elim (cases_eq k 0) [
   | inl e0 ↦ subst (λ n. IsBefore (one_more (a ∷ b ∷ c ∷ d ∷ []) j ++ us) (one_more (a ∷ b ∷ c ∷ d ∷ []) n ++ vs)) (sym e0) (elim (cases_eq j 1) [
+    | inl f ↦ subst (λ n. IsBefore (one_more (a ∷ b ∷ c ∷ d ∷ []) n ++ us) (one_more (a ∷ b ∷ c ∷ d ∷ []) 0 ++ vs)) (sym f) (inl (omega arith))
+    | inr not1 ↦ elim (cases_eq j 2) [
       | inl f ↦ subst (λ n. IsBefore (one_more (a ∷ b ∷ c ∷ d ∷ []) n ++ us) (one_more (a ∷ b ∷ c ∷ d ∷ []) 0 ++ vs)) (sym f) (inl (omega arith))
-      | inr not1 ↦ elim (cases_eq j 2) [
-          | inl f ↦ subst (λ n. IsBefore (one_more (a ∷ b ∷ c ∷ d ∷ []) n ++ us) (one_more (a ∷ b ∷ c ∷ d ∷ []) 0 ++ vs)) (sym f) (inl (omega arith))
-          | inr not2 ↦ (let f : j ≡ 3 = omega arith in subst (λ n. IsBefore (one_more (a ∷ b ∷ c ∷ d ∷ []) n ++ us) (one_more (a ∷ b ∷ c ∷ d ∷ []) 0 ++ vs)) (sym f) (inl (omega arith)))
-        ]
-    ])
-  | inr not0 ↦ elim (cases_eq k 1) [
-      | inl e1 ↦ subst (λ n. IsBefore (one_more (a ∷ b ∷ c ∷ d ∷ []) j ++ us) (one_more (a ∷ b ∷ c ∷ d ∷ []) n ++ vs)) (sym e1) (elim (cases_eq j 2) [
-          | inl f ↦ subst (λ n. IsBefore (one_more (a ∷ b ∷ c ∷ d ∷ []) n ++ us) (one_more (a ∷ b ∷ c ∷ d ∷ []) 1 ++ vs)) (sym f) (inr (refl, inl (omega arith)))
-          | inr not2 ↦ (let f : j ≡ 3 = omega arith in subst (λ n. IsBefore (one_more (a ∷ b ∷ c ∷ d ∷ []) n ++ us) (one_more (a ∷ b ∷ c ∷ d ∷ []) 1 ++ vs)) (sym f) (inr (refl, inl (omega arith))))
-        ])
-      | inr not1 ↦
-          let e2 : k ≡ 2 = omega arith in
-          let f : j ≡ 3 = omega arith in
-          subst (λ n. IsBefore (one_more (a ∷ b ∷ c ∷ d ∷ []) j ++ us) (one_more (a ∷ b ∷ c ∷ d ∷ []) n ++ vs)) (sym e2)
-          (subst (λ n. IsBefore (one_more (a ∷ b ∷ c ∷ d ∷ []) n ++ us) (one_more (a ∷ b ∷ c ∷ d ∷ []) 2 ++ vs)) (sym f) (inr (refl, inr (refl, inl (omega arith)))))
+      | inr not2 ↦ (let f : j ≡ 3 = omega arith in subst (λ n. IsBefore (one_more (a ∷ b ∷ c ∷ d ∷ []) n ++ us) (one_more (a ∷ b ∷ c ∷ d ∷ []) 0 ++ vs)) (sym f) (inl (omega arith)))
     ]
+  ])
+  | inr not0 ↦ elim (cases_eq k 1) [
+    | inl e1 ↦ subst (λ n. IsBefore (one_more (a ∷ b ∷ c ∷ d ∷ []) j ++ us) (one_more (a ∷ b ∷ c ∷ d ∷ []) n ++ vs)) (sym e1) (elim (cases_eq j 2) [
+      | inl f ↦ subst (λ n. IsBefore (one_more (a ∷ b ∷ c ∷ d ∷ []) n ++ us) (one_more (a ∷ b ∷ c ∷ d ∷ []) 1 ++ vs)) (sym f) (inr (refl, inl (omega arith)))
+      | inr not2 ↦ (let f : j ≡ 3 = omega arith in subst (λ n. IsBefore (one_more (a ∷ b ∷ c ∷ d ∷ []) n ++ us) (one_more (a ∷ b ∷ c ∷ d ∷ []) 1 ++ vs)) (sym f) (inr (refl, inl (omega arith))))
+    ])
+    | inr not1 ↦
+        let e2 : k ≡ 2 = omega arith in
+        let f : j ≡ 3 = omega arith in
+        subst (λ n. IsBefore (one_more (a ∷ b ∷ c ∷ d ∷ []) j ++ us) (one_more (a ∷ b ∷ c ∷ d ∷ []) n ++ vs)) (sym e2)
+        (subst (λ n. IsBefore (one_more (a ∷ b ∷ c ∷ d ∷ []) n ++ us) (one_more (a ∷ b ∷ c ∷ d ∷ []) 2 ++ vs)) (sym f) (inr (refl, inr (refl, inl (omega arith)))))
+  ]
 ]
 
 more-precedes : (cs : List ℕ) → length cs ≡ 4 → (j k : ℕ) (us vs : List ℕ) → k < j → j < 4 → IsBefore (one_more cs j ++ us) (one_more cs k ++ vs)

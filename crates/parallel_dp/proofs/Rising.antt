@@ -40,11 +40,11 @@ same-unless-before (x ∷ xs) [] long not_less not_more = absurd (omega arith)
 same-unless-before (x ∷ xs) (y ∷ ys) long not_less not_more = elim (cases_lt x y) [
   | inl less ↦ absurd (not_less (inl less))
   | inr up ↦ elim (cases_eq x y) [
-      | inl same ↦
-          let rest : xs ≡ ys = same-unless-before xs ys (omega arith) (λ h. not_less (inr (same, h))) (λ h. not_more (inr (sym same, h))) in
-          ap (λ n. n ∷ xs) same ∙ ap (λ ns. y ∷ ns) rest
-      | inr other ↦ absurd (not_more (inl (omega arith)))
-    ]
+    | inl same ↦
+        let rest : xs ≡ ys = same-unless-before xs ys (omega arith) (λ h. not_less (inr (same, h))) (λ h. not_more (inr (sym same, h))) in
+        ap (λ n. n ∷ xs) same ∙ ap (λ ns. y ∷ ns) rest
+    | inr other ↦ absurd (not_more (inl (omega arith)))
+  ]
 ]
 
 same-keys : (a b : Entry) (cs ds : List ℕ) → a.counts ≡ cs → b.counts ≡ ds → cs ≡ ds → a.phase ≡ b.phase → a.since ≡ b.since → a.at ≡ b.at → key_of_entry a ≡ key_of_entry b
@@ -84,11 +84,11 @@ one-of-key xs rising a b ha hb same =
     elim (cases_lt ha.0 hb.0) [
       | inl less ↦ absurd (precedes-not a b (subst (Precedes a) hb.2 (subst (λ e. Precedes e (get_or xs hb.0 b)) at_a (pairs ha.0 hb.0 b less hb.1))) same)
       | inr up ↦ elim (cases_lt hb.0 ha.0) [
-          | inl more ↦ absurd (precedes-not b a (subst (Precedes b) ha.2 (subst (λ e. Precedes e (get_or xs ha.0 a)) at_b (pairs hb.0 ha.0 a more ha.1))) (sym same))
-          | inr down ↦
-              let there : ha.0 ≡ hb.0 = omega arith in
-              sym ha.2 ∙ ap (λ n. get_or xs n a) there ∙ at_b
-        ]
+        | inl more ↦ absurd (precedes-not b a (subst (Precedes b) ha.2 (subst (λ e. Precedes e (get_or xs ha.0 a)) at_b (pairs hb.0 ha.0 a more ha.1))) (sym same))
+        | inr down ↦
+            let there : ha.0 ≡ hb.0 = omega arith in
+            sym ha.2 ∙ ap (λ n. get_or xs n a) there ∙ at_b
+      ]
     ]
 
 same-entry : (a b : Entry) → key_of_entry a ≡ key_of_entry b → a.delay ≡ b.delay → a ≡ b

@@ -43,21 +43,21 @@ seven-less : (a b c d e f g a' b' c' d' e' f' g' : ℕ) → b < 64 → c < 64 �
 seven-less a b c d e f g a' b' c' d' e' f' g' hb hc hd he hf hg before = elim before [
   | inl less ↦ omega arith
   | inr x ↦ elim x.1 [
-      | inl less ↦ omega (arith, x.0)
-      | inr y ↦ elim y.1 [
-          | inl less ↦ omega (arith, x.0, y.0)
-          | inr z ↦ elim z.1 [
-              | inl less ↦ omega (arith, x.0, y.0, z.0)
-              | inr u ↦ elim u.1 [
-                  | inl less ↦ omega (arith, x.0, y.0, z.0, u.0)
-                  | inr v ↦ elim v.1 [
-                      | inl less ↦ omega (arith, x.0, y.0, z.0, u.0, v.0)
-                      | inr w ↦ elim w.1 [ inl less ↦ omega (arith, x.0, y.0, z.0, u.0, v.0, w.0) | inr none ↦ absurd none.1 ]
-                    ]
-                ]
-            ]
+    | inl less ↦ omega (arith, x.0)
+    | inr y ↦ elim y.1 [
+      | inl less ↦ omega (arith, x.0, y.0)
+      | inr z ↦ elim z.1 [
+        | inl less ↦ omega (arith, x.0, y.0, z.0)
+        | inr u ↦ elim u.1 [
+          | inl less ↦ omega (arith, x.0, y.0, z.0, u.0)
+          | inr v ↦ elim v.1 [
+            | inl less ↦ omega (arith, x.0, y.0, z.0, u.0, v.0)
+            | inr w ↦ elim w.1 [ inl less ↦ omega (arith, x.0, y.0, z.0, u.0, v.0, w.0) | inr none ↦ absurd none.1 ]
+          ]
         ]
+      ]
     ]
+  ]
 ]
 
 numbers-rise : (p : Problem) (u v : List ℕ) (a b : Row) → IsLed p u (stage_of_entry p a.entry) → IsLed p v (stage_of_entry p b.entry) → Precedes a.entry b.entry → row_number a < row_number b
@@ -75,7 +75,7 @@ table-few p lawful entries whole =
     let same : map (λ (r : Row). r.entry) rows ≡ entries = rows-entries p entries whole.each in
     let reached = rows-reached p lawful entries whole.each in
     let entry : (i : ℕ) (d : Row) → i < length rows → (get_or rows i d).entry ≡ get_or entries i d.entry = λ i d inside.
-        sym (get_or-map (λ (r : Row). r.entry) rows i d d.entry inside) ∙ ap (λ xs. get_or xs i d.entry) same in
+    sym (get_or-map (λ (r : Row). r.entry) rows i d d.entry inside) ∙ ap (λ xs. get_or xs i d.entry) same in
     let many : length rows ≡ length entries = sym (length-map rows (λ (r : Row). r.entry)) ∙ ap length same in
     let are : AreRows p rows = record {
       each = reached;

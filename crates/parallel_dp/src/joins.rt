@@ -29,11 +29,7 @@ pub fn law_of_pieces()
 /// `Err`: out of memory.
 ///
 /// docs/RULES.md, "Layers in pieces".
-pub fn join_pieces(
-    alloc: Global,
-    a: Vec<Entry>,
-    b: Vec<Entry>,
-) -> Result<Vec<Entry>, AllocError>
+pub fn join_pieces(alloc: Global, a: Vec<Entry>, b: Vec<Entry>) -> Result<Vec<Entry>, AllocError>
     requires first { AreRising a.items }
     requires second { AreRising b.items }
     ensures { IfOk result (λ v. IsJoinOf a.items b.items v.items) }

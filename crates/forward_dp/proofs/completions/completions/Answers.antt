@@ -2,7 +2,6 @@ use Rattle.std.proofs.Common.{[], ◌∷◌, ◌∙◌, ◌+◌, ◌-◌, ◌*�
 use Rattle.dp_certificate.specs.Certificates.{entry_at}
 use Rattle.dp_certificate.specs.Proves.{stage_of_entry}
 use Rattle.forward_dp.specs.Completions.{AreCompletions, IsCompletion}
-
 use Rattle.forward_dp.proofs.CompletedEntries.{completions-more, fewer-servings}
 use Rattle.forward_dp.proofs.completions.completions.Goals as goal
 
