@@ -14,7 +14,7 @@ ghost use Rattle.actuated.specs.Rounds.{HaveActed};
 ghost use Rattle.actuated.specs.declared.records.ActRecord as spec;
 
 use super::records::ActRecord;
-use super::renewing::{first_lines, renew_lines};
+use super::renewing::{Lists, first_lines, renew_lines};
 use arrivals::Arrivals;
 use control_flow::greens::Timeline;
 use foundation::items::Items;
@@ -83,10 +83,13 @@ fn play_rounds(
     requires first { HaveActed net.now (arriving_of arrivals.now) 0 lines.old.items world.old }
     ensures { OnOk result (HaveActed net.now (arriving_of arrivals.now) net.now.run.rounds lines.new.items world.new) }
 {
-    let mut calls = Vec::with_capacity(alloc, 4)?;
+    let mut lists = Lists {
+        calls: Vec::with_capacity(alloc, 4)?,
+        sensed: Vec::new(alloc),
+    };
     let run = net.run();
     for _round in 0..run.rounds {
-        renew_lines(alloc, net, world, lines, &mut calls)?;
+        renew_lines(alloc, net, world, lines, &mut lists)?;
         world.advance(
             net,
             &Lines {

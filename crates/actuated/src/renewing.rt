@@ -11,9 +11,19 @@ use super::calls::list_calls;
 use control_flow::greens::Timeline;
 use control_flow::{head_at, rotation};
 use net_simulator::World;
-use road_net::Network;
+use road_net::{LinkSense, Network};
 use std::alloc::{AllocError, Global};
+use std::mem::replace;
 use switch_rules::Head;
+
+/// Lists that are written anew for each node, and whose memory is kept.
+#[derive(Drop)]
+pub(crate) struct Lists {
+    /// What calls for each phase.
+    pub(crate) calls: Vec<u32>,
+    /// What is sensed of each link.
+    pub(crate) sensed: Vec<LinkSense>,
+}
 
 /// The first timeline of a node.
 fn first_line(alloc: Global, net: &Network, node: u32) -> Result<Timeline, AllocError>
@@ -44,14 +54,14 @@ pub(crate) fn first_lines(alloc: Global, net: &Network) -> Result<Vec<Timeline>,
     Ok(lines)
 }
 
-/// A node's timeline goes on by what the node senses. What calls is written into a list.
+/// A node's timeline goes on by what the node senses. What it senses and what calls is written into these lists.
 fn renew_line(
     alloc: Global,
     net: &Network,
     world: &World,
     node: u32,
     line: &mut Timeline,
-    calls: &mut Vec<u32>,
+    lists: &mut Lists,
 ) -> Result<(), AllocError>
     requires node { node < length net.now.node_names }
     requires world { IsWorldOf net.now world.now }
@@ -60,11 +70,19 @@ fn renew_line(
 {
     let plan = net.plan(node);
     let now = world.now();
-    let sensed = world.sense(alloc, net, node)?;
-    list_calls(net, node, &sensed, calls)?;
+    let spare = replace(&mut lists.sensed, Vec::new(alloc));
+    let sensed = world.sense_again(alloc, net, node, spare)?;
+    list_calls(net, node, &sensed, &mut lists.calls)?;
     let head = head_at(plan, line, now);
-    let next = act_line(alloc, plan, &head, calls.as_slice(), now + net.run().look)?;
+    let next = act_line(
+        alloc,
+        plan,
+        &head,
+        lists.calls.as_slice(),
+        now + net.run().look,
+    )?;
     line.splice(next)?;
+    lists.sensed = sensed.links.into_vec();
     Ok(())
 }
 
@@ -74,7 +92,7 @@ pub(crate) fn renew_lines(
     net: &Network,
     world: &World,
     lines: &mut Vec<Timeline>,
-    calls: &mut Vec<u32>,
+    lists: &mut Lists,
 ) -> Result<(), AllocError>
     requires world { IsWorldOf net.now world.now }
     requires count { length lines.old.items ≡ length net.now.node_names }
@@ -83,7 +101,7 @@ pub(crate) fn renew_lines(
     ensures { OnOk result (AreRenewed net.now world.now (length net.now.node_names) lines.old.items lines.new.items) }
 {
     for node in 0..net.nodes() {
-        renew_line(alloc, net, world, node, &mut lines[node as usize], calls)?;
+        renew_line(alloc, net, world, node, &mut lines[node as usize], lists)?;
     }
     Ok(())
 }
