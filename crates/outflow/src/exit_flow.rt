@@ -13,7 +13,7 @@ use road_net::{Network, Turn};
 
 /// Fills in what comes to the end of an exit link in each second from `now` on, as long as the network looks ahead; nothing
 /// is filled in yet.
-pub(crate) fn add_exit_flow(
+pub(crate) fn fill_exit_flow(
     amounts: &mut [u32],
     net: &Network,
     node: u32,
@@ -93,9 +93,6 @@ fn part_of_amount(amount: u32, before: u32, share: u32) -> u32
     ensures value { result ≡ part_between amount before (before + share) }
     ensures bounds { result ≤ amount }
 {
-    if amount == 0 {
-        return 0;
-    }
     amount * (before + share) / 1000 - amount * before / 1000
 }
 

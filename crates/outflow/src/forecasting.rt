@@ -7,7 +7,7 @@ ghost use Rattle.net_numbers.specs.Outline.{link_at, plan_at};
 ghost use Rattle.outflow.specs.Outflow.{AreServed, departures, told_forecast, positive_rows};
 ghost use Rattle.road_net.specs.Network.{exit_links};
 
-use crate::exit_flow::add_exit_flow;
+use crate::exit_flow::fill_exit_flow;
 use crate::servings::Servings;
 use board_model::{Forecast, Row};
 use clusters::Window;
@@ -50,7 +50,7 @@ pub fn forecast(
     let servings = Servings { phases, served };
     let mut places = [0; 180];
     let amounts = &mut places[..net.run().look as usize];
-    add_exit_flow(amounts, net, node, w, &servings, exit, now);
+    fill_exit_flow(amounts, net, node, w, &servings, exit, now);
     rows(alloc, now, amounts)
 }
 
