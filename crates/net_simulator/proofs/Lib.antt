@@ -1,4 +1,5 @@
 pub mod FlowLaws
+pub mod MoveLaws
 pub mod Sums
 pub mod Turning
 pub mod Sound

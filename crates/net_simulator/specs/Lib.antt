@@ -1,5 +1,6 @@
 pub mod Flow
 pub mod Sums
+pub mod Moves
 pub mod Rows
 pub mod Steps
 pub mod Arriving
