@@ -1,4 +1,4 @@
--- Nothing is lost: what arrived is on the links or has left the network.
+-- Nothing is lost: what came from outside is on the links or has left the network.
 use Rattle.std.proofs.Common.{◌≡◌, ℕ, zero, suc, ◌+◌, ◌-◌, ◌<◌, ◌≤◌, List, Option, Some, None, IsSome, length, refl, ap, subst, ◌∙◌, inl, inr, add-one, arith}
 use Rattle.std.proofs.lemmas.Bool.{cases_lt}
 use Rattle.net_numbers.specs.declared.roads.Link.{Link}
@@ -8,12 +8,12 @@ use Rattle.net_numbers.specs.Outline.{link_at, turns_at, AreTurns}
 use Rattle.road_net.specs.Joins.{split_of, HasShares}
 use Rattle.road_net.proofs.Everywhere.{everywhere}
 use Rattle.road_net.specs.Totals.{total}
-use Rattle.net_simulator.specs.Flow.{Passed, reached, waiting, discharged, entered_in, past_of}
-use Rattle.net_simulator.specs.Sums.{outward, arrived, gone, on_road}
+use Rattle.net_simulator.specs.Flow.{Passed, reached, waiting}
+use Rattle.net_simulator.specs.Moves.{Moves}
+use Rattle.net_simulator.specs.Sums.{outward, gone, on_road}
 use Rattle.road_net.proofs.TotalLaws.{total-same, total-add, total-swap, total-zero}
 use Rattle.net_simulator.proofs.Sums.{total-part}
-use Rattle.net_simulator.proofs.FlowLaws.{past-none}
-use Rattle.net_simulator.proofs.Sound.{IsSound, Continues, goes-on}
+use Rattle.net_simulator.proofs.Sound.{IsSound, Continues, AreMoved}
 
 -- what a link discharges into other links: all of it, where it ends at a node
 abbrev pub onward : Option ℕ → ℕ → ℕ
@@ -33,42 +33,46 @@ both-ways : (to : Option ℕ) (a : ℕ) → a ≡ onward to a + outward to a
 both-ways None a = omega arith
 both-ways (Some node) a = omega arith
 
-module _ (net : Net) (arriving : ℕ → ℕ → ℕ) (shown : ℕ → ℕ → Option (ℕ × ℕ)) (parts : (l : ℕ) → l < length net.link_names → HasShares net.links (turns_at net l) (link_at net l).to × AreTurns (length net.link_names) (turns_at net l)) where
+-- all that comes from outside in the first n seconds
+abbrev pub come : Net → (ℕ → Moves) → ℕ → ℕ
+come net moves n = total (λ x. total (moves x).comes (length net.link_names)) n
+
+module _ (net : Net) (parts : (l : ℕ) → l < length net.link_names → HasShares net.links (turns_at net l) (link_at net l).to × AreTurns (length net.link_names) (turns_at net l))
+    (moves : ℕ → Moves) (past : ℕ → ℕ → ℕ → Passed) (course : AreMoved net moves past) where
   abbrev all : (ℕ → ℕ) → ℕ
   all f = total f (length net.link_names)
 
-  conserved-next : (x : ℕ) (before after : ℕ → ℕ → Passed) → Continues net (arriving x) (shown x) x before after
-      → all (λ l. (before x l).entered) ≡ arrived net arriving x + all (λ l. onward (link_at net l).to (before x l).left)
-      → all (λ l. (after (x + 1) l).entered) ≡ arrived net arriving (suc x) + all (λ l. onward (link_at net l).to (after (x + 1) l).left)
-  conserved-next x before after on was =
-      let d : ℕ → ℕ = discharged net (shown x) before x in
-      let one = total-same (λ l. (after (x + 1) l).entered) (λ l. (before x l).entered + entered_in net (arriving x) (shown x) before x l) (length net.link_names) (λ l h. ap (λ (q : Passed). q.entered) (on.next l h)) in
-      let two = total-add (λ l. (before x l).entered) (λ l. entered_in net (arriving x) (shown x) before x l) (length net.link_names) in
-      let three = total-add (arriving x) (λ l. total (λ k. split_of (turns_at net k) (d k) l) (length net.link_names)) (length net.link_names) in
-      let four = total-swap (λ l k. split_of (turns_at net k) (d k) l) (length net.link_names) (length net.link_names) in
-      let five = total-same (λ k. total (λ l. split_of (turns_at net k) (d k) l) (length net.link_names)) (λ k. onward (link_at net k).to (d k)) (length net.link_names) (λ k h. total-parts net.links (turns_at net k) (d k) (length net.link_names) (link_at net k).to (parts k h).0 (parts k h).1) in
-      let six = total-same (λ l. onward (link_at net l).to (after (x + 1) l).left) (λ l. onward (link_at net l).to (before x l).left + onward (link_at net l).to (d l)) (length net.link_names) (λ l h. ap (λ (q : Passed). onward (link_at net l).to q.left) (on.next l h) ∙ onward-add (link_at net l).to (before x l).left (d l)) in
-      let seven = total-add (λ l. onward (link_at net l).to (before x l).left) (λ l. onward (link_at net l).to (d l)) (length net.link_names) in
+  conserved-next : (c : ℕ) (m : Moves) (x : ℕ) (before after : ℕ → ℕ → Passed) → Continues net m x before after
+      → all (λ l. (before x l).entered) ≡ c + all (λ l. onward (link_at net l).to (before x l).left)
+      → all (λ l. (after (x + 1) l).entered) ≡ (c + all m.comes) + all (λ l. onward (link_at net l).to (after (x + 1) l).left)
+  conserved-next c m x before after on was =
+      let into : ℕ → ℕ = λ l. total (λ k. split_of (turns_at net k) (m.goes k) l) (length net.link_names) in
+      let one = total-same (λ l. (after (x + 1) l).entered) (λ l. (before x l).entered + (m.comes l + into l)) (length net.link_names) (λ l h. ap (λ (q : Passed). q.entered) (on.next l h)) in
+      let two = total-add (λ l. (before x l).entered) (λ l. m.comes l + into l) (length net.link_names) in
+      let three = total-add m.comes into (length net.link_names) in
+      let four = total-swap (λ l k. split_of (turns_at net k) (m.goes k) l) (length net.link_names) (length net.link_names) in
+      let five = total-same (λ k. total (λ l. split_of (turns_at net k) (m.goes k) l) (length net.link_names)) (λ k. onward (link_at net k).to (m.goes k)) (length net.link_names) (λ k h. total-parts net.links (turns_at net k) (m.goes k) (length net.link_names) (link_at net k).to (parts k h).0 (parts k h).1) in
+      let six = total-same (λ l. onward (link_at net l).to (after (x + 1) l).left) (λ l. onward (link_at net l).to (before x l).left + onward (link_at net l).to (m.goes l)) (length net.link_names) (λ l h. ap (λ (q : Passed). onward (link_at net l).to q.left) (on.next l h) ∙ onward-add (link_at net l).to (before x l).left (m.goes l)) in
+      let seven = total-add (λ l. onward (link_at net l).to (before x l).left) (λ l. onward (link_at net l).to (m.goes l)) (length net.link_names) in
       omega (arith, was, one, two, three, four, five, six, seven)
 
-  pub conserved : (n : ℕ) → all (λ l. (past_of net arriving shown n n l).entered) ≡ arrived net arriving n + all (λ l. onward (link_at net l).to (past_of net arriving shown n n l).left)
+  pub conserved : (n : ℕ) → all (λ l. (past n n l).entered) ≡ come net moves n + all (λ l. onward (link_at net l).to (past n n l).left)
   conserved zero =
-      let one = total-same (λ l. (past_of net arriving shown 0 0 l).entered) (λ l. 0) (length net.link_names) (λ l h. ap (λ (q : Passed). q.entered) (past-none net arriving shown 0 l)) in
-      let two = total-same (λ l. onward (link_at net l).to (past_of net arriving shown 0 0 l).left) (λ l. 0) (length net.link_names) (λ l h. ap (λ (q : Passed). onward (link_at net l).to q.left) (past-none net arriving shown 0 l) ∙ nothing-on (link_at net l).to) in
+      let one = total-same (λ l. (past 0 0 l).entered) (λ l. 0) (length net.link_names) (λ l h. ap (λ (q : Passed). q.entered) (course.first l)) in
+      let two = total-same (λ l. onward (link_at net l).to (past 0 0 l).left) (λ l. 0) (length net.link_names) (λ l h. ap (λ (q : Passed). onward (link_at net l).to q.left) (course.first l) ∙ nothing-on (link_at net l).to) in
       omega (arith, one, two, total-zero (length net.link_names))
     where
       nothing-on : (to : Option ℕ) → onward to 0 ≡ 0
       nothing-on None = refl
       nothing-on (Some node) = refl
   conserved (suc x) =
-      let P = past_of net arriving shown (suc x) in
-      subst (λ n. all (λ l. (P n l).entered) ≡ arrived net arriving (suc x) + all (λ l. onward (link_at net l).to (P n l).left)) (add-one x)
-      (conserved-next x (past_of net arriving shown x) P (goes-on net arriving shown x) (conserved x))
+      subst (λ n. all (λ l. (past (suc x) n l).entered) ≡ come net moves (suc x) + all (λ l. onward (link_at net l).to (past (suc x) n l).left)) (add-one x)
+      (conserved-next (come net moves x) (moves x) x (past x) (past (suc x)) (course.next x) (conserved x))
 
-  -- what is on the links and what has left the network is what arrived
-  pub none-lost : (n : ℕ) → ((l : ℕ) → l < length net.link_names → (past_of net arriving shown n n l).left ≤ (past_of net arriving shown n n l).entered) → on_road net (past_of net arriving shown n) n + gone net (past_of net arriving shown n) n ≡ arrived net arriving n
+  -- what is on the links and what has left the network is what came
+  pub none-lost : (n : ℕ) → ((l : ℕ) → l < length net.link_names → (past n n l).left ≤ (past n n l).entered) → on_road net (past n) n + gone net (past n) n ≡ come net moves n
   none-lost n below =
-      let P = past_of net arriving shown n in
+      let P : ℕ → ℕ → Passed = past n in
       let one = total-add (λ l. (P n l).entered - (P n l).left) (λ l. onward (link_at net l).to (P n l).left + outward (link_at net l).to (P n l).left) (length net.link_names) in
       let two = total-add (λ l. onward (link_at net l).to (P n l).left) (λ l. outward (link_at net l).to (P n l).left) (length net.link_names) in
       let three = total-same (λ l. (P n l).entered) (λ l. ((P n l).entered - (P n l).left) + (onward (link_at net l).to (P n l).left + outward (link_at net l).to (P n l).left)) (length net.link_names) (λ l h. omega (arith, both-ways (link_at net l).to (P n l).left, below l h)) in

@@ -1,50 +1,28 @@
 -- How the past of a network grows.
-use Rattle.std.proofs.Common.{◌≡◌, ℕ, zero, suc, ◌+◌, ◌<◌, ◌≤◌, [], ◌∷◌, ◌++◌, Option, length, get_or, map, refl, sym, ap, ◌∙◌, arith, length-append}
-use Rattle.std.specs.List.{range_with_len}
-use Rattle.std.proofs.Math.ListN.{get_or-append}
-use Rattle.std.proofs.Math.Seq.{get_or-append_seam}
-use Rattle.std.proofs.lemmas.List.FromFn.{get_or-map-range_with_len}
+use Rattle.std.proofs.Common.{◌≡◌, ℕ, suc, ◌+◌, ◌<◌, ◌≤◌, Option, length, refl, sym, ap, ◌∙◌}
 use Rattle.net_numbers.specs.Numbers.{Net}
-use Rattle.net_simulator.specs.Flow.{nothing, passed_in, passing, history, past_of}
+use Rattle.net_simulator.specs.Flow.{nothing, passed_in, discharged, passing, history, past_of}
+use Rattle.net_simulator.specs.Moves.{history_by}
+use Rattle.net_simulator.proofs.MoveLaws.{flowing, same-history, kept-by, next-by, none-by, by-same}
 
--- there is one row more than seconds
-pub length-history : (net : Net) (arriving : ℕ → ℕ → ℕ) (shown : ℕ → ℕ → Option (ℕ × ℕ)) (n : ℕ) → length (history net arriving shown n) ≡ n + 1
-unfolding history
-length-history net arriving shown zero = omega arith
-length-history net arriving shown (suc x) = omega (arith, length-history net arriving shown x, length-append (history net arriving shown x) (map (passing net (arriving x) (shown x) (passed_in (history net arriving shown x)) x) (range_with_len 0 (length net.link_names)) ∷ []))
+module _ (net : Net) (arriving : ℕ → ℕ → ℕ) (shown : ℕ → ℕ → Option (ℕ × ℕ)) where
+  -- a further second leaves the past as it was
+  pub past-kept : (x n l : ℕ) → n ≤ x → past_of net arriving shown (suc x) n l ≡ past_of net arriving shown x n l
+  past-kept x n l h = rw (same-history net arriving shown (suc x), same-history net arriving shown x) (kept-by net (flowing net arriving shown) x n l h)
 
--- a further second leaves the past as it was
-pub past-kept : (net : Net) (arriving : ℕ → ℕ → ℕ) (shown : ℕ → ℕ → Option (ℕ × ℕ)) (x n l : ℕ) → n ≤ x → past_of net arriving shown (suc x) n l ≡ past_of net arriving shown x n l
-unfolding history
-past-kept net arriving shown x n l h =
-    let inside : n < length (history net arriving shown x) = omega (arith, length-history net arriving shown x) in
-    ap (λ row. get_or row l nothing) (get_or-append (history net arriving shown x) (map (passing net (arriving x) (shown x) (passed_in (history net arriving shown x)) x) (range_with_len 0 (length net.link_names)) ∷ []) [] n inside)
+  -- and adds what passes in it
+  pub past-next : (x l : ℕ) → l < length net.link_names → past_of net arriving shown (suc x) (x + 1) l ≡ passing net (arriving x) (shown x) (past_of net arriving shown x) x l
+  past-next x l h = rw (same-history net arriving shown (suc x), same-history net arriving shown x) (next-by net (flowing net arriving shown) x l h)
 
--- and adds what passes in it
-pub past-next : (net : Net) (arriving : ℕ → ℕ → ℕ) (shown : ℕ → ℕ → Option (ℕ × ℕ)) (x l : ℕ) → l < length net.link_names → past_of net arriving shown (suc x) (x + 1) l ≡ passing net (arriving x) (shown x) (past_of net arriving shown x) x l
-unfolding history
-past-next net arriving shown x l h =
-    let f = passing net (arriving x) (shown x) (passed_in (history net arriving shown x)) x in
-    let row = map f (range_with_len 0 (length net.link_names)) in
-    let seam = get_or-append_seam (history net arriving shown x) row [] [] in
-    let place : length (history net arriving shown x) ≡ x + 1 = length-history net arriving shown x in
-    let at : get_or (history net arriving shown x ++ row ∷ []) (x + 1) [] ≡ row = ap (λ i. get_or (history net arriving shown x ++ row ∷ []) i []) (sym place) ∙ seam in
-    ap (λ r. get_or r l nothing) at ∙ get_or-map-range_with_len f 0 (length net.link_names) l l nothing h (omega arith)
-
--- at first nothing has passed
-pub past-none : (net : Net) (arriving : ℕ → ℕ → ℕ) (shown : ℕ → ℕ → Option (ℕ × ℕ)) (now l : ℕ) → past_of net arriving shown now 0 l ≡ nothing
-unfolding history
-past-none net arriving shown zero l = refl
-past-none net arriving shown (suc x) l = past-kept net arriving shown x 0 l (omega arith) ∙ past-none net arriving shown x l
+  -- at first nothing has passed
+  pub past-none : (now l : ℕ) → past_of net arriving shown now 0 l ≡ nothing
+  past-none now l = rw (same-history net arriving shown now) (none-by net (flowing net arriving shown) now l)
 
 -- only what is shown and what arrives in the seconds below n counts for the first n seconds
 pub history-same : (net : Net) (arriving others : ℕ → ℕ → ℕ) (shown seen : ℕ → ℕ → Option (ℕ × ℕ)) (n : ℕ)
     → ((x l : ℕ) → x < n → arriving x l ≡ others x l) → ((x node : ℕ) → x < n → shown x node ≡ seen x node)
     → history net arriving shown n ≡ history net others seen n
-unfolding history
-history-same net arriving others shown seen zero a s = refl
-history-same net arriving others shown seen (suc x) a s =
-    let before = history-same net arriving others shown seen x (λ y l h. a y l (omega arith)) (λ y k h. s y k (omega arith)) in
-    let one : arriving x ≡ others x = λ i l. a x l (omega arith) i in
-    let two : shown x ≡ seen x = λ i k. s x k (omega arith) i in
-    cc
+history-same net arriving others shown seen n a s =
+    same-history net arriving shown n
+    ∙ by-same net (flowing net arriving shown) (flowing net others seen) n (λ x h. record { goes = λ l b. ap (λ (g : ℕ → Option (ℕ × ℕ)). discharged net g (passed_in (history_by net (flowing net others seen) x)) x l) (let e : shown x ≡ seen x = λ i k. s x k h i in e); comes = λ l b. a x l h })
+    ∙ sym (same-history net others seen n)

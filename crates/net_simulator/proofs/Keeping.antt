@@ -11,6 +11,7 @@ use Rattle.road_net.specs.Joins.{split_of}
 use Rattle.control_flow.specs.declared.greens.Green.{Green}
 use Rattle.road_net.specs.Totals.{total}
 use Rattle.net_simulator.specs.Flow.{Passed, queue, waiting, is_lost, may_go, discharged_to, discharged}
+use Rattle.net_simulator.specs.Moves.{Moves}
 use Rattle.net_simulator.specs.Rows.{cell}
 use Rattle.net_simulator.specs.Steps.{is_open, goes, waits_at}
 use Rattle.net_simulator.specs.Worlds.{Keeps}
@@ -38,8 +39,7 @@ pub record HasBounds (net : Net) : Type 0 where
   pub ends : (l node : ℕ) → l < length net.link_names → (link_at net l).to ≡ Some node → node < length net.node_names
   pub losses : (l node : ℕ) → l < length net.link_names → (link_at net l).to ≡ Some node → (phase_at (plan_at net node) (link_at net l).phase).loss ≤ 10
 
-module _ (net : Net) (arriving : ℕ → ℕ) (shown : ℕ → Option (ℕ × ℕ)) (x : ℕ) (before after : ℕ → ℕ → Passed) (qs rs ws : List ℕ)
-    (bounds : HasBounds net) (sound : IsSound net before x) (on : Continues net arriving shown x before after) (keeps : Keeps net before qs rs ws x) where
+module _ (net : Net) (x : ℕ) (before : ℕ → ℕ → Passed) (qs rs ws : List ℕ) (bounds : HasBounds net) (sound : IsSound net before x) (keeps : Keeps net before qs rs ws x) where
   -- what waits
   pub waits-same : (arrived : List ℕ) → ((l y : ℕ) → y % 128 ≢ x % 128 → cell arrived l y ≡ cell rs l y) → (l : ℕ) → l < length net.link_names → waits_at net qs arrived x l ≡ waiting net before x l
   waits-same arrived others l h =
@@ -67,7 +67,7 @@ module _ (net : Net) (arriving : ℕ → ℕ) (shown : ℕ → Option (ℕ × �
       let turned = cell-turn ws l (x + 128 - (x - from)) from (omega arith) in
       ap (ltb 0) (sym turned ∙ kept ∙ ap (λ n. queue net before n l) d))
 
-  open-same : (l node : ℕ) (green : Option Green) → l < length net.link_names → (link_at net l).to ≡ Some node → IfSome green (λ g. g.from ≤ x)
+  pub open-same : (l node : ℕ) (green : Option Green) → l < length net.link_names → (link_at net l).to ≡ Some node → IfSome green (λ g. g.from ≤ x)
       → is_open net ws x l node green ≡ may_go net before x l node (option_map phase_and_begin green)
   open-same l node None h to begun = refl
   open-same l node (Some green) h to begun =
@@ -80,22 +80,24 @@ module _ (net : Net) (arriving : ℕ → ℕ) (shown : ℕ → Option (ℕ × �
         | inr q ↦ let impossible : true ≡ false = sym e ∙ q.0 in let r : not (is_lost loss green.from x (cell ws l green.from)) ≡ not (is_lost loss green.from x (queue net before green.from l)) = cc in r
       ])
 
-  goes-to : (greens : List (Option Green)) (l w : ℕ) (to : Option ℕ) → l < length net.link_names → (link_at net l).to ≡ to
+  goes-to : (shown : ℕ → Option (ℕ × ℕ)) (greens : List (Option Green)) (l w : ℕ) (to : Option ℕ) → l < length net.link_names → (link_at net l).to ≡ to
       → ((n : ℕ) → n < length net.node_names → IfSome (slice_index_or greens n None) (λ g. g.from ≤ x)) → ((n : ℕ) → n < length net.node_names → shown n ≡ option_map phase_and_begin (slice_index_or greens n None)) → w ≡ waiting net before x l
       → goes net greens ws x l w to ≡ discharged_to net shown before x l to
-  goes-to greens l w None h to begun seen same = same
-  goes-to greens l w (Some node) h to begun seen same =
+  goes-to shown greens l w None h to begun seen same = same
+  goes-to shown greens l w (Some node) h to begun seen same =
       let there = bounds.ends l node h to in
       let may = open-same l node (slice_index_or greens node None) h to (begun node there) ∙ ap (may_go net before x l node) (sym (seen node there)) in
       ap (λ b. cond b (min (link_at net l).sat w) 0) may ∙ ap (λ n. cond (may_go net before x l node (shown node)) (min (link_at net l).sat n) 0) same
 
-  pub goes-same : (greens : List (Option Green)) (l w : ℕ) → l < length net.link_names
+  pub goes-same : (shown : ℕ → Option (ℕ × ℕ)) (greens : List (Option Green)) (l w : ℕ) → l < length net.link_names
       → ((n : ℕ) → n < length net.node_names → IfSome (slice_index_or greens n None) (λ g. g.from ≤ x)) → ((n : ℕ) → n < length net.node_names → shown n ≡ option_map phase_and_begin (slice_index_or greens n None)) → w ≡ waiting net before x l
       → goes net greens ws x l w (link_at net l).to ≡ discharged net shown before x l
-  goes-same greens l w h begun seen same = goes-to greens l w (link_at net l).to h refl begun seen same
+  goes-same shown greens l w h begun seen same = goes-to shown greens l w (link_at net l).to h refl begun seen same
 
+module _ (net : Net) (m : Moves) (x : ℕ) (before after : ℕ → ℕ → Passed) (qs rs ws : List ℕ)
+    (bounds : HasBounds net) (on : Continues net m x before after) (keeps : Keeps net before qs rs ws x) where
   -- the queues after the second
-  pub queue-next : (l : ℕ) → l < length net.link_names → queue net after (x + 1) l ≡ waiting net before x l - discharged net shown before x l
+  pub queue-next : (l : ℕ) → l < length net.link_names → queue net after (x + 1) l ≡ waiting net before x l - m.goes l
   queue-next l h =
       let t = (link_at net l).travel in
       let some : 1 ≤ t = bounds.some l h in
@@ -104,8 +106,8 @@ module _ (net : Net) (arriving : ℕ → ℕ) (shown : ℕ → Option (ℕ × �
       omega (arith, left, back)
 
   recent-next : (lv rs2 : List ℕ)
-      → ((l : ℕ) → l < length net.link_names → slice_index lv l ≡ discharged net shown before x l)
-      → ((l : ℕ) → l < length net.link_names → cell rs2 l x ≡ arriving l + total (λ k. split_of (turns_at net k) (slice_index lv k) l) (length net.link_names))
+      → ((l : ℕ) → l < length net.link_names → slice_index lv l ≡ m.goes l)
+      → ((l : ℕ) → l < length net.link_names → cell rs2 l x ≡ m.comes l + total (λ k. split_of (turns_at net k) (slice_index lv k) l) (length net.link_names))
       → ((l y : ℕ) → y % 128 ≢ x % 128 → cell rs2 l y ≡ cell rs l y)
       → (l d : ℕ) → l < length net.link_names → 1 ≤ d → d ≤ 120 → cell rs2 l (x + 1 + 128 - d) ≡ (after (x + 1 + 1 - d) l).entered - (after (x + 1 - d) l).entered
   recent-next lv rs2 leaves entered others l d h some most = elim (eqb_tells d 1) [
@@ -113,7 +115,7 @@ module _ (net : Net) (arriving : ℕ → ℕ) (shown : ℕ → Option (ℕ × �
         let turned = cell-turn rs2 l (x + 1 + 128 - d) x (let e = p.1 in omega arith) in
         let next = ap (λ (q : Passed). q.entered) (on.next l h) in
         let kept = ap (λ (q : Passed). q.entered) (on.kept x l (omega arith)) in
-        let parts = total-same (λ k. split_of (turns_at net k) (slice_index lv k) l) (λ k. split_of (turns_at net k) (discharged net shown before x k) l) (length net.link_names) (λ k b. ap (λ a. split_of (turns_at net k) a l) (leaves k b)) in
+        let parts = total-same (λ k. split_of (turns_at net k) (slice_index lv k) l) (λ k. split_of (turns_at net k) (m.goes k) l) (length net.link_names) (λ k b. ap (λ a. split_of (turns_at net k) a l) (leaves k b)) in
         let one : x + 1 + 1 - d ≡ x + 1 = (let e = p.1 in omega arith) in
         let two : x + 1 - d ≡ x = (let e = p.1 in omega arith) in
         rw (one, two) (omega (arith, turned, entered l h, next, kept, parts))
@@ -155,9 +157,9 @@ module _ (net : Net) (arriving : ℕ → ℕ) (shown : ℕ → Option (ℕ × �
   ]
 
   pub keeps-next : (lv qs' rs2 ws' : List ℕ)
-      → ((l : ℕ) → l < length net.link_names → slice_index lv l ≡ discharged net shown before x l)
+      → ((l : ℕ) → l < length net.link_names → slice_index lv l ≡ m.goes l)
       → ((l : ℕ) → l < length net.link_names → slice_index qs' l ≡ waiting net before x l - slice_index lv l)
-      → ((l : ℕ) → l < length net.link_names → cell rs2 l x ≡ arriving l + total (λ k. split_of (turns_at net k) (slice_index lv k) l) (length net.link_names))
+      → ((l : ℕ) → l < length net.link_names → cell rs2 l x ≡ m.comes l + total (λ k. split_of (turns_at net k) (slice_index lv k) l) (length net.link_names))
       → ((l y : ℕ) → y % 128 ≢ x % 128 → cell rs2 l y ≡ cell rs l y)
       → ((l : ℕ) → l < length net.link_names → cell ws' l (x + 1) ≡ slice_index qs' l)
       → ((l y : ℕ) → y % 128 ≢ (x + 1) % 128 → cell ws' l y ≡ cell ws l y)

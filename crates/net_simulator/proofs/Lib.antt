@@ -1,11 +1,12 @@
-pub mod FlowLaws
-pub mod MoveLaws
 pub mod Sums
+pub mod MoveLaws
+pub mod FlowLaws
 pub mod Turning
 pub mod Sound
 pub mod Standing
 pub mod Keeping
 pub mod Conserving
+pub mod EveryWorld
 pub mod Passing
 pub mod Seeing
 pub mod AtNodes

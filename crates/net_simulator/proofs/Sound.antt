@@ -1,10 +1,12 @@
--- What is true of every past: amounts only grow, and no more leaves than reached the end.
-use Rattle.std.proofs.Common.{◌≡◌, ℕ, zero, suc, ◌+◌, ◌-◌, ◌<◌, ◌≤◌, min, Option, Some, None, length, ap, subst, inl, inr, add-one, arith}
+-- What is true of every past that grows by moves: amounts only grow, and no more leaves than reached the end.
+use Rattle.std.proofs.Common.{◌≡◌, ℕ, zero, suc, ◌+◌, ◌-◌, ◌<◌, ◌≤◌, min, List, Option, Some, None, length, ap, sym, subst, inl, inr, add-one, arith}
 use Rattle.std.proofs.lemmas.Bool.{cond_both, cases_lt}
 use Rattle.std.proofs.lemmas.Bool.Decides.{eqb_tells}
 use Rattle.net_numbers.specs.Numbers.{Net}
 use Rattle.net_numbers.specs.Outline.{link_at}
-use Rattle.net_simulator.specs.Flow.{Passed, reached, waiting, may_go, discharged_to, passing, past_of}
+use Rattle.net_simulator.specs.Flow.{Passed, nothing, reached, waiting, may_go, discharged_to, history, past_of}
+use Rattle.net_simulator.specs.Moves.{Moves, moved, history_by}
+use Rattle.net_simulator.proofs.MoveLaws.{flowing, past_by, moves_by, kept-by, next-by, none-by}
 use Rattle.net_simulator.proofs.FlowLaws.{past-kept, past-next, past-none}
 
 pub discharged_to-most : (net : Net) (shown : ℕ → Option (ℕ × ℕ)) (past : ℕ → ℕ → Passed) (x l : ℕ) (to : Option ℕ) → discharged_to net shown past x l to ≤ waiting net past x l
@@ -15,20 +17,43 @@ pub record IsSound (net : Net) (past : ℕ → ℕ → Passed) (n : ℕ) : Type 
   pub grows : (k l : ℕ) → k < n → l < length net.link_names → (past k l).entered ≤ (past (k + 1) l).entered
   pub within : (k l : ℕ) → k ≤ n → l < length net.link_names → (past k l).left ≤ reached net past k l
 
--- a past that goes on from another one for one second
-pub record Continues (net : Net) (arriving : ℕ → ℕ) (shown : ℕ → Option (ℕ × ℕ)) (x : ℕ) (before after : ℕ → ℕ → Passed) : Type 0 where
+-- a past that goes on from another one for one second, in which this moves
+pub record Continues (net : Net) (m : Moves) (x : ℕ) (before after : ℕ → ℕ → Passed) : Type 0 where
   pub kept : (n l : ℕ) → n ≤ x → after n l ≡ before n l
-  pub next : (l : ℕ) → l < length net.link_names → after (x + 1) l ≡ passing net arriving shown before x l
+  pub next : (l : ℕ) → l < length net.link_names → after (x + 1) l ≡ moved net m before x l
 
-pub goes-on : (net : Net) (arriving : ℕ → ℕ → ℕ) (shown : ℕ → ℕ → Option (ℕ × ℕ)) (x : ℕ) → Continues net (arriving x) (shown x) x (past_of net arriving shown x) (past_of net arriving shown (suc x))
-goes-on net arriving shown x = record {
-  kept = λ n l h. past-kept net arriving shown x n l h;
-  next = λ l h. past-next net arriving shown x l h;
+-- Pasts of 0, 1, .., n seconds, each of which goes on from the one before it. In no second does more leave a link than waits there.
+pub record AreMoved (net : Net) (moves : ℕ → Moves) (past : ℕ → ℕ → ℕ → Passed) : Type 0 where
+  pub first : (l : ℕ) → past 0 0 l ≡ nothing
+  pub next : (x : ℕ) → Continues net (moves x) x (past x) (past (suc x))
+  pub most : (x l : ℕ) → l < length net.link_names → (moves x).goes l ≤ waiting net (past x) x l
+
+-- the same of the second x + 1
+pub next-one : (net : Net) (moves : ℕ → Moves) (past : ℕ → ℕ → ℕ → Passed) → AreMoved net moves past → (x : ℕ) → Continues net (moves x) x (past x) (past (x + 1))
+next-one net moves past all x = subst (λ n. Continues net (moves x) x (past x) (past n)) (sym (add-one x)) (all.next x)
+
+-- what a rule moves goes on, where it takes no more than waits
+pub rule-moved : (net : Net) (rule : List (List Passed) → ℕ → Moves) → ((x l : ℕ) → l < length net.link_names → (moves_by net rule x).goes l ≤ waiting net (past_by net rule x) x l) → AreMoved net (moves_by net rule) (past_by net rule)
+rule-moved net rule most = record {
+  first = none-by net rule 0;
+  next = λ x. record { kept = kept-by net rule x; next = next-by net rule x };
+  most = most;
 }
 
-grows-step : (net : Net) (arriving : ℕ → ℕ) (shown : ℕ → Option (ℕ × ℕ)) (x : ℕ) (before after : ℕ → ℕ → Passed) → Continues net arriving shown x before after → IsSound net before x
+-- what moves in the world that stands
+abbrev pub flows : Net → (ℕ → ℕ → ℕ) → (ℕ → ℕ → Option (ℕ × ℕ)) → ℕ → Moves
+flows net arriving shown x = flowing net arriving shown (history net arriving shown x) x
+
+pub flow-moved : (net : Net) (arriving : ℕ → ℕ → ℕ) (shown : ℕ → ℕ → Option (ℕ × ℕ)) → AreMoved net (flows net arriving shown) (past_of net arriving shown)
+flow-moved net arriving shown = record {
+  first = past-none net arriving shown 0;
+  next = λ x. record { kept = past-kept net arriving shown x; next = past-next net arriving shown x };
+  most = λ x l h. discharged_to-most net (shown x) (past_of net arriving shown x) x l (link_at net l).to;
+}
+
+grows-step : (net : Net) (m : Moves) (x : ℕ) (before after : ℕ → ℕ → Passed) → Continues net m x before after → IsSound net before x
     → (k l : ℕ) → k < x + 1 → l < length net.link_names → (after k l).entered ≤ (after (k + 1) l).entered
-grows-step net arriving shown x before after on sound k l h inside = elim (eqb_tells k x) [
+grows-step net m x before after on sound k l h inside = elim (eqb_tells k x) [
   | inl p ↦
       let here = ap (λ (q : Passed). q.entered) (on.kept x l (omega arith)) in
       let next = ap (λ (q : Passed). q.entered) (on.next l inside) in
@@ -51,18 +76,17 @@ reached-more net past n k l grows h some = elim (cases_lt k (link_at net l).trav
       omega (arith, ap (λ i. (past i l).entered) at, grows (k - (link_at net l).travel) (omega arith))
 ]
 
-within-step : (net : Net) (arriving : ℕ → ℕ) (shown : ℕ → Option (ℕ × ℕ)) (x : ℕ) (before after : ℕ → ℕ → Passed) → Continues net arriving shown x before after → IsSound net before x
-    → ((l : ℕ) → l < length net.link_names → 1 ≤ (link_at net l).travel)
+within-step : (net : Net) (m : Moves) (x : ℕ) (before after : ℕ → ℕ → Passed) → Continues net m x before after → IsSound net before x
+    → ((l : ℕ) → l < length net.link_names → m.goes l ≤ waiting net before x l) → ((l : ℕ) → l < length net.link_names → 1 ≤ (link_at net l).travel)
     → (k l : ℕ) → k ≤ x + 1 → l < length net.link_names → (after k l).left ≤ reached net after k l
-within-step net arriving shown x before after on sound travels k l h inside = elim (eqb_tells k (x + 1)) [
+within-step net m x before after on sound most travels k l h inside = elim (eqb_tells k (x + 1)) [
   | inl p ↦
       let next = ap (λ (q : Passed). q.left) (on.next l inside) in
       let some = travels l inside in
-      let most = discharged_to-most net shown before x l (link_at net l).to in
       let more = reached-more net before x x l (λ j b. sound.grows j l b inside) (omega arith) some in
       let back = ap (λ (q : Passed). q.entered) (on.kept ((x + 1) - (link_at net l).travel) l (omega arith)) in
       let own = sound.within x l (omega arith) inside in
-      let fits : (after (x + 1) l).left ≤ reached net after (x + 1) l = omega (arith, next, most, more, back, own) in
+      let fits : (after (x + 1) l).left ≤ reached net after (x + 1) l = omega (arith, next, most l inside, more, back, own) in
       rw p.1 fits
   | inr q ↦
       let less : k ≤ x = (let ne = q.1 in omega arith) in
@@ -71,18 +95,18 @@ within-step net arriving shown x before after on sound travels k l h inside = el
       omega (arith, one, two, sound.within k l less inside)
 ]
 
-pub sound-next : (net : Net) (arriving : ℕ → ℕ) (shown : ℕ → Option (ℕ × ℕ)) (x : ℕ) (before after : ℕ → ℕ → Passed) → Continues net arriving shown x before after → IsSound net before x
-    → ((l : ℕ) → l < length net.link_names → 1 ≤ (link_at net l).travel) → IsSound net after (x + 1)
-sound-next net arriving shown x before after on sound travels = record {
-  grows = grows-step net arriving shown x before after on sound;
-  within = within-step net arriving shown x before after on sound travels;
+pub sound-next : (net : Net) (m : Moves) (x : ℕ) (before after : ℕ → ℕ → Passed) → Continues net m x before after → IsSound net before x
+    → ((l : ℕ) → l < length net.link_names → m.goes l ≤ waiting net before x l) → ((l : ℕ) → l < length net.link_names → 1 ≤ (link_at net l).travel) → IsSound net after (x + 1)
+sound-next net m x before after on sound most travels = record {
+  grows = grows-step net m x before after on sound;
+  within = within-step net m x before after on sound most travels;
 }
 
-pub is-sound : (net : Net) (arriving : ℕ → ℕ → ℕ) (shown : ℕ → ℕ → Option (ℕ × ℕ)) → ((l : ℕ) → l < length net.link_names → 1 ≤ (link_at net l).travel) → (n : ℕ) → IsSound net (past_of net arriving shown n) n
-is-sound net arriving shown travels zero = record {
+pub is-sound : (net : Net) (moves : ℕ → Moves) (past : ℕ → ℕ → ℕ → Passed) → AreMoved net moves past → ((l : ℕ) → l < length net.link_names → 1 ≤ (link_at net l).travel) → (n : ℕ) → IsSound net (past n) n
+is-sound net moves past all travels zero = record {
   grows = λ k l h inside. absurd (omega arith);
   within = λ k l h inside. let none : k ≡ 0 = omega arith in
-      let left = ap (λ (q : Passed). q.left) (past-none net arriving shown 0 l) in
-      omega (arith, left, ap (λ i. (past_of net arriving shown 0 i l).left) none);
+      let left = ap (λ (q : Passed). q.left) (all.first l) in
+      omega (arith, left, ap (λ i. (past 0 i l).left) none);
 }
-is-sound net arriving shown travels (suc x) = subst (IsSound net (past_of net arriving shown (suc x))) (add-one x) (sound-next net (arriving x) (shown x) x _ _ (goes-on net arriving shown x) (is-sound net arriving shown travels x) travels)
+is-sound net moves past all travels (suc x) = subst (IsSound net (past (suc x))) (add-one x) (sound-next net (moves x) x (past x) (past (suc x)) (all.next x) (is-sound net moves past all travels x) (all.most x) travels)

@@ -1,5 +1,7 @@
--- Sums over the numbers below n.
-use Rattle.std.proofs.Common.{◌≡◌, ◌≢◌, ℕ, zero, suc, ◌+◌, ◌*◌, ◌<◌, ◌≤◌, eqb, if◌then◌else◌, refl, sym, ap, inl, inr, arith}
+-- Sums and lists over the numbers below n.
+use Rattle.std.proofs.Common.{◌≡◌, ◌≢◌, ℕ, zero, suc, ◌+◌, ◌*◌, ◌<◌, ◌≤◌, eqb, if◌then◌else◌, map, refl, sym, ap, ◌∙◌, inl, inr, arith}
+use Rattle.std.specs.List.{range_with_len}
+use Rattle.std.proofs.lemmas.List.FromFn.{length-map-range_with_len, get_or-map-range_with_len, fill_by_all}
 use Rattle.std.proofs.lemmas.Bool.Decides.{eqb_tells}
 use Rattle.road_net.specs.Totals.{total}
 use Rattle.road_net.proofs.TotalLaws.{total-same, total-more}
@@ -38,3 +40,6 @@ total-most f (suc n) small = omega (arith, total-most f n (λ i h. small i (omeg
 pub total-of : (a n : ℕ) → total (λ i. a) n ≡ n * a
 total-of a zero = omega arith
 total-of a (suc n) = omega (arith, total-of a n)
+
+pub range-same : {X : Type 0} (f g : ℕ → X) (n : ℕ) → ((i : ℕ) → i < n → f i ≡ g i) → map f (range_with_len 0 n) ≡ map g (range_with_len 0 n)
+range-same f g n same = fill_by_all g (map f (range_with_len 0 n)) n (f 0) (length-map-range_with_len f 0 n) (λ k h. get_or-map-range_with_len f 0 n k k (f 0) h (omega arith) ∙ same k h)
