@@ -13,7 +13,8 @@ use Rattle.road_net.specs.Totals.{total}
 use Rattle.net_simulator.specs.Flow.{Passed, queue, waiting, is_lost, may_go, discharged_to, discharged}
 use Rattle.net_simulator.specs.Moves.{Moves}
 use Rattle.net_simulator.specs.Rows.{cell}
-use Rattle.net_simulator.specs.Steps.{is_open, goes, waits_at}
+use Rattle.net_simulator.specs.LinkSeconds.{is_open, waits_at}
+use Rattle.net_simulator.specs.Steps.{goes}
 use Rattle.net_simulator.specs.Worlds.{Keeps}
 use Rattle.road_net.proofs.TotalLaws.{total-same}
 use Rattle.net_simulator.proofs.Sound.{IsSound, Continues}

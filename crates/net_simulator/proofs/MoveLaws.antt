@@ -7,7 +7,6 @@ use Rattle.std.proofs.lemmas.List.FromFn.{get_or-map-range_with_len}
 use Rattle.net_numbers.specs.Numbers.{Net}
 use Rattle.net_numbers.specs.Outline.{turns_at}
 use Rattle.road_net.specs.Joins.{split_of}
-use Rattle.road_net.specs.Totals.{total}
 use Rattle.road_net.proofs.TotalLaws.{total-same}
 use Rattle.net_simulator.specs.Flow.{Passed, nothing, passed_in, discharged, history}
 use Rattle.net_simulator.specs.Moves.{Moves, moved, history_by}

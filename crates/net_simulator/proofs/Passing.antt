@@ -1,16 +1,10 @@
 -- A world that stands for its past stands for it one second later.
-use Rattle.std.proofs.Common.{◌≡◌, ◌≢◌, ℕ, zero, suc, ◌+◌, ◌-◌, ◌*◌, ◌%◌, ◌<◌, ◌≤◌, List, [], ◌∷◌, Option, Some, None, IfSome, All, AllPairs, length, replicate, get_or, slice_index, slice_index_or, refl, sym, ap, subst, ◌∙◌, inl, inr, add-one, arith}
+use Rattle.std.proofs.Common.{◌≡◌, ◌≢◌, ℕ, zero, suc, ◌+◌, ◌-◌, ◌*◌, ◌%◌, ◌<◌, ◌≤◌, List, [], ◌∷◌, Option, Some, None, IfSome, length, replicate, get_or, slice_index, slice_index_or, refl, sym, ap, subst, ◌∙◌, add-one, arith}
 use Rattle.std.specs.Option.{option_map}
 use Rattle.std.proofs.lemmas.Bool.{cond_both, and_parts, leb-true}
-use Rattle.std.proofs.lemmas.Bool.Decides.{eqb_tells}
-use Rattle.std.proofs.lemmas.List.Elements.{All-get_or}
-use Rattle.phase_plan.specs.Phases.{phase_at, no_phase, IsPlan, IsPhase}
-use Rattle.phase_plan.specs.declared.Phase.{Phase}
-use Rattle.net_numbers.specs.declared.roads.Link.{Link}
-use Rattle.net_numbers.specs.declared.roads.Turn.{Turn}
-use Rattle.net_numbers.specs.Numbers.{Net, no_link}
-use Rattle.net_numbers.specs.Outline.{link_at, turns_at, IsLink, AreTurns}
-use Rattle.road_net.specs.Joins.{split_of, HasShares}
+use Rattle.net_numbers.specs.Numbers.{Net}
+use Rattle.net_numbers.specs.Outline.{link_at, turns_at}
+use Rattle.road_net.specs.Joins.{split_of}
 use Rattle.road_net.specs.Network.{IsNetwork}
 use Rattle.control_flow.specs.declared.greens.Green.{Green}
 use Rattle.control_flow.specs.Greens.{green_at, covers}
@@ -24,11 +18,12 @@ use Rattle.net_simulator.specs.Sums.{outward, arrived, gone, on_road, delay, lin
 use Rattle.net_simulator.specs.Moves.{Moves}
 use Rattle.net_simulator.specs.Rows.{cell}
 use Rattle.net_simulator.specs.Counts.{counts_at, no_totals}
-use Rattle.net_simulator.specs.Steps.{goes, waits_at, goes_out, all_of, counted, stands_on, FitsSeconds}
+use Rattle.net_simulator.specs.LinkSeconds.{waits_at, stands_on}
+use Rattle.net_simulator.specs.Steps.{goes, goes_out, all_of, counted, FitsSeconds}
 use Rattle.net_simulator.specs.Senses.{stood}
 use Rattle.net_simulator.specs.Worlds.{WorldState, HasShape, Keeps, Stands, standing_by}
-use Rattle.road_net.proofs.TotalLaws.{total-same, total-add, total-le, total-zero}
-use Rattle.net_simulator.proofs.Sums.{total-most, total-of}
+use Rattle.road_net.proofs.TotalLaws.{total-same, total-le, total-zero}
+use Rattle.net_simulator.proofs.Sums.{total-of}
 use Rattle.net_simulator.proofs.MoveLaws.{flowing, same-history, zero-by}
 use Rattle.net_simulator.proofs.FlowLaws.{history-same}
 use Rattle.net_simulator.proofs.Sound.{IsSound, Continues, AreMoved, flows, flow-moved, next-one}

@@ -17,7 +17,8 @@ use Rattle.road_net.specs.Totals.{total}
 use Rattle.net_simulator.specs.Flow.{Passed, past_of}
 use Rattle.net_simulator.specs.Rows.{cell}
 use Rattle.net_simulator.specs.Arriving.{arriving_of}
-use Rattle.net_simulator.specs.Senses.{coming, stood, link_sense, sense, seen_by}
+use Rattle.net_simulator.specs.LinkSeconds.{seen_by}
+use Rattle.net_simulator.specs.Senses.{coming, stood, link_sense, sense}
 use Rattle.net_simulator.specs.Sums.{on_road}
 use Rattle.net_simulator.specs.Worlds.{Keeps, Stands, WorldState, IsWorldOf, standing_by}
 use Rattle.net_simulator.proofs.Sums.{range-same, total-without, without, without-other}

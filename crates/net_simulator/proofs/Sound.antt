@@ -5,7 +5,7 @@ use Rattle.std.proofs.lemmas.Bool.Decides.{eqb_tells}
 use Rattle.net_numbers.specs.Numbers.{Net}
 use Rattle.net_numbers.specs.Outline.{link_at}
 use Rattle.net_simulator.specs.Flow.{Passed, nothing, reached, waiting, may_go, discharged_to, history, past_of}
-use Rattle.net_simulator.specs.Moves.{Moves, moved, history_by}
+use Rattle.net_simulator.specs.Moves.{Moves, moved}
 use Rattle.net_simulator.proofs.MoveLaws.{flowing, past_by, moves_by, kept-by, next-by, none-by}
 use Rattle.net_simulator.proofs.FlowLaws.{past-kept, past-next, past-none}
 

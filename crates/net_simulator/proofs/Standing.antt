@@ -4,7 +4,7 @@ use Rattle.std.proofs.lemmas.Bool.{cond_both}
 use Rattle.net_numbers.specs.Numbers.{Net}
 use Rattle.net_simulator.specs.Flow.{Passed, queue}
 use Rattle.net_simulator.specs.Senses.{stood}
-use Rattle.net_simulator.specs.Steps.{stands_on}
+use Rattle.net_simulator.specs.LinkSeconds.{stands_on}
 
 pub stood-none : (net : Net) (past : ℕ → ℕ → Passed) (l : ℕ) → stood net past 0 l ≡ 0
 unfolding stood

@@ -2,6 +2,7 @@ pub mod Flow
 pub mod Sums
 pub mod Moves
 pub mod Rows
+pub mod LinkSeconds
 pub mod Steps
 pub mod Arriving
 pub mod Counts

@@ -1,5 +1,5 @@
 -- What a node sees of its entry links.
-use Rattle.std.specs.Prelude.{ℕ, zero, suc, ◌+◌, ◌-◌, nat_lt, if◌then◌else◌, List, map, slice_index}
+use Rattle.std.specs.Prelude.{ℕ, zero, suc, ◌+◌, ◌-◌, nat_lt, if◌then◌else◌, map}
 use Rattle.std.specs.List.{range_with_len}
 use Rattle.net_numbers.specs.Numbers.{Net}
 use Rattle.net_numbers.specs.Outline.{link_at}
@@ -7,7 +7,6 @@ use Rattle.road_net.specs.declared.senses.LinkSense.{LinkSense}
 use Rattle.road_net.specs.declared.senses.Sensed.{Sensed}
 use Rattle.road_net.specs.Network.{entry_links}
 use Rattle.net_simulator.specs.Flow.{Passed, queue}
-use Rattle.net_simulator.specs.Rows.{cell}
 
 -- what reaches the end of a link in i seconds from second n: what entered it one travel time before
 abbrev pub coming : Net → (ℕ → ℕ → Passed) → ℕ → ℕ → ℕ → ℕ
@@ -30,13 +29,3 @@ link_sense net past n l = record {
 -- what a node sees in second n
 abbrev pub sense : Net → (ℕ → ℕ → Passed) → ℕ → ℕ → Sensed
 sense net past n node = record { now = n; links = map (link_sense net past n) (entry_links net node) }
-
--- The same by what a world keeps: the queues, the row of what entered, and for how long queues have stood. No public clause
--- names it.
-abbrev pub seen_by : Net → List ℕ → List ℕ → List ℕ → ℕ → ℕ → LinkSense
-seen_by net queues recent standing n l = record {
-  link = l;
-  queue = slice_index queues l;
-  coming = map (λ i. cell recent l (n + 128 - (link_at net l).travel + i)) (range_with_len 0 (link_at net l).travel);
-  stood = slice_index standing l;
-}

@@ -3,9 +3,10 @@
 
 mod lights;
 mod lines;
-mod rows;
+pub mod link_seconds;
+pub mod rows;
 mod seconds;
-mod sensing;
+pub mod sensing;
 mod totals;
 mod world;
 

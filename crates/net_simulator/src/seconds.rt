@@ -1,33 +1,21 @@
-//! What happens in one second.
+//! What happens in one second of the world.
 
 ghost use Rattle.std.specs.Prelude.{◌≡◌, ◌≢◌, ℕ, ◌+◌, ◌-◌, ◌*◌, ◌/◌, ◌%◌, ◌≤◌, ◌<◌, ◌^◌, None, Some, IfSome, length, slice_index, slice_index_or};
-ghost use Rattle.control_flow.specs.Greens.{green_at};
 ghost use Rattle.net_numbers.specs.Outline.{link_at, turns_at};
 ghost use Rattle.net_simulator.specs.Arriving.{arriving_of};
 ghost use Rattle.net_simulator.specs.Counts.{counts_at};
+ghost use Rattle.net_simulator.specs.LinkSeconds.{waits_at};
 ghost use Rattle.net_simulator.specs.Rows.{cell};
-ghost use Rattle.net_simulator.specs.Steps.{is_open, goes, waits_at, goes_out, all_of, counted, stands_on, FitsSeconds};
-ghost use Rattle.net_simulator.specs.Sums.{outward};
+ghost use Rattle.net_simulator.specs.Steps.{goes, goes_out, all_of, counted, FitsSeconds};
 ghost use Rattle.road_net.specs.Joins.{split_of};
 ghost use Rattle.road_net.specs.Totals.{total};
 
-use super::lights::Lights;
+use super::link_seconds::{is_open, outward, waiting_amount};
 use super::rows;
 use super::totals::LinkTotals;
 use arrivals::Arrivals;
 use control_flow::greens::Green;
 use road_net::{Network, part_of_turn};
-
-/// Looks once at the light of each node.
-pub(crate) fn look<T: Lights>(greens: &mut [Option<Green>], net: &Network, lights: &T, second: u32)
-    requires { length greens.old ≡ length net.now.node_names }
-    ensures { (n : ℕ) → n < length net.now.node_names
-        → slice_index_or greens.new n None ≡ green_at (T.lines lights.now n) second }
-{
-    for node in 0..net.nodes() {
-        greens[node as usize] = lights.green(node, second);
-    }
-}
 
 /// Begins a second: what comes from outside enters. Tells how much that is.
 pub(crate) fn arrive(recent: &mut [u32], links: u32, arrivals: &Arrivals, second: u32) -> u64
@@ -43,31 +31,6 @@ pub(crate) fn arrive(recent: &mut [u32], links: u32, arrivals: &Arrivals, second
         all += u64::from(amount);
     }
     all
-}
-
-/// Whether link `l` of a node may discharge in this second.
-fn is_open(
-    net: &Network,
-    waits: &[u32],
-    second: u32,
-    l: u32,
-    node: u32,
-    green: Option<Green>,
-) -> bool
-    requires link { l < length net.now.link_names }
-    requires node { (link_at net.now l).to ≡ Some node }
-    requires waits { length waits.now ≡ length net.now.link_names * 128 }
-    requires begun { IfSome green (λ g. g.from ≤ second) }
-    ensures { result ≡ is_open net.now waits.now second l node green }
-{
-    let Some(green) = green else {
-        return false;
-    };
-    if green.phase != net.link(l).phase {
-        return false;
-    }
-    let loss = net.plan(node).phase(green.phase).loss;
-    second - green.from >= loss || rows::at(waits, l, green.from) == 0
 }
 
 /// What link `l` discharges in this second of what waits at its end.
@@ -94,30 +57,6 @@ fn goes(
         waiting.min(net.link(l).sat)
     } else {
         0
-    }
-}
-
-/// What waits at the end of link `l`: its queue, and what entered it one travel time ago.
-fn waiting_amount(net: &Network, queues: &[u32], recent: &[u32], second: u32, l: u32) -> u32
-    requires link { l < length net.now.link_names }
-    requires queues { length queues.now ≡ length net.now.link_names }
-    requires recent { length recent.now ≡ length net.now.link_names * 128 }
-    requires second { second < 18000 }
-    requires fits { slice_index queues.now l + cell recent.now l (second + 128 - (link_at net.now l).travel) < 2 ^ 32 }
-    ensures { result ≡ slice_index queues.now l + cell recent.now l (second + 128 - (link_at net.now l).travel) }
-{
-    let travel = net.link(l).travel;
-    queues[l as usize] + rows::at(recent, l, second + 128 - travel)
-}
-
-/// What of an amount that a link discharges leaves the network.
-fn outward(to: Option<u32>, amount: u32) -> u32
-    ensures value { result ≡ outward to amount }
-    ensures most { result ≤ amount }
-{
-    match to {
-        None => amount,
-        Some(_) => 0,
     }
 }
 
@@ -193,25 +132,6 @@ pub(crate) fn enter(recent: &mut [u32], net: &Network, leaving: &[u32], second: 
 {
     for l in 0..net.links() {
         turn(recent, net, l, leaving[l as usize], second);
-    }
-}
-
-/// Keeps the queues after this second, and for how many seconds each has stood.
-pub(crate) fn remember(waits: &mut [u32], stood: &mut [u32], queues: &[u32], links: u32, next: u32)
-    requires waits { length waits.old ≡ links * 128 }
-    requires stood { length stood.old ≡ links }
-    requires queues { length queues.now ≡ links }
-    requires fits { (l : ℕ) → l < links → slice_index stood.old l < 18000 }
-    ensures here { (l : ℕ) → l < links → cell waits.new l next ≡ slice_index queues.now l }
-    ensures others { (l y : ℕ) → y % 128 ≢ next % 128 → cell waits.new l y ≡ cell waits.old l y }
-    ensures stood { (l : ℕ) → l < links
-        → slice_index stood.new l ≡ stands_on (slice_index queues.now l) (slice_index stood.old l) }
-{
-    for l in 0..links {
-        let queue = queues[l as usize];
-        rows::put(waits, l, next, queue);
-        let before = stood[l as usize];
-        stood[l as usize] = if queue > 0 { before + 1 } else { 0 };
     }
 }
 

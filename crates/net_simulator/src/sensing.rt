@@ -1,8 +1,8 @@
-//! What a node sees.
+//! What a node sees, by what a world keeps.
 
 ghost use Rattle.std.specs.Prelude.{◌≡◌, ◌+◌, ◌-◌, ◌*◌, ◌≤◌, ◌<◌, All, IfOk, OnOk, length, map, slice_index};
 ghost use Rattle.net_numbers.specs.Outline.{link_at};
-ghost use Rattle.net_simulator.specs.Senses.{seen_by};
+ghost use Rattle.net_simulator.specs.LinkSeconds.{seen_by};
 
 use super::rows;
 use foundation::items::Items;
@@ -11,17 +11,29 @@ use std::alloc::{AllocError, Global};
 use std::mem;
 
 /// What is seen in a second: the links of a network, and what a world keeps of them.
+///
+/// docs/RULES.md, "What a node sees".
 #[derive(Drop)]
-pub(crate) struct Sight<'a> {
-    pub(crate) net: &'a Network,
-    pub(crate) queues: &'a [u32],
-    pub(crate) recent: &'a [u32],
-    pub(crate) stood: &'a [u32],
-    pub(crate) second: u32,
+pub struct Sight<'a> {
+    /// The network.
+    pub net: &'a Network,
+    /// The queues after the second before, by link, in thousandths of a vehicle.
+    pub queues: &'a [u32],
+    /// What entered each link in each of the last seconds (`rows`), in thousandths of a vehicle.
+    pub recent: &'a [u32],
+    /// For how many seconds each queue has stood without a break.
+    pub stood: &'a [u32],
+    /// The second, at most 18,000.
+    pub second: u32,
 }
 
-/// What is seen of these links, in the memory of a list that is no longer needed.
-pub(crate) fn sense_links(
+/// What is seen of these links, in the memory of a list that is no longer needed. It takes more only where that is too
+/// little.
+///
+/// `Err`: out of memory.
+///
+/// docs/RULES.md, "What a node sees".
+pub fn sense_links(
     alloc: Global,
     sight: &Sight,
     links: &[u32],

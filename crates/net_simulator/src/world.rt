@@ -13,6 +13,7 @@ ghost use Rattle.net_simulator.specs.Worlds.{WorldState, Stands, IsWorldOf, stan
 ghost use Rattle.road_net.specs.Senses.{IsSensedOf};
 
 use super::lights::Lights;
+use super::link_seconds::{look, remember};
 use super::seconds;
 use super::sensing::{Sight, sense_links};
 use super::totals::{LinkTotals, Totals};
@@ -213,7 +214,7 @@ impl World {
         ensures stands { Stands net.now (arriving_of arrivals.now) (standing_by (T.lines lights.now)) self.new }
     {
         let x = self.second;
-        seconds::look(self.greens.as_mut_slice(), net, lights, x);
+        look(self.greens.as_mut_slice(), net, lights, x);
         let moment = Moment {
             net,
             lights,
@@ -293,7 +294,7 @@ fn pass_second<T: Lights>(
     let arriving = seconds::arrive(recent, links, moment.arrivals, x);
     let out = seconds::leave(leaving, queues, net, recent, waits, moment.greens, x);
     seconds::enter(recent, net, leaving, x);
-    seconds::remember(waits, stood, queues, links, x + 1);
+    remember(waits, stood, queues, links, x + 1);
     let waiting = seconds::count(counts, recent, leaving, queues, links, x);
     let entered = totals.entered + arriving;
     let left = totals.left + out;

@@ -2,7 +2,8 @@ use Rattle.std.proofs.Common.{◌≡◌, ℕ, ◌-◌, ◌*◌, ◌<◌, ◌≤�
 use Rattle.net_numbers.specs.Outline.{link_at}
 use Rattle.road_net.specs.Totals.{total}
 use Rattle.net_simulator.specs.Sums.{outward}
-use Rattle.net_simulator.specs.Steps.{goes, waits_at}
+use Rattle.net_simulator.specs.LinkSeconds.{waits_at}
+use Rattle.net_simulator.specs.Steps.{goes}
 use Rattle.net_simulator.proofs.seconds.leave.Given as goal
 
 abbrev pub invariant-loop-l : goal.invariant-loop-l

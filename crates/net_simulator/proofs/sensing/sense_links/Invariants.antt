@@ -1,5 +1,5 @@
 use Rattle.std.proofs.Common.{◌≡◌, length, map, take}
-use Rattle.net_simulator.specs.Senses.{seen_by}
+use Rattle.net_simulator.specs.LinkSeconds.{seen_by}
 use Rattle.net_simulator.proofs.sensing.sense_links.Given as goal
 
 abbrev pub invariant-loop-place : goal.invariant-loop-place

@@ -1,0 +1,32 @@
+-- What a second is at a link, by what a world keeps: a number for each link, or a row of 128 seconds for each.
+use Rattle.std.specs.Prelude.{ℕ, ◌+◌, ◌-◌, ◌==◌, nat_lt, Bool, false, not, ◌&&◌, if◌then◌else◌, List, Option, Some, None, map, slice_index}
+use Rattle.std.specs.List.{range_with_len}
+use Rattle.phase_plan.specs.Phases.{phase_at}
+use Rattle.net_numbers.specs.Numbers.{Net}
+use Rattle.net_numbers.specs.Outline.{link_at, plan_at}
+use Rattle.road_net.specs.declared.senses.LinkSense.{LinkSense}
+use Rattle.control_flow.specs.declared.greens.Green.{Green}
+use Rattle.net_simulator.specs.Flow.{is_lost}
+use Rattle.net_simulator.specs.Rows.{cell}
+
+-- whether link l of a node may discharge in second x in this green, where `waits` has the queues after each second
+abbrev pub is_open : Net → List ℕ → ℕ → ℕ → ℕ → Option Green → Bool
+is_open net waits x l node None = false
+is_open net waits x l node (Some green) = (green.phase == (link_at net l).phase) && not (is_lost (phase_at (plan_at net node) green.phase).loss green.from x (cell waits l green.from))
+
+-- what waits at the end of link l: its queue, and what entered it one travel time ago
+abbrev pub waits_at : Net → List ℕ → List ℕ → ℕ → ℕ → ℕ
+waits_at net queues recent x l = slice_index queues l + cell recent l (x + 128 - (link_at net l).travel)
+
+-- for how many seconds a queue has stood after one more of them, by the queue after it
+abbrev pub stands_on : ℕ → ℕ → ℕ
+stands_on queue stood = if nat_lt 0 queue then stood + 1 else 0
+
+-- what is seen of a link in second n, by the queues, the rows of what entered, and for how long queues have stood
+abbrev pub seen_by : Net → List ℕ → List ℕ → List ℕ → ℕ → ℕ → LinkSense
+seen_by net queues recent standing n l = record {
+  link = l;
+  queue = slice_index queues l;
+  coming = map (λ i. cell recent l (n + 128 - (link_at net l).travel + i)) (range_with_len 0 (link_at net l).travel);
+  stood = slice_index standing l;
+}
