@@ -7,6 +7,7 @@ pub mod Standing
 pub mod Keeping
 pub mod Conserving
 pub mod EveryWorld
+pub mod Outside
 pub mod Passing
 pub mod Seeing
 pub mod AtNodes
