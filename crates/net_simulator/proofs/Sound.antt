@@ -35,7 +35,7 @@ next-one net moves past all x = subst (λ n. Continues net (moves x) x (past x) 
 -- what a rule moves goes on, where it takes no more than waits
 pub rule-moved : (net : Net) (rule : List (List Passed) → ℕ → Moves) → ((x l : ℕ) → l < length net.link_names → (moves_by net rule x).goes l ≤ waiting net (past_by net rule x) x l) → AreMoved net (moves_by net rule) (past_by net rule)
 rule-moved net rule most = record {
-  first = none-by net rule 0;
+  first = none-by net rule zero;
   next = λ x. record { kept = kept-by net rule x; next = next-by net rule x };
   most = most;
 }
