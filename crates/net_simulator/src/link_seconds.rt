@@ -31,6 +31,7 @@ pub fn look<T: Lights>(greens: &mut [Option<Green>], net: &Network, lights: &T, 
 /// is not one that is lost at its begin. `waits` has the queues of each link before each of the last seconds (`rows`).
 ///
 /// docs/RULES.md, "World".
+#[inline]
 pub fn is_open(
     net: &Network,
     waits: &[u32],
@@ -59,6 +60,7 @@ pub fn is_open(
 /// travel time ago. `recent` has what entered each link in each of the last seconds (`rows`).
 ///
 /// docs/RULES.md, "World".
+#[inline]
 pub fn waiting_amount(net: &Network, queues: &[u32], recent: &[u32], second: u32, l: u32) -> u32
     requires link { l < length net.now.link_names }
     requires queues { length queues.now ≡ length net.now.link_names }
@@ -74,6 +76,7 @@ pub fn waiting_amount(net: &Network, queues: &[u32], recent: &[u32], second: u32
 /// What of an amount that a link discharges leaves the network: all of it, where the link ends at no node.
 ///
 /// docs/RULES.md, "World".
+#[inline]
 pub fn outward(to: Option<u32>, amount: u32) -> u32
     ensures value { result ≡ outward to amount }
     ensures most { result ≤ amount }
