@@ -112,29 +112,37 @@ map-link net past n [] = refl
 map-link net past n (l ∷ ls) = ap (λ ks. l ∷ ks) (map-link net past n ls)
 
 -- what the definition gives is within the bounds of what a node sees
+pub are-sensed : (net : Net) (node n : ℕ) (past : ℕ → ℕ → Passed) → n ≤ 18000 → IsSound net past n → on_road net past n ≤ 2000000000 → All (λ l. l < length net.link_names) (entry_links net node) → IsStrictlyIncreasing (entry_links net node) → IsSensedOf net node (sense net past n node)
+are-sensed net node n past early sound most below rising = record {
+  now = early;
+  links = map-link net past n (entry_links net node);
+  coming = All-map (λ s. length s.coming ≡ (link_at net s.link).travel) (link_sense net past n) (entry_links net node) (λ i d h. length-map-range_with_len _ 0 _);
+  amounts = omega (arith, sensed-on net past n sound (entry_links net node) (AllPairs-from_increasing (entry_links net node) rising) below, most);
+}
+
 pub is-sensed : (net : Net) (node : ℕ) (w : WorldState) → IsNetwork net → All (λ l. l < length net.link_names) (entry_links net node) → IsStrictlyIncreasing (entry_links net node) → (world : IsWorldOf net w) → IsSensedOf net node (sense net (past_of net (arriving_of world.arrivals) (standing_by world.lines) w.second) w.second node)
 is-sensed net node w network below rising world =
-    let past : ℕ → ℕ → Passed = past_of net (arriving_of world.arrivals) (standing_by world.lines) w.second in
-    record {
-      now = world.stands.by;
-      links = map-link net past w.second (entry_links net node);
-      coming = All-map (λ s. length s.coming ≡ (link_at net s.link).travel) (link_sense net past w.second) (entry_links net node) (λ i d h. length-map-range_with_len _ 0 _);
-      amounts = omega (arith, sensed-on net past w.second (sound-at net network (arriving_of world.arrivals) (standing_by world.lines) w.second) (entry_links net node) (AllPairs-from_increasing (entry_links net node) rising) below, on-road-most net network (arriving_of world.arrivals) (standing_by world.lines) (few-of net network world.arrivals world.enter) w.second);
-    }
+    are-sensed net node w.second (past_of net (arriving_of world.arrivals) (standing_by world.lines) w.second) world.stands.by (sound-at net network (arriving_of world.arrivals) (standing_by world.lines) w.second)
+    (on-road-most net network (arriving_of world.arrivals) (standing_by world.lines) (few-of net network world.arrivals world.enter) w.second) below rising
 
 pub below-names : (net : Net) (links names : List ℕ) → IsNetwork net → links ≡ names → All (λ l. l < length net.links) links → All (λ l. l < length net.link_names) names
 below-names net links names network is have = subst (All (λ l. l < length net.link_names)) is (λ k d h. let b = have k d h in let count = network.outline.road_count in omega arith)
 
--- what the code gathers is what the definition gives
+-- what is gathered of what a world keeps is what the definition gives
+pub gathered-by : (net : Net) (node n : ℕ) (past : ℕ → ℕ → Passed) (qs rs ws ss links : List ℕ) (out : List LinkSense) → IsNetwork net → Keeps net past qs rs ws n → ((l : ℕ) → l < length net.link_names → slice_index ss l ≡ stood net past n l)
+    → links ≡ entry_links net node → out ≡ map (seen_by net qs rs ss n) links → All (λ l. l < length net.link_names) (entry_links net node) → (let s : Sensed = record { now = n; links = out } in s) ≡ sense net past n node
+gathered-by net node n past qs rs ws ss links out network keeps standing entries all below =
+    let senses : out ≡ map (link_sense net past n) (entry_links net node) = all ∙ ap (λ (ls : List ℕ). map (seen_by net qs rs ss n) ls) entries ∙ senses-same net past qs rs ws ss n (entry_links net node) network keeps standing below in
+    λ i. record { now = n; links = senses i }
+
 pub gathered : (net : Net) (node : ℕ) (w v : WorldState) (qs rs ss links : List ℕ) (out : List LinkSense) → IsNetwork net → v ≡ w → qs ≡ v.queues → rs ≡ v.recent → ss ≡ v.stood → links ≡ entry_links net node → out ≡ map (seen_by net qs rs ss v.second) links
     → All (λ l. l < length net.link_names) (entry_links net node) → (arriving : ℕ → ℕ → ℕ) (lines : ℕ → List Green) → Stands net arriving (standing_by lines) w
     → (let s : Sensed = record { now = v.second; links = out } in s) ≡ sense net (past_of net arriving (standing_by lines) w.second) w.second node
 gathered net node w v qs rs ss links out network view queues recent standing entries all below arriving lines stands =
-    let past : ℕ → ℕ → Passed = past_of net arriving (standing_by lines) w.second in
     let one = queues ∙ ap (λ (k : WorldState). k.queues) view in
     let two = recent ∙ ap (λ (k : WorldState). k.recent) view in
     let three = standing ∙ ap (λ (k : WorldState). k.stood) view in
     let now = ap (λ (k : WorldState). k.second) view in
-    let senses : out ≡ map (link_sense net past w.second) (entry_links net node) =
-    all ∙ (λ i. map (seen_by net (one i) (two i) (three i) (now i)) (entries i)) ∙ senses-same net past w.queues w.recent w.waits w.stood w.second (entry_links net node) network stands.keeps stands.stood below in
-    λ i. record { now = now i; links = senses i }
+    let gathers : out ≡ map (seen_by net w.queues w.recent w.stood w.second) links = all ∙ (λ i. map (seen_by net (one i) (two i) (three i) (now i)) links) in
+    let second : (let s : Sensed = record { now = v.second; links = out } in s) ≡ (let t : Sensed = record { now = w.second; links = out } in t) = λ i. record { now = now i; links = out } in
+    second ∙ gathered-by net node w.second (past_of net arriving (standing_by lines) w.second) w.queues w.recent w.waits w.stood links out network stands.keeps stands.stood entries gathers below
