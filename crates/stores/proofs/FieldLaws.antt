@@ -1,0 +1,24 @@
+-- The fields of a record.
+use Rattle.std.proofs.Common.{◌≡◌, ◌≢◌, ℕ, ◌<◌, List, [], ◌∷◌, length, Some, None, refl, sym, arith}
+use Rattle.csv.specs.Records.{field_at}
+use Rattle.csv.proofs.RecordFacts.{field-there}
+use Rattle.stores.specs.Records.{told_of}
+
+-- two fields that were read one after another are all of them
+pub two-fields : (fs : List (List ℕ)) (a b : List ℕ) → length fs ≡ 2 → Some a ≡ field_at fs 0 → Some b ≡ field_at fs 1 → fs ≡ a ∷ b ∷ []
+unfolding field_at
+two-fields [] a b two first second = absurd (omega arith)
+two-fields (x ∷ []) a b two first second = absurd (omega arith)
+two-fields (x ∷ y ∷ []) a b two first second = cc
+two-fields (x ∷ y ∷ z ∷ more) a b two first second = absurd (omega arith)
+
+-- a record of another length tells nothing
+pub told_of-none : (fs : List (List ℕ)) → length fs ≢ 2 → told_of fs ≡ None
+told_of-none [] other = refl
+told_of-none (x ∷ []) other = refl
+told_of-none (x ∷ y ∷ []) other = absurd (other (omega arith))
+told_of-none (x ∷ y ∷ z ∷ more) other = refl
+
+-- a field that is not there
+pub field-missing : (fs : List (List ℕ)) (i : ℕ) → i < length fs → None ≡ field_at fs i → ⊥
+field-missing fs i h none = field-there fs i h (sym none)

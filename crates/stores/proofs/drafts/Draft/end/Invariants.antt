@@ -1,0 +1,7 @@
+use Rattle.std.proofs.Common.{◌≡◌, take}
+use Rattle.stores.specs.Drafts.{storages_of}
+use Rattle.stores.proofs.drafts.Draft.end.Given as goal
+
+-- the storages so far are listed
+abbrev pub invariant-loop-storage : goal.invariant-loop-storage
+invariant-loop-storage l = l.storages.items ≡ storages_of (take l.storage-index l.self.storages.items)

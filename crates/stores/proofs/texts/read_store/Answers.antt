@@ -1,0 +1,33 @@
+use Rattle.std.proofs.lemmas.Result.{err_from_is_err_and, IfErr-weaker}
+use Rattle.record_text.specs.Records.{records_of}
+use Rattle.record_text.proofs.WalkLaws.{taken-after}
+use Rattle.stores.specs.Drafts.{Takes}
+use Rattle.stores.specs.Records.{header}
+use Rattle.stores.specs.Texts.{AreFaulty}
+use Rattle.stores.proofs.DraftLaws.{draft-storages}
+use Rattle.stores.proofs.TextLaws.{first-fault, records-refuse, taken-all, taken-few, taken-none}
+use Rattle.stores.proofs.texts.read_store.Goals as goal
+
+pub take_records-requires-clause-few : goal.take_records-requires-clause-few
+take_records-requires-clause-few c = taken-few c.args.net.now (records_of c.args.bytes.now) c.in_ok-draft.ensures.network.outline.link_count.1
+
+pub take_records-requires-clause-none : goal.take_records-requires-clause-none
+take_records-requires-clause-none c = taken-none c.args.net.now _ c.in_ok-draft.ensures.none
+
+pub returns-in_err-take_records-clause-first : goal.returns-in_err-take_records-clause-first
+returns-in_err-take_records-clause-first c =
+    let p = err_from_is_err_and c.from_residual-in_err-take_records.result c.from_residual-in_err-take_records.ensures.1 in
+    rw (p.1, p.2) (first-fault c.args.net.now (records_of c.args.bytes.now) _ c.in_err-take_records.ensures.first)
+
+pub returns-in_err-take_records-clause-refused : goal.returns-in_err-take_records-clause-refused
+returns-in_err-take_records-clause-refused c =
+    let all = records_of c.args.bytes.now in
+    IfErr-weaker c.from_residual-in_err-take_records.result (AreFaulty c.args.net.now all) _ (records-refuse c.args.net.now all) (returns-in_err-take_records-clause-first c)
+
+pub end-requires : goal.end-requires
+end-requires c =
+    let taken = taken-after header (Takes c.args.net.now) (records_of c.args.bytes.now) c.take_records.new.taker _ c.if-not-branch.false c.in_ok-take_records.ensures.taken in
+    draft-storages c.args.net.now taken.after.rows c.take_records.new.taker.storages.items taken.after.draft
+
+pub returns-clause-ok : goal.returns-clause-ok
+returns-clause-ok c = taken-all c.args.net.now (records_of c.args.bytes.now) c.take_records.new.taker _ (taken-after header (Takes c.args.net.now) (records_of c.args.bytes.now) c.take_records.new.taker _ c.if-not-branch.false c.in_ok-take_records.ensures.taken) c.in_ok-store.ensures

@@ -1,0 +1,60 @@
+-- What the steps of the code answer, and what they keep. No public clause names these words.
+use Rattle.std.specs.Prelude.{◌≡◌, ℕ, ◌⊎◌, List, Option, None, Some, Result, Ok, Err, IsSome, IfSome, IsSomeAnd, All, length, map, unwrap_or, slice_index_or, slice_set}
+use Rattle.foundation.specs.Options.{each}
+use Rattle.net_numbers.specs.Numbers.{Net, number_of}
+use Rattle.stores.specs.declared.drafts.Draft.{Draft}
+use Rattle.stores.specs.declared.drafts.StoreRow.{StoreRow}
+use Rattle.stores.specs.declared.faults.StoreFault.{StoreFault}
+use Rattle.stores.specs.declared.faults.StoreFault.TheVariants.{Row, Link, Bound, Twice}
+use Rattle.stores.specs.Records.{told_of, row_of}
+use Rattle.stores.specs.Rows.{AreRows, IsStorage, most_of_link, storage_in}
+use Rattle.stores.specs.Texts.{IsAtBound}
+
+-- each storage that there is is one
+abbrev pub AreStorages : List (Option ℕ) → Type 0
+AreStorages storages = All (λ o. IfSome o IsStorage) storages
+
+-- the storages with the most where there is none
+abbrev pub storages_of : List (Option ℕ) → List ℕ
+storages_of storages = map (λ o. unwrap_or o most_of_link) storages
+
+-- the storage of a link, where there is one
+abbrev pub draft_at : List (Option ℕ) → ℕ → Option ℕ
+draft_at storages link = slice_index_or storages link None
+
+-- the storage of the row was written, where it is one and its link had none; else the row's first fault
+abbrev pub Adds : StoreRow → ℕ → List (Option ℕ) → List (Option ℕ) → Result (Unit {0}) StoreFault → Type 0
+Adds r number old new (Ok _) = IsStorage r.storage × (draft_at old r.link ≡ None) × (new ≡ slice_set old r.link (Some r.storage))
+Adds r number old new (Err (Bound n)) = (n ≡ number) × IsAtBound r
+Adds r number old new (Err (Twice n)) = (n ≡ number) × IsStorage r.storage × IsSome (draft_at old r.link)
+Adds r number old new (Err _) = ⊥
+
+-- the row of a record; else the record tells none, or its name is no link's
+abbrev pub Reads : Net → List (List ℕ) → ℕ → Result StoreRow StoreFault → Type 0
+Reads net fields number (Ok r) = row_of net fields ≡ Some r
+Reads net fields number (Err (Row n)) = (n ≡ number) × (told_of fields ≡ None)
+Reads net fields number (Err (Link n)) = (n ≡ number) × IsSomeAnd (told_of fields) (λ t. number_of net.link_names t.name ≡ None)
+Reads net fields number (Err _) = ⊥
+
+-- the storages are those of these rows
+pub record IsDraftOf (net : Net) (rows : List StoreRow) (storages : List (Option ℕ)) : Type 0 where
+  pub lawful : AreRows net rows
+  pub links : length storages ≡ length net.link_names
+  pub are : (l : ℕ) → draft_at storages l ≡ storage_in rows l
+
+-- the storages are those of the rows that these records tell
+pub record HasTaken (net : Net) (records : List (List (List ℕ))) (storages : List (Option ℕ)) : Type 0 where
+  pub rows : List StoreRow
+  pub reads : each (row_of net) records ≡ Some rows
+  pub draft : IsDraftOf net rows storages
+
+-- the record with this number tells no row, or its row cannot be added to the storages
+abbrev pub IsRefused : Net → List (Option ℕ) → List (List ℕ) → ℕ → StoreFault → Type 0
+IsRefused net storages fields number fault = Reads net fields number (Err fault) ⊎ ((r : StoreRow) × (row_of net fields ≡ Some r) × (new : List (Option ℕ)) × Adds r number storages new (Err fault))
+
+-- the same of a draft
+abbrev pub Takes : Net → List (List (List ℕ)) → Draft → Type 0
+Takes net records draft = HasTaken net records draft.storages.items
+
+abbrev pub StopsAt : Net → Draft → List (List ℕ) → ℕ → StoreFault → Type 0
+StopsAt net draft fields number fault = IsRefused net draft.storages.items fields number fault

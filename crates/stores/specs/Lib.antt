@@ -1,0 +1,4 @@
+pub mod Drafts
+pub mod Records
+pub mod Rows
+pub mod Texts

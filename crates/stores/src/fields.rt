@@ -1,0 +1,59 @@
+//! The row that a record tells.
+ghost use Rattle.std.specs.Prelude.{◌≡◌, ◌≢◌, ◌↔◌, [], ◌∷◌, None, Some, IsTrue, MatchOption, length};
+ghost use Rattle.csv.specs.Records.{fields_of};
+ghost use Rattle.road_net.specs.Network.{IsNetwork};
+ghost use Rattle.stores.specs.Drafts.{Reads};
+ghost use Rattle.stores.specs.Records.{header, told_of};
+
+use crate::drafts::StoreRow;
+use crate::faults::StoreFault;
+use csv::ByteRecord;
+use record_text::{digits, link_named};
+use road_net::Network;
+
+/// Whether the record is the header.
+pub(crate) fn is_header(row: &ByteRecord) -> bool
+    ensures { IsTrue result ↔ (fields_of row.now ≡ header) }
+{
+    match two_fields(row) {
+        Some((link, storage)) => link == b"link".as_slice() && storage == b"storage".as_slice(),
+        None => false,
+    }
+}
+
+/// The row that a record tells, by the number of its link.
+#[tactic(auto, unfolding(crate::specs::Records::row_of))]
+pub(crate) fn read_row(net: &Network, row: &ByteRecord, number: u32) -> Result<StoreRow, StoreFault>
+    requires { IsNetwork net.now }
+    ensures { Reads net.now (fields_of row.now) number result }
+{
+    let Some((name, storage)) = record_fields(row) else {
+        return Err(StoreFault::Row(number));
+    };
+    match link_named(net, name) {
+        Some(link) => Ok(StoreRow { link, storage }),
+        None => Err(StoreFault::Link(number)),
+    }
+}
+
+/// The name of the link and the storage of a record.
+#[tactic(auto, unfolding(crate::specs::Records::told))]
+fn record_fields(row: &ByteRecord) -> Option<(&[u8], u32)>
+    ensures { MatchOption result (told_of (fields_of row.now) ≡ None)
+        (λ t. told_of (fields_of row.now) ≡ Some (record { name = t.0.now; storage = t.1 })) }
+{
+    let (name, storage) = two_fields(row)?;
+    let storage = digits(storage)?;
+    Some((name, storage))
+}
+
+/// The fields of a record that has two.
+fn two_fields(row: &ByteRecord) -> Option<(&[u8], &[u8])>
+    ensures { MatchOption result (length (fields_of row.now) ≢ 2)
+        (λ f. fields_of row.now ≡ f.0.now ∷ f.1.now ∷ []) }
+{
+    if row.len() != 2 {
+        return None;
+    }
+    Some((row.get(0)?, row.get(1)?))
+}

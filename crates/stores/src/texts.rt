@@ -1,0 +1,61 @@
+//! The file of a store.
+ghost use Rattle.std.specs.Prelude.{◌≡◌, ℕ, List, IfErr, IfOk, length};
+ghost use Rattle.stores.specs.Texts.{IsStoreText, IsTextFault, Refuses};
+
+use crate::drafts::Draft;
+use crate::faults::StoreFault;
+use crate::fields::{is_header, read_row};
+use crate::store::Store;
+use csv::ByteRecord;
+use record_text::{RecordTaker, take_records};
+use road_net::Network;
+use std::alloc::Global;
+
+/// The store of a file, whose links stand by their names in the network: how much each link of the network can hold. That
+/// is 2,000,000,000 thousandths of a vehicle where no row has the link.
+///
+/// The fault is out of memory; or `Header`, where the file does not begin with the header; or that of the first row at
+/// fault, within a row in the order `Row`, `Link`, `Bound`, `Twice`.
+///
+/// docs/FORMATS.md, "Store file".
+pub fn read_store(alloc: Global, bytes: &[u8], net: &Network) -> Result<Store, StoreFault>
+    ensures ok { IfOk result (IsStoreText net.now bytes.now) }
+    ensures links { IfOk result (λ store. length store ≡ length net.now.link_names) }
+    ensures refused { IfErr result (λ fault. Refuses fault ((store : List ℕ) → ¬ IsStoreText net.now bytes.now store)) }
+    ensures first { IfErr result (IsTextFault net.now bytes.now) }
+{
+    let mut draft = Draft::new(alloc, net)?;
+    if !take_records(alloc, bytes, net, &mut draft)? {
+        return Err(StoreFault::Header);
+    }
+    let store = draft.end(alloc)?;
+    Ok(store)
+}
+
+impl RecordTaker for Draft {
+    ghost use Rattle.stores.specs.Drafts.{StopsAt, Takes};
+    ghost use Rattle.stores.specs.Records as records;
+
+    type Fault = StoreFault;
+
+    ghost header = { records.header };
+
+    ghost has_taken = { Takes };
+
+    ghost at_fault = { StopsAt };
+
+    fn is_header(row: &ByteRecord) -> bool {
+        is_header(row)
+    }
+
+    fn take(
+        &mut self,
+        _alloc: Global,
+        net: &Network,
+        row: &ByteRecord,
+        number: u32,
+    ) -> Result<(), StoreFault> {
+        let row = read_row(net, row, number)?;
+        self.add(row, number)
+    }
+}
