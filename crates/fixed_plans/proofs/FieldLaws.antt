@@ -1,0 +1,28 @@
+-- The fields of a record.
+use Rattle.std.proofs.Common.{◌≡◌, ◌≢◌, ℕ, ◌<◌, List, [], ◌∷◌, length, Some, None, refl, sym, arith}
+use Rattle.csv.specs.Records.{field_at}
+use Rattle.csv.proofs.RecordFacts.{field-there}
+use Rattle.fixed_plans.specs.Records.{told_of}
+
+-- four fields that were read one after another are all of them
+pub four-fields : (fs : List (List ℕ)) (a b c d : List ℕ) → length fs ≡ 4 → Some a ≡ field_at fs 0 → Some b ≡ field_at fs 1 → Some c ≡ field_at fs 2 → Some d ≡ field_at fs 3 → fs ≡ a ∷ b ∷ c ∷ d ∷ []
+unfolding field_at
+four-fields [] a b c d four p0 p1 p2 p3 = absurd (omega arith)
+four-fields (x ∷ []) a b c d four p0 p1 p2 p3 = absurd (omega arith)
+four-fields (x ∷ y ∷ []) a b c d four p0 p1 p2 p3 = absurd (omega arith)
+four-fields (x ∷ y ∷ z ∷ []) a b c d four p0 p1 p2 p3 = absurd (omega arith)
+four-fields (x ∷ y ∷ z ∷ w ∷ []) a b c d four p0 p1 p2 p3 = cc
+four-fields (x ∷ y ∷ z ∷ w ∷ v ∷ more) a b c d four p0 p1 p2 p3 = absurd (omega arith)
+
+-- a record of another length tells nothing
+pub told_of-none : (fs : List (List ℕ)) → length fs ≢ 4 → told_of fs ≡ None
+told_of-none [] other = refl
+told_of-none (x ∷ []) other = refl
+told_of-none (x ∷ y ∷ []) other = refl
+told_of-none (x ∷ y ∷ z ∷ []) other = refl
+told_of-none (x ∷ y ∷ z ∷ w ∷ []) other = absurd (other (omega arith))
+told_of-none (x ∷ y ∷ z ∷ w ∷ v ∷ more) other = refl
+
+-- a field that is not there
+pub field-missing : (fs : List (List ℕ)) (i : ℕ) → i < length fs → None ≡ field_at fs i → ⊥
+field-missing fs i h none = field-there fs i h (sym none)

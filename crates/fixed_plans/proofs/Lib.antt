@@ -1,0 +1,5 @@
+pub mod CycleLaws
+pub mod FieldLaws
+pub mod LineLaws
+pub mod RowLaws
+pub mod TextLaws

@@ -1,0 +1,31 @@
+use Rattle.std.proofs.Common.{arith}
+use Rattle.std.proofs.lemmas.Result.{err_from_is_err_and, IfErr-weaker}
+use Rattle.record_text.specs.Records.{records_of}
+use Rattle.record_text.proofs.WalkLaws.{counted-few, taken-after}
+use Rattle.world_records.proofs.RecordLaws.{few-records}
+use Rattle.fixed_plans.specs.Faults.{AreFaulty}
+use Rattle.fixed_plans.specs.Records.{header}
+use Rattle.fixed_plans.specs.Taken.{HasTaken}
+use Rattle.fixed_plans.proofs.TextLaws.{first-fault, records-refuse, taken-all, taken-none, taken-placed, taken-short}
+use Rattle.fixed_plans.proofs.texts.read_fixed_plan.Goals as goal
+
+pub take_records-requires-clause-few : goal.take_records-requires-clause-few
+take_records-requires-clause-few c = counted-few _ _ (omega (arith, few-records c.args.bytes.now, c.requires))
+
+pub take_records-requires-clause-none : goal.take_records-requires-clause-none
+take_records-requires-clause-none c = taken-none c.args.net.now _ c.none-draft.ensures.rows c.none-draft.ensures.last
+
+pub returns-in_err-take_records-clause-first : goal.returns-in_err-take_records-clause-first
+returns-in_err-take_records-clause-first c =
+    let p = err_from_is_err_and c.from_residual.result c.from_residual.ensures.1 in
+    rw (p.1, p.2) (first-fault c.args.net.now (records_of c.args.bytes.now) _ c.in_err-take_records.ensures.first)
+
+pub returns-in_err-take_records-clause-refused : goal.returns-in_err-take_records-clause-refused
+returns-in_err-take_records-clause-refused c =
+    let all = records_of c.args.bytes.now in
+    IfErr-weaker c.from_residual.result (AreFaulty c.args.net.now all) _ (records-refuse c.args.net.now all) (returns-in_err-take_records-clause-first c)
+
+pub is_end-requires : goal.is_end-requires
+is_end-requires c =
+    let taken = taken-after header (HasTaken c.args.net.now) (records_of c.args.bytes.now) c.take_records.new.taker _ c.if-not-branch.false c.in_ok-take_records.ensures.taken in
+    taken-placed c.args.net.now taken.records _ taken.after

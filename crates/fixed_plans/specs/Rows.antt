@@ -1,0 +1,71 @@
+-- The rows of a fixed plan: which may follow one another, and when they are all.
+use Rattle.std.specs.Prelude.{◌≡◌, ℕ, ◌+◌, ◌-◌, ◌<◌, ◌≤◌, ◌⊎◌, List, [], ◌∷◌, Option, None, Some, length, All}
+use Rattle.std.specs.List.{range_with_len}
+use Rattle.phase_plan.specs.Phases.{IsMarkedAt, phase_at}
+use Rattle.phase_plan.specs.declared.Phase.{Phase}
+use Rattle.net_numbers.specs.Numbers.{Net}
+use Rattle.net_numbers.specs.Outline.{plan_at}
+use Rattle.fixed_plans.specs.declared.rows.FixedRow.{FixedRow}
+
+-- the last second at which a first cycle may begin
+abbrev pub latest_offset : ℕ
+latest_offset = 17999
+
+-- the phases from this number on, up to the other, are marked
+abbrev pub AreMarked : List Phase → ℕ → ℕ → Type 0
+AreMarked plan low high = All (IsMarkedAt plan) (range_with_len low (high - low))
+
+-- phase k is one from this number on, and all phases before it, from there, are marked
+pub record IsFirstFrom (plan : List Phase) (low k : ℕ) : Type 0 where
+  pub later : low ≤ k
+  pub exists : k < length plan
+  pub passed : AreMarked plan low k
+
+-- all phases of the node after that of a row are marked
+abbrev pub IsLastRow : Net → FixedRow → Type 0
+IsLastRow net b = AreMarked (plan_at net b.node) (b.phase + 1) (length (plan_at net b.node))
+
+-- Which row may come next after the row before it: one of the same node, of the next phase up its ring; or, after the last row of
+-- that node, the first of the next node. Without a row before it, the first of node 0.
+abbrev pub ComesNext : Net → Option FixedRow → FixedRow → Type 0
+ComesNext net None r = (r.node ≡ 0) × IsFirstFrom (plan_at net r.node) 0 r.phase
+ComesNext net (Some b) r =
+    ((r.node ≡ b.node) × IsFirstFrom (plan_at net r.node) (b.phase + 1) r.phase)
+    ⊎ ((r.node ≡ b.node + 1) × IsLastRow net b × IsFirstFrom (plan_at net r.node) 0 r.phase)
+
+-- the green of a row is within the bounds of its phase
+pub record HasGreen (plan : List Phase) (r : FixedRow) : Type 0 where
+  pub least : (phase_at plan r.phase).least ≤ r.green
+  pub greatest : r.green ≤ (phase_at plan r.phase).greatest
+
+-- the offset of a row is that of the row before it of the same node
+abbrev pub HasOffset : Option FixedRow → FixedRow → Type 0
+HasOffset None r = r.offset ≤ latest_offset
+HasOffset (Some b) r = (r.offset ≤ latest_offset) × (r.node ≡ b.node → r.offset ≡ b.offset)
+
+-- a lawful row after the row before it
+pub record IsRow (net : Net) (before : Option FixedRow) (r : FixedRow) : Type 0 where
+  pub node : r.node < length net.node_names
+  pub next : ComesNext net before r
+  pub green : HasGreen (plan_at net r.node) r
+  pub offset : HasOffset before r
+
+-- each of these rows is lawful after the one before it, the first after this one
+abbrev pub AreRowsAfter : Net → Option FixedRow → List FixedRow → Type 0
+AreRowsAfter net before [] = Unit {0}
+AreRowsAfter net before (r ∷ rs) = IsRow net before r × AreRowsAfter net (Some r) rs
+
+-- the last of these rows, or this one where there are none
+abbrev pub last_of : Option FixedRow → List FixedRow → Option FixedRow
+last_of before [] = before
+last_of before (r ∷ rs) = last_of (Some r) rs
+
+-- this is the last row of the last node
+abbrev pub IsEnd : Net → Option FixedRow → Type 0
+IsEnd net None = ⊥
+IsEnd net (Some b) = (b.node + 1 ≡ length net.node_names) × IsLastRow net b
+
+-- the rows of a fixed plan of a network: each is lawful after the one before it, and the last is the last of the last node
+pub record IsFixedPlan (net : Net) (rows : List FixedRow) : Type 0 where
+  pub each : AreRowsAfter net None rows
+  pub whole : IsEnd net (last_of None rows)

@@ -1,0 +1,18 @@
+//! Fixed plans: the greens that each signal of a network shows in a fixed cycle, the file that lists them, and the timelines
+//! that they make.
+#![tactic(auto)]
+
+mod cycles;
+mod drafts;
+mod faults;
+mod fields;
+mod order;
+mod plan;
+mod rows;
+mod texts;
+
+pub use cycles::fixed_lines;
+pub use faults::FixedFault;
+pub use plan::FixedPlan;
+pub use rows::FixedRow;
+pub use texts::read_fixed_plan;

@@ -1,0 +1,73 @@
+//! The file of a fixed plan.
+ghost use Rattle.std.specs.Prelude.{◌<◌, ◌^◌, IfErr, IfOk, List, length};
+ghost use Rattle.fixed_plans.specs.Faults.{IsPlanFault, IsPlanText, Refuses};
+ghost use Rattle.fixed_plans.specs.Rows.{IsFixedPlan};
+ghost use Rattle.fixed_plans.specs.declared.rows.FixedRow as spec;
+
+use crate::drafts::{Draft, add_row};
+use crate::faults::FixedFault;
+use crate::fields::{is_header, read_row};
+use crate::order::is_end;
+use crate::plan::FixedPlan;
+use csv::ByteRecord;
+use record_text::{RecordTaker, take_records};
+use road_net::Network;
+use std::alloc::Global;
+
+/// The fixed plan of a file, whose nodes stand by their names in the network: for each node, in the order of the
+/// nodes, one row for each unmarked phase of its ring, from phase 0 up; a marked phase may have a row. The file has
+/// fewer than 2^32 bytes.
+///
+/// The fault is out of memory; or `Header`, where the file does not begin with the header; or that of the first row at
+/// fault, within a row in the order `Row`, `Node`, `Phase`, `Green`, `Offset`; or else `Short`, where the file ends
+/// before the last row of the last node.
+///
+/// docs/FORMATS.md, "Fixed plan".
+pub fn read_fixed_plan(alloc: Global, bytes: &[u8], net: &Network) -> Result<FixedPlan, FixedFault>
+    requires { length bytes.now < 2 ^ 32 }
+    ensures ok { IfOk result (IsPlanText net.now bytes.now) }
+    ensures plan { IfOk result (IsFixedPlan net.now) }
+    ensures refused { IfErr result (λ fault.
+        Refuses fault ((rows : List spec.FixedRow) → ¬ IsPlanText net.now bytes.now rows)) }
+    ensures first { IfErr result (IsPlanFault net.now bytes.now) }
+{
+    // Called for its clause `network`.
+    let _nodes = net.nodes();
+    let mut draft = Draft::none(alloc);
+    if !take_records(alloc, bytes, net, &mut draft)? {
+        return Err(FixedFault::Header);
+    }
+    if !is_end(net, draft.last) {
+        return Err(FixedFault::Short);
+    }
+    let Draft { rows, .. } = draft;
+    Ok(FixedPlan::of_rows(rows))
+}
+
+impl RecordTaker for Draft {
+    ghost use Rattle.fixed_plans.specs.Records as records;
+    ghost use Rattle.fixed_plans.specs.Taken.{HasTaken, IsRefused};
+
+    type Fault = FixedFault;
+
+    ghost header = { records.header };
+
+    ghost has_taken = { HasTaken };
+
+    ghost at_fault = { IsRefused };
+
+    fn is_header(row: &ByteRecord) -> bool {
+        is_header(row)
+    }
+
+    fn take(
+        &mut self,
+        _alloc: Global,
+        net: &Network,
+        row: &ByteRecord,
+        number: u32,
+    ) -> Result<(), FixedFault> {
+        let row = read_row(net, row, number)?;
+        add_row(net, row, number, self)
+    }
+}
