@@ -1,0 +1,57 @@
+-- The state in which a round begins.
+use Rattle.std.specs.Prelude.{◌≡◌, ℕ, ◌*◌, ◌<◌, ◌≤◌, List, [], All, length, slice_index_or}
+use Rattle.board_model.specs.Forecasts.{IsForecast}
+use Rattle.control_flow.specs.declared.greens.Green.{Green}
+use Rattle.control_flow.specs.Greens.{BeginBy, IsLawful, end_of, row_at}
+use Rattle.net_numbers.specs.Numbers.{Net}
+use Rattle.net_numbers.specs.Outline.{plan_at}
+use Rattle.road_net.specs.declared.senses.Sensed.{Sensed}
+use Rattle.road_net.specs.Senses.{IsSensedOf}
+use Rattle.round_states.specs.declared.states.LinkBoard.{LinkBoard}
+use Rattle.round_states.specs.declared.states.RoundState.{RoundState}
+
+-- the last second in which a row of a timeline may begin
+abbrev pub last_begin : ℕ
+last_begin = 100000
+
+-- no forecast has a greater version
+abbrev pub last_version : ℕ
+last_version = 999
+
+-- the second in which a round begins
+abbrev pub begin_of : Net → ℕ → ℕ
+begin_of net round = round * net.run.step
+
+-- what stands where nothing is sensed
+abbrev pub no_sense : Sensed
+no_sense = record { now = 0; links = [] }
+
+-- a node senses this in this second
+pub record IsSensedAt (net : Net) (now node : ℕ) (sensed : Sensed) : Type 0 where
+  pub now : sensed.now ≡ now
+  pub sensed : IsSensedOf net node sensed
+
+-- the timeline of a node in this second: it is lawful for its plan, and some row of it has begun and some row ends later
+pub record IsLineAt (net : Net) (now node : ℕ) (rows : List Green) : Type 0 where
+  pub lawful : IsLawful (plan_at net node) rows
+  pub begins : BeginBy last_begin rows
+  pub some : 0 < length rows
+  pub begun : (row_at rows 0).from ≤ now
+  pub ends : now < end_of rows
+
+-- the board of a link: a forecast with its version, and none at version 0
+pub record IsBoard (board : LinkBoard) : Type 0 where
+  pub version : board.version ≤ last_version
+  pub forecast : IsForecast board.forecast
+  pub none : board.version ≡ 0 → board.forecast ≡ []
+
+-- The state in which a round of the network begins: each node senses its entry links in the first second of the round, and its
+-- timeline goes on there, and each link has a board.
+pub record IsStateOf (net : Net) (state : RoundState) : Type 0 where
+  pub round : state.round < net.run.rounds
+  pub sensed_count : length state.sensed ≡ length net.node_names
+  pub sensed : (n : ℕ) → n < length net.node_names → IsSensedAt net (begin_of net state.round) n (slice_index_or state.sensed n no_sense)
+  pub line_count : length state.lines ≡ length net.node_names
+  pub lines : (n : ℕ) → n < length net.node_names → IsLineAt net (begin_of net state.round) n (slice_index_or state.lines n [])
+  pub board_count : length state.boards ≡ length net.link_names
+  pub boards : All IsBoard state.boards
