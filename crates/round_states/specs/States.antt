@@ -5,6 +5,7 @@ use Rattle.control_flow.specs.declared.greens.Green.{Green}
 use Rattle.control_flow.specs.Greens.{BeginBy, IsLawful, end_of, row_at}
 use Rattle.net_numbers.specs.Numbers.{Net}
 use Rattle.net_numbers.specs.Outline.{plan_at}
+use Rattle.phase_plan.specs.declared.Phase.{Phase}
 use Rattle.road_net.specs.declared.senses.Sensed.{Sensed}
 use Rattle.road_net.specs.Senses.{IsSensedOf}
 use Rattle.round_states.specs.declared.states.LinkBoard.{LinkBoard}
@@ -27,13 +28,13 @@ abbrev pub no_sense : Sensed
 no_sense = record { now = 0; links = [] }
 
 -- a node senses this in this second
-pub record IsSensedAt (net : Net) (now node : ℕ) (sensed : Sensed) : Type 0 where
-  pub now : sensed.now ≡ now
-  pub sensed : IsSensedOf net node sensed
+pub record IsSensedAt (net : Net) (begin node : ℕ) (s : Sensed) : Type 0 where
+  pub now : s.now ≡ begin
+  pub sensed : IsSensedOf net node s
 
--- the timeline of a node in this second: it is lawful for its plan, and some row of it has begun and some row ends later
-pub record IsLineAt (net : Net) (now node : ℕ) (rows : List Green) : Type 0 where
-  pub lawful : IsLawful (plan_at net node) rows
+-- a timeline that goes on in this second: it is lawful for the plan, and its first row has begun and its last ends later
+pub record IsLineAt (plan : List Phase) (now : ℕ) (rows : List Green) : Type 0 where
+  pub lawful : IsLawful plan rows
   pub begins : BeginBy last_begin rows
   pub some : 0 < length rows
   pub begun : (row_at rows 0).from ≤ now
@@ -52,6 +53,6 @@ pub record IsStateOf (net : Net) (state : RoundState) : Type 0 where
   pub sensed_count : length state.sensed ≡ length net.node_names
   pub sensed : (n : ℕ) → n < length net.node_names → IsSensedAt net (begin_of net state.round) n (slice_index_or state.sensed n no_sense)
   pub line_count : length state.lines ≡ length net.node_names
-  pub lines : (n : ℕ) → n < length net.node_names → IsLineAt net (begin_of net state.round) n (slice_index_or state.lines n [])
+  pub lines : (n : ℕ) → n < length net.node_names → IsLineAt (plan_at net n) (begin_of net state.round) (slice_index_or state.lines n [])
   pub board_count : length state.boards ≡ length net.link_names
   pub boards : All IsBoard state.boards
