@@ -51,6 +51,22 @@ tells_from net node first = telling (find (λ l. nat_le first l) (told_links net
 abbrev pub told_at : Net → ℕ → ℕ → Want
 told_at net node place = telling (slice_get (told_links net node) place)
 
+-- the actor of a node with this line, between two rounds: it has planned nothing
+abbrev pub at_rest : ℕ → List Green → Acting
+at_rest node line = record {
+  node = node;
+  line = line;
+  records = [];
+  want = Done;
+  round = 0;
+  left = [];
+  sensed = record { now = 0; links = [] };
+  heard = [];
+  window = record { lists = []; waiting = 0 };
+  phases = [];
+  served = [];
+}
+
 -- the actor in a new round, in which it sensed this and heard nothing yet
 abbrev pub begun : Net → ℕ → Sensed → Acting → Acting
 begun net round sensed a = record a {

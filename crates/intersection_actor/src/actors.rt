@@ -64,10 +64,11 @@ impl CrossesThreads for Actor {}
 
 impl Actor {
     ghost use Rattle.std.specs.Prelude.{◌≡◌, ℕ, ◌+◌, ◌*◌, ◌<◌, IfOk, OnErr, OnOk, length};
-    ghost use Rattle.control_flow.specs.Greens.{end_of};
+    ghost use Rattle.control_flow.specs.Greens.{BeginBy, IsLawful, end_of};
     ghost use Rattle.net_numbers.specs.Numbers.{Net};
+    ghost use Rattle.net_numbers.specs.Outline.{plan_at};
     ghost use Rattle.road_net.specs.Senses.{IsSensedOf};
-    ghost use Rattle.intersection_actor.specs.Acting.{IsPublish, begun, resting};
+    ghost use Rattle.intersection_actor.specs.Acting.{IsPublish, at_rest, begun, resting};
     ghost use Rattle.intersection_actor.specs.Acting.{tells_from, told_at, wanting, with_heard};
     ghost use Rattle.intersection_actor.specs.Rounds.{IsCommitted, IsNew, IsOf, KeepsPast};
     ghost use Rattle.intersection_actor.specs.Steps.{IsPlanned};
@@ -90,9 +91,23 @@ impl Actor {
             at: 0,
             fresh: true,
         };
-        Ok(Actor {
+        let line = rotation(alloc, net.plan(node), &head, 0)?;
+        Ok(Actor::standing(alloc, node, line))
+    }
+
+    /// The actor of a node between two rounds whose signal has this timeline: nothing is planned. It takes no memory.
+    ///
+    /// It is of each network with the node for whose plan the timeline is lawful, where every row begins at or below 100,000.
+    ///
+    /// docs/RULES.md, "A node's round".
+    pub fn standing(alloc: Global, node: u32, line: Timeline) -> Actor
+        ensures rests { result ≡ at_rest node line }
+        ensures of { (net : Net) → node < length net.node_names → IsLawful (plan_at net node) line → BeginBy 100000 line
+            → IsOf net result }
+    {
+        Actor {
             node,
-            line: rotation(alloc, net.plan(node), &head, 0)?,
+            line,
             records: Vec::new(alloc),
             want: Want::Done,
             round: 0,
@@ -103,7 +118,7 @@ impl Actor {
             window: empty_window(alloc),
             phases: Items::from_vec(Vec::new(alloc)),
             served: Items::from_vec(Vec::new(alloc)),
-        })
+        }
     }
 
     /// What it wants to do next.
