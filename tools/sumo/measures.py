@@ -1,0 +1,74 @@
+"""A run of SUMO with a network's signals: its command, what its vehicles waited, and whether its signals showed given greens."""
+
+import os
+import xml.etree.ElementTree as ElementTree
+from typing import NamedTuple
+
+from layout import Signals
+
+SUMO_HOME = os.environ.setdefault("SUMO_HOME", "/usr/share/sumo")
+
+
+class Outcome(NamedTuple):
+    """Of one run: vehicles that were to enter, those that arrived, seconds for each vehicle, and what SUMO calls unsafe."""
+
+    vehicles: int
+    arrived: int
+    waiting: float  # standing, of those that entered
+    time_loss: float  # against free driving, with what they waited to enter
+    collisions: int
+    emergency_stops: int
+
+
+def run_words(folder, name, seed, signals, additional=()):
+    """The words of SUMO for a run, whose outputs are named by the run's name and seed."""
+    out = folder / f"{name}.{seed}"
+    events = "".join(
+        f'<timedEvent type="SaveTLSStates" source="{node}" dest="{out.name}.{node}.states.xml"/>\n' for node in signals.layout.nodes
+    )
+    (folder / f"{out.name}.add.xml").write_text(f"<additional>\n{events}</additional>\n")
+    files = [*additional, folder / f"{out.name}.add.xml"]
+    words = {
+        "--net-file": folder / "net.net.xml",
+        "--route-files": folder / f"routes.{seed}.rou.xml",
+        "--additional-files": ",".join(map(str, files)),
+        "--end": signals.layout.seconds,
+        "--seed": seed,
+        "--time-to-teleport": -1,
+        "--collision.action": "warn",
+        "--collision.check-junctions": "true",
+        "--tripinfo-output": f"{out}.trips.xml",
+        "--tripinfo-output.write-unfinished": "true",
+        "--statistic-output": f"{out}.statistics.xml",
+        "--duration-log.statistics": "true",
+        "--no-step-log": "true",
+        "--xml-validation": "never",
+    }
+    return ["sumo", *(str(word) for pair in words.items() for word in pair)]
+
+
+def outcome(folder, name, seed):
+    """What the outputs of a run say."""
+    root = ElementTree.parse(folder / f"{name}.{seed}.statistics.xml").getroot()
+    outside, safety = int(root.find("vehicles").get("waiting")), root.find("safety")
+    trips = list(ElementTree.parse(folder / f"{name}.{seed}.trips.xml").getroot().iter("tripinfo"))
+    lost = sum(float(trip.get("timeLoss")) + float(trip.get("departDelay")) for trip in trips)
+    lost += outside * float(root.find("vehicleTripStatistics").get("departDelayWaiting"))
+    return Outcome(
+        vehicles=len(trips) + outside,
+        arrived=sum(float(trip.get("arrival")) >= 0 for trip in trips),
+        waiting=sum(float(trip.get("waitingTime")) for trip in trips) / max(1, len(trips)),
+        time_loss=lost / max(1, len(trips) + outside),
+        collisions=int(safety.get("collisions")),
+        emergency_stops=int(safety.get("emergencyStops")),
+    )
+
+
+def differences(folder, name, seed, signals: Signals, greens):
+    """The seconds, each with its node, in which the signals of a run showed something else than the rows of greens say."""
+    for node in signals.layout.nodes:
+        root = ElementTree.parse(folder / f"{name}.{seed}.{node}.states.xml").getroot()
+        shown = {int(float(row.get("time"))): row.get("state") for row in root.iter("tlsState")}
+        for second in range(signals.layout.seconds):
+            if shown.get(second, "").lower() != signals.at(node, greens[node], second).lower():
+                yield second, node
