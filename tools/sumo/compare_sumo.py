@@ -1,0 +1,124 @@
+#!/usr/bin/env python3
+"""Runs a network in SUMO under several controllers, with several seeds each, and prints a Markdown table of means and spreads.
+
+    tools/sumo/compare_sumo.py NET PLACES ARR DIR [--seeds N] [--controllers NAME ..] [--program WORDS] [--jobs N]
+
+The controllers: `decide`, the program in the loop (loop.py); `turns` and `actuate`, the greens of the program's reports replayed; and
+SUMO's own `actuated` and `delay_based`, within the least and greatest greens of the network, and `fixed`, the plan that SUMO's tools make
+of the vehicles that come (tlsCycleAdaptation.py, and tlsCoordinator.py where there are several nodes). A seed draws the turns of the
+vehicles and SUMO's drivers. The seconds in which SUMO showed something else than the greens are counted. Nothing here is proved.
+"""
+
+import argparse
+import shlex
+import statistics
+import subprocess
+import sys
+from concurrent.futures import ProcessPoolExecutor
+from functools import partial
+from pathlib import Path
+
+from layout import read_greens, read_network, read_places, vehicles
+from loop import asker, run_loop
+from measures import SUMO_HOME, differences, outcome, run_words
+from to_sumo import convert, element, replayed, rings, write_routes
+
+CONTROLLERS = ("decide", "turns", "actuate", "actuated", "delay_based", "fixed")
+HEADWAY = 2  # seconds between two vehicles of a queue that leaves by one lane
+SAFE = ("collisions", "emergency_stops")
+
+
+def fixed_programs(options, signals, seed):
+    """The files of SUMO's plan for the vehicles that come: greens by tlsCycleAdaptation.py, offsets by tlsCoordinator.py."""
+    folder, cycles, offsets = options.folder, options.folder / f"fixed.{seed}.cycle.xml", options.folder / f"fixed.{seed}.offset.xml"
+    files = ["-n", folder / "net.net.xml", "-r", folder / f"routes.{seed}.rou.xml"]
+    # The tool takes the routes for those of one hour.
+    seconds = 1 + max(second for second, _ in vehicles(signals.layout, options.arrivals, seed))
+    bounds = ["--min-cycle", 40, "--max-cycle", 150, "-u", "-R", "-y", 3, "-a", 2, "-l", 7, "-g", 5, "-H", HEADWAY * 3600 / seconds, "-p", "fixed"]
+    tool(["tlsCycleAdaptation.py", *files, *bounds, "-o", cycles])
+    if len(signals.layout.nodes) == 1:
+        return [cycles]
+    tool(["tlsCoordinator.py", *files, "-a", cycles, "-o", offsets])
+    return [cycles, offsets]
+
+
+def tool(words):
+    run = subprocess.run([sys.executable, f"{SUMO_HOME}/tools/{words[0]}", *map(str, words[1:])], capture_output=True, text=True)
+    if run.returncode:
+        sys.exit(f"{words[0]}: {run.stderr.strip()}")
+
+
+def report_greens(options, command):
+    """The greens of the program's report of a command, which is written beside the runs."""
+    path = options.folder / f"{command}.csv"
+    if not path.exists():
+        run = subprocess.run([*shlex.split(options.program), command, options.network, options.arrivals], capture_output=True, text=True)
+        if run.returncode:
+            sys.exit(run.stderr.strip())
+        path.write_text(run.stdout)
+    return read_greens(path)
+
+
+def additional_files(options, signals, name, seed, greens):
+    if name == "fixed":
+        return fixed_programs(options, signals, seed)
+    path = options.folder / f"{name}.add.{seed}.xml"
+    path.write_text(element("additional", "\n" + (replayed(signals, greens) if greens else rings(signals, name))))
+    return [path]
+
+
+def one_run(options, signals, task):
+    """The outcome of a controller with a seed, and the seconds that differ from the greens that were to be shown."""
+    name, seed = task
+    if name == "decide":
+        ask = asker(shlex.split(options.program), options.network, options.folder / f"state.{seed}.csv")
+        greens = run_loop(signals, ask, run_words(options.folder, name, seed, signals))
+    else:
+        greens = report_greens(options, name) if name in ("turns", "actuate") else None
+        words = run_words(options.folder, name, seed, signals, additional_files(options, signals, name, seed, greens))
+        run = subprocess.run(words, capture_output=True, text=True)
+        if run.returncode:
+            sys.exit(f"sumo: {run.stderr.strip()}")
+    differing = len(list(differences(options.folder, name, seed, signals, greens))) if greens else 0
+    return outcome(options.folder, name, seed), differing
+
+
+def row_of(name, results):
+    """A controller's line of the table: the means over its seeds with their spread, and the sums of what is unsafe."""
+    cells = [name, f"{results[0][0].vehicles}"]
+    for field in ("arrived", "waiting", "time_loss"):
+        values = [getattr(found, field) for found, _ in results]
+        spread = statistics.stdev(values) if len(values) > 1 else 0
+        cells.append(f"{statistics.mean(values):.1f} ± {spread:.1f}")
+    cells += [str(sum(getattr(found, field) for found, _ in results)) for field in SAFE]
+    cells.append(str(sum(differing for _, differing in results)) if name in ("decide", "turns", "actuate") else "")
+    return "| " + " | ".join(cells) + " |"
+
+
+def main():
+    parser = argparse.ArgumentParser(description=__doc__, formatter_class=argparse.RawDescriptionHelpFormatter)
+    for name in ("network", "places", "arrivals", "folder"):
+        parser.add_argument(name, type=Path)
+    parser.add_argument("--seeds", type=int, default=3)
+    parser.add_argument("--controllers", nargs="+", choices=CONTROLLERS, default=CONTROLLERS, metavar="NAME")
+    parser.add_argument("--program", default="./signal", help="its words before the command; ./signal if left out")
+    parser.add_argument("--jobs", type=int, default=2, help="runs side by side")
+    options = parser.parse_args()
+    signals = convert(read_network(options.network), read_places(options.places), options.folder)
+    seeds = range(1, options.seeds + 1)
+    for seed in seeds:
+        write_routes(signals.layout, options.arrivals, seed, options.folder / f"routes.{seed}.rou.xml")
+    for command in {"turns", "actuate"} & set(options.controllers):
+        (options.folder / f"{command}.csv").unlink(missing_ok=True)
+        report_greens(options, command)
+    tasks = [(name, seed) for name in options.controllers for seed in seeds]
+    with ProcessPoolExecutor(options.jobs) as runs:
+        results = dict(zip(tasks, runs.map(partial(one_run, options, signals), tasks)))
+    print("| signals by | vehicles | arrived | waiting in s | time loss in s | collisions | emergency stops | seconds that differ |")
+    print("|---|---|---|---|---|---|---|---|")
+    for name in options.controllers:
+        print(row_of(name, [results[name, seed] for seed in seeds]))
+
+
+if __name__ == "__main__":
+    main()
