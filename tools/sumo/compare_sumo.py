@@ -18,9 +18,9 @@ from concurrent.futures import ProcessPoolExecutor
 from functools import partial
 from pathlib import Path
 
-from layout import read_greens, read_network, read_places, vehicles
+from layout import SUMO_HOME, read_greens, read_network, read_places, vehicles
 from loop import asker, run_loop
-from measures import SUMO_HOME, differences, outcome, run_words
+from measures import differences, outcome, run_words
 from to_sumo import convert, element, replayed, rings, write_routes
 
 CONTROLLERS = ("decide", "turns", "actuate", "actuated", "delay_based", "fixed")

@@ -2,6 +2,7 @@
 
 import csv
 import math
+import os
 import random
 import re
 import tomllib
@@ -9,6 +10,7 @@ import xml.etree.ElementTree as ElementTree
 from collections import defaultdict
 from typing import NamedTuple
 
+SUMO_HOME = os.environ.setdefault("SUMO_HOME", "/usr/share/sumo")
 SPEED = 13.89  # metres a second
 LANE_SAT = 500  # what one lane lets through, in thousandths of a vehicle a second
 WEST, EAST, SOUTH, NORTH = (-1, 0), (1, 0), (0, -1), (0, 1)
@@ -156,6 +158,7 @@ class Movement(NamedTuple):
     lane: str
     exit_lane: str
     index: int
+    junction: str
     number: int
 
 
@@ -166,19 +169,20 @@ class Junctions:
         root = ElementTree.parse(path).getroot()
         self.movements, self._requests = defaultdict(list), {}
         for row in root.iter("connection"):
-            if "tl" in row.attrib:
-                first, further = re.fullmatch(r":.*_(\d+)_(\d+)", row.get("via")).groups()
+            if "tl" in row.attrib and "via" in row.attrib:
+                junction, first, further = re.fullmatch(r":(.*)_(\d+)_(\d+)", row.get("via")).groups()
                 lanes = f"{row.get('from')}_{row.get('fromLane')}", f"{row.get('to')}_{row.get('toLane')}"
-                self.movements[row.get("tl")].append(Movement(*lanes, int(row.get("linkIndex")), int(first) + int(further)))
+                place = int(row.get("linkIndex")), junction, int(first) + int(further)
+                self.movements[row.get("tl")].append(Movement(*lanes, *place))
         for junction in root.iter("junction"):
             rows = junction.findall("request")
             self._requests[junction.get("id")] = [(row.get("foes")[::-1], row.get("response")[::-1]) for row in rows]
 
-    def cross(self, node, one, other):
-        return self._requests[node][one.number][0][other.number] == "1"
+    def cross(self, one, other):
+        return one.junction == other.junction and self._requests[one.junction][one.number][0][other.number] == "1"
 
-    def gives_way(self, node, one, other):
-        return self._requests[node][one.number][1][other.number] == "1"
+    def gives_way(self, one, other):
+        return one.junction == other.junction and self._requests[one.junction][one.number][1][other.number] == "1"
 
 
 class Signals:
@@ -194,7 +198,7 @@ class Signals:
         state = list(self.red[node])
         on = [move for move in self.junctions.movements[node] if self.layout.phase_of[self._link_of[move.lane]] == (node, phase)]
         for move in on:
-            state[move.index] = "g" if any(self.junctions.gives_way(node, move, other) for other in on) else "G"
+            state[move.index] = "g" if any(self.junctions.gives_way(move, other) for other in on) else "G"
         return "".join(state)
 
     def yellow(self, node, phase):
@@ -212,7 +216,7 @@ class Signals:
             for one in self.junctions.movements[node]:
                 for other in self.junctions.movements[node]:
                     pair = frozenset((self._link_of[one.lane], self._link_of[other.lane]))
-                    if len(pair) == 2 and pair not in declared and self.junctions.cross(node, one, other):
+                    if len(pair) == 2 and pair not in declared and self.junctions.cross(one, other):
                         found.add(tuple(sorted(pair)))
             yield from ((node, *pair) for pair in sorted(found))
 

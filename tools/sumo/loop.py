@@ -18,8 +18,8 @@ import sys
 from collections import Counter, defaultdict
 from pathlib import Path
 
-from layout import SPEED, read_network, read_places
-from measures import SUMO_HOME, differences, outcome, run_words
+from layout import SPEED, SUMO_HOME, read_network, read_places
+from measures import differences, outcome, run_words
 from to_sumo import convert, write_routes
 
 sys.path.append(f"{SUMO_HOME}/tools")

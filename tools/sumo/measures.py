@@ -1,12 +1,9 @@
 """A run of SUMO with a network's signals: its command, what its vehicles waited, and whether its signals showed given greens."""
 
-import os
 import xml.etree.ElementTree as ElementTree
 from typing import NamedTuple
 
 from layout import Signals
-
-SUMO_HOME = os.environ.setdefault("SUMO_HOME", "/usr/share/sumo")
 
 
 class Outcome(NamedTuple):
