@@ -1,0 +1,124 @@
+"""Tests of the tools for SUMO: python3 -m unittest discover tools/sumo. Where SUMO is not installed, they are skipped."""
+
+import random
+import shutil
+import subprocess
+import sys
+import tempfile
+import unittest
+from collections import Counter
+from pathlib import Path
+
+HERE = Path(__file__).resolve().parent
+EXAMPLES = HERE.parents[1] / "examples"
+sys.path.insert(0, str(HERE))
+
+from layout import Layout, read_network, read_places, state_at
+from loop import Loop, run_loop
+from measures import differences, outcome, run_words
+from to_sumo import convert, element, replayed, write_routes
+
+CORRIDOR = read_network(EXAMPLES / "corridor.toml")
+GREENS = {
+    "first": [(0, 0, 23), (1, 28, 35), (0, 40, 64), (1, 69, 77), (0, 82, 122)],
+    "second": [(0, 0, 9), (1, 14, 27), (0, 32, 50), (1, 55, 63), (0, 68, 108), (1, 113, 118)],
+    "third": [(0, 0, 21), (1, 26, 31), (0, 36, 76), (1, 81, 89), (0, 94, 130)],
+}
+
+
+def rotating(state):
+    """An answer that gives each signal of a state its ring with greens of 10 seconds."""
+    rows = [line.split(",") for line in state.splitlines()]
+    now, lines = int(rows[1][2]), {}
+    for kind, name, *cells in rows:
+        if kind == "green":
+            lines.setdefault(name, []).append([int(cell) for cell in cells])
+    answer = ["kind,name,x,y,z"]
+    for name, line in lines.items():
+        line = [row for row in line if row[2] > now or row is line[-1]]
+        while line[-1][2] <= now + 30:
+            line.append([1 - line[-1][0], line[-1][2] + 5, line[-1][2] + 15])
+        answer += ["green," + ",".join(map(str, [name, *row])) for row in line]
+    return "\n".join([*answer, "version,first_second,1,,", "row,first_second,40,500,", ""])
+
+
+class LayoutTest(unittest.TestCase):
+    def test_lanes_of_one_road(self):
+        layout = Layout(read_network(EXAMPLES / "junction.toml"), read_places(HERE / "places_junction.csv"))
+        self.assertEqual(layout.edges["north"].lanes, {"north": [0, 1], "north_left": [2]})
+
+    def test_right_and_left(self):
+        layout = Layout(CORRIDOR)
+        self.assertAlmostEqual(layout.angle("side_first", "first_second"), 90)
+        self.assertAlmostEqual(layout.angle("side_first", "west_out"), -90)
+
+    def test_colours(self):
+        phases = [{"yellow": 3}, {"yellow": 3}]
+        states = [state_at(phases, ["Gr", "rG"], [(0, 0, 5), (1, 10, 15)], second) for second in (4, 5, 7, 8, 10)]
+        self.assertEqual(states, ["Gr", "yr", "yr", "rr", "rG"])
+
+    def test_a_state(self):
+        signals = type("Stub", (), {"layout": Layout(CORRIDOR)})
+        loop = Loop(signals, rotating)
+        loop.decide(0, Counter(), Counter())
+        loop.see(["west_in"])
+        lines = loop.state(5, Counter(west_in=2), Counter({("east_in", 9): 1})).splitlines()
+        self.assertEqual(lines[:3], ["kind,name,x,y,z", "now,,5,,", "green,first,0,0,5"])
+        wanted = ["queue,west_in,2000,1,", "coming,east_in,9,1000,", "version,first_second,1,,", "row,first_second,40,500,"]
+        self.assertEqual(lines[-4:], wanted)
+
+
+@unittest.skipUnless(shutil.which("sumo") and shutil.which("netconvert"), "SUMO is not installed")
+class SumoTest(unittest.TestCase):
+    def setUp(self):
+        place = tempfile.TemporaryDirectory()
+        self.addCleanup(place.cleanup)
+        self.folder = Path(place.name)
+
+    def corridor(self):
+        signals = convert(CORRIDOR, None, self.folder)
+        write_routes(signals.layout, EXAMPLES / "corridor.csv", 1, self.folder / "routes.1.rou.xml")
+        return signals
+
+    def test_crossings_of_the_examples_are_declared(self):
+        self.assertEqual(list(self.corridor().undeclared()), [])
+        junction = convert(read_network(EXAMPLES / "junction.toml"), read_places(HERE / "places_junction.csv"), self.folder)
+        self.assertEqual(list(junction.undeclared()), [])
+
+    def test_a_crossing_that_is_not_declared(self):
+        network = dict(CORRIDOR, conflict=CORRIDOR["conflict"][1:])
+        self.assertEqual(list(convert(network, None, self.folder).undeclared()), [("first", "side_first", "west_in")])
+
+    def test_greens_replayed(self):
+        signals = self.corridor()
+        (self.folder / "report.add.xml").write_text(element("additional", replayed(signals, GREENS)))
+        words = run_words(self.folder, "replay", 1, signals, [self.folder / "report.add.xml"])
+        subprocess.run(words, check=True, capture_output=True)
+        self.assertEqual(list(differences(self.folder, "replay", 1, signals, GREENS)), [])
+        self.assertEqual(outcome(self.folder, "replay", 1).collisions, 0)
+        other = GREENS | {"second": [(0, 0, 10), *GREENS["second"][1:]]}
+        found = list(differences(self.folder, "replay", 1, signals, other))
+        self.assertEqual(found, [(9, "second"), (12, "second")])
+
+    def test_greens_in_the_loop(self):
+        signals = self.corridor()
+        lines = run_loop(signals, rotating, run_words(self.folder, "loop", 1, signals))
+        self.assertEqual(list(differences(self.folder, "loop", 1, signals, lines)), [])
+        self.assertEqual(lines["first"][:3], [(0, 0, 5), (1, 10, 20), (0, 25, 35)])
+
+    def test_a_grid_of_sumo(self):
+        grid, routes, out = self.folder / "grid.net.xml", self.folder / "grid.rou.xml", self.folder / "out"
+        make = ["netgenerate", "--grid", "--grid.number", "2", "--grid.attach-length", "100", "--default-junction-type", "traffic_light"]
+        subprocess.run([*make, "--no-turnarounds", "-o", grid], check=True, capture_output=True)
+        ways = random.Random(1).sample(["left0A0 A0B0 B0right0", "left1A1 A1B1 B1right1", "bottom0A0 A0A1 A1top0"], 3)
+        rows = "".join(f'<vehicle id="{n}" depart="{n}"><route edges="{way}"/></vehicle>' for n, way in enumerate(ways))
+        routes.write_text(f"<routes>{rows}</routes>")
+        subprocess.run([HERE / "from_sumo.py", grid, "--survey"], check=True, capture_output=True)
+        subprocess.run([HERE / "from_sumo.py", grid, routes, out], check=True, capture_output=True)
+        network = read_network(out / "net.toml")
+        self.assertEqual(len(network["node"]), 4)
+        self.assertEqual((out / "arrivals.csv").read_text().count(",1000\n"), 3)
+
+
+if __name__ == "__main__":
+    unittest.main()
