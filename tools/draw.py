@@ -1,15 +1,16 @@
 #!/usr/bin/env python3
 """Draws what the program writes: greens as text, and a street, queues or points as SVG on standard output.
 
-    tools/draw.py greens NET REPORT                                       # a line for each phase of each node, `#` is a second of green
+    tools/draw.py greens NET REPORT                       # a line for each phase of each node, `#` is a second of green
     tools/draw.py street NET REPORT NODE=METRES NODE=METRES .. [--queues QUEUES] > street.svg
-    tools/draw.py queues QUEUES [LINK ..] > queues.svg                    # the longest six where no link is named
+    tools/draw.py queues QUEUES [LINK ..] > queues.svg    # the longest six where no link is named
     tools/draw.py points POINTS [--across LABEL] [--up LABEL] > points.svg
 
-`street` is a time-space diagram: time to the right, the street upwards, in the order of its nodes. Beside each node is what its signal shows to
-the street, red or green: above its place to those who go up, below to those who go down. With the queues that the command `queues` writes
-the lines between are what the links carry, else the begin and the end of each green. POINTS is a CSV with the header `series,x,y`; of points of one
-series with one x the mean is drawn, with a bar of one standard deviation to either side. All input is read as right. Nothing here is proved.
+`street` is a time-space diagram: time to the right, the street upwards, in the order of its nodes. Beside each node is what
+its signal shows to the street, red or green: above its place to those who go up, below to those who go down. With the
+queues that the command `queues` writes the lines between are what the links carry, else the begin and the end of each
+green. POINTS is a CSV with the header `series,x,y`; of points of one series with one x the mean is drawn, with a bar of one
+standard deviation to either side. All input is read as right. Nothing here is proved.
 """
 
 import argparse
@@ -55,7 +56,9 @@ class Chart:
 
     def line(self, points, colour, width=2.0, opacity=1.0):
         way = "L".join(f"{self.x(x):.1f} {self.y(y):.1f}" for x, y in points)
-        self.parts.append(f'<path d="M{way}" fill="none" stroke="{colour}" stroke-width="{width:.1f}" stroke-opacity="{opacity:.2f}"/>')
+        self.parts.append(
+            f'<path d="M{way}" fill="none" stroke="{colour}" stroke-width="{width:.1f}" stroke-opacity="{opacity:.2f}"/>'
+        )
 
     def box(self, x, to_x, y, shift, colour):
         """A bar 6 high at a height, from one x to another, moved down by so much."""
@@ -77,7 +80,10 @@ class Chart:
 def ticks(most):
     """Round values from 0 up to the bound, at most eleven."""
     step = next(size * 10**power for power in range(-6, 12) for size in (1, 2, 5) if most / (size * 10**power) <= 10)
-    return [int(value) if value == int(value) else round(value, 6) for value in (number * step for number in range(int(most / step + 1e-9) + 1))]
+    return [
+        int(value) if value == int(value) else round(value, 6)
+        for value in (number * step for number in range(int(most / step + 1e-9) + 1))
+    ]
 
 
 def read_rows(path):
@@ -126,7 +132,7 @@ def series_of(rows):
 
 
 def entered(series, travel, end):
-    """What entered a link in each second, from its queue and all that is on it: what has reached its end has left, or is in the queue."""
+    """What entered a link in each second: what has reached its end has left, or is in the queue."""
     amounts, before = {}, (0, 0)
     for second in range(1, end + 1):
         queue, on = series.get(second, before)
@@ -141,15 +147,25 @@ def joined(network, start, end):
 
 
 def street_phase(network, nodes, place, way):
-    """The phase of a node, with its name, for those who go the given way along the street, up 1 or down -1; None where nobody does."""
+    """The node and phase for those who go the given way along the street, up 1 or down -1; None where nobody does."""
     behind, onward = place - way, place + way
     if 0 <= behind < len(nodes):
         entry = joined(network, nodes[behind], nodes[place])
     else:
         exit = joined(network, nodes[place], nodes[onward])
-        shares = [(turn["share"], link["name"]) for link in network["link"] for turn in link.get("turn", []) if exit and turn["exit"] == exit["name"]]
+        shares = [
+            (turn["share"], link["name"])
+            for link in network["link"]
+            for turn in link.get("turn", [])
+            if exit and turn["exit"] == exit["name"]
+        ]
         entry = {"name": max(shares)[1]} if shares else None
-    phases = {link: (node["name"], number) for node in network["node"] for number, phase in enumerate(node["phase"]) for link in phase["links"]}
+    phases = {
+        link: (node["name"], number)
+        for node in network["node"]
+        for number, phase in enumerate(node["phase"])
+        for link in phase["links"]
+    }
     return entry and phases[entry["name"]]
 
 
@@ -166,7 +182,9 @@ def draw_street(options):
         onward = place + way
         link = joined(network, nodes[place], nodes[onward]) if 0 <= onward < len(nodes) else None
         if link is not None:
-            amounts = entered(series[link["name"]], link["travel"], end) if series else edges_of(greens[phase], end, link["sat"])
+            amounts = (
+                entered(series[link["name"]], link["travel"], end) if series else edges_of(greens[phase], end, link["sat"])
+            )
             draw_platoons(chart, amounts, (heights[place], heights[onward]), link, COLOURS[0 if way == 1 else 1])
     for way, place, phase in ways:
         draw_signal(chart, greens[phase], heights[place], -7 if way == 1 else 1, end)

@@ -3,10 +3,11 @@
 
     tools/sumo/compare_sumo.py NET PLACES ARR DIR [--seeds N] [--controllers NAME ..] [--program WORDS] [--jobs N]
 
-The controllers: `decide`, the program in the loop (loop.py); `turns` and `actuate`, the greens of the program's reports replayed; and
-SUMO's own `actuated` and `delay_based`, within the least and greatest greens of the network, and `fixed`, the plan that SUMO's tools make
-of the vehicles that come (tlsCycleAdaptation.py, and tlsCoordinator.py where there are several nodes). A seed draws the turns of the
-vehicles and SUMO's drivers. The seconds in which SUMO showed something else than the greens are counted. Nothing here is proved.
+The controllers: `decide`, the program in the loop (loop.py); `turns` and `actuate`, the greens of the program's reports
+replayed; and SUMO's own `actuated` and `delay_based`, within the least and greatest greens of the network, and `fixed`, the
+plan that SUMO's tools make of the vehicles that come (tlsCycleAdaptation.py, and tlsCoordinator.py where there are several
+nodes). A seed draws the turns of the vehicles and SUMO's drivers. The seconds in which SUMO showed something else than the
+greens are counted. Nothing here is proved.
 """
 
 import argparse
@@ -30,11 +31,34 @@ SAFE = ("collisions", "emergency_stops")
 
 def fixed_programs(options, signals, seed):
     """The files of SUMO's plan for the vehicles that come: greens by tlsCycleAdaptation.py, offsets by tlsCoordinator.py."""
-    folder, cycles, offsets = options.folder, options.folder / f"fixed.{seed}.cycle.xml", options.folder / f"fixed.{seed}.offset.xml"
+    folder, cycles, offsets = (
+        options.folder,
+        options.folder / f"fixed.{seed}.cycle.xml",
+        options.folder / f"fixed.{seed}.offset.xml",
+    )
     files = ["-n", folder / "net.net.xml", "-r", folder / f"routes.{seed}.rou.xml"]
     # The tool takes the routes for those of one hour.
     seconds = 1 + max(second for second, _ in vehicles(signals.layout, options.arrivals, seed))
-    bounds = ["--min-cycle", 40, "--max-cycle", 150, "-u", "-R", "-y", 3, "-a", 2, "-l", 7, "-g", 5, "-H", HEADWAY * 3600 / seconds, "-p", "fixed"]
+    bounds = [
+        "--min-cycle",
+        40,
+        "--max-cycle",
+        150,
+        "-u",
+        "-R",
+        "-y",
+        3,
+        "-a",
+        2,
+        "-l",
+        7,
+        "-g",
+        5,
+        "-H",
+        HEADWAY * 3600 / seconds,
+        "-p",
+        "fixed",
+    ]
     tool(["tlsCycleAdaptation.py", *files, *bounds, "-o", cycles])
     if len(signals.layout.nodes) == 1:
         return [cycles]
@@ -43,7 +67,9 @@ def fixed_programs(options, signals, seed):
 
 
 def tool(words):
-    run = subprocess.run([sys.executable, f"{SUMO_HOME}/tools/{words[0]}", *map(str, words[1:])], capture_output=True, text=True)
+    run = subprocess.run(
+        [sys.executable, f"{SUMO_HOME}/tools/{words[0]}", *map(str, words[1:])], capture_output=True, text=True
+    )
     if run.returncode:
         sys.exit(f"{words[0]}: {run.stderr.strip()}")
 
@@ -52,7 +78,9 @@ def report_greens(options, command):
     """The greens of the program's report of a command, which is written beside the runs."""
     path = options.folder / f"{command}.csv"
     if not path.exists():
-        run = subprocess.run([*shlex.split(options.program), command, options.network, options.arrivals], capture_output=True, text=True)
+        run = subprocess.run(
+            [*shlex.split(options.program), command, options.network, options.arrivals], capture_output=True, text=True
+        )
         if run.returncode:
             sys.exit(run.stderr.strip())
         path.write_text(run.stdout)
@@ -114,7 +142,10 @@ def main():
     tasks = [(name, seed) for name in options.controllers for seed in seeds]
     with ProcessPoolExecutor(options.jobs) as runs:
         results = dict(zip(tasks, runs.map(partial(one_run, options, signals), tasks)))
-    print("| signals by | vehicles | arrived | waiting in s | time loss in s | collisions | emergency stops | seconds that differ |")
+    print(
+        "| signals by | vehicles | arrived | waiting in s | time loss in s | collisions"
+        " | emergency stops | seconds that differ |"
+    )
     print("|---|---|---|---|---|---|---|---|")
     for name in options.controllers:
         print(row_of(name, [results[name, seed] for seed in seeds]))

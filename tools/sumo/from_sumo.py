@@ -4,12 +4,13 @@
     tools/sumo/from_sumo.py NET.net.xml ROUTES DIR [--report REPORT]
     tools/sumo/from_sumo.py NET.net.xml --survey
 
-Writes DIR/net.toml, DIR/arrivals.csv, and DIR/names.csv, which says for each node and link what it is in SUMO. A link is the lanes of an
-edge that are green in one phase; turns are shared as the vehicles of ROUTES turn. A vehicle that starts between two signals is left out.
-With --report the greens of a report on DIR/net.toml become DIR/report.add.xml, signal programs for NET.net.xml.
+Writes DIR/net.toml, DIR/arrivals.csv, and DIR/names.csv, which says for each node and link what it is in SUMO. A link is
+the lanes of an edge that are green in one phase; turns are shared as the vehicles of ROUTES turn. A vehicle that starts
+between two signals is left out. With --report the greens of a report on DIR/net.toml become DIR/report.add.xml, signal
+programs for NET.net.xml.
 
-With --survey each signal has a line for each reason why it does not fit. The exit status is 1 where there is any, and nothing is written
-then. Nothing here is proved.
+With --survey each signal has a line for each reason why it does not fit. The exit status is 1 where there is any, and
+nothing is written then. Nothing here is proved.
 """
 
 import argparse
@@ -30,7 +31,7 @@ RUN = f"[run]\nstep = {STEP}\nlook = 60\ngap = 2\nsplit = true\nage = 20\nhold =
 
 
 class Streets:
-    """SUMO's edges: seconds, which lead into which without turning round, the signal at the end of each, and those that people cross."""
+    """SUMO's edges: their seconds, which lead into which, and the signal at the end of each; which signals people cross."""
 
     def __init__(self, path):
         root = ElementTree.parse(path).getroot()
@@ -44,12 +45,16 @@ class Streets:
             if way.get("from") in self.seconds and way.get("dir") != "t":
                 self.before[way.get("to")].add(way.get("from"))
         for logic in root.iter("tlLogic"):
-            self.programs.setdefault(logic.get("id"), [(int(float(row.get("duration"))), row.get("state")) for row in logic.iter("phase")])
-        self.crossed = {way.get("tl") for way in root.iter("connection") if "tl" in way.attrib and way.get("from") not in self.seconds}
+            self.programs.setdefault(
+                logic.get("id"), [(int(float(row.get("duration"))), row.get("state")) for row in logic.iter("phase")]
+            )
+        self.crossed = {
+            way.get("tl") for way in root.iter("connection") if "tl" in way.attrib and way.get("from") not in self.seconds
+        }
         self.signal = {edge_of(move.lane): name for name in self.programs for move in self.junctions.movements[name]}
 
     def feeders(self, edge):
-        """The signals, or None for the outside, from which vehicles reach the end of an edge, each with the seconds of its shortest way."""
+        """The signals, or None for the outside, whose vehicles reach the end of an edge, with the seconds of the way."""
         found, seen, ways = {}, set(), [(self.seconds[edge], edge)]
         while ways:
             seconds, at = heapq.heappop(ways)
@@ -75,7 +80,11 @@ class Node:
     def __init__(self, streets, name):
         self.streets, self.name, self.states = streets, name, streets.programs[name]
         self.moves = streets.junctions.movements[name]
-        green = [n for n, (seconds, state) in enumerate(self.states) if set(state) & set("Gg") and not set(state) & set("yYu") and seconds >= SHORT]
+        green = [
+            n
+            for n, (seconds, state) in enumerate(self.states)
+            if set(state) & set("Gg") and not set(state) & set("yYu") and seconds >= SHORT
+        ]
         self.phases, self.lanes = green, defaultdict(set)
         for move in self.moves:
             self.lanes[move.lane].add(tuple(n for n, phase in enumerate(green) if self.states[phase][1][move.index] in "Gg"))
@@ -156,7 +165,12 @@ class Draft:
         """The pairs of links in two phases of a node whose lanes cross."""
         for one, other in itertools.combinations((key for key, link in self.links.items() if "to" in link), 2):
             if one[0] == other[0] and one[2] != other[2]:
-                pairs = itertools.product(*([move for move in self.nodes[key[0]].moves if move.lane in self.links[key]["lanes"]] for key in (one, other)))
+                pairs = itertools.product(
+                    *(
+                        [move for move in self.nodes[key[0]].moves if move.lane in self.links[key]["lanes"]]
+                        for key in (one, other)
+                    )
+                )
                 if any(self.streets.junctions.cross(*pair) for pair in pairs):
                     yield one, other
 
@@ -182,7 +196,9 @@ def link_text(draft, key, nodes, links):
     shares = {exit: 1000 * count // counts.total() for exit, count in counts.most_common()}
     if shares:
         shares[next(iter(shares))] += 1000 - sum(shares.values())
-        text += "turn = [" + ", ".join(f'{{ exit = "{links[exit]}", share = {share} }}' for exit, share in shares.items()) + "]\n"
+        text += (
+            "turn = [" + ", ".join(f'{{ exit = "{links[exit]}", share = {share} }}' for exit, share in shares.items()) + "]\n"
+        )
     return text
 
 
@@ -193,7 +209,11 @@ def network_text(draft):
     for name, node in draft.nodes.items():
         text += f'\n[[node]]\nname = "{nodes[name]}"\n'
         for number in range(len(node.phases)):
-            text += phase_text(node, number, [links[key] for key, link in draft.links.items() if link.get("to") == name and link["phase"] == number])
+            text += phase_text(
+                node,
+                number,
+                [links[key] for key, link in draft.links.items() if link.get("to") == name and link["phase"] == number],
+            )
     text += "".join(link_text(draft, key, nodes, links) for key in draft.links)
     return text + "".join(f'\n[[conflict]]\na = "{links[one]}"\nb = "{links[other]}"\n' for one, other in draft.conflicts())
 

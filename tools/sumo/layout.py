@@ -93,10 +93,7 @@ class Layout:
 
     def link_of_lane(self):
         return {
-            f"{name}_{lane}": link
-            for name, edge in self.edges.items()
-            for link, lanes in edge.lanes.items()
-            for lane in lanes
+            f"{name}_{lane}": link for name, edge in self.edges.items() for link, lanes in edge.lanes.items() for lane in lanes
         }
 
 
@@ -119,7 +116,9 @@ def places_in_line(network):
     order = [node["name"] for node in network["node"]]
     for number, name in enumerate(order):
         places["node", name] = (east, 0.0)
-        onward = [link["travel"] for link in network["link"] if link.get("from") == name and link.get("to") in order[number + 1 :]]
+        onward = [
+            link["travel"] for link in network["link"] if link.get("from") == name and link.get("to") in order[number + 1 :]
+        ]
         east += max(onward, default=20) * SPEED
     for node in network["node"]:
         sides = open_sides(network, node, order)
@@ -146,14 +145,23 @@ def open_sides(network, node, order):
             sides[link] = free.pop(0 if number == 0 else -len(free[-2:]))
     for link in network["link"]:
         if link.get("from") == name and "to" not in link:
-            shares = [(turn["share"], sides[entry["name"]]) for entry in entries for turn in entry["turn"] if turn["exit"] == link["name"]]
+            shares = [
+                (turn["share"], sides[entry["name"]])
+                for entry in entries
+                for turn in entry["turn"]
+                if turn["exit"] == link["name"]
+            ]
             x, y = max(shares, default=(0, WEST))[1]
             sides[link["name"]] = (-x, -y)
-    return {link["name"]: sides[link["name"]] for link in network["link"] if link["name"] in sides and not ("from" in link and "to" in link)}
+    return {
+        link["name"]: sides[link["name"]]
+        for link in network["link"]
+        if link["name"] in sides and not ("from" in link and "to" in link)
+    }
 
 
 class Movement(NamedTuple):
-    """A way through a junction: its lane, the lane that it leads to, its place in the signal, and its number at the junction."""
+    """A way through a junction: from lane to lane, its place in the signal's state, and its number at the junction."""
 
     lane: str
     exit_lane: str
@@ -192,11 +200,15 @@ class Signals:
         self.layout, self.junctions = layout, Junctions(path)
         self._link_of = layout.link_of_lane()
         self.red = {name: "r" * len(self.junctions.movements[name]) for name in layout.nodes}
-        self.green = {name: [self._state(name, number) for number in range(len(node["phase"]))] for name, node in layout.nodes.items()}
+        self.green = {
+            name: [self._state(name, number) for number in range(len(node["phase"]))] for name, node in layout.nodes.items()
+        }
 
     def _state(self, node, phase):
         state = list(self.red[node])
-        on = [move for move in self.junctions.movements[node] if self.layout.phase_of[self._link_of[move.lane]] == (node, phase)]
+        on = [
+            move for move in self.junctions.movements[node] if self.layout.phase_of[self._link_of[move.lane]] == (node, phase)
+        ]
         for move in on:
             state[move.index] = "g" if any(self.junctions.gives_way(move, other) for other in on) else "G"
         return "".join(state)
@@ -246,7 +258,7 @@ def read_greens(path):
 
 
 def vehicles(layout, path, seed):
-    """The vehicles of a file of arrivals: for each 1000 of a link one, with its second and links; turns are drawn by their shares."""
+    """The vehicles of a file of arrivals, one for each 1000 of a link: second and links; turns are drawn by shares."""
     draw, carried, found = random.Random(seed), defaultdict(int), []
     with open(path, newline="") as file:
         rows = sorted(csv.DictReader(file), key=lambda row: int(row["second"]))

@@ -1,11 +1,12 @@
 #!/usr/bin/env python3
-"""Lets the program decide for SUMO's signals: senses SUMO's vehicles at the begin of each round, asks `decide`, shows the greens.
+"""Lets the program decide for SUMO's signals: senses SUMO's vehicles in each round, asks `decide`, shows the greens.
 
     tools/sumo/loop.py NET PLACES ARR DIR [--seed N] [--program WORDS]
 
-PLACES is that of to_sumo.py, or `-`. A vehicle of an entry link that is slower than 5 m/s is in the link's queue; any other is coming, and
-reaches the end of its link in free driving. Signals are set second by second. Afterwards what SUMO showed is compared with the greens that
-the program answered: the exit status is 1 where they differ. DIR/greens.csv has these greens as a report has them. Nothing here is proved.
+PLACES is that of to_sumo.py, or `-`. A vehicle of an entry link that is slower than 5 m/s is in the link's queue; any other
+is coming, and reaches the end of its link in free driving. Signals are set second by second. Afterwards what SUMO showed is
+compared with the greens that the program answered: the exit status is 1 where they differ. DIR/greens.csv has these greens
+as a report has them. Nothing here is proved.
 """
 
 import argparse

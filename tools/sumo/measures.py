@@ -1,4 +1,4 @@
-"""A run of SUMO with a network's signals: its command, what its vehicles waited, and whether its signals showed given greens."""
+"""A run of SUMO with a network's signals: its command, what vehicles waited, and whether given greens were shown."""
 
 import xml.etree.ElementTree as ElementTree
 from typing import NamedTuple
@@ -21,7 +21,8 @@ def run_words(folder, name, seed, signals, additional=()):
     """The words of SUMO for a run, whose outputs are named by the run's name and seed."""
     out = folder / f"{name}.{seed}"
     events = "".join(
-        f'<timedEvent type="SaveTLSStates" source="{node}" dest="{out.name}.{node}.states.xml"/>\n' for node in signals.layout.nodes
+        f'<timedEvent type="SaveTLSStates" source="{node}" dest="{out.name}.{node}.states.xml"/>\n'
+        for node in signals.layout.nodes
     )
     (folder / f"{out.name}.add.xml").write_text(f"<additional>\n{events}</additional>\n")
     files = [*additional, folder / f"{out.name}.add.xml"]

@@ -3,21 +3,18 @@
 import random
 import shutil
 import subprocess
-import sys
 import tempfile
 import unittest
 from collections import Counter
 from pathlib import Path
-
-HERE = Path(__file__).resolve().parent
-EXAMPLES = HERE.parents[1] / "examples"
-sys.path.insert(0, str(HERE))
 
 from layout import Layout, read_network, read_places, state_at
 from loop import Loop, run_loop
 from measures import differences, outcome, run_words
 from to_sumo import convert, element, replayed, write_routes
 
+HERE = Path(__file__).resolve().parent
+EXAMPLES = HERE.parents[1] / "examples"
 CORRIDOR = read_network(EXAMPLES / "corridor.toml")
 GREENS = {
     "first": [(0, 0, 23), (1, 28, 35), (0, 40, 64), (1, 69, 77), (0, 82, 122)],
@@ -108,7 +105,16 @@ class SumoTest(unittest.TestCase):
 
     def test_a_grid_of_sumo(self):
         grid, routes, out = self.folder / "grid.net.xml", self.folder / "grid.rou.xml", self.folder / "out"
-        make = ["netgenerate", "--grid", "--grid.number", "2", "--grid.attach-length", "100", "--default-junction-type", "traffic_light"]
+        make = [
+            "netgenerate",
+            "--grid",
+            "--grid.number",
+            "2",
+            "--grid.attach-length",
+            "100",
+            "--default-junction-type",
+            "traffic_light",
+        ]
         subprocess.run([*make, "--no-turnarounds", "-o", grid], check=True, capture_output=True)
         ways = random.Random(1).sample(["left0A0 A0B0 B0right0", "left1A1 A1B1 B1right1", "bottom0A0 A0A1 A1top0"], 3)
         rows = "".join(f'<vehicle id="{n}" depart="{n}"><route edges="{way}"/></vehicle>' for n, way in enumerate(ways))

@@ -3,12 +3,14 @@
 
     tools/sumo/to_sumo.py NET PLACES DIR [--arrivals ARR [--seed N]] [--report REPORT]
 
-PLACES is a CSV with the header `kind,name,x,y`, in metres: rows `node,NAME,x,y` for each node, and `link,NAME,x,y` for the open end of
-each link that enters or leaves the network. Open ends at one place are lanes of one road. With `-` in its stead the nodes stand in a
-line from west to east, in the order of the file. Lengths come from the `travel` of the links, and not from the places.
+PLACES is a CSV with the header `kind,name,x,y`, in metres: rows `node,NAME,x,y` for each node, and `link,NAME,x,y` for the
+open end of each link that enters or leaves the network. Open ends at one place are lanes of one road. With `-` in its stead
+the nodes stand in a line from west to east, in the order of the file. Lengths come from the `travel` of the links, and not
+from the places.
 
-The vehicles of ARR become DIR/routes.N.rou.xml, their turns drawn from the number N; the greens of REPORT become DIR/report.add.xml.
-Crossings in SUMO's network that the file does not declare as conflicts are listed on standard error. Nothing here is proved.
+The vehicles of ARR become DIR/routes.N.rou.xml, their turns drawn from the number N; the greens of REPORT become
+DIR/report.add.xml. Crossings in SUMO's network that the file does not declare as conflicts are listed on standard error.
+Nothing here is proved.
 """
 
 import argparse
@@ -38,12 +40,25 @@ def write_plain(layout, folder):
     """SUMO's plain files of nodes, edges and connections."""
     ends = {place_name(end): end for edge in layout.edges.values() for end in (edge.start, edge.end)}
     nodes = "".join(
-        element("node", id=name, x=layout.places[end][0], y=layout.places[end][1], type="traffic_light" if end[0] == "node" else "priority")
+        element(
+            "node",
+            id=name,
+            x=layout.places[end][0],
+            y=layout.places[end][1],
+            type="traffic_light" if end[0] == "node" else "priority",
+        )
         for name, end in ends.items()
     )
     edges = "".join(
-        element("edge", id=name, from_=place_name(edge.start), to=place_name(edge.end), numLanes=edge.lane_count(), speed=SPEED,
-                length=edge.travel * SPEED)
+        element(
+            "edge",
+            id=name,
+            from_=place_name(edge.start),
+            to=place_name(edge.end),
+            numLanes=edge.lane_count(),
+            speed=SPEED,
+            length=edge.travel * SPEED,
+        )
         for name, edge in layout.edges.items()
     )
     ways = {
@@ -52,19 +67,23 @@ def write_plain(layout, folder):
         for turn in link.get("turn", [])
         for lanes in layout.lanes_to(link["name"], turn["exit"])
     }
-    connections = "".join(element("connection", from_=way[0], to=way[1], fromLane=way[2], toLane=way[3]) for way in sorted(ways))
+    connections = "".join(
+        element("connection", from_=way[0], to=way[1], fromLane=way[2], toLane=way[3]) for way in sorted(ways)
+    )
     for suffix, name, inside in (("nod", "nodes", nodes), ("edg", "edges", edges), ("con", "connections", connections)):
         (folder / f"plain.{suffix}.xml").write_text(element(name, "\n" + inside))
 
 
 def netconvert(folder, *words):
-    run = subprocess.run(["netconvert", "--no-turnarounds", "--output-file", str(folder / "net.net.xml"), *words], capture_output=True, text=True)
+    run = subprocess.run(
+        ["netconvert", "--no-turnarounds", "--output-file", str(folder / "net.net.xml"), *words], capture_output=True, text=True
+    )
     if run.returncode:
         sys.exit(f"netconvert: {run.stderr.strip()}")
 
 
 def program(node, name, spans, kind="static", settings=()):
-    """A signal program of SUMO: spans of seconds with a state, and with the least and greatest length that SUMO may give each."""
+    """A signal program of SUMO, of spans: seconds, a state, and the least and greatest length that SUMO may give it."""
     phases = "".join(
         element("phase", duration=seconds, state=state, **({"minDur": bounds[0], "maxDur": bounds[1]} if bounds else {}))
         for seconds, state, bounds in spans
@@ -99,8 +118,14 @@ def replayed(signals, greens):
 
 def write_routes(layout, arrivals, seed, path):
     rows = "".join(
-        element("vehicle", element("route", edges=" ".join(layout.edge_of[link] for link in way)), id=number, depart=second,
-                departLane="best", departSpeed="max")
+        element(
+            "vehicle",
+            element("route", edges=" ".join(layout.edge_of[link] for link in way)),
+            id=number,
+            depart=second,
+            departLane="best",
+            departSpeed="max",
+        )
         for number, (second, way) in enumerate(vehicles(layout, arrivals, seed))
     )
     path.write_text(element("routes", "\n" + rows))
@@ -111,7 +136,11 @@ def convert(network, places, folder):
     folder.mkdir(parents=True, exist_ok=True)
     layout = Layout(network, places)
     write_plain(layout, folder)
-    plain = [word for suffix in ("node", "edge", "connection") for word in (f"--{suffix}-files", str(folder / f"plain.{suffix[:3]}.xml"))]
+    plain = [
+        word
+        for suffix in ("node", "edge", "connection")
+        for word in (f"--{suffix}-files", str(folder / f"plain.{suffix[:3]}.xml"))
+    ]
     netconvert(folder, *plain)
     (folder / "ring.tll.xml").write_text(element("tlLogics", "\n" + rings(Signals(layout, folder / "net.net.xml"), "static")))
     netconvert(folder, *plain, "--tllogic-files", str(folder / "ring.tll.xml"))
