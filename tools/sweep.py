@@ -6,7 +6,7 @@
 For each demand and seed vehicles are drawn: a link that ARR brings vehicles to gets one in each second with the probability
 that ARR has on the average, times the demand. Each run is a process of the program, `turns` or `actuate`, on files of its
 own. The CSV has the header `series,x,y`: command, demand, and delay in seconds for each vehicle that entered; tools/draw.py
-draws it. With --part only each Nth run, from the Kth (from 0) on, is done, and only part 0 writes the header: so N
+draws it. With --part only each Nth run, from the Kth (from 0) on, is done, and only the first part writes the header: so N
 processes or machines share the work, and their outputs, one after another, are the whole. Nothing here is proved.
 """
 
