@@ -19,7 +19,7 @@ from concurrent.futures import ProcessPoolExecutor
 from functools import partial
 from pathlib import Path
 
-from layout import SUMO_HOME, read_greens, read_network, read_places, vehicles
+from layout import PROGRAM, SUMO_HOME, read_greens, read_network, read_places, vehicles
 from loop import asker, run_loop
 from measures import differences, outcome, run_words
 from to_sumo import convert, element, replayed, rings, write_routes
@@ -129,7 +129,7 @@ def main():
         parser.add_argument(name, type=Path)
     parser.add_argument("--seeds", type=int, default=3)
     parser.add_argument("--controllers", nargs="+", choices=CONTROLLERS, default=CONTROLLERS, metavar="NAME")
-    parser.add_argument("--program", default="./signal", help="its words before the command; ./signal if left out")
+    parser.add_argument("--program", default=str(PROGRAM), help="its words before the command; the built program if left out")
     parser.add_argument("--jobs", type=int, default=2, help="runs side by side")
     options = parser.parse_args()
     signals = convert(read_network(options.network), read_places(options.places), options.folder)

@@ -8,8 +8,10 @@ import re
 import tomllib
 import xml.etree.ElementTree as ElementTree
 from collections import defaultdict
+from pathlib import Path
 from typing import NamedTuple
 
+PROGRAM = Path(__file__).resolve().parents[2] / "crates/signal_program/out/signal_program"
 SUMO_HOME = os.environ.setdefault("SUMO_HOME", "/usr/share/sumo")
 SPEED = 13.89  # metres a second
 LANE_SAT = 500  # what one lane lets through, in thousandths of a vehicle a second
@@ -49,7 +51,9 @@ class Layout:
     def _lay(self, link):
         name, start, end = link["name"], link.get("from"), link.get("to")
         ends = ("node", start) if start else ("link", name), ("node", end) if end else ("link", name)
-        at = tuple(self.places[kind, of] for kind, of in ends)
+        for kind, of in set(ends) - set(self.places):
+            raise SystemExit(f"the file of places has no row {kind},{of}")
+        at = tuple(self.places[end] for end in ends)
         for edge_name, edge in self.edges.items():
             if (self.places[edge.start], self.places[edge.end]) == at:
                 break
@@ -171,15 +175,17 @@ class Movement(NamedTuple):
 
 
 class Junctions:
-    """What SUMO's network says of its signals: movements, which of them cross, and which gives way to which."""
+    """What SUMO's network says of signals: movements, those that cross or give way, and the lane after one in a junction."""
 
     def __init__(self, path):
         root = ElementTree.parse(path).getroot()
-        self.movements, self._requests = defaultdict(list), {}
+        self.movements, self._requests, self.after = defaultdict(list), {}, {}
         for row in root.iter("connection"):
+            lanes = f"{row.get('from')}_{row.get('fromLane')}", f"{row.get('to')}_{row.get('toLane')}"
+            if row.get("from").startswith(":"):
+                self.after[lanes[0]] = lanes[1]
             if "tl" in row.attrib and "via" in row.attrib:
                 junction, first, further = re.fullmatch(r":(.*)_(\d+)_(\d+)", row.get("via")).groups()
-                lanes = f"{row.get('from')}_{row.get('fromLane')}", f"{row.get('to')}_{row.get('toLane')}"
                 place = int(row.get("linkIndex")), junction, int(first) + int(further)
                 self.movements[row.get("tl")].append(Movement(*lanes, *place))
         for junction in root.iter("junction"):

@@ -19,17 +19,13 @@ import sys
 from collections import Counter, defaultdict
 from pathlib import Path
 
-from layout import SPEED, SUMO_HOME, read_network, read_places
+from layout import PROGRAM, SPEED, SUMO_HOME, read_network, read_places
 from measures import differences, outcome, run_words
 from to_sumo import convert, write_routes
 
 sys.path.append(f"{SUMO_HOME}/tools")
 SLOW = 5  # metres a second, below which a vehicle is in the queue
 VEHICLE = 1000  # thousandths of a vehicle
-
-
-class Refusal(Exception):
-    """The program's line about a state that it refuses."""
 
 
 class Loop:
@@ -81,17 +77,18 @@ def asker(program, network, state):
         state.write_text(text)
         run = subprocess.run([*program, "decide", str(network), str(state)], capture_output=True, text=True)
         if run.returncode:
-            raise Refusal(run.stderr.strip())
+            sys.exit(f"{state}: {run.stderr.strip()}")
         return run.stdout
 
     return ask
 
 
 class Eyes:
-    """SUMO's vehicles on the entry links of the nodes."""
+    """SUMO's vehicles on the entry links; one within a junction is at the begin of the link that it comes to."""
 
-    def __init__(self, traci, layout):
-        self._traci, self._layout, self._link_of = traci, layout, layout.link_of_lane()
+    def __init__(self, traci, signals):
+        self._traci, self._layout, self._link_of = traci, signals.layout, signals.layout.link_of_lane()
+        self._after = signals.junctions.after
         self._length = {lane: traci.lane.getLength(lane) for lane in self._link_of}
 
     def vehicles(self):
@@ -101,6 +98,8 @@ class Eyes:
             self._traci.vehicle.subscribe(vehicle, values)
         for found in self._traci.vehicle.getAllSubscriptionResults().values():
             lane, speed, place = (found[value] for value in values)
+            if lane in self._after:
+                lane, speed, place = self._after[lane], SPEED, 0
             link = self._link_of.get(lane)
             if link is not None and "to" in self._layout.links[link]:
                 yield link, speed, self._length[lane] - place
@@ -123,7 +122,7 @@ def run_loop(signals, ask, words):
     with contextlib.redirect_stdout(sys.stderr):
         traci.start(words, stdout=subprocess.DEVNULL)
     try:
-        loop, eyes = Loop(signals, ask), Eyes(traci, signals.layout)
+        loop, eyes = Loop(signals, ask), Eyes(traci, signals)
         for now in range(signals.layout.seconds):
             queues, coming = eyes.look(now)
             if now % signals.layout.network["run"]["step"] == 0:
@@ -147,16 +146,13 @@ def main():
     for name in ("network", "places", "arrivals", "folder"):
         parser.add_argument(name, type=Path)
     parser.add_argument("--seed", type=int, default=1)
-    parser.add_argument("--program", default="./signal", help="its words before `decide`; ./signal if left out")
+    parser.add_argument("--program", default=str(PROGRAM), help="its words before `decide`; the built program if left out")
     options = parser.parse_args()
     folder, seed = options.folder, options.seed
     signals = convert(read_network(options.network), read_places(options.places), folder)
     write_routes(signals.layout, options.arrivals, seed, folder / f"routes.{seed}.rou.xml")
     ask = asker(shlex.split(options.program), options.network, folder / "state.csv")
-    try:
-        lines = run_loop(signals, ask, run_words(folder, "loop", seed, signals))
-    except Refusal as line:
-        sys.exit(f"loop: {line}")
+    lines = run_loop(signals, ask, run_words(folder, "loop", seed, signals))
     write_greens(folder / "greens.csv", lines)
     print(outcome(folder, "loop", seed))
     differing = list(differences(folder, "loop", seed, signals, lines))
