@@ -25,66 +25,40 @@ from measures import differences, outcome, run_words
 from to_sumo import convert, element, replayed, rings, write_routes
 
 CONTROLLERS = ("decide", "turns", "actuate", "actuated", "delay_based", "fixed")
+REPORTED = ("turns", "actuate")
 HEADWAY = 2  # seconds between two vehicles of a queue that leaves by one lane
 SAFE = ("collisions", "emergency_stops")
 
 
 def fixed_programs(options, signals, seed):
     """The files of SUMO's plan for the vehicles that come: greens by tlsCycleAdaptation.py, offsets by tlsCoordinator.py."""
-    folder, cycles, offsets = (
-        options.folder,
-        options.folder / f"fixed.{seed}.cycle.xml",
-        options.folder / f"fixed.{seed}.offset.xml",
-    )
-    files = ["-n", folder / "net.net.xml", "-r", folder / f"routes.{seed}.rou.xml"]
+    files = ["-n", options.folder / "net.net.xml", "-r", options.folder / f"routes.{seed}.rou.xml"]
+    cycles, offsets = (options.folder / f"fixed.{seed}.{name}.xml" for name in ("cycle", "offset"))
     # The tool takes the routes for those of one hour.
-    seconds = 1 + max(second for second, _ in vehicles(signals.layout, options.arrivals, seed))
-    bounds = [
-        "--min-cycle",
-        40,
-        "--max-cycle",
-        150,
-        "-u",
-        "-R",
-        "-y",
-        3,
-        "-a",
-        2,
-        "-l",
-        7,
-        "-g",
-        5,
-        "-H",
-        HEADWAY * 3600 / seconds,
-        "-p",
-        "fixed",
-    ]
-    tool(["tlsCycleAdaptation.py", *files, *bounds, "-o", cycles])
+    headway = HEADWAY * 3600 / (1 + max(second for second, _ in vehicles(signals.layout, options.arrivals, seed)))
+    bounds = "--min-cycle 40 --max-cycle 150 --min-green 5 --yellow-time 3 --all-red 2 --lost-time 7 -R -u -p fixed".split()
+    bounds += ["--saturation-headway", headway]
+    tool("tlsCycleAdaptation.py", *files, *bounds, "-o", cycles)
     if len(signals.layout.nodes) == 1:
         return [cycles]
-    tool(["tlsCoordinator.py", *files, "-a", cycles, "-o", offsets])
+    tool("tlsCoordinator.py", *files, "-a", cycles, "-o", offsets)
     return [cycles, offsets]
 
 
-def tool(words):
-    run = subprocess.run(
-        [sys.executable, f"{SUMO_HOME}/tools/{words[0]}", *map(str, words[1:])], capture_output=True, text=True
-    )
+def tool(name, *words):
+    run = subprocess.run([sys.executable, f"{SUMO_HOME}/tools/{name}", *map(str, words)], capture_output=True, text=True)
     if run.returncode:
-        sys.exit(f"{words[0]}: {run.stderr.strip()}")
+        sys.exit(f"{name}: {run.stderr.strip()}")
 
 
 def report_greens(options, command):
-    """The greens of the program's report of a command, which is written beside the runs."""
-    path = options.folder / f"{command}.csv"
-    if not path.exists():
-        run = subprocess.run(
-            [*shlex.split(options.program), command, options.network, options.arrivals], capture_output=True, text=True
-        )
-        if run.returncode:
-            sys.exit(run.stderr.strip())
-        path.write_text(run.stdout)
-    return read_greens(path)
+    """The greens of the program's report of a command."""
+    words = [*shlex.split(options.program), command, options.network, options.arrivals]
+    run = subprocess.run(words, capture_output=True, text=True)
+    if run.returncode:
+        sys.exit(run.stderr.strip())
+    (options.folder / f"{command}.csv").write_text(run.stdout)
+    return read_greens(options.folder / f"{command}.csv")
 
 
 def additional_files(options, signals, name, seed, greens):
@@ -95,14 +69,14 @@ def additional_files(options, signals, name, seed, greens):
     return [path]
 
 
-def one_run(options, signals, task):
+def one_run(options, signals, reports, task):
     """The outcome of a controller with a seed, and the seconds that differ from the greens that were to be shown."""
     name, seed = task
+    greens = reports.get(name)
     if name == "decide":
         ask = asker(shlex.split(options.program), options.network, options.folder / f"state.{seed}.csv")
         greens = run_loop(signals, ask, run_words(options.folder, name, seed, signals))
     else:
-        greens = report_greens(options, name) if name in ("turns", "actuate") else None
         words = run_words(options.folder, name, seed, signals, additional_files(options, signals, name, seed, greens))
         run = subprocess.run(words, capture_output=True, text=True)
         if run.returncode:
@@ -119,7 +93,7 @@ def row_of(name, results):
         spread = statistics.stdev(values) if len(values) > 1 else 0
         cells.append(f"{statistics.mean(values):.1f} ± {spread:.1f}")
     cells += [str(sum(getattr(found, field) for found, _ in results)) for field in SAFE]
-    cells.append(str(sum(differing for _, differing in results)) if name in ("decide", "turns", "actuate") else "")
+    cells.append(str(sum(differing for _, differing in results)) if name in ("decide", *REPORTED) else "")
     return "| " + " | ".join(cells) + " |"
 
 
@@ -136,12 +110,10 @@ def main():
     seeds = range(1, options.seeds + 1)
     for seed in seeds:
         write_routes(signals.layout, options.arrivals, seed, options.folder / f"routes.{seed}.rou.xml")
-    for command in {"turns", "actuate"} & set(options.controllers):
-        (options.folder / f"{command}.csv").unlink(missing_ok=True)
-        report_greens(options, command)
+    reports = {name: report_greens(options, name) for name in REPORTED if name in options.controllers}
     tasks = [(name, seed) for name in options.controllers for seed in seeds]
     with ProcessPoolExecutor(options.jobs) as runs:
-        results = dict(zip(tasks, runs.map(partial(one_run, options, signals), tasks)))
+        results = dict(zip(tasks, runs.map(partial(one_run, options, signals, reports), tasks)))
     print(
         "| signals by | vehicles | arrived | waiting in s | time loss in s | collisions"
         " | emergency stops | seconds that differ |"

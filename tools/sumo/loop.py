@@ -32,8 +32,7 @@ class Loop:
     """The nodes' timelines and forecasts between the rounds, and the queues that have stood so far."""
 
     def __init__(self, signals, ask):
-        self.signals, self.ask = signals, ask
-        self.links = {name: link for name, link in signals.layout.links.items() if "to" in link}
+        self.ask = ask
         self.lines = {name: [(0, 0, node["phase"][0]["least"])] for name, node in signals.layout.nodes.items()}
         self.told, self.stood = [], Counter()
 
@@ -83,7 +82,7 @@ def asker(program, network, state):
     return ask
 
 
-class Eyes:
+class Sensors:
     """SUMO's vehicles on the entry links; one within a junction is at the begin of the link that it comes to."""
 
     def __init__(self, traci, signals):
@@ -122,9 +121,9 @@ def run_loop(signals, ask, words):
     with contextlib.redirect_stdout(sys.stderr):
         traci.start(words, stdout=subprocess.DEVNULL)
     try:
-        loop, eyes = Loop(signals, ask), Eyes(traci, signals)
+        loop, sensors = Loop(signals, ask), Sensors(traci, signals)
         for now in range(signals.layout.seconds):
-            queues, coming = eyes.look(now)
+            queues, coming = sensors.look(now)
             if now % signals.layout.network["run"]["step"] == 0:
                 loop.decide(now, queues, coming)
             loop.see(queues)
