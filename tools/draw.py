@@ -131,7 +131,7 @@ def series_of(rows):
     return series
 
 
-def entered(series, travel, end):
+def entries_of(series, travel, end):
     """What entered a link in each second: what has reached its end has left, or is in the queue."""
     amounts, before = {}, (0, 0)
     for second in range(1, end + 1):
@@ -142,7 +142,7 @@ def entered(series, travel, end):
     return {second - 1: amount for second, amount in amounts.items() if amount > 0}
 
 
-def joined(network, start, end):
+def link_between(network, start, end):
     return next((link for link in network["link"] if link.get("from") == start and link.get("to") == end), None)
 
 
@@ -150,9 +150,9 @@ def street_phase(network, nodes, place, way):
     """The node and phase for those who go the given way along the street, up 1 or down -1; None where nobody does."""
     behind, onward = place - way, place + way
     if 0 <= behind < len(nodes):
-        entry = joined(network, nodes[behind], nodes[place])
+        entry = link_between(network, nodes[behind], nodes[place])
     else:
-        exit = joined(network, nodes[place], nodes[onward])
+        exit = link_between(network, nodes[place], nodes[onward])
         shares = [
             (turn["share"], link["name"])
             for link in network["link"]
@@ -180,10 +180,10 @@ def draw_street(options):
     ways = [(way, place, street_phase(network, nodes, place, way)) for way in (1, -1) for place in range(len(nodes))]
     for way, place, phase in ways:
         onward = place + way
-        link = joined(network, nodes[place], nodes[onward]) if 0 <= onward < len(nodes) else None
+        link = link_between(network, nodes[place], nodes[onward]) if 0 <= onward < len(nodes) else None
         if link is not None:
             amounts = (
-                entered(series[link["name"]], link["travel"], end) if series else edges_of(greens[phase], end, link["sat"])
+                entries_of(series[link["name"]], link["travel"], end) if series else edges_of(greens[phase], end, link["sat"])
             )
             draw_platoons(chart, amounts, (heights[place], heights[onward]), link, COLOURS[0 if way == 1 else 1])
     for way, place, phase in ways:

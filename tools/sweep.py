@@ -38,7 +38,7 @@ def rates_of(path):
     return {link: amount / 1000 / seconds for link, amount in amounts.items()}, seconds
 
 
-def drawn(rates, seconds, demand, seed):
+def draw_arrivals(rates, seconds, demand, seed):
     """A file of arrivals at a demand, the same for the same seed."""
     draw, rows = random.Random(f"{demand} {seed}"), ["second,link,amount"]
     for second, (link, rate) in itertools.product(range(min(seconds, SECONDS)), rates.items()):
@@ -52,7 +52,7 @@ def delay(options, rates, seconds, run):
     demand, seed, command = run
     with tempfile.TemporaryDirectory() as place:
         arrivals = Path(place) / "arrivals.csv"
-        arrivals.write_text(drawn(rates, seconds, demand, seed))
+        arrivals.write_text(draw_arrivals(rates, seconds, demand, seed))
         answer = subprocess.run([options.program, command, options.network, arrivals], capture_output=True, text=True)
     if answer.returncode:
         raise RuntimeError(f"{command} at {demand} with seed {seed}: {answer.stderr.strip()}")

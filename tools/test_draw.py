@@ -36,8 +36,8 @@ class DrawTest(unittest.TestCase):
 
     def test_what_entered(self):
         series = draw.series_of(csv.DictReader(io.StringIO(QUEUES)))
-        self.assertEqual(draw.entered(series["sa"], 10, 20), {0: 1000})
-        self.assertEqual(draw.entered(series["ab"], 10, 20), {17: 500, 18: 500})
+        self.assertEqual(draw.entries_of(series["sa"], 10, 20), {0: 1000})
+        self.assertEqual(draw.entries_of(series["ab"], 10, 20), {17: 500, 18: 500})
 
     def test_greens(self):
         text = draw.draw_greens(Namespace(network=EXAMPLES / "corridor.toml", report=self.file(REPORT)))

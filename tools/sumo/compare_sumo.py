@@ -22,7 +22,7 @@ from pathlib import Path
 from layout import PROGRAM, SUMO_HOME, read_greens, read_network, read_places, vehicles
 from loop import asker, run_loop
 from measures import differences, outcome, run_words
-from to_sumo import convert, element, replayed, rings, write_routes
+from to_sumo import convert, element, report_programs, rings, write_routes
 
 CONTROLLERS = ("decide", "turns", "actuate", "actuated", "delay_based", "fixed")
 REPORTED = ("turns", "actuate")
@@ -65,7 +65,7 @@ def additional_files(options, signals, name, seed, greens):
     if name == "fixed":
         return fixed_programs(options, signals, seed)
     path = options.folder / f"{name}.add.{seed}.xml"
-    path.write_text(element("additional", "\n" + (replayed(signals, greens) if greens else rings(signals, name))))
+    path.write_text(element("additional", "\n" + (report_programs(signals, greens) if greens else rings(signals, name))))
     return [path]
 
 

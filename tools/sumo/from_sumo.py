@@ -231,7 +231,7 @@ def write_draft(draft, folder):
         rows.writerows(["link", links[key], ";".join(draft.links[key]["lanes"])] for key in links)
 
 
-def replayed(nodes, folder, greens):
+def report_programs(nodes, folder, greens):
     """Programs of SUMO's own network that show the greens of a report."""
     network = read_network(folder / "net.toml")
     with open(folder / "names.csv", newline="") as file:
@@ -271,7 +271,7 @@ def main():
     if draft.left_out:
         print(f"{draft.left_out} vehicles start between two signals or pass none, and are left out", file=sys.stderr)
     if options.report:
-        (options.folder / "report.add.xml").write_text(replayed(nodes, options.folder, read_greens(options.report)))
+        (options.folder / "report.add.xml").write_text(report_programs(nodes, options.folder, read_greens(options.report)))
 
 
 if __name__ == "__main__":

@@ -226,7 +226,7 @@ class Signals:
         """What the signal of a node shows in a second under rows of greens (phase, from, to)."""
         return state_at(self.layout.nodes[node]["phase"], self.green[node], rows, second)
 
-    def undeclared(self):
+    def undeclared_crossings(self):
         """Pairs of links whose lanes cross and which are no conflict of the network, each with its node."""
         declared = {frozenset((pair["a"], pair["b"])) for pair in self.layout.network.get("conflict", [])}
         for node in self.layout.nodes:

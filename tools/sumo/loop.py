@@ -48,7 +48,7 @@ class Loop:
             rows += [("green", node, *row) for row in line[standing:]]
         rows += [("queue", link, VEHICLE * queue, self.stood[link], "") for link, queue in queues.items()]
         rows += [("coming", link, second, VEHICLE * count, "") for (link, second), count in sorted(coming.items())]
-        return written([("kind", "name", "x", "y", "z"), *rows, *self.told])
+        return csv_text([("kind", "name", "x", "y", "z"), *rows, *self.told])
 
     def decide(self, now, queues, coming):
         """Asks the program for a round; its greens go on where the rows that began before them end."""
@@ -63,7 +63,7 @@ class Loop:
             self.lines[node] = [row for row in self.lines[node] if row[1] < line[0][1]] + line
 
 
-def written(rows):
+def csv_text(rows):
     text = io.StringIO()
     csv.writer(text, lineterminator="\n").writerows(rows)
     return text.getvalue()
@@ -137,7 +137,7 @@ def run_loop(signals, ask, words):
 
 def write_greens(path, lines):
     rows = [("green", "", node, *row, "") for node, line in lines.items() for row in line]
-    path.write_text(written([("kind", "round", "node", "x", "y", "z", "w"), *rows]))
+    path.write_text(csv_text([("kind", "round", "node", "x", "y", "z", "w"), *rows]))
 
 
 def main():

@@ -11,7 +11,7 @@ from pathlib import Path
 from layout import Layout, read_network, read_places, state_at
 from loop import Loop, run_loop
 from measures import differences, outcome, run_words
-from to_sumo import convert, element, replayed, write_routes
+from to_sumo import convert, element, report_programs, write_routes
 
 HERE = Path(__file__).resolve().parent
 EXAMPLES = HERE.parents[1] / "examples"
@@ -23,7 +23,7 @@ GREENS = {
 }
 
 
-def rotating(state):
+def ring_answer(state):
     """An answer that gives each signal of a state its ring with greens of 10 seconds."""
     rows = [line.split(",") for line in state.splitlines()]
     now, lines = int(rows[1][2]), {}
@@ -56,7 +56,7 @@ class LayoutTest(unittest.TestCase):
 
     def test_a_state(self):
         signals = type("Stub", (), {"layout": Layout(CORRIDOR)})
-        loop = Loop(signals, rotating)
+        loop = Loop(signals, ring_answer)
         loop.decide(0, Counter(), Counter())
         loop.see(["west_in"])
         lines = loop.state(5, Counter(west_in=2), Counter({("east_in", 9): 1})).splitlines()
@@ -78,17 +78,17 @@ class SumoTest(unittest.TestCase):
         return signals
 
     def test_crossings_of_the_examples_are_declared(self):
-        self.assertEqual(list(self.corridor().undeclared()), [])
+        self.assertEqual(list(self.corridor().undeclared_crossings()), [])
         junction = convert(read_network(EXAMPLES / "junction.toml"), read_places(HERE / "places_junction.csv"), self.folder)
-        self.assertEqual(list(junction.undeclared()), [])
+        self.assertEqual(list(junction.undeclared_crossings()), [])
 
     def test_a_crossing_that_is_not_declared(self):
         network = dict(CORRIDOR, conflict=CORRIDOR["conflict"][1:])
-        self.assertEqual(list(convert(network, None, self.folder).undeclared()), [("first", "side_first", "west_in")])
+        self.assertEqual(list(convert(network, None, self.folder).undeclared_crossings()), [("first", "side_first", "west_in")])
 
     def test_greens_replayed(self):
         signals = self.corridor()
-        (self.folder / "report.add.xml").write_text(element("additional", replayed(signals, GREENS)))
+        (self.folder / "report.add.xml").write_text(element("additional", report_programs(signals, GREENS)))
         words = run_words(self.folder, "replay", 1, signals, [self.folder / "report.add.xml"])
         subprocess.run(words, check=True, capture_output=True)
         self.assertEqual(list(differences(self.folder, "replay", 1, signals, GREENS)), [])
@@ -99,7 +99,7 @@ class SumoTest(unittest.TestCase):
 
     def test_greens_in_the_loop(self):
         signals = self.corridor()
-        lines = run_loop(signals, rotating, run_words(self.folder, "loop", 1, signals))
+        lines = run_loop(signals, ring_answer, run_words(self.folder, "loop", 1, signals))
         self.assertEqual(list(differences(self.folder, "loop", 1, signals, lines)), [])
         self.assertEqual(lines["first"][:3], [(0, 0, 5), (1, 10, 20), (0, 25, 35)])
 

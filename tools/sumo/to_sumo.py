@@ -106,7 +106,7 @@ def rings(signals, kind):
     return "".join(program(node, kind, ring(signals, node, kind), kind) for node in signals.layout.nodes)
 
 
-def replayed(signals, greens):
+def report_programs(signals, greens):
     """Programs that show the greens of a report second by second."""
     found = ""
     for node in signals.layout.nodes:
@@ -156,12 +156,12 @@ def main():
     parser.add_argument("--report", type=Path)
     options = parser.parse_args()
     signals = convert(read_network(options.network), read_places(options.places), options.folder)
-    for node, one, other in signals.undeclared():
+    for node, one, other in signals.undeclared_crossings():
         print(f"{node}: {one} and {other} cross, and are in no conflict", file=sys.stderr)
     if options.arrivals:
         write_routes(signals.layout, options.arrivals, options.seed, options.folder / f"routes.{options.seed}.rou.xml")
     if options.report:
-        programs = replayed(signals, read_greens(options.report))
+        programs = report_programs(signals, read_greens(options.report))
         (options.folder / "report.add.xml").write_text(element("additional", "\n" + programs))
 
 
