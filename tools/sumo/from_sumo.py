@@ -23,7 +23,7 @@ from collections import Counter, defaultdict
 from pathlib import Path
 
 from layout import LANE_SAT, Junctions, read_greens, read_network, state_at
-from to_sumo import element, program
+from to_sumo import element, report_program
 
 SHORT = 5  # seconds: a green that is shorter is part of a change
 MOST_TRAVEL, MOST_LINKS, MOST_GREEN, MOST_ROUNDS, STEP = 120, 16, 240, 600, 5
@@ -241,7 +241,7 @@ def report_programs(nodes, folder, greens):
         node = nodes[names[plan["name"]]]
         shown = [node.states[phase][1] for phase in node.phases]
         states = (state_at(plan["phase"], shown, greens[plan["name"]], second) for second in range(end + 1))
-        found += program(node.name, "report", [(len(list(group)), state, None) for state, group in itertools.groupby(states)])
+        found += report_program(node.name, states)
     return element("additional", "\n" + found)
 
 

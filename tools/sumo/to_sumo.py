@@ -82,14 +82,18 @@ def netconvert(folder, *words):
         sys.exit(f"netconvert: {run.stderr.strip()}")
 
 
-def program(node, name, spans, kind="static", settings=()):
+def program(node, name, spans, kind="static"):
     """A signal program of SUMO, of spans: seconds, a state, and the least and greatest length that SUMO may give it."""
     phases = "".join(
         element("phase", duration=seconds, state=state, **({"minDur": bounds[0], "maxDur": bounds[1]} if bounds else {}))
         for seconds, state, bounds in spans
     )
-    settings = "".join(element("param", key=key, value=value) for key, value in settings)
-    return element("tlLogic", "\n" + settings + phases, id=node, type=kind, programID=name, offset=0)
+    return element("tlLogic", "\n" + phases, id=node, type=kind, programID=name, offset=0)
+
+
+def report_program(node, states):
+    """A program that shows given states, one each second."""
+    return program(node, "report", [(len(list(group)), state, None) for state, group in itertools.groupby(states)])
 
 
 def ring(signals, node, kind="static"):
@@ -108,12 +112,10 @@ def rings(signals, kind):
 
 def report_programs(signals, greens):
     """Programs that show the greens of a report second by second."""
-    found = ""
-    for node in signals.layout.nodes:
-        states = (signals.at(node, greens[node], second) for second in range(signals.layout.seconds + 1))
-        spans = [(len(list(group)), state, None) for state, group in itertools.groupby(states)]
-        found += program(node, "report", spans)
-    return found
+    seconds = range(signals.layout.seconds + 1)
+    return "".join(
+        report_program(node, (signals.at(node, greens[node], second) for second in seconds)) for node in signals.layout.nodes
+    )
 
 
 def write_routes(layout, arrivals, seed, path):
