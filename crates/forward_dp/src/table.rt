@@ -21,6 +21,9 @@ use switch_rules::ways;
 /// The greatest capacity for rows from the start.
 const MOST_CAPACITY: u32 = 32_768;
 
+/// The greatest step of a search, in rows.
+const MOST_STEP: usize = 65_535;
+
 /// Makes the whole table out of no rows: a row for each key that a fit prefix reaches. Where there is a limit, which
 /// is the delay of a feasible sequence, only with what is within it.
 pub(crate) fn table<L: Ledger>(
@@ -234,17 +237,20 @@ pub(crate) fn cell(rows: &[Row], from: usize, counts: &[u8; 4]) -> (usize, usize
     (start, first_from(rows, start, number + 1))
 }
 
-/// The first place, from one on, of a row whose counts have at least this number, by halves.
+/// The first place, from one on, of a row whose counts have at least this number. It is mostly near, and so looked for in
+/// steps that double, and then by halves.
 fn first_from(rows: &[Row], from: usize, least: u32) -> usize
     requires { from ≤ length rows.now }
     ensures { IsFrom rows.now from least result }
 {
     let mut low = from;
     let mut high = rows.len();
+    let mut step = 0;
     while low < high {
-        let middle = low + (high - low) / 2;
+        let middle = low + ((high - low) / 2).min(step);
         if number(&rows[middle].entry.counts) < least {
             low = middle + 1;
+            step = (step * 2 + 1).min(MOST_STEP);
         } else {
             high = middle;
         }

@@ -9,6 +9,7 @@ invariant-loop-low l = record {
   span : l.low ≤ l.high;
   within : l.high ≤ length l.rows;
   below : l.from < l.low → counts_number_at l.rows (l.low - 1) < l.least;
+  short : l.step ≤ 65535;
   here : l.high < length l.rows → l.least ≤ counts_number_at l.rows l.high;
 }
 
