@@ -1,10 +1,10 @@
 -- A layer out of the one before, by its pieces; and all layers as the whole table.
 use Rattle.std.specs.Prelude.{option_and_then, MatchResult}
 use Rattle.std.specs.List.{AllZip, range_with_len}
-use Rattle.std.proofs.Common.{◌≡◌, ℕ, zero, suc, ◌+◌, ◌-◌, ◌*◌, ◌/◌, ◌<◌, ◌≤◌, ◌⊎◌, List, [], ◌∷◌, ◌++◌, length, get_or, map, sum, take, drop, All, Contains, Option, Some, None, Result, Ok, Err, IfOk, IfSome, refl, sym, ap, subst, ◌∙◌, inl, inr, length-append, arith}
+use Rattle.std.proofs.Common.{◌≡◌, ℕ, zero, suc, ◌+◌, ◌-◌, ◌*◌, ◌/◌, ◌<◌, ◌≤◌, List, [], ◌∷◌, ◌++◌, length, get_or, map, sum, take, drop, All, Contains, Option, Some, None, Result, Ok, Err, IfOk, IfSome, refl, sym, ap, subst, ◌∙◌, inl, inr, length-append, arith}
 use Rattle.std.proofs.Math.Nat.{div-mul-le_self, lt-div-mul-add, mul-le-mul_right}
 use Rattle.std.proofs.lemmas.Bool.{cases_eq, cases_lt}
-use Rattle.std.proofs.lemmas.List.{get_or_default, take_all}
+use Rattle.std.proofs.lemmas.List.{get_or-append_right, get_or_append_left, get_or_default}
 use Rattle.std.proofs.lemmas.List.Elements.{All-contains, All-weaker, Contains-append_cases, Contains-append_left, Contains-append_right, Contains-get_or}
 use Rattle.schedule_meaning.specs.Instances.{Problem, IsInstance, counts_of}
 use Rattle.dp_certificate.specs.Certificates.{AreRising, IsEntry}
@@ -16,7 +16,7 @@ use Rattle.dp_certificate.proofs.Stages.{some-same, stage-alike, stage-push}
 use Rattle.forward_dp.proofs.Bounds.{stage-bounds, stage-few}
 use Rattle.forward_dp.proofs.RowLaws.{ends-by, entry-stage}
 use Rattle.forward_dp.proofs.Wholes.{entry-bounds}
-use Rattle.parallel_dp.specs.Pieces.{AreLeastOf, AreNextOfPieces, IsJoinOf, IsJoinOfAll, IsLayer, IsLed, IsLedWithin, IsNextOf, IsOf, IsOfEither, IsReachedFrom, piece_of}
+use Rattle.parallel_dp.specs.Pieces.{AreNextOfPieces, IsJoinOf, IsJoinOfAll, IsLayer, IsLed, IsNextOf, IsOf, IsOfEither, IsReachedFrom, piece_of}
 
 -- ---- several lists as one
 
@@ -194,44 +194,62 @@ module _ (p : Problem) (lawful : IsInstance p) where
         record { entry = there.entry; among = there.among; key_is = there.key_is; delay = omega (arith, there.delay, has.delay, one.1) };
   }
 
-  -- the first layers together
-  pub first-within : (layer : List Entry) → IsLayer p 0 layer → AreLeastOf (IsLedWithin p 0) layer
-  first-within layer is = record {
-    rising = is.rising;
-    each = All-weaker (IsOf (IsLed p 0)) (IsOf (IsLedWithin p 0)) (λ e o. record { stage = o.stage; holds = record { prefix = o.holds.prefix; few = omega (arith, o.holds.long); leads = o.holds.leads }; key = o.key; delay = o.delay }) layer is.each;
-    all = λ s l. is.all s (record { prefix = l.prefix; long = omega (arith, l.few); leads = l.leads });
-  }
+-- the layers of fewer servings than these, one after the other
+pub record AreLayers (p : Problem) (n : ℕ) (lists : List (List Entry)) : Type 0 where
+  pub long : length lists ≡ n
+  pub each : (k : ℕ) → k < n → IsLayer p k (get_or lists k [])
 
-  pub more-within : (n : ℕ) (whole layer joined : List Entry) → AreLeastOf (IsLedWithin p n) whole → IsLayer p (n + 1) layer → IsJoinOf whole layer joined → AreLeastOf (IsLedWithin p (n + 1)) joined
-  more-within n whole layer joined so is join = record {
-    rising = join.rising;
-    each = All-weaker (IsOfEither whole layer) (IsOf (IsLedWithin p (n + 1))) from joined join.each;
-    all = λ s l. elim (cases_eq (length l.prefix) (n + 1)) [
-      | inl last ↦ on s (is.all s (record { prefix = l.prefix; long = last; leads = l.leads })) (λ x h. inr h)
-      | inr other ↦ on s (so.all s (record { prefix = l.prefix; few = omega (arith, l.few); leads = l.leads })) (λ x h. inl h)
-    ];
-  }
-    where
-      from : (e : Entry) → IsOfEither whole layer e → IsOf (IsLedWithin p (n + 1)) e
-      from e (inl h) = (let o = All-contains (IsOf (IsLedWithin p n)) whole e so.each h in record { stage = o.stage; holds = record { prefix = o.holds.prefix; few = omega (arith, o.holds.few); leads = o.holds.leads }; key = o.key; delay = o.delay })
-      from e (inr h) = (let o = All-contains (IsOf (IsLed p (n + 1))) layer e is.each h in record { stage = o.stage; holds = record { prefix = o.holds.prefix; few = omega (arith, o.holds.long); leads = o.holds.leads }; key = o.key; delay = o.delay })
+pub no-layers : (p : Problem) → AreLayers p 0 []
+no-layers p = record { long = refl; each = λ k less. absurd (omega arith) }
 
-      on : (s : Stage) {zs : List Entry} → HasEntry zs (key_of s) s.delay → ((x : Entry) → Contains zs x → IsOfEither whole layer x) → HasEntry joined (key_of s) s.delay
-      on s h f = (let there = join.all h.entry (f h.entry h.among) in record { entry = there.entry; among = there.among; key_is = there.key_is ∙ h.key_is; delay = omega (arith, there.delay, h.delay) })
+pub more-layers : (p : Problem) (n : ℕ) (lists : List (List Entry)) (layer : List Entry) → AreLayers p n lists → IsLayer p n layer → AreLayers p (n + 1) (lists ++ layer ∷ [])
+more-layers p n lists layer are is = record {
+  long = omega (arith, length-append lists (layer ∷ []), are.long);
+  each = λ k less. elim (cases_eq k n) [
+    | inl last ↦ subst (IsLayer p k) (sym (get_or-append_right lists (layer ∷ []) n k [] are.long (omega arith) ∙ ap (λ m. get_or (layer ∷ []) m []) (let z : k - n ≡ 0 = omega arith in z))) (subst (λ m. IsLayer p m layer) (sym last) is)
+    | inr other ↦ subst (IsLayer p k) (sym (get_or_append_left lists (layer ∷ []) [] k (omega (arith, are.long)))) (are.each k (omega arith))
+  ];
+}
 
-  pub whole-within : (n : ℕ) (whole : List Entry) → sum (counts_of p.lists) ≤ n → AreLeastOf (IsLedWithin p n) whole → IsWhole p whole
-  whole-within n whole enough so = record {
-    rising = so.rising;
-    each = All-weaker (IsOf (IsLedWithin p n)) (IsOfPrefix p) (λ e o. record { prefix = o.holds.prefix; stage = o.stage; leads = o.holds.leads; key = o.key; delay = o.delay }) whole so.each;
-    all = λ u. if-each (λ s. HasEntry whole (key_of s) s.delay) (stage_of p u) (λ s e. so.all s (record { prefix = u; few = omega (arith, stage-few p lawful (length u) s (stage-bounds p lawful u s e)); leads = e }));
-  }
-    where
-      if-each : {X : Type 0} (P : X → Type 0) (o : Option X) → ((x : X) → o ≡ Some x → P x) → IfSome o P
-      if-each P None h = tt
-      if-each P (Some x) h = h x refl
+pub layers-rise : (p : Problem) (n : ℕ) (lists : List (List Entry)) → AreLayers p n lists → All AreRising lists
+layers-rise p n lists are k d inside = subst AreRising (get_or_default lists k [] d inside) (are.each k (omega (arith, inside, are.long))).rising
+
+-- the layers of all servings together are the whole table
+pub layers-whole : (p : Problem) → IsInstance p → (n : ℕ) (lists : List (List Entry)) (joined : List Entry) → sum (counts_of p.lists) < n → AreLayers p n lists → IsJoinOfAll lists joined → IsWhole p joined
+layers-whole p lawful n lists joined enough are join = record {
+  rising = join.rising;
+  each = All-weaker (λ e. (list : List Entry) × Contains lists list × Contains list e) (IsOfPrefix p) (λ e o. from e o.0 o.1 o.2) joined join.each;
+  all = λ u. if-each (λ s. HasEntry joined (key_of s) s.delay) (stage_of p u) (has u);
+}
+  where
+    if-each : {X : Type 0} (P : X → Type 0) (o : Option X) → ((x : X) → o ≡ Some x → P x) → IfSome o P
+    if-each P None h = tt
+    if-each P (Some x) h = h x refl
+
+    from : (e : Entry) (list : List Entry) → Contains lists list → Contains list e → IsOfPrefix p e
+    from e list among there =
+        let k = among.0 in
+        let same : get_or lists k [] ≡ list = get_or_default lists k [] list among.1 ∙ among.2 in
+        let o = All-contains (IsOf (IsLed p k)) (get_or lists k []) e (are.each k (omega (arith, among.1, are.long))).each (subst (λ xs. Contains xs e) (sym same) there) in
+        record { prefix = o.holds.prefix; stage = o.stage; leads = o.holds.leads; key = o.key; delay = o.delay }
+
+    has : (u : List ℕ) (s : Stage) → stage_of p u ≡ Some s → HasEntry joined (key_of s) s.delay
+    has u s e =
+        let k = length u in
+        let few : k < n = omega (arith, enough, stage-few p lawful k s (stage-bounds p lawful u s e)) in
+        let there = (are.each k few).all s (record { prefix = u; long = refl; leads = e }) in
+        let h = join.all (get_or lists k []) there.entry (Contains-get_or lists k [] (omega (arith, few, are.long))) there.among in
+        record { entry = h.entry; among = h.among; key_is = h.key_is ∙ there.key_is; delay = omega (arith, h.delay, there.delay) }
 
 -- a list of one list
 pub one-list : (lists : List (List Entry)) (d : List Entry) → 1 ≤ length lists → length lists < 2 → All AreRising lists → IsJoinOfAll lists (get_or lists 0 d)
 one-list [] d some few rising = absurd (omega arith)
 one-list (xs ∷ []) d some few rising = one-all xs (rising 0 xs (omega arith))
 one-list (xs ∷ ys ∷ lists) d some few rising = absurd (omega arith)
+
+-- and of two
+pub two-lists : (lists : List (List Entry)) (d : List Entry) (j : List Entry) → 2 ≤ length lists → length lists < 3 → All AreRising lists → IsJoinOf (get_or lists 0 d) (get_or lists 1 d) j → IsJoinOfAll lists j
+two-lists [] d j some few rising join = absurd (omega arith)
+two-lists (xs ∷ []) d j some few rising join = absurd (omega arith)
+two-lists (xs ∷ ys ∷ []) d j some few rising join = both-all (xs ∷ []) (ys ∷ []) xs ys j (one-all xs (rising 0 xs (omega arith))) (one-all ys (rising 1 ys (omega arith))) join
+two-lists (xs ∷ ys ∷ zs ∷ lists) d j some few rising join = absurd (omega arith)

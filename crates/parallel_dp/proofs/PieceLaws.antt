@@ -1,9 +1,10 @@
 -- The joined successors of two lists are the successors of both.
-use Rattle.std.proofs.Common.{◌≡◌, ℕ, ◌+◌, ◌≤◌, ◌⊎◌, ◌++◌, List, All, Some, inl, inr, sym, ◌∙◌, arith}
+use Rattle.std.proofs.Common.{◌≡◌, ℕ, ◌≤◌, ◌⊎◌, ◌++◌, List, Option, Some, IfSome, inl, inr, subst, sym, ◌∙◌, arith}
 use Rattle.std.specs.Prelude.{Contains}
 use Rattle.std.proofs.lemmas.List.Elements.{All-contains, All-weaker, Contains-append_left, Contains-append_right, Contains-append_cases}
 use Rattle.schedule_meaning.specs.Instances.{Problem}
-use Rattle.dp_certificate.specs.Prefixes.{Stage, Key, key_of}
+use Rattle.dp_certificate.specs.Prefixes.{Stage, Key, key_of, stage_of}
+use Rattle.dp_certificate.specs.Whole.{IsOfPrefix, IsWhole}
 use Rattle.dp_certificate.specs.Proves.{HasEntry, key_of_entry}
 use Rattle.dp_certificate.specs.declared.Entry.{Entry}
 use Rattle.parallel_dp.specs.Pieces.{AreLeastOf, IsJoinOf, IsNextOf, IsOf, IsReachedFrom}
@@ -50,3 +51,21 @@ least-covers Holds one other a b e among =
 -- There is one list of them.
 pub only-least : (Holds : Stage → Type 0) (one other : List Entry) → AreLeastOf Holds one → AreLeastOf Holds other → one ≡ other
 only-least Holds one other a b = same-by-cover one other a.rising b.rising (least-covers Holds one other a b) (least-covers Holds other one b a)
+
+-- a fit prefix leads to this stage
+abbrev IsLedBy : Problem → Stage → Type 0
+IsLedBy p s = (u : List ℕ) × (stage_of p u ≡ Some s)
+
+if-some : {X : Type 0} (P : X → Type 0) {o : Option X} {x : X} → o ≡ Some x → IfSome o P → P x
+if-some P e h = subst (λ o. IfSome o P) e h
+
+least-whole : (p : Problem) (entries : List Entry) → IsWhole p entries → AreLeastOf (IsLedBy p) entries
+least-whole p entries whole = record {
+  rising = whole.rising;
+  each = All-weaker (IsOfPrefix p) (IsOf (IsLedBy p)) (λ e o. record { stage = o.stage; holds = (o.prefix, o.leads); key = o.key; delay = o.delay }) entries whole.each;
+  all = λ s h. if-some (λ t. HasEntry entries (key_of t) t.delay) h.1 (whole.all h.0);
+}
+
+-- There is one whole table.
+pub only-whole : (p : Problem) (one other : List Entry) → IsWhole p one → IsWhole p other → one ≡ other
+only-whole p one other a b = only-least (IsLedBy p) one other (least-whole p one a) (least-whole p other b)

@@ -1,5 +1,5 @@
 -- Entries that rise: by pairs, by front and rest, and that the same entries rise in one way.
-use Rattle.std.proofs.Common.{◌≡◌, ℕ, zero, suc, ◌+◌, ◌-◌, ◌<◌, ◌≤◌, List, [], ◌∷◌, ◌++◌, length, length-append, get_or, All, AllPairs, Contains, refl, sym, ap, subst, ◌∙◌, inl, inr, add-one, arith}
+use Rattle.std.proofs.Common.{◌≡◌, ℕ, zero, suc, ◌+◌, List, [], ◌∷◌, ◌++◌, length, length-append, get_or, All, AllPairs, Contains, refl, sym, ap, subst, ◌∙◌, inl, inr, arith}
 use Rattle.std.proofs.lemmas.Bool.{cases_eq, cases_lt}
 use Rattle.std.proofs.lemmas.List.{get_or_default}
 use Rattle.std.proofs.lemmas.List.Quantifiers.{all_pairs_push}
@@ -7,11 +7,8 @@ use Rattle.dp_certificate.specs.Certificates.{AreRising, IsBefore, digits_of, en
 use Rattle.dp_certificate.specs.Prefixes.{Key}
 use Rattle.dp_certificate.specs.Proves.{HasEntry, key_of_entry}
 use Rattle.dp_certificate.specs.declared.Entry.{Entry}
+use Rattle.parallel_dp.specs.Joins.{Precedes}
 use Rattle.dp_certificate.proofs.KeyPlaces.{before-both, before-itself, digits_of_key, rise-far}
-
--- the key of an entry is before that of another
-abbrev pub Precedes : Entry → Entry → Type 0
-Precedes a b = IsBefore (digits_of a) (digits_of b)
 
 pub precedes-both : (a b c : Entry) → Precedes a b → Precedes b c → Precedes a c
 precedes-both a b c x y = before-both (digits_of a) (digits_of b) (digits_of c) x y

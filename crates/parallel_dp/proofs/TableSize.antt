@@ -1,10 +1,10 @@
 -- A whole table has few entries, since it is one of rows; and with the best answer it is a certificate.
-use Rattle.std.proofs.Common.{◌≡◌, ℕ, zero, suc, ◌+◌, ◌*◌, ◌<◌, ◌≤◌, List, [], ◌∷◌, ◌++◌, length, get_or, map, All, AllPairs, Option, Some, None, IfSome, refl, sym, ap, subst, ◌∙◌, inl, inr, arith}
+use Rattle.std.proofs.Common.{◌≡◌, ℕ, zero, suc, ◌+◌, ◌*◌, ◌<◌, ◌≤◌, List, [], ◌∷◌, ◌++◌, length, get_or, map, All, Option, Some, None, IfSome, refl, sym, ap, subst, ◌∙◌, inl, inr, arith}
 use Rattle.std.proofs.lemmas.List.{get_or-map, length-map}
 use Rattle.schedule_meaning.specs.Best.{IsBest}
 use Rattle.schedule_meaning.specs.Instances.{Problem, IsInstance}
 use Rattle.schedule_meaning.specs.declared.planners.Answer.{Answer}
-use Rattle.dp_certificate.specs.Certificates.{AreRising, IsBefore, digits_of}
+use Rattle.dp_certificate.specs.Certificates.{IsBefore}
 use Rattle.dp_certificate.specs.Limits.{IsLimited}
 use Rattle.dp_certificate.specs.Prefixes.{Stage, key_of, stage_of}
 use Rattle.dp_certificate.specs.Proves.{HasEntry, stage_of_entry}
@@ -13,11 +13,12 @@ use Rattle.dp_certificate.specs.declared.Entry.{Entry}
 use Rattle.forward_dp.proofs.Few.{rows-few}
 use Rattle.forward_dp.proofs.RowLaws.{IsLed, four, led}
 use Rattle.forward_dp.proofs.Wholes.{AreParts}
-use Rattle.forward_dp.specs.Numbers.{counts_number, order_number}
+use Rattle.forward_dp.specs.Numbers.{order_number}
 use Rattle.forward_dp.specs.Tables.{AreRows, IsReached, row_number}
 use Rattle.forward_dp.specs.declared.rows.Row.{Row}
 use Rattle.parallel_dp.proofs.LayerLaws.{stage-here}
-use Rattle.parallel_dp.proofs.Rising.{Precedes, rising-pairs}
+use Rattle.parallel_dp.proofs.Rising.{rising-pairs}
+use Rattle.parallel_dp.specs.Joins.{Precedes}
 
 -- the rows of entries
 abbrev rows_of : (p : Problem) (entries : List Entry) → All (IsOfPrefix p) entries → List Row

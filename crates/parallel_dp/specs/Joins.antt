@@ -1,25 +1,33 @@
 -- No public clause names these: how far two lists are joined.
-use Rattle.std.specs.Prelude.{◌≡◌, ℕ, ◌+◌, ◌<◌, ◌≤◌, ◌⊎◌, List, length}
-use Rattle.dp_certificate.specs.Certificates.{IsBefore, digits_of, entry_at}
-use Rattle.dp_certificate.specs.Proves.{key_of_entry}
+use Rattle.std.specs.Prelude.{ℕ, ◌<◌, ◌≤◌, List, length, take, All}
+use Rattle.dp_certificate.specs.Certificates.{AreRising, IsBefore, digits_of, entry_at}
+use Rattle.dp_certificate.specs.Proves.{HasEntry, key_of_entry}
 use Rattle.dp_certificate.specs.declared.Entry.{Entry}
 use Rattle.parallel_dp.specs.Pieces.{IsOfEither}
 
--- the entry at a place has the key of this one and no less delay
-pub record IsTaken (entries : List Entry) (place : ℕ) (e : Entry) (after : ℕ) : Type 0 where
-  pub inside : place < length entries
-  pub passed : after ≡ place + 1
-  pub key : key_of_entry e ≡ key_of_entry (entry_at entries place)
-  pub delay : e.delay ≤ (entry_at entries place).delay
+-- the key of an entry is before that of another
+abbrev pub Precedes : Entry → Entry → Type 0
+Precedes a b = IsBefore (digits_of a) (digits_of b)
 
--- the entry at a place, where there is one, has a later key
-pub record IsLeft (entries : List Entry) (place : ℕ) (e : Entry) (after : ℕ) : Type 0 where
-  pub stays : after ≡ place
-  pub later : place < length entries → IsBefore (digits_of e) (digits_of (entry_at entries place))
+-- an entry has one in a list with its key and no more delay
+abbrev pub IsCoveredBy : List Entry → Entry → Type 0
+IsCoveredBy joined e = HasEntry joined (key_of_entry e) e.delay
 
--- of what is left of two lists this entry is the first, and these are the places after it
-pub record IsFirstOfBoth (a b : List Entry) (left right : ℕ) (e : Entry) (after_left after_right : ℕ) : Type 0 where
-  pub among : IsOfEither a b e
-  pub first : IsTaken a left e after_left ⊎ IsLeft a left e after_left
-  pub second : IsTaken b right e after_right ⊎ IsLeft b right e after_right
-  pub goes_on : left + right < after_left + after_right
+-- of one list, the entries before a place are joined, and what is joined has keys before the entry there
+pub record IsJoinedTo (entries joined : List Entry) (place : ℕ) : Type 0 where
+  pub within : place ≤ length entries
+  pub covered : All (IsCoveredBy joined) (take place entries)
+  pub below : place < length entries → All (λ x. Precedes x (entry_at entries place)) joined
+
+-- how far two lists are joined
+pub record IsJoining (a b : List Entry) (left right : ℕ) (joined : List Entry) : Type 0 where
+  pub rising : AreRising joined
+  pub each : All (IsOfEither a b) joined
+  pub first : IsJoinedTo a joined left
+  pub second : IsJoinedTo b joined right
+
+-- here, after this place, the entries before a key end
+pub record EndsBefore (entries : List Entry) (place : ℕ) (key : Entry) (end : ℕ) : Type 0 where
+  pub past : place < end
+  pub within : end ≤ length entries
+  pub before : (k : ℕ) → k < end → Precedes (entry_at entries k) key

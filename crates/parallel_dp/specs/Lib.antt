@@ -1,4 +1,5 @@
 pub mod Joins
+pub mod Next
 pub mod Pieces
 pub use Rattle.dp_certificate.specs.Certificates
 pub use Rattle.schedule_meaning.specs.Instances

@@ -1,5 +1,5 @@
 -- What is reached from entries by one serving each, and what lists of such entries are together.
-use Rattle.std.specs.Prelude.{◌≡◌, ℕ, ◌*◌, ◌<◌, ◌≤◌, ◌⊎◌, List, [], length, take, drop, slice_index_or, All, Contains, Some}
+use Rattle.std.specs.Prelude.{◌≡◌, ℕ, ◌*◌, ◌<◌, ◌⊎◌, List, [], length, take, drop, slice_index_or, All, Contains, Some}
 use Rattle.schedule_meaning.specs.Instances.{Problem}
 use Rattle.dp_certificate.specs.Certificates.{AreRising}
 use Rattle.dp_certificate.specs.Prefixes.{Stage, key_of, stage_after, stage_of}
@@ -64,9 +64,3 @@ piece_of layer width k = take width (drop (k * width) layer)
 pub record AreNextOfPieces (p : Problem) (layer : List Entry) (width : ℕ) (lists : List (List Entry)) : Type 0 where
   pub enough : length layer < length lists * width
   pub each : (k : ℕ) → k < length lists → IsNextOf p (piece_of layer width k) (slice_index_or lists k [])
-
--- a fit prefix of at most this many servings leads here
-pub record IsLedWithin (p : Problem) (most : ℕ) (s : Stage) : Type 0 where
-  pub prefix : List ℕ
-  pub few : length prefix ≤ most
-  pub leads : stage_of p prefix ≡ Some s

@@ -1,14 +1,14 @@
 //! Two lists of entries joined into one.
 
-ghost use Rattle.std.specs.Prelude.{◌≡◌, ◌<◌, ◌≤◌, ◌⊎◌, ◌++◌, List, length, IfOk};
+ghost use Rattle.std.specs.Prelude.{◌≡◌, ◌<◌, ◌≤◌, ◌+◌, ◌⊎◌, ◌++◌, List, length, IfOk};
 ghost use Rattle.schedule_meaning.specs.Instances.{Problem};
-ghost use Rattle.dp_certificate.specs.Certificates.{AreRising, IsBefore, digits_of};
+ghost use Rattle.dp_certificate.specs.Certificates.{AreRising, IsBefore, digits_of, entry_at};
 ghost use Rattle.dp_certificate.specs.Proves.{key_of_entry};
 ghost use Rattle.dp_certificate.specs.declared.Entry.{Entry as Line};
-ghost use Rattle.parallel_dp.specs.Joins.{IsFirstOfBoth};
+ghost use Rattle.parallel_dp.specs.Joins.{EndsBefore, IsJoining};
 ghost use Rattle.parallel_dp.specs.Pieces.{IsJoinOf, IsNextOf};
 
-use dp_certificate::Entry;
+use dp_certificate::{Entry, place_of};
 use std::alloc::{AllocError, Global};
 use std::cmp::Ordering;
 
@@ -37,8 +37,8 @@ pub fn join_pieces(alloc: Global, a: Vec<Entry>, b: Vec<Entry>) -> Result<Vec<En
     join(alloc, a.as_slice(), b.as_slice())
 }
 
-/// Two lists as one.
-fn join(alloc: Global, a: &[Entry], b: &[Entry]) -> Result<Vec<Entry>, AllocError>
+/// Two lists as one: of the list with the first key all entries before the first key of the other are taken at once.
+pub(crate) fn join(alloc: Global, a: &[Entry], b: &[Entry]) -> Result<Vec<Entry>, AllocError>
     requires first { AreRising a.now }
     requires second { AreRising b.now }
     ensures { IfOk result (λ v. IsJoinOf a.now b.now v.items) }
@@ -47,40 +47,62 @@ fn join(alloc: Global, a: &[Entry], b: &[Entry]) -> Result<Vec<Entry>, AllocErro
     joined.reserve(a.len().max(b.len()))?;
     let mut left = 0;
     let mut right = 0;
-    while left < a.len() || right < b.len() {
-        let (entry, after_left, after_right) = first_of_both(a, b, left, right);
-        joined.push(entry)?;
+    while left < a.len() && right < b.len() {
+        let (after_left, after_right) = take_first(a, b, left, right, &mut joined)?;
         left = after_left;
         right = after_right;
     }
+    joined.extend_from_slice(&a[left..])?;
+    joined.extend_from_slice(&b[right..])?;
     Ok(joined)
 }
 
-/// Of what is left of two lists from these places on, the entry with the first key, with the least delay where both
-/// have one; and the places after it.
-fn first_of_both(a: &[Entry], b: &[Entry], left: usize, right: usize) -> (Entry, usize, usize)
-    requires some { (left < length a.now) ⊎ (right < length b.now) }
-    requires first { left ≤ length a.now }
-    requires second { right ≤ length b.now }
-    ensures { IsFirstOfBoth a.now b.now left right result.0 result.1 result.2 }
+/// Appends to what is joined what comes first of two lists from these places on: the entries of one before all others, or
+/// the one of a key that both have, with the least delay. It gives the places after it.
+fn take_first(
+    a: &[Entry],
+    b: &[Entry],
+    left: usize,
+    right: usize,
+    joined: &mut Vec<Entry>,
+) -> Result<(usize, usize), AllocError>
+    requires inside { (left < length a.now) × (right < length b.now) }
+    requires first { AreRising a.now }
+    requires second { AreRising b.now }
+    requires so_far { IsJoining a.now b.now left right joined.old.items }
+    ensures joined { IfOk result (λ after. IsJoining a.now b.now after.0 after.1 joined.new.items) }
+    ensures goes_on { IfOk result (λ after. left + right < after.0 + after.1) }
 {
-    if left == a.len() {
-        return (b[right], left, right + 1);
-    }
-    if right == b.len() {
-        return (a[left], left + 1, right);
-    }
-    let first = a[left];
-    let second = b[right];
-    match order(&first, &second) {
-        Ordering::Less => (first, left + 1, right),
-        Ordering::Greater => (second, left, right + 1),
-        Ordering::Equal => (cheaper(&first, &second), left + 1, right + 1),
+    match order(&a[left], &b[right]) {
+        Ordering::Less => {
+            let end = end_before(a, left, &b[right]);
+            joined.extend_from_slice(&a[left..end])?;
+            Ok((end, right))
+        }
+        Ordering::Greater => {
+            let end = end_before(b, right, &a[left]);
+            joined.extend_from_slice(&b[right..end])?;
+            Ok((left, end))
+        }
+        Ordering::Equal => {
+            joined.push(cheaper(&a[left], &b[right]))?;
+            Ok((left + 1, right + 1))
+        }
     }
 }
 
+/// Where the entries before a key end, from the place of one of them on.
+fn end_before(entries: &[Entry], place: usize, key: &Entry) -> usize
+    requires rising { AreRising entries.now }
+    requires inside { place < length entries.now }
+    requires before { IsBefore (digits_of (entry_at entries.now place)) (digits_of key.now) }
+    ensures { EndsBefore entries.now place key.now result }
+{
+    place_of(entries, key, place + 1)
+}
+
 /// How the keys of two entries stand.
-fn order(first: &Entry, second: &Entry) -> Ordering
+pub(crate) fn order(first: &Entry, second: &Entry) -> Ordering
     ensures less { result ≡ Ordering.Less → IsBefore (digits_of first.now) (digits_of second.now) }
     ensures greater { result ≡ Ordering.Greater → IsBefore (digits_of second.now) (digits_of first.now) }
     ensures same { result ≡ Ordering.Equal → key_of_entry first.now ≡ key_of_entry second.now }
@@ -96,7 +118,7 @@ fn order(first: &Entry, second: &Entry) -> Ordering
 }
 
 /// Of two entries neither of which is before the other the keys are the same.
-fn law_of_keys(first: &Entry, second: &Entry)
+pub(crate) fn law_of_keys(first: &Entry, second: &Entry)
     ensures { (IsBefore (digits_of first.now) (digits_of second.now) → ⊥)
         → (IsBefore (digits_of second.now) (digits_of first.now) → ⊥)
         → key_of_entry first.now ≡ key_of_entry second.now }
@@ -106,7 +128,7 @@ fn law_of_keys(first: &Entry, second: &Entry)
 }
 
 /// Of two entries the one with less delay.
-fn cheaper(first: &Entry, second: &Entry) -> Entry
+pub(crate) fn cheaper(first: &Entry, second: &Entry) -> Entry
     ensures either { (result ≡ first.now) ⊎ (result ≡ second.now) }
     ensures first { result.delay ≤ first.now.delay }
     ensures second { result.delay ≤ second.now.delay }

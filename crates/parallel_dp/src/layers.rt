@@ -4,6 +4,7 @@ ghost use Rattle.std.specs.Prelude.{◌≡◌, ◌*◌, ◌<◌, ◌≤◌, [], 
 ghost use Rattle.dp_certificate.specs.Certificates.{AreRising, IsEntry};
 ghost use Rattle.parallel_dp.specs.Pieces.{AreNextOfPieces, IsJoinOfAll, IsNextOf, piece_of};
 
+use crate::joins::join;
 use crate::{extend, join_pieces};
 use dp_certificate::Entry;
 use foundation::items::Items;
@@ -95,13 +96,14 @@ fn next_in_ledger<L: Ledger>(
 }
 
 /// Several lists as one, by halves. The keys of each list rise.
-fn join_all(alloc: Global, lists: &[Items<Entry>]) -> Result<Vec<Entry>, AllocError>
+pub(crate) fn join_all(alloc: Global, lists: &[Items<Entry>]) -> Result<Vec<Entry>, AllocError>
     requires { All AreRising lists.now }
     ensures { IfOk result (λ v. IsJoinOfAll lists.now v.items) }
 {
     match lists {
         [] => Ok(Vec::new(alloc)),
         [list] => copy(alloc, list.as_slice()),
+        [first, second] => join(alloc, first.as_slice(), second.as_slice()),
         _ => {
             let (first, second) = lists.split_at(lists.len() / 2);
             let first = join_all(alloc, first)?;
@@ -112,7 +114,7 @@ fn join_all(alloc: Global, lists: &[Items<Entry>]) -> Result<Vec<Entry>, AllocEr
 }
 
 /// The entries of a list once more.
-pub(crate) fn copy(alloc: Global, entries: &[Entry]) -> Result<Vec<Entry>, AllocError>
+fn copy(alloc: Global, entries: &[Entry]) -> Result<Vec<Entry>, AllocError>
     ensures { IfOk result (λ v. v.items ≡ entries.now) }
 {
     let mut copy = Vec::new(alloc);

@@ -1,12 +1,13 @@
-use Rattle.std.proofs.Common.{arith, subst, sym}
-use Rattle.parallel_dp.proofs.Joining.{IsJoining, all, more}
+use Rattle.std.proofs.Common.{◌-◌, ◌∙◌, ◌++◌, List, ap, drop, length, subst, sym, take, arith}
+use Rattle.dp_certificate.specs.declared.Entry.{Entry}
+use Rattle.parallel_dp.specs.Pieces.{IsJoinOf}
+use Rattle.parallel_dp.proofs.Joining.{rest-of-both}
 use Rattle.parallel_dp.proofs.joins.join.Goals as goal
 
-pub loop-left-preserved : goal.loop-left-preserved
-loop-left-preserved c =
-    subst (IsJoining c.args.a.now c.args.b.now c.first_of_both-after_left.result.1 c.first_of_both-after_left.result.2) (sym c.in_ok-push.ensures.items)
-    (more c.args.a.now c.args.b.now c.loop-left.left c.loop-left.right c.loop-left.joined.items c.first_of_both-after_left.result.0 c.first_of_both-after_left.result.1 c.first_of_both-after_left.result.2
-    c.requires.first c.requires.second c.loop-left.invariant c.first_of_both-after_left.ensures)
-
 pub returns : goal.returns
-returns c = all c.args.a.now c.args.b.now c.loop-left.left c.loop-left.right c.loop-left.joined.items (omega arith) (omega arith) c.loop-left.invariant
+returns c =
+    let left = c.loop-left.left in
+    let right = c.loop-left.right in
+    subst (IsJoinOf c.args.a.now c.args.b.now)
+    (sym (c.in_ok-extend_from_slice-2.ensures.items ∙ ap (λ (xs : List Entry). xs ++ take (length c.args.b.now - right) (drop right c.args.b.now)) c.in_ok-extend_from_slice.ensures.items))
+    (rest-of-both c.args.a.now c.args.b.now left right c.loop-left.joined.items c.requires.first c.requires.second (λ x y. omega (arith, x, y)) c.loop-left.invariant)

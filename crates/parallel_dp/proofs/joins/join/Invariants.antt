@@ -1,5 +1,5 @@
 use Rattle.std.proofs.Common.{◌+◌, ◌-◌, length}
-use Rattle.parallel_dp.proofs.Joining.{IsJoining}
+use Rattle.parallel_dp.specs.Joins.{IsJoining}
 use Rattle.parallel_dp.proofs.joins.join.Given as goal
 
 -- the fronts of both lists are joined

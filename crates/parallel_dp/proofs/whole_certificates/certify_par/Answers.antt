@@ -1,7 +1,7 @@
 use Rattle.std.proofs.Common.{None, arith}
 use Rattle.forward_dp.proofs.Wholes.{best-short, certified, lawful}
 use Rattle.parallel_dp.proofs.TableSize.{table-few, table-parts}
-use Rattle.parallel_dp.proofs.certifying.certify_par.Goals as goal
+use Rattle.parallel_dp.proofs.whole_certificates.certify_par.Goals as goal
 
 pub of_lawful-requires-clause-lawful : goal.of_lawful-requires-clause-lawful
 of_lawful-requires-clause-lawful g c =

@@ -9,10 +9,10 @@ ghost use Rattle.dp_certificate.specs.Whole.{IsWhole};
 ghost use Rattle.schedule_meaning.specs.Instances.{IsInstance};
 ghost use Rattle.parallel_dp.specs.Pieces.{IsLayer};
 
-use crate::join_pieces;
-use crate::layers::{copy, next_layer};
+use crate::layers::{join_all, next_layer};
 use dp_certificate::{Certificate, Entry};
 use forward_dp::{answer_of, places};
+use foundation::items::Items;
 use foundation::steps::Steps;
 use schedule_meaning::{Answer, Instance};
 use std::alloc::{AllocError, Global};
@@ -64,7 +64,7 @@ fn answer_in_ledger<L: Ledger>(
     answer_of(alloc, i, entries, &mut steps)
 }
 
-/// The whole table, layer by layer.
+/// The whole table: its layers, one after the other, joined at the end.
 fn whole_table(
     rt: &(impl Threads + Sync),
     alloc: Global,
@@ -76,13 +76,15 @@ fn whole_table(
     ensures instance { IsInstance i.now }
 {
     let count = places(i);
+    let mut layers = Vec::new(alloc);
     let mut layer = first_layer(alloc, i)?;
-    let mut whole = copy(alloc, layer.as_slice())?;
     for _ in 0..count {
-        layer = next_layer(rt, alloc, i, layer.as_slice(), width)?;
-        whole = join_pieces(alloc, whole, copy(alloc, layer.as_slice())?)?;
+        let next = next_layer(rt, alloc, i, layer.as_slice(), width)?;
+        layers.push(Items::from_vec(layer))?;
+        layer = next;
     }
-    Ok(whole)
+    layers.push(Items::from_vec(layer))?;
+    join_all(alloc, layers.as_slice())
 }
 
 /// The layer of no servings: the entry of the start.

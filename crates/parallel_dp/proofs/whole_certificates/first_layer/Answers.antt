@@ -1,11 +1,10 @@
-use Rattle.std.proofs.Common.{List, ◌≡◌, ◌∙◌, ◌++◌, [], ◌∷◌, refl, ap, sym, subst}
-use Rattle.dp_certificate.specs.Proves.{key_of_entry}
+use Rattle.std.proofs.Common.{List, ◌∙◌, ◌++◌, [], ◌∷◌, refl, ap, sym, subst}
 use Rattle.dp_certificate.specs.Prefixes.{Key}
 use Rattle.switch_rules.specs.declared.Head.{Head}
 use Rattle.dp_certificate.specs.declared.Entry.{Entry}
 use Rattle.parallel_dp.specs.Pieces.{IsLayer}
 use Rattle.parallel_dp.proofs.LayerLaws.{first-is}
-use Rattle.parallel_dp.proofs.certifying.first_layer.Goals as goal
+use Rattle.parallel_dp.proofs.whole_certificates.first_layer.Goals as goal
 
 pub returns : goal.returns
 returns c =
