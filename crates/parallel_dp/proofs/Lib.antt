@@ -1,6 +1,6 @@
 mod Joining
 mod LayerLaws
 mod NextLaws
-mod PieceLaws
+pub mod PieceLaws
 mod Rising
 mod TableSize

@@ -1,8 +1,9 @@
 //! The command `certify_par FILE WIDTH`.
-ghost use Rattle.std.specs.Prelude.{◌≤◌};
-ghost use Rattle.commands.specs.Commands.{CertifyPar};
+ghost use Rattle.std.specs.Prelude.{◌≡◌, ℕ, ◌≤◌, List};
+ghost use Rattle.commands.specs.Commands.{CertifyPar, IsWholeCertificate};
 ghost use Rattle.commands.specs.Ending.{MakesCertificate};
 ghost use Rattle.commands.specs.Outcome.{Outcome};
+ghost use Rattle.schedule_meaning.specs.Instances.{Problem};
 
 use crate::delivery::deliver;
 use certificate_form::{law_of_certificate_text, law_of_certificates};
@@ -34,8 +35,17 @@ fn certificate_of_file<S: Shelf>(
     Ok(certificate)
 }
 
-/// The command `certify_par FILE WIDTH`: as `certify_job`, byte for byte, with the layers of the table extended in pieces of
-/// this width in threads. It returns, also where no thread can be started.
+/// The law of whole certificates: an instance has one text of a certificate with the whole table and the best answer. So
+/// what `certify_par` appends for a file is what `certify` appends, byte for byte and whatever the width. It does nothing
+/// when it runs.
+///
+/// docs/RULES.md, "Layers in pieces".
+pub fn law_of_whole_certificates()
+    ensures { (p : Problem) (one other : List ℕ) → IsWholeCertificate p one → IsWholeCertificate p other → one ≡ other }
+{}
+
+/// The command `certify_par FILE WIDTH`: as `certify_job`, byte for byte (`law_of_whole_certificates`), with the layers of
+/// the table extended in pieces of this width in threads. It returns, also where no thread can be started.
 ///
 /// docs/FORMATS.md, "Words".
 pub fn certify_par_job<S: Shelf, O: Sink, E: Sink>(

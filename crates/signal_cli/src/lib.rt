@@ -14,7 +14,7 @@ mod top;
 mod verdicts;
 
 pub use certify::{certify_bound_job, certify_job};
-pub use certify_par::certify_par_job;
+pub use certify_par::{certify_par_job, law_of_whole_certificates};
 pub use check::check_job;
 pub use commands::Status;
 pub use network_jobs::{
