@@ -1,0 +1,9 @@
+pub mod Ample
+pub mod Course
+pub mod Discharging
+pub mod Searching
+pub mod Sources
+pub mod Start
+pub mod Whole
+pub mod Within
+pub mod WorkedRows

@@ -1,0 +1,12 @@
+use Rattle.std.proofs.Common.{◌≡◌, slice_index}
+use Rattle.net_numbers.specs.Outline.{turns_at}
+use Rattle.net_simulator.proofs.Turning.{AreTurned}
+use Rattle.road_net.specs.Joins.{shares_to}
+use Rattle.spillback_world.proofs.discharges.give.Given as goal
+
+-- the parts of the turns so far were added
+abbrev pub invariant-loop-turn : goal.invariant-loop-turn
+invariant-loop-turn l = record {
+  given : AreTurned (turns_at l.net l.l) l.amount l.turn-index (slice_index l.initial.amounts) (slice_index l.amounts);
+  before : l.before ≡ shares_to (turns_at l.net l.l) l.turn-index;
+}

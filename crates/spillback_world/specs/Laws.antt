@@ -1,0 +1,28 @@
+-- What holds of every world whose links hold so much and no more.
+use Rattle.std.specs.Prelude.{◌≡◌, ℕ, ◌+◌, Option}
+use Rattle.arrivals.specs.Amounts.{Amounts}
+use Rattle.net_numbers.specs.Numbers.{Net}
+use Rattle.net_simulator.specs.Arriving.{arriving_of}
+use Rattle.net_simulator.specs.Flow.{past_of}
+use Rattle.net_simulator.specs.Sums.{arrived}
+use Rattle.spillback_world.specs.declared.totals.SpillTotals.{SpillTotals}
+use Rattle.spillback_world.specs.Spilled.{spilled}
+use Rattle.spillback_world.specs.Storage.{AreWithin, past_in}
+use Rattle.stores.specs.Rows.{most_of_link}
+
+-- what is counted in the first n seconds
+abbrev pub spilled_in : Net → Amounts → (ℕ → ℕ) → (ℕ → ℕ → Option (ℕ × ℕ)) → ℕ → SpillTotals
+spilled_in net arrivals store shown n = spilled net (arriving_of arrivals) (past_in net (arriving_of arrivals) store shown n) n
+
+-- Nothing is lost and no link holds more than its storage: what entered has left or is on the links, and what arrived has entered or
+-- waits outside.
+pub record IsKept (net : Net) (arrivals : Amounts) (store : ℕ → ℕ) (shown : ℕ → ℕ → Option (ℕ × ℕ)) (n : ℕ) : Type 0 where
+  pub within : AreWithin net store (past_in net (arriving_of arrivals) store shown n) n
+  pub whole : (spilled_in net arrivals store shown n).entered ≡ (spilled_in net arrivals store shown n).left + (spilled_in net arrivals store shown n).on
+  pub all : arrived net (arriving_of arrivals) n ≡ (spilled_in net arrivals store shown n).entered + (spilled_in net arrivals store shown n).outside
+
+-- Where each link can hold all that may ever arrive, what passes the links is what passes those without bounds, and nothing waits
+-- outside.
+pub record IsAmple (net : Net) (arrivals : Amounts) (shown : ℕ → ℕ → Option (ℕ × ℕ)) (n : ℕ) : Type 0 where
+  pub past : past_in net (arriving_of arrivals) (λ l. most_of_link) shown n ≡ past_of net (arriving_of arrivals) shown n
+  pub none : (spilled_in net arrivals (λ l. most_of_link) shown n).outside ≡ 0

@@ -1,0 +1,5 @@
+pub mod Filling
+pub mod Laws
+pub mod Storage
+pub mod Spilled
+pub mod Steps

@@ -1,0 +1,77 @@
+-- What the code does in one second, by what it keeps. No public clause names these terms.
+use Rattle.std.specs.Prelude.{◌≡◌, ◌≢◌, ℕ, ◌+◌, ◌≤◌, ◌<◌, ◌==◌, min, Bool, false, if◌then◌else◌, List, Option, Some, None, length, slice_index, slice_index_or}
+use Rattle.net_numbers.specs.Numbers.{Net}
+use Rattle.net_numbers.specs.Outline.{link_at, turns_at}
+use Rattle.spillback_world.specs.Filling.{fitting, room_of}
+use Rattle.road_net.specs.Joins.{split_of}
+use Rattle.road_net.specs.Totals.{total}
+use Rattle.spillback_world.specs.Storage.{Opening, all_goes, inward}
+
+-- how a second begins, by the queues, what leaves the network, which links may discharge, and what is on each link
+abbrev pub opening_by : List ℕ → List ℕ → List Bool → List ℕ → Opening
+opening_by queues leaving served held = record {
+  waits = λ l. slice_index queues l + slice_index leaving l;
+  may_go = λ l node. slice_index_or served l false;
+  holds = slice_index held;
+}
+
+-- what link l, which ends at a node, discharges of its queue
+abbrev pub link_goes : Net → List ℕ → List ℕ → List ℕ → List Bool → ℕ → ℕ
+link_goes net store held queues served l = if slice_index_or served l false then fitting (turns_at net l) (room_of store held) (min (link_at net l).sat (slice_index queues l)) else 0
+
+-- what link l discharges, by the node where it ends; what leaves the network has left
+abbrev pub discharge_of : Net → List ℕ → List ℕ → List ℕ → List ℕ → List Bool → ℕ → Option ℕ → ℕ
+discharge_of net store held queues leaving served l None = slice_index leaving l
+discharge_of net store held queues leaving served l (Some node) = link_goes net store held queues served l
+
+-- an amount at a link, and nothing elsewhere
+abbrev pub only_at : ℕ → ℕ → ℕ → ℕ
+only_at l amount k = if k == l then amount else 0
+
+-- there is a place for each link in the lists of storages, of what leaves, of the queues, of what enters, of what is held, and of
+-- which links may discharge
+pub record HaveLinks (net : Net) (ss ls qs es hs : List ℕ) (vs : List Bool) : Type 0 where
+  pub store : length ss ≡ length net.link_names
+  pub leaving : length ls ≡ length net.link_names
+  pub queues : length qs ≡ length net.link_names
+  pub entering : length es ≡ length net.link_names
+  pub held : length hs ≡ length net.link_names
+  pub served : length vs ≡ length net.link_names
+
+-- what waits on a link and what entered it in this second are on it, and no link holds more than its storage
+pub record AreHeld (net : Net) (store queues entering held : List ℕ) : Type 0 where
+  pub there : (l : ℕ) → l < length net.link_names → slice_index queues l + slice_index entering l ≤ slice_index held l
+  pub within : (l : ℕ) → l < length net.link_names → slice_index held l ≤ slice_index store l
+
+-- what leaves the network has left: a link that ends at no node has no queue, and no other one has left anything
+pub record HaveLeft (net : Net) (queues leaving : List ℕ) : Type 0 where
+  pub out : (l : ℕ) → l < length net.link_names → (link_at net l).to ≡ None → slice_index queues l ≡ 0
+  pub stays : (l node : ℕ) → l < length net.link_names → (link_at net l).to ≡ Some node → slice_index leaving l ≡ 0
+
+-- Link l has discharged: what it left its queue and what is on it, and its parts entered its exits. The lists of what leaves, of the
+-- queues, of what enters and of what is held are given as they were and as they are.
+pub record HasDischarged (net : Net) (store : List ℕ) (served : List Bool) (l : ℕ) (lv qs en hs leaving queues entering held : List ℕ) : Type 0 where
+  pub links : HaveLinks net store leaving queues entering held served
+  pub are : AreHeld net store queues entering held
+  pub here : slice_index leaving l ≡ discharge_of net store hs qs lv served l (link_at net l).to
+  pub others : (k : ℕ) → k ≢ l → slice_index leaving k ≡ slice_index lv k
+  pub waits : (k : ℕ) → slice_index queues k + only_at l (inward (link_at net l).to (slice_index leaving l)) k ≡ slice_index qs k
+  pub enters : (k : ℕ) → slice_index entering k ≡ slice_index en k + split_of (turns_at net l) (slice_index leaving l) k
+  pub holds : (k : ℕ) → slice_index held k + only_at l (inward (link_at net l).to (slice_index leaving l)) k ≡ slice_index hs k + split_of (turns_at net l) (slice_index leaving l) k
+
+-- what the first n links discharge, by what their queues, what leaves the network, and what is held were, and what of it enters a link
+abbrev pub first_goes : Net → List ℕ → List Bool → ℕ → List ℕ → List ℕ → List ℕ → List ℕ
+first_goes net store served n lv qs hs = all_goes net (slice_index store) (opening_by qs lv served hs) n
+
+abbrev pub first_given : Net → List ℕ → List Bool → ℕ → List ℕ → List ℕ → List ℕ → ℕ → ℕ
+first_given net store served n lv qs hs l = total (λ k. split_of (turns_at net k) (slice_index (first_goes net store served n lv qs hs) k) l) n
+
+-- The first n links have discharged, one after another. The lists are given as they were and as they are.
+pub record HaveDischarged (net : Net) (store : List ℕ) (served : List Bool) (n : ℕ) (lv qs en hs leaving queues entering held : List ℕ) : Type 0 where
+  pub links : HaveLinks net store leaving queues entering held served
+  pub are : AreHeld net store queues entering held
+  pub goes : (k : ℕ) → k < n → slice_index leaving k ≡ slice_index (first_goes net store served n lv qs hs) k
+  pub rest : (k : ℕ) → n ≤ k → slice_index leaving k ≡ slice_index lv k
+  pub waits : (k : ℕ) → slice_index queues k + inward (link_at net k).to (slice_index (first_goes net store served n lv qs hs) k) ≡ slice_index qs k
+  pub enters : (k : ℕ) → slice_index entering k ≡ slice_index en k + first_given net store served n lv qs hs k
+  pub holds : (k : ℕ) → slice_index held k + inward (link_at net k).to (slice_index (first_goes net store served n lv qs hs) k) ≡ slice_index hs k + first_given net store served n lv qs hs k

@@ -1,0 +1,113 @@
+//! What links discharge in a second, one after another.
+
+ghost use Rattle.std.specs.Prelude.{◌≡◌, ℕ, ◌+◌, ◌≤◌, ◌<◌, ◌^◌, All, length, slice_index};
+ghost use Rattle.net_numbers.specs.Outline.{turns_at};
+ghost use Rattle.road_net.specs.Joins.{split_of};
+ghost use Rattle.spillback_world.specs.Filling.{room_of};
+ghost use Rattle.spillback_world.specs.Steps.{AreHeld, HasDischarged, HaveDischarged, HaveLeft, HaveLinks, link_goes};
+ghost use Rattle.stores.specs.Rows.{IsStorage};
+
+use crate::searches::allowed;
+use road_net::{Network, part_of_turn};
+use stores::Store;
+
+/// Where links discharge: the network, how much its links can hold, and which of them may discharge in this second.
+#[derive(Drop)]
+pub(crate) struct Site<'a> {
+    pub(crate) net: &'a Network,
+    pub(crate) store: &'a Store,
+    pub(crate) served: &'a [bool],
+}
+
+/// Adds the parts of what link `l` discharges to the amounts of its exits.
+fn give(amounts: &mut [u32], net: &Network, l: u32, amount: u32)
+    requires link { l < length net.now.link_names }
+    requires amounts { length amounts.old ≡ length net.now.link_names }
+    requires fits { (k : ℕ) → k < length net.now.link_names
+        → slice_index amounts.old k + split_of (turns_at net.now l) amount k < 2 ^ 32 }
+    ensures { (k : ℕ) → slice_index amounts.new k ≡ slice_index amounts.old k + split_of (turns_at net.now l) amount k }
+{
+    let mut before = 0;
+    for turn in net.turns(l) {
+        let part = part_of_turn(amount, before, turn.share);
+        amounts[turn.exit as usize] += part;
+        before += turn.share;
+    }
+}
+
+/// What link `l`, which ends at a node, discharges of its queue.
+fn amount_of(queues: &[u32], held: &[u32], site: &Site, l: u32) -> u32
+    requires link { l < length site.now.net.now.link_names }
+    requires store { length site.now.store.now ≡ length site.now.net.now.link_names }
+    requires queues { length queues.now ≡ length site.now.net.now.link_names }
+    requires held { length held.now ≡ length site.now.net.now.link_names }
+    requires served { length site.now.served.now ≡ length site.now.net.now.link_names }
+    ensures value { result ≡ link_goes site.now.net.now site.now.store.now held.now queues.now site.now.served.now l }
+    ensures most { result ≤ slice_index queues.now l }
+    ensures fits { (k : ℕ) → split_of (turns_at site.now.net.now l) result k ≤ room_of site.now.store.now held.now k }
+    ensures bounds { All IsStorage site.now.store.now }
+{
+    law_of_storages(site.store, l);
+    if !site.served[l as usize] {
+        return 0;
+    }
+    let wish = site.net.link(l).sat.min(queues[l as usize]);
+    allowed(site.net, site.store, held, l, wish)
+}
+
+/// Each link can hold 1 to 2,000,000,000.
+fn law_of_storages(store: &Store, l: u32)
+    requires { l < length store.now }
+    ensures { All IsStorage store.now }
+{
+    let _ = store.room(l);
+}
+
+/// Link `l` discharges what it may of its queue into its exits. A link that ends at no node does nothing here: what leaves
+/// the network has left.
+fn discharge_link(
+    leaving: &mut [u32],
+    queues: &mut [u32],
+    entering: &mut [u32],
+    held: &mut [u32],
+    site: &Site,
+    l: u32,
+)
+    requires link { l < length site.now.net.now.link_names }
+    requires links { HaveLinks site.now.net.now site.now.store.now leaving.old queues.old entering.old held.old
+        site.now.served.now }
+    requires held { AreHeld site.now.net.now site.now.store.now queues.old entering.old held.old }
+    ensures { HasDischarged site.now.net.now site.now.store.now site.now.served.now l
+        leaving.old queues.old entering.old held.old leaving.new queues.new entering.new held.new }
+{
+    if site.net.link(l).to.is_none() {
+        return;
+    }
+    let amount = amount_of(queues, held, site, l);
+    let place = l as usize;
+    leaving[place] = amount;
+    queues[place] -= amount;
+    held[place] -= amount;
+    give(entering, site.net, l, amount);
+    give(held, site.net, l, amount);
+}
+
+/// The links discharge in their order, each what it may of its queue, once what leaves the network has left.
+pub(crate) fn discharge(
+    leaving: &mut [u32],
+    queues: &mut [u32],
+    entering: &mut [u32],
+    held: &mut [u32],
+    site: &Site,
+)
+    requires links { HaveLinks site.now.net.now site.now.store.now leaving.old queues.old entering.old held.old
+        site.now.served.now }
+    requires held { AreHeld site.now.net.now site.now.store.now queues.old entering.old held.old }
+    requires left { HaveLeft site.now.net.now queues.old leaving.old }
+    ensures { HaveDischarged site.now.net.now site.now.store.now site.now.served.now (length site.now.net.now.link_names)
+        leaving.old queues.old entering.old held.old leaving.new queues.new entering.new held.new }
+{
+    for l in 0..site.net.links() {
+        discharge_link(leaving, queues, entering, held, site, l);
+    }
+}
