@@ -1,15 +1,15 @@
 -- The timeline of a cycle.
-use Rattle.std.proofs.Common.{◌≡◌, ℕ, zero, suc, ◌+◌, ◌-◌, ◌*◌, ◌%◌, ◌<◌, ◌≤◌, ◌⊎◌, cond, List, [], ◌∷◌, ◌++◌, length, get_or, take, All, Option, Some, None, filter_map, map, sum_by, ltb, refl, sym, ap, subst, ◌∙◌, inl, inr, arith, eq-eqb, suc-mul, append_assoc, append-nil}
+use Rattle.std.proofs.Common.{◌≡◌, ℕ, zero, suc, ◌+◌, ◌-◌, ◌*◌, ◌%◌, ◌<◌, ◌≤◌, ◌⊎◌, cond, List, [], ◌∷◌, ◌++◌, length, take, All, Option, Some, None, filter_map, map, sum_by, ltb, refl, sym, ap, subst, ◌∙◌, inl, inr, arith, eq-eqb, suc-mul, append-nil}
 use Rattle.std.specs.List.{cons_option, range_with_len}
 use Rattle.std.specs.Option.{option_map}
 use Rattle.std.proofs.lemmas.Bool.{cases_lt, cond_above, cond_below, ne_eqb}
 use Rattle.std.proofs.lemmas.List.{take_all}
-use Rattle.std.proofs.lemmas.List.Elements.{All-from_get_or, All-get_or, All-head, All-tail, All-weaker, filter_map-append}
+use Rattle.std.proofs.lemmas.List.Elements.{All-from_get_or, All-get_or, All-head, All-tail, filter_map-append}
 use Rattle.std.proofs.lemmas.List.Sums.{sum_by-cons, sum_by_more, sum_by_more_le, get_or-le-sum_by}
 use Rattle.std.proofs.lemmas.Nat.{mod-mul-add, mod_below}
 use Rattle.phase_plan.specs.Phases.{IsMarkedAt, IsPlan, between, no_phase, phase_at}
 use Rattle.phase_plan.specs.declared.Phase.{Phase}
-use Rattle.control_flow.specs.Greens.{Follows, IsGreen, IsLawful, end_of, row_at}
+use Rattle.control_flow.specs.Greens.{Follows, IsGreen, IsLawful, end_of}
 use Rattle.control_flow.specs.declared.greens.Green.{Green}
 use Rattle.control_flow.proofs.RowLaws.{end_of-last, lawful-cons, lawful-first, lawful-nil, lawful-tail}
 use Rattle.net_numbers.specs.Numbers.{Net}

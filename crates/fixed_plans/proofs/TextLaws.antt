@@ -1,11 +1,10 @@
 -- The records of a fixed plan, one after another, and the first at fault.
-use Rattle.std.proofs.Common.{◌≡◌, ℕ, ◌+◌, ◌<◌, List, [], ◌∷◌, ◌++◌, length, Option, Some, None, IfSome, IsSomeAnd, IfErr, OnOk, Result, Ok, Err, refl, sym, ap, ◌∙◌, subst, inl, inr}
+use Rattle.std.proofs.Common.{◌≡◌, ℕ, ◌<◌, List, [], ◌∷◌, ◌++◌, length, Option, Some, None, IfSome, IsSomeAnd, IfErr, OnOk, Result, Ok, Err, sym, ap, ◌∙◌, subst, inl, inr}
 use Rattle.std.proofs.lemmas.Option.{same_Some, none-some}
 use Rattle.foundation.specs.Options.{each, ◌>>=◌}
 use Rattle.foundation.proofs.EachLaws.{each-append, each-cons, each-push}
 use Rattle.foundation.proofs.OptionLaws.{and-at, and-some, bind-some}
 use Rattle.net_numbers.specs.Numbers.{Net, number_of}
-use Rattle.net_numbers.specs.Outline.{plan_at}
 use Rattle.net_numbers.proofs.DraftParts.{number_of-within}
 use Rattle.record_text.specs.Faults.{HasAfterHeader}
 use Rattle.record_text.specs.Walks.{IsFaultAmong, OrMemory}

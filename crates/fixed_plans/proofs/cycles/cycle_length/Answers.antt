@@ -1,5 +1,5 @@
 use Rattle.std.proofs.Common.{arith}
-use Rattle.fixed_plans.proofs.CycleLaws.{green-most, length-most, shown-at, sums-most}
+use Rattle.fixed_plans.proofs.CycleLaws.{green-most, shown-at, sums-most}
 use Rattle.fixed_plans.proofs.cycles.cycle_length.Goals as goal
 
 pub span-length-requires-clause-phase : goal.span-length-requires-clause-phase

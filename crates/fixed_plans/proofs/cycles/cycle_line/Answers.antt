@@ -1,4 +1,4 @@
-use Rattle.std.proofs.Common.{refl, subst, sym, ◌∙◌, ◌<◌, arith}
+use Rattle.std.proofs.Common.{subst, sym, ◌∙◌, ◌<◌, arith}
 use Rattle.control_flow.specs.Greens.{IsLawful, end_of}
 use Rattle.control_flow.proofs.OrderLaws.{order-lawful}
 use Rattle.fixed_plans.proofs.CycleLaws.{few-rows, green-most, shown-at}

@@ -6,7 +6,7 @@ use Rattle.world_records.proofs.RecordLaws.{few-records}
 use Rattle.fixed_plans.specs.Faults.{AreFaulty}
 use Rattle.fixed_plans.specs.Records.{header}
 use Rattle.fixed_plans.specs.Taken.{HasTaken}
-use Rattle.fixed_plans.proofs.TextLaws.{first-fault, records-refuse, taken-all, taken-none, taken-placed, taken-short}
+use Rattle.fixed_plans.proofs.TextLaws.{first-fault, records-refuse, taken-none, taken-placed}
 use Rattle.fixed_plans.proofs.texts.read_fixed_plan.Goals as goal
 
 pub take_records-requires-clause-few : goal.take_records-requires-clause-few
