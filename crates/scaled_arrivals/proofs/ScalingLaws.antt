@@ -1,0 +1,224 @@
+-- Rows that bring scaled arrivals.
+use Rattle.std.proofs.Common.{◌≡◌, ℕ, zero, suc, ◌+◌, ◌-◌, ◌*◌, ◌/◌, ◌<◌, ◌≤◌, ◌&&◌, ◌==◌, eqb, eq-eqb, cond, Bool, true, false, List, [], ◌∷◌, ◌++◌, length, filter, sum_by, All, Some, le_refl, refl, sym, ap, subst, ◌∙◌, inl, inr, arith}
+use Rattle.std.proofs.lemmas.Bool.{and_parts, cases_Bool, cases_lt, eqb-true}
+use Rattle.std.proofs.lemmas.List.Elements.{All-append, All-cons, All-nil, filter-append}
+use Rattle.std.proofs.lemmas.List.Sums.{sum_by-append, sum_by-cons}
+use Rattle.std.proofs.lemmas.Nat.{mul-le}
+use Rattle.std.proofs.lemmas.Option.{same_Some}
+use Rattle.foundation.proofs.EachLaws.{each-self}
+use Rattle.net_numbers.specs.Numbers.{Net}
+use Rattle.road_net.specs.Totals.{total}
+use Rattle.road_net.proofs.TotalLaws.{total-le, total-same}
+use Rattle.arrivals.specs.Amounts.{Amounts, AreArrivals, AreArrivalsOf, entering}
+use Rattle.arrivals.specs.Faults.{IsRowFault}
+use Rattle.arrivals.specs.Rows.{IsRow, IsSource, amount_of, entering_by, is_at, most_of_all, seconds}
+use Rattle.arrivals.specs.declared.rows.ArrivalRow.{ArrivalRow}
+use Rattle.arrivals.specs.declared.rows.RowFault.TheVariants.{Sum}
+use Rattle.arrivals.proofs.SumLaws.{entering-beyond}
+use Rattle.scaled_arrivals.specs.Rows.{Brings, HaveCome}
+use Rattle.scaled_arrivals.specs.Scaling.{IsScaled, entered, scaled_whole, share_of}
+
+-- what is brought to a link in a second, where it is this one
+abbrev at_place : (link second l x : ℕ) → ℕ → ℕ
+at_place link second l x amount = cond ((link == l) && (second == x)) amount 0
+
+at-none : (link second l x : ℕ) → at_place link second l x 0 ≡ 0
+at-none link second l x = elim (cases_Bool ((link == l) && (second == x))) [
+  | inl t ↦ ap (λ b. cond b 0 0) t
+  | inr f ↦ ap (λ b. cond b 0 0) f
+]
+
+at-both : (link second l x a b : ℕ) → at_place link second l x a + at_place link second l x b ≡ at_place link second l x (a + b)
+at-both link second l x a b = by ((link == l) && (second == x))
+  where
+    by : (t : Bool) → cond t a 0 + cond t b 0 ≡ cond t (a + b) 0
+    by true = refl
+    by false = omega arith
+
+-- nothing is brought
+pub brings-none : (net : Net) (link second : ℕ) (rows : List ArrivalRow) → Brings net link second 0 rows rows
+brings-none net link second rows = record {
+  lawful = λ all. all;
+  each = λ l x. omega (arith, at-none link second l x);
+  whole = omega arith;
+}
+
+-- one row more
+row-brings : (r : ArrivalRow) (l x : ℕ) → sum_by amount_of (filter (is_at l x) (r ∷ [])) ≡ at_place r.link r.second l x r.amount
+row-brings r l x = by (is_at l x r)
+  where
+    by : (t : Bool) → sum_by amount_of (cond t (r ∷ []) []) ≡ cond t r.amount 0
+    by true = omega (arith, sum_by-cons amount_of r [])
+    by false = refl
+
+pub brings-more : (net : Net) (link second amount : ℕ) (old rows new : List ArrivalRow) (r : ArrivalRow) → r.link ≡ link → r.second ≡ second → IsRow net r → new ≡ rows ++ r ∷ [] → Brings net link second amount old rows
+    → Brings net link second (amount + r.amount) old new
+brings-more net link second amount old rows new r is_link is_second lawful is brings =
+    rw (is, ← is_link, ← is_second) (record {
+      lawful = λ all. All-append (IsRow net) rows (r ∷ []) (brings.lawful all) (All-cons (IsRow net) r [] lawful (All-nil (IsRow net)));
+      each = λ l x. each l x;
+      whole = omega (arith, sum_by-append amount_of rows (r ∷ []), sum_by-cons amount_of r [], brings.whole);
+    })
+  where
+    each : (l x : ℕ) → entering_by (rows ++ r ∷ []) l x ≡ entering_by old l x + at_place r.link r.second l x (amount + r.amount)
+    each l x =
+        let before : entering_by rows l x ≡ entering_by old l x + at_place r.link r.second l x amount = rw (is_link, is_second) (brings.each l x) in
+        let all = ap (sum_by amount_of) (filter-append (is_at l x) rows (r ∷ [])) ∙ sum_by-append amount_of (filter (is_at l x) rows) (filter (is_at l x) (r ∷ [])) in
+        omega (arith, before, all, row-brings r l x, at-both r.link r.second l x amount r.amount)
+
+at-other : (link second l x amount : ℕ) → (link ≡ l → second ≡ x → ⊥) → at_place link second l x amount ≡ 0
+at-other link second l x amount other = elim (cases_Bool ((link == l) && (second == x))) [
+  | inl t ↦ absurd (other (eqb-true link l (and_parts (eqb link l) (eqb second x) t).0) (eqb-true second x (and_parts (eqb link l) (eqb second x) t).1))
+  | inr f ↦ ap (λ b. cond b amount 0) f
+]
+
+at-here : (link second amount : ℕ) → at_place link second link second amount ≡ amount
+at-here link second amount = ap (λ b. cond (b && (second == second)) amount 0) (eq-eqb link link refl) ∙ ap (λ b. cond b amount 0) (eq-eqb second second refl)
+
+-- a sum that nothing is added to
+total-flat : (f : ℕ → ℕ) (m d : ℕ) → ((x : ℕ) → m ≤ x → f x ≡ 0) → total f (m + d) ≡ total f m
+total-flat f m zero none = let e : m + 0 ≡ m = omega arith in ap (total f) e
+total-flat f m (suc d) none =
+    let e : m + suc d ≡ suc (m + d) = omega arith in
+    ap (total f) e ∙ omega (arith, total-flat f m d none, none (m + d) (omega arith))
+
+total-next : (f : ℕ → ℕ) (n : ℕ) → total f (n + 1) ≡ total f n + f n
+total-next f n = let e : n + 1 ≡ suc n = omega arith in ap (total f) e
+
+share-none : (factor : ℕ) → share_of factor 0 ≡ 0
+share-none factor = let e : 0 * factor ≡ 0 = omega arith in ap (λ n. n / 1000) e
+
+-- the sum that was reached, where nothing is added next
+whole-next : (sum before here all next : ℕ) → sum ≡ before + here → all ≡ before + here → next ≡ 0 → sum ≡ all + next
+whole-next sum before here all next is adds none = omega (arith, is, adds, none)
+
+-- nothing enters after the last second, nor a link that is none
+entering-late : (a : Amounts) (link x : ℕ) → seconds ≤ x → entering a link x ≡ 0
+entering-late a link x late = entering-beyond a link x (λ _ below. omega (arith, below, late))
+
+entering-other : (a : Amounts) (link x : ℕ) → a.links ≤ link → entering a link x ≡ 0
+entering-other a link x past = entering-beyond a link x (λ below _. omega (arith, below, past))
+
+module _ (net : Net) (factor : ℕ) (a : Amounts) where
+  -- no rows
+  pub come-none : HaveCome net factor a 0 0 []
+  come-none = record {
+    lawful = All-nil (IsRow net);
+    before = λ l n h. absurd (omega (arith, h));
+    here = λ n h. let e : n ≡ 0 = omega (arith, h) in rw e (sym (share-none factor));
+    later = λ x h. refl;
+    others = λ l x h. refl;
+    whole = omega (arith, share-none factor);
+  }
+
+  module _ (link second : ℕ) (rows : List ArrivalRow) (come : HaveCome net factor a link second rows) where
+    -- one second more
+    pub come-more : (new : List ArrivalRow) (amount : ℕ) → amount + share_of factor (entered a link second) ≡ share_of factor (entered a link (second + 1)) → Brings net link second amount rows new → HaveCome net factor a link (second + 1) new
+    come-more new amount adds brings = record {
+      lawful = brings.lawful come.lawful;
+      before = λ l n h. total-same (entering_by new l) (entering_by rows l) n (λ x low. omega (arith, brings.each l x, at-other link second l x amount (λ e f. omega (arith, e, h)))) ∙ come.before l n h;
+      here = here;
+      later = λ x h. omega (arith, brings.each link x, at-other link second link x amount (λ e f. omega (arith, f, h)), come.later x (omega (arith, h)));
+      others = λ l x h. omega (arith, brings.each l x, at-other link second l x amount (λ e f. omega (arith, e, h)), come.others l x h);
+      whole = omega (arith, brings.whole, come.whole, adds);
+    }
+      where
+        early : (n : ℕ) → n ≤ second → total (entering_by new link) n ≡ total (entering_by rows link) n
+        early n h = total-same (entering_by new link) (entering_by rows link) n (λ x low. omega (arith, brings.each link x, at-other link second link x amount (λ e f. omega (arith, f, low, h))))
+
+        last : total (entering_by new link) (second + 1) ≡ share_of factor (entered a link (second + 1))
+        last =
+            omega (
+              arith,
+              total-next (entering_by new link) second,
+              early second (omega arith),
+              come.here second (omega arith),
+              brings.each link second,
+              at-here link second amount,
+              come.later second (omega arith),
+              adds,
+            )
+
+        here : (n : ℕ) → n ≤ second + 1 → total (entering_by new link) n ≡ share_of factor (entered a link n)
+        here n h = elim (cases_lt second n) [
+          | inl more ↦ let e : second + 1 ≡ n = omega (arith, h, more) in subst (λ k. total (entering_by new link) k ≡ share_of factor (entered a link k)) e last
+          | inr less ↦ early n less ∙ come.here n less
+        ]
+
+  -- one link more
+  pub come-next : (link : ℕ) (rows : List ArrivalRow) → HaveCome net factor a link seconds rows → HaveCome net factor a (link + 1) 0 rows
+  come-next link rows come = record {
+    lawful = come.lawful;
+    before = λ l n h. before l n h;
+    here = λ n h. let e : n ≡ 0 = omega (arith, h) in rw e (sym (share-none factor));
+    later = λ x h. come.others (link + 1) x (omega arith);
+    others = λ l x h. come.others l x (omega (arith, h));
+    whole =
+        whole-next (sum_by amount_of rows) (total (λ l. share_of factor (entered a l seconds)) link) (share_of factor (entered a link seconds)) (total (λ l. share_of factor (entered a l seconds)) (link + 1)) (share_of factor 0) come.whole
+        (total-next (λ l. share_of factor (entered a l seconds)) link) (share-none factor);
+  }
+    where
+      all : (n : ℕ) → total (entering_by rows link) n ≡ share_of factor (entered a link n)
+      all n = elim (cases_lt seconds n) [
+        | inl more ↦
+            let d = n - seconds in
+            let e : seconds + d ≡ n = omega (arith, more) in
+            let left = total-flat (entering_by rows link) seconds d come.later in
+            let right = total-flat (entering a link) seconds d (λ x h. entering-late a link x h) in
+            subst (λ k. total (entering_by rows link) k ≡ share_of factor (entered a link k)) e (left ∙ come.here seconds (le_refl seconds) ∙ ap (share_of factor) (sym right))
+        | inr less ↦ come.here n less
+      ]
+
+      before : (l n : ℕ) → l < link + 1 → total (entering_by rows l) n ≡ share_of factor (entered a l n)
+      before l n h = elim (cases_lt l link) [
+        | inl less ↦ come.before l n less
+        | inr most ↦ let e : link ≡ l = omega (arith, h, most) in subst (λ k. total (entering_by rows k) n ≡ share_of factor (entered a k n)) e (all n)
+      ]
+
+  -- all links
+  pub come-scaled : (rows : List ArrivalRow) (b : Amounts) → AreArrivals net a → HaveCome net factor a (length net.link_names) 0 rows → AreArrivalsOf net rows b → IsScaled factor a b
+  come-scaled rows b are come of_rows link n = total-same (entering b link) (entering_by rows link) n (λ x h. of_rows.sums link x) ∙ elim (cases_lt link (length net.link_names)) [
+    | inl below ↦ come.before link n below
+    | inr past ↦
+        let zero_rows : (x : ℕ) → entering_by rows link x ≡ 0 = λ x. none link x past in
+        let left = total-flat (entering_by rows link) 0 n (λ x _. zero_rows x) in
+        let right = total-flat (entering a link) 0 n (λ x _. entering-other a link x (omega (arith, past, are.links))) in
+        let e : 0 + n ≡ n = omega arith in
+        subst (λ k. total (entering_by rows link) k ≡ share_of factor (entered a link k)) e (left ∙ sym (share-none factor) ∙ ap (share_of factor) (sym right))
+  ]
+    where
+      none : (l x : ℕ) → length net.link_names ≤ l → entering_by rows l x ≡ 0
+      none l x h = elim (cases_lt (length net.link_names) l) [
+        | inl more ↦ come.others l x more
+        | inr least ↦ let e : length net.link_names ≡ l = omega (arith, h, least) in subst (λ k. entering_by rows k x ≡ 0) e (come.later x (omega arith))
+      ]
+
+  -- rows that bring too much
+  pub come-over : (rows : List ArrivalRow) (n : ℕ) → HaveCome net factor a (length net.link_names) 0 rows → IsRowFault net rows (Sum n) → most_of_all < scaled_whole net factor a
+  come-over rows n come first =
+      let same : first.before ≡ first.so_far = same_Some first.before first.so_far (sym (each-self first.before) ∙ first.reads.reads) in
+      let split = ap (sum_by amount_of) first.are ∙ sum_by-append amount_of first.before (first.here ∷ first.after) in
+      omega (arith, first.faulty.1, split, ap (sum_by amount_of) same, sum_by-cons amount_of first.here first.after, come.whole, share-none factor)
+
+-- of more there is no less
+pub share-rises : (factor m n : ℕ) → m ≤ n → share_of factor m ≤ share_of factor n
+share-rises factor m n h = let product : m * factor ≤ n * factor = mul-le m factor n factor h (omega arith) in omega (arith, product)
+
+pub entered-next : (a : Amounts) (link n : ℕ) → entered a link (n + 1) ≡ entered a link n + entering a link n
+entered-next a link n = total-next (entering a link) n
+
+-- no more enters a link than all links
+pub entered-most : (a : Amounts) → ((n m : ℕ) → total (λ x. total (λ l. entering a l x) m) n ≤ most_of_all) → (link n : ℕ) → entered a link n ≤ most_of_all
+entered-most a few link n = omega (arith, total-le (entering a link) (λ x. total (λ l. entering a l x) (link + 1)) n (λ x _. each x), few n (link + 1))
+  where
+    each : (x : ℕ) → entering a link x ≤ total (λ l. entering a l x) (link + 1)
+    each x = omega (arith, total-next (λ l. entering a l x) link)
+
+-- what is brought to a link is brought from outside
+pub brought-source : (net : Net) (factor : ℕ) (a : Amounts) → AreArrivals net a → (link second before after : ℕ) → before ≡ entered a link second → after ≡ before + entering a link second
+    → 0 < share_of factor after - share_of factor before → IsSource net link
+brought-source net factor a are link second before after is_before is_after some = are.sources link second (by (entering a link second) refl)
+  where
+    by : (e : ℕ) → e ≡ entering a link second → 0 < entering a link second
+    by zero is = let same : after ≡ before = omega (arith, is, is_after) in absurd (omega (arith, some, ap (share_of factor) same))
+    by (suc e) is = omega (arith, is)

@@ -1,0 +1,8 @@
+use Rattle.std.proofs.Common.{◌≡◌}
+use Rattle.scaled_arrivals.specs.Rows.{HaveCome}
+use Rattle.scaled_arrivals.specs.Scaling.{entered}
+use Rattle.scaled_arrivals.proofs.push_link.Given as goal
+
+-- the first seconds were brought
+abbrev pub invariant-loop-second : goal.invariant-loop-second
+invariant-loop-second l = (l.before ≡ entered l.arrivals l.link l.second) × HaveCome l.net l.factor l.arrivals l.link l.second l.rows.items

@@ -1,0 +1,12 @@
+use Rattle.std.proofs.Common.{subst}
+use Rattle.arrivals.specs.Faults.{IsRowFault}
+use Rattle.scaled_arrivals.proofs.ScalingLaws.{come-over, come-scaled}
+use Rattle.scaled_arrivals.proofs.scaled.Goals as goal
+
+pub returns-in-Ok-new-clause-ok : goal.returns-in-Ok-new-clause-ok
+returns-in-Ok-new-clause-ok c = come-scaled c.args.net.now c.args.factor c.args.arrivals.now c.in-Ok.rows.items c.in-Ok-new.scaled c.requires.arrivals c.in-Ok.ensures c.in-Ok-new.ensures.ok
+
+pub returns-in-Err-Sum-clause-sum : goal.returns-in-Err-Sum-clause-sum
+returns-in-Err-Sum-clause-sum c _ =
+    come-over c.args.net.now c.args.factor c.args.arrivals.now c.in-Ok.rows.items c.in-Err-Sum.field-0-0 c.in-Ok.ensures
+    (subst (IsRowFault c.args.net.now c.in-Ok.rows.items) c.in-Err-Sum.field-0-is c.in-Err-Sum.ensures.first)

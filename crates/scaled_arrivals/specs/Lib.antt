@@ -1,0 +1,3 @@
+pub mod Rows
+pub mod Scaling
+pub use Rattle.arrivals.specs.Amounts
