@@ -27,8 +27,8 @@ pub record TellRows (net : Net) (records : List (List (List ℕ))) (rows : List 
   pub reads : each (row_of net) records ≡ Some rows
   pub lawful : AreRowsAfter net None rows
 
--- The record with this number, counted from 1, is the first at fault: those before it tell rows of which none is, and `at_fault`
--- holds of these rows and of the record.
+-- The record with this number, counted from 1, is the first at fault: those before it tell rows, of which none is, and
+-- `at_fault` holds of these rows and of the record.
 abbrev pub IsFirst : Net → List (List (List ℕ)) → ℕ → (List FixedRow → List (List ℕ) → Type 0) → Type 0
 IsFirst net all number at_fault = IsFirstFault (TellRows net) all number at_fault
 

@@ -27,7 +27,7 @@ abbrev pub offset_of : List FixedRow → ℕ
 offset_of [] = 0
 offset_of (r ∷ rs) = r.offset
 
--- which second of its cycle second x is, where a cycle of this length begins at the offset: 0 at the offset, and whole cycles from it
+-- which second of its cycle second x is, where cycles of this length begin at the offset, and whole lengths before and after it
 abbrev pub cycle_second : ℕ → ℕ → ℕ → ℕ
 cycle_second length offset x = (x + (length - offset % length)) % length
 

@@ -25,8 +25,8 @@ pub record IsFirstFrom (plan : List Phase) (low k : ℕ) : Type 0 where
 abbrev pub IsLastRow : Net → FixedRow → Type 0
 IsLastRow net b = AreMarked (plan_at net b.node) (b.phase + 1) (length (plan_at net b.node))
 
--- Which row may come next after the row before it: one of the same node, of the next phase up its ring; or, after the last row of
--- that node, the first of the next node. Without a row before it, the first of node 0.
+-- Which row may come next after the row before it: one of the same node, of the next phase up its ring; or, after the last row
+-- of that node, the first of the next node. Without a row before it, the first of node 0.
 abbrev pub ComesNext : Net → Option FixedRow → FixedRow → Type 0
 ComesNext net None r = (r.node ≡ 0) × IsFirstFrom (plan_at net r.node) 0 r.phase
 ComesNext net (Some b) r =

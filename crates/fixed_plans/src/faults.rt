@@ -15,8 +15,8 @@ pub enum FixedFault {
     Row(u32),
     /// The row is one of no node.
     Node(u32),
-    /// The row is not the next one up the ring of the node before it, nor, where that one has all its rows, the first of
-    /// the next node.
+    /// The row is not the next one up the ring of the node of the row before it, nor, where that one has all its rows,
+    /// the first of the next node.
     Phase(u32),
     /// The green is shorter than the least or longer than the greatest green of its phase.
     Green(u32),

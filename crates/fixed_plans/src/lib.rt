@@ -1,5 +1,5 @@
-//! Fixed plans: the greens that each signal of a network shows in a fixed cycle, the file that lists them, and the timelines
-//! that they make.
+//! Fixed plans: the greens that each signal of a network shows in a fixed cycle, the file that lists them, and the
+//! timelines that they make.
 #![tactic(auto)]
 
 mod cycles;
