@@ -2,7 +2,7 @@ use Rattle.std.proofs.Common.{◌≡◌, ◌+◌, ◌-◌, ap, subst, ◌∙◌,
 use Rattle.arrivals.specs.Rows.{seconds}
 use Rattle.scaled_arrivals.specs.Rows.{HaveCome}
 use Rattle.scaled_arrivals.specs.Scaling.{entered, share_of}
-use Rattle.scaled_arrivals.proofs.ScalingLaws.{brought-source, come-more, come-next, entered-most, entered-next, share-rises}
+use Rattle.scaled_arrivals.proofs.ScalingLaws.{come-more, come-next, entered-most, entered-next, share-rises}
 use Rattle.scaled_arrivals.proofs.push_link.Goals as goal
 
 pub share_of-requires-clause-amount : goal.share_of-requires-clause-amount
