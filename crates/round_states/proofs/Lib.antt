@@ -1,0 +1,7 @@
+pub mod BoardLaws
+pub mod FieldLaws
+pub mod KeptLaws
+pub mod LineLaws
+pub mod OrderLaws
+pub mod StateLaws
+pub mod TextLaws

@@ -1,7 +1,18 @@
 //! The state of a round: what is sensed, how far the signals are lined up, and what stands on the boards, as one round of
-//! a network begins.
+//! a network begins; and its text.
 #![tactic(auto)]
 
+mod boards;
+mod entries;
+mod faults;
+mod fields;
+mod kept;
+mod lines;
+mod order;
+mod senses;
 mod states;
+mod texts;
 
+pub use faults::StateFault;
 pub use states::{LinkBoard, RoundState};
+pub use texts::read_state;

@@ -1,0 +1,119 @@
+-- Which state a text stands for.
+use Rattle.std.specs.Prelude.{◌≡◌, ℕ, ◌/◌, ◌<◌, ◌≤◌, ◌==◌, if◌then◌else◌, List, [], ◌∷◌, Option, Some, None, filter_map, length, map, slice_index_or}
+use Rattle.std.specs.List.{range_with_len}
+use Rattle.std.specs.List.Sorted.{IsStrictlyIncreasing}
+use Rattle.foundation.specs.Options.{each}
+use Rattle.board_model.specs.declared.forecasts.Row.{Row}
+use Rattle.board_model.specs.Forecasts.{amount_at, seconds}
+use Rattle.control_flow.specs.declared.greens.Green.{Green}
+use Rattle.net_numbers.specs.Numbers.{Net}
+use Rattle.net_numbers.specs.Outline.{link_at}
+use Rattle.record_text.specs.Records.{records_of}
+use Rattle.road_net.specs.declared.senses.LinkSense.{LinkSense}
+use Rattle.road_net.specs.declared.senses.Sensed.{Sensed}
+use Rattle.road_net.specs.Network.{entry_links}
+use Rattle.round_states.specs.declared.entries.Entry.{Entry}
+use Rattle.round_states.specs.declared.entries.Said.{Said}
+use Rattle.round_states.specs.declared.entries.Said.TheVariants.{Shows, Stands, Comes, Publishes, Tells}
+use Rattle.round_states.specs.declared.entries.Standing.{Standing}
+use Rattle.round_states.specs.declared.states.LinkBoard.{LinkBoard}
+use Rattle.round_states.specs.declared.states.RoundState.{RoundState}
+use Rattle.round_states.specs.Order.{AreInOrder, now_of}
+use Rattle.round_states.specs.States.{IsBoard, IsStateOf}
+use Rattle.round_states.specs.Told.{entry_of, header}
+
+-- the green, the queue, what comes, the version or the row that is said, each where this is what is said
+abbrev pub green_said : Said → Option Green
+green_said (Shows green) = Some green
+green_said _ = None
+
+abbrev pub queue_said : Said → Option Standing
+queue_said (Stands queue) = Some queue
+queue_said _ = None
+
+abbrev pub coming_said : Said → Option Row
+coming_said (Comes row) = Some row
+coming_said _ = None
+
+abbrev pub version_said : Said → Option ℕ
+version_said (Publishes version) = Some version
+version_said _ = None
+
+abbrev pub row_said : Said → Option Row
+row_said (Tells row) = Some row
+row_said _ = None
+
+-- what a record says of this node or link, by one of these
+abbrev pub said_of : {X : Type 0} → (Said → Option X) → ℕ → Entry → Option X
+said_of of place e = if e.place == place then of e.said else None
+
+-- all that records say of it, in their order
+abbrev pub all_said : {X : Type 0} → (Said → Option X) → List Entry → ℕ → List X
+all_said of es place = filter_map (said_of of place) es
+
+-- what stands where no queue is told
+abbrev pub no_queue : Standing
+no_queue = record { amount = 0; stood = 0 }
+
+-- the queue of a link, and its version: the first that is told, and else 0
+abbrev pub queue_in : List Entry → ℕ → Standing
+queue_in es link = slice_index_or (all_said queue_said es link) 0 no_queue
+
+abbrev pub version_in : List Entry → ℕ → ℕ
+version_in es link = slice_index_or (all_said version_said es link) 0 0
+
+-- what comes on a link in each of this number of seconds, from this one on
+abbrev pub coming_in : List Entry → ℕ → ℕ → ℕ → List ℕ
+coming_in es link now travel = map (amount_at (all_said coming_said es link)) (range_with_len now travel)
+
+-- what is sensed of a link, and at a node of its entry links
+abbrev pub sense_in : Net → List Entry → ℕ → LinkSense
+sense_in net es link =
+    record { link = link; queue = (queue_in es link).amount; coming = coming_in es link (now_of es) (link_at net link).travel; stood = (queue_in es link).stood }
+
+abbrev pub sensed_in : Net → List Entry → ℕ → Sensed
+sensed_in net es node = record { now = now_of es; links = map (sense_in net es) (entry_links net node) }
+
+-- the board of a link
+abbrev pub board_in : List Entry → ℕ → LinkBoard
+board_in es link = record { version = version_in es link; forecast = all_said row_said es link }
+
+-- the state that records tell: of each node what it senses and its greens, and the board of each link
+abbrev pub state_in : Net → List Entry → RoundState
+state_in net es = record {
+  round = now_of es / net.run.step;
+  sensed = map (sensed_in net es) (range_with_len 0 (length net.node_names));
+  lines = map (all_said green_said es) (range_with_len 0 (length net.node_names));
+  boards = map (board_in es) (range_with_len 0 (length net.link_names));
+}
+
+-- the queue of a link is told once at most, and what comes on it in seconds that rise
+pub record IsSensedOnce (es : List Entry) (link : ℕ) : Type 0 where
+  pub queue : length (all_said queue_said es link) ≤ 1
+  pub rising : IsStrictlyIncreasing (seconds (all_said coming_said es link))
+
+-- the version of a link is told once at most, and its rows are a forecast of this version
+pub record IsBoardOnce (es : List Entry) (link : ℕ) : Type 0 where
+  pub version : length (all_said version_said es link) ≤ 1
+  pub board : IsBoard (board_in es link)
+
+-- Records that tell a state: they stand in order, say of each link once what is said once, and what they tell is a state in which
+-- a round begins.
+pub record TellState (net : Net) (es : List Entry) (state : RoundState) : Type 0 where
+  pub order : AreInOrder net es
+  pub senses : (l : ℕ) → l < length net.link_names → IsSensedOnce es l
+  pub boards : (l : ℕ) → l < length net.link_names → IsBoardOnce es l
+  pub told : state ≡ state_in net es
+  pub is : IsStateOf net state
+
+-- the first of all records is the header, and the others tell this state
+pub record AreStateRecords (net : Net) (all : List (List (List ℕ))) (state : RoundState) : Type 0 where
+  pub records : List (List (List ℕ))
+  pub are : all ≡ header ∷ records
+  pub entries : List Entry
+  pub reads : each (entry_of net) records ≡ Some entries
+  pub tell : TellState net entries state
+
+-- the state of a text is that of its records
+abbrev pub IsStateText : Net → List ℕ → RoundState → Type 0
+IsStateText net bytes state = AreStateRecords net (records_of bytes) state

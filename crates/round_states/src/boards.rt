@@ -1,0 +1,109 @@
+//! The boards of a state.
+ghost use Rattle.std.specs.Prelude.{◌≡◌, ◌↔◌, ℕ, ◌<◌, ◌≤◌, All, IfErr, IfOk, IsTrue, MatchOption, OnOk, length, map, take};
+ghost use Rattle.std.specs.List.{range_with_len};
+ghost use Rattle.std.specs.List.Sorted.{IsStrictlyIncreasing};
+ghost use Rattle.board_model.specs.Forecasts.{IsForecast, IsRow, seconds};
+ghost use Rattle.round_states.specs.Faults.{IsEntryFault};
+ghost use Rattle.round_states.specs.States.{IsBoard};
+ghost use Rattle.round_states.specs.Texts.{IsBoardOnce, board_in};
+
+use crate::entries::Entry;
+use crate::faults::StateFault;
+use crate::kept::{rows_of, versions_of};
+use crate::states::LinkBoard;
+use board_model::{Forecast, Row};
+use road_net::Network;
+use std::alloc::{AllocError, Global};
+
+/// No forecast has a greater version.
+const LAST_VERSION: u32 = 999;
+
+/// No forecast has more rows.
+const MOST_ROWS: usize = 180;
+
+/// The last second that a row of a forecast may have.
+const LAST_SECOND: u32 = 100_000;
+
+/// What a row of a forecast may have at the most, in thousandths of a vehicle.
+const MOST_IN_SECOND: u32 = 80_000;
+
+/// The board of each link. The fault is `Board` of the least link that has none.
+pub(crate) fn boards(
+    alloc: Global,
+    net: &Network,
+    entries: &[Entry],
+) -> Result<Vec<LinkBoard>, StateFault>
+    ensures ok { IfOk result (λ boards. boards.items
+        ≡ map (board_in entries.now) (range_with_len 0 (length net.now.link_names))) }
+    ensures each { OnOk result ((l : ℕ) → l < length net.now.link_names → IsBoardOnce entries.now l) }
+    ensures first { IfErr result (IsEntryFault net.now entries.now) }
+{
+    let mut boards = Vec::new(alloc);
+    for link in 0..net.links() {
+        let Some(board) = board(alloc, entries, link)? else {
+            return Err(StateFault::Board(link));
+        };
+        boards.push(board)?;
+    }
+    Ok(boards)
+}
+
+/// The board of a link; none where its version is told twice, or where what is told is no board. `Err`: out of memory.
+fn board(alloc: Global, entries: &[Entry], link: u32) -> Result<Option<LinkBoard>, AllocError>
+    ensures { IfOk result (λ board. MatchOption board (¬ IsBoardOnce entries.now link)
+        (λ board. (board ≡ board_in entries.now link) × IsBoardOnce entries.now link)) }
+{
+    let versions = versions_of(alloc, entries, link)?;
+    let version = versions.first().copied().unwrap_or(0);
+    let rows = rows_of(alloc, entries, link)?;
+    if versions.len() > 1 || !is_board(version, rows.as_slice()) {
+        return Ok(None);
+    }
+    let forecast = forecast(alloc, rows.as_slice())?;
+    Ok(Some(LinkBoard { version, forecast }))
+}
+
+/// Whether a version and rows are a board.
+fn is_board(version: u32, rows: &[Row]) -> bool
+    ensures { IsTrue result ↔ IsBoard (record { version = version; forecast = rows.now }) }
+{
+    version <= LAST_VERSION && (version > 0 || rows.is_empty()) && is_forecast(rows)
+}
+
+/// Whether rows are a forecast.
+fn is_forecast(rows: &[Row]) -> bool
+    ensures { IsTrue result ↔ IsForecast rows.now }
+{
+    rows.len() <= MOST_ROWS && are_rising(rows) && rows.iter().all(|row| is_row(row))
+}
+
+/// Whether a row is within its bounds.
+fn is_row(row: &Row) -> bool
+    ensures { IsTrue result ↔ IsRow row.now }
+{
+    row.second <= LAST_SECOND && (1..=MOST_IN_SECOND).contains(&row.amount)
+}
+
+/// Whether the seconds of rows rise.
+pub(crate) fn are_rising(rows: &[Row]) -> bool
+    ensures { IsTrue result ↔ IsStrictlyIncreasing (seconds rows.now) }
+{
+    for index in 1..rows.len() {
+        if rows[index].second <= rows[index - 1].second {
+            return false;
+        }
+    }
+    true
+}
+
+/// The forecast of rows that are one. `Err`: out of memory.
+fn forecast(alloc: Global, rows: &[Row]) -> Result<Forecast, AllocError>
+    requires { IsForecast rows.now }
+    ensures { IfOk result (λ forecast. forecast ≡ rows.now) }
+{
+    let mut forecast = Forecast::with_capacity(alloc, rows.len())?;
+    for row in rows {
+        forecast.push(*row)?;
+    }
+    Ok(forecast)
+}

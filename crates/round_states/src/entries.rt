@@ -1,0 +1,87 @@
+//! What the records of a state tell.
+ghost use Rattle.std.specs.Prelude.{◌≡◌, ◌<◌, IfSome, length};
+ghost use Rattle.road_net.specs.Network.{IsNetwork};
+ghost use Rattle.round_states.specs.Told.{entry_link_of, place_of, told_link_of};
+
+use board_model::Row;
+use control_flow::greens::Green;
+use record_text::{link_named, node_named};
+use road_net::Network;
+
+/// A queue at the end of a link.
+#[derive(Debug, Clone, Copy, PartialEq, Eq)]
+pub(crate) struct Standing {
+    /// What stands in it, in thousandths of a vehicle.
+    pub amount: u32,
+    /// For how many seconds it has stood.
+    pub stood: u32,
+}
+
+/// What a record says.
+#[derive(Debug, Clone, Copy, PartialEq, Eq)]
+pub(crate) enum Said {
+    /// The second in which the round begins.
+    Begins(u32),
+    /// A row of the timeline of a node.
+    Shows(Green),
+    /// The queue of a link.
+    Stands(Standing),
+    /// What comes on a link in a second.
+    Comes(Row),
+    /// The version of the forecast of a link.
+    Publishes(u32),
+    /// A row of the forecast of a link.
+    Tells(Row),
+    /// Nothing: its kind is passed over.
+    Passed,
+}
+
+/// What a record says, and of which node or link: its number, and 0 where it says it of none.
+#[derive(Debug, Clone, Copy, PartialEq, Eq)]
+pub(crate) struct Entry {
+    pub place: u32,
+    pub said: Said,
+}
+
+/// The number of the node or link that a record names; none where the network has none with this name of which the
+/// record can speak.
+pub(crate) fn place_of(net: &Network, said: &Said, name: &[u8]) -> Option<u32>
+    requires { IsNetwork net.now }
+    ensures { result ≡ place_of net.now said.now name.now }
+{
+    match said {
+        Said::Begins(_) | Said::Passed => Some(0),
+        Said::Shows(_) => node_named(net, name),
+        Said::Stands(_) | Said::Comes(_) => entry_link(net, name),
+        Said::Publishes(_) | Said::Tells(_) => told_link(net, name),
+    }
+}
+
+/// The number of the entry link with this name.
+#[tactic(auto, unfolding(crate::specs::Told::entry_link_of))]
+fn entry_link(net: &Network, name: &[u8]) -> Option<u32>
+    requires { IsNetwork net.now }
+    ensures value { result ≡ entry_link_of net.now name.now }
+    ensures below { IfSome result (λ link. link < length net.now.link_names) }
+{
+    let link = link_named(net, name)?;
+    if net.link(link).to.is_some() {
+        Some(link)
+    } else {
+        None
+    }
+}
+
+/// The number of the link with this name on which a node tells another one.
+#[tactic(auto, unfolding(crate::specs::Told::told_link_of))]
+fn told_link(net: &Network, name: &[u8]) -> Option<u32>
+    requires { IsNetwork net.now }
+    ensures { result ≡ told_link_of net.now name.now }
+{
+    let link = entry_link(net, name)?;
+    if net.link(link).from.is_some() {
+        Some(link)
+    } else {
+        None
+    }
+}

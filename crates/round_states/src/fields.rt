@@ -1,0 +1,124 @@
+//! What the fields of a record tell.
+ghost use Rattle.std.specs.Prelude.{◌≡◌, ◌≢◌, ◌↔◌, [], ◌∷◌, IsTrue, MatchOption, None, Some, length};
+ghost use Rattle.csv.specs.Records.{fields_of};
+ghost use Rattle.round_states.specs.Told.{byte_of, header, name_of, row_of, shows_of, stands_of, told, told_of};
+
+use crate::entries::{Said, Standing};
+use board_model::Row;
+use control_flow::greens::Green;
+use csv::ByteRecord;
+use record_text::digits;
+
+/// Whether the record is the header.
+pub(crate) fn is_header(row: &ByteRecord) -> bool
+    ensures { IsTrue result ↔ (fields_of row.now ≡ header) }
+{
+    match five_fields(row) {
+        Some((kind, name, x, y, z)) => kind == b"kind".as_slice()
+            && name == b"name".as_slice()
+            && x == b"x".as_slice()
+            && y == b"y".as_slice()
+            && z == b"z".as_slice(),
+        None => false,
+    }
+}
+
+/// The name in a record, and what the record says; none where it says nothing.
+pub(crate) fn read_said(row: &ByteRecord) -> Option<(&[u8], Said)>
+    ensures { MatchOption result (told_of (fields_of row.now) ≡ None)
+        (λ f. (told_of (fields_of row.now) ≡ Some f.1) × (name_of (fields_of row.now) ≡ f.0.now)) }
+{
+    let (kind, name, x, y, z) = five_fields(row)?;
+    let said = said_by(kind, x, y, z)?;
+    Some((name, said))
+}
+
+/// What a record of this kind says.
+#[tactic(auto, unfolding(crate::specs::Told::told))]
+fn said_by(kind: &[u8], x: &[u8], y: &[u8], z: &[u8]) -> Option<Said>
+    ensures { result ≡ told kind.now x.now y.now z.now }
+{
+    if kind == b"now".as_slice() {
+        return Some(Said::Begins(digits(x)?));
+    }
+    if kind == b"green".as_slice() {
+        return Some(Said::Shows(green(x, y, z)?));
+    }
+    if kind == b"queue".as_slice() {
+        return Some(Said::Stands(standing(x, y)?));
+    }
+    if kind == b"coming".as_slice() {
+        return Some(Said::Comes(row(x, y)?));
+    }
+    if kind == b"version".as_slice() {
+        return Some(Said::Publishes(digits(x)?));
+    }
+    if kind == b"row".as_slice() {
+        return Some(Said::Tells(row(x, y)?));
+    }
+    if kind == b"plan".as_slice() {
+        return Some(Said::Passed);
+    }
+    None
+}
+
+/// The green of a phase, a begin and an end.
+#[tactic(auto, unfolding(crate::specs::Told::shows_of))]
+fn green(x: &[u8], y: &[u8], z: &[u8]) -> Option<Green>
+    ensures { result ≡ shows_of x.now y.now z.now }
+{
+    let phase = byte(x)?;
+    let from = digits(y)?;
+    let to = digits(z)?;
+    Some(Green { phase, from, to })
+}
+
+/// The queue of an amount and of how long it has stood.
+#[tactic(auto, unfolding(crate::specs::Told::stands_of))]
+fn standing(x: &[u8], y: &[u8]) -> Option<Standing>
+    ensures { result ≡ stands_of x.now y.now }
+{
+    let amount = digits(x)?;
+    let stood = digits(y)?;
+    Some(Standing { amount, stood })
+}
+
+/// The row of a second and an amount.
+#[tactic(auto, unfolding(crate::specs::Told::row_of))]
+fn row(x: &[u8], y: &[u8]) -> Option<Row>
+    ensures { result ≡ row_of x.now y.now }
+{
+    let second = digits(x)?;
+    let amount = digits(y)?;
+    Some(Row { second, amount })
+}
+
+/// The number of a field of digits that is at most 255.
+#[tactic(auto, unfolding(crate::specs::Told::byte_of))]
+fn byte(field: &[u8]) -> Option<u8>
+    ensures { result ≡ byte_of field.now }
+{
+    let number = digits(field)?;
+    if number < 256 {
+        Some(number as u8)
+    } else {
+        None
+    }
+}
+
+/// The fields of a record that has five.
+fn five_fields(row: &ByteRecord) -> Option<(&[u8], &[u8], &[u8], &[u8], &[u8])>
+    ensures { MatchOption result (length (fields_of row.now) ≢ 5)
+        (λ f. fields_of row.now ≡ f.0.now ∷ f.1.now ∷ f.2.now ∷ f.3.now ∷ f.4.now ∷ []) }
+{
+    if row.len() != 5 {
+        return None;
+    }
+    Some((
+        row.get(0)?,
+        row.get(1)?,
+        row.get(2)?,
+        row.get(3)?,
+        row.get(4)?,
+    ))
+}

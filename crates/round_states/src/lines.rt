@@ -1,0 +1,91 @@
+//! The timelines of a state.
+ghost use Rattle.std.specs.Prelude.{◌≡◌, ◌↔◌, IfErr, IfOk, IsTrue, MatchOption, ℕ, ◌<◌, length, map};
+ghost use Rattle.std.specs.List.{range_with_len};
+ghost use Rattle.control_flow.specs.Greens.{BeginBy, end_of};
+ghost use Rattle.net_numbers.specs.Outline.{plan_at};
+ghost use Rattle.phase_plan.specs.Phases.{IsPlan};
+ghost use Rattle.road_net.specs.Network.{IsNetwork};
+ghost use Rattle.round_states.specs.Faults.{GoesOn, IsEntryFault};
+ghost use Rattle.round_states.specs.Order.{now_of};
+ghost use Rattle.round_states.specs.States.{IsLineAt, last_begin};
+ghost use Rattle.round_states.specs.Texts.{all_said, green_said};
+
+use crate::entries::Entry;
+use crate::faults::StateFault;
+use crate::kept::greens_of;
+use crate::order::now_of;
+use control_flow::greens::{Green, Timeline};
+use control_flow::is_lawful;
+use phase_plan::PhasePlan;
+use road_net::Network;
+use std::alloc::{AllocError, Global};
+
+/// The last second in which a row of a timeline may begin.
+const LAST_BEGIN: u32 = 100_000;
+
+/// The timeline of each node. The fault is `Line` of the least node whose greens are none.
+pub(crate) fn lines(
+    alloc: Global,
+    net: &Network,
+    entries: &[Entry],
+) -> Result<Vec<Timeline>, StateFault>
+    ensures ok { IfOk result (λ lines. lines.items
+        ≡ map (all_said green_said entries.now) (range_with_len 0 (length net.now.node_names))) }
+    ensures each { IfOk result (λ lines. (n : ℕ) → n < length net.now.node_names → GoesOn net.now entries.now n) }
+    ensures first { IfErr result (IsEntryFault net.now entries.now) }
+{
+    let mut lines = Vec::new(alloc);
+    for node in 0..net.nodes() {
+        let Some(line) = line(alloc, net, entries, node)? else {
+            return Err(StateFault::Line(node));
+        };
+        lines.push(line)?;
+    }
+    Ok(lines)
+}
+
+/// The timeline of a node, where its greens are one that goes on as the round begins. `Err`: out of memory.
+fn line(
+    alloc: Global,
+    net: &Network,
+    entries: &[Entry],
+    node: u32,
+) -> Result<Option<Timeline>, AllocError>
+    requires node { node < length net.now.node_names }
+    ensures { IfOk result (λ line. MatchOption line (¬ GoesOn net.now entries.now node)
+        (λ line. (line ≡ all_said green_said entries.now node) × GoesOn net.now entries.now node)) }
+{
+    let rows = greens_of(alloc, entries, node)?;
+    if goes_on(net.plan(node), now_of(entries), rows.as_slice()) {
+        Ok(Some(Timeline::from_rows(rows)))
+    } else {
+        Ok(None)
+    }
+}
+
+/// Whether rows are a timeline that goes on in this second.
+fn goes_on(plan: &PhasePlan, now: u32, rows: &[Green]) -> bool
+    ensures { IsTrue result ↔ IsLineAt plan.now now rows.now }
+{
+    let Some(first) = rows.first() else {
+        return false;
+    };
+    first.from <= now && now < end_of(rows) && begin_in_time(rows) && is_lawful(plan, rows)
+}
+
+/// The second after the last row.
+fn end_of(rows: &[Green]) -> u32
+    ensures { result ≡ end_of rows.now }
+{
+    match rows.last() {
+        Some(row) => row.to,
+        None => 0,
+    }
+}
+
+/// Whether no row begins later than it may.
+fn begin_in_time(rows: &[Green]) -> bool
+    ensures { IsTrue result ↔ BeginBy last_begin rows.now }
+{
+    rows.iter().all(|row| row.from <= LAST_BEGIN)
+}

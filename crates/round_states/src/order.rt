@@ -1,0 +1,73 @@
+//! In which order the records of a state may stand.
+ghost use Rattle.std.specs.Prelude.{◌≡◌, ◌↔◌, IsTrue};
+ghost use Rattle.road_net.specs.Network.{IsNetwork};
+ghost use Rattle.round_states.specs.Order.{FitsAfter, IsBegin, IsFirstSaid, IsLaterSaid, IsOnTheWay, begin_said, now_of};
+
+use crate::entries::{Entry, Said};
+use road_net::Network;
+
+/// Whether a record may stand after these.
+pub(crate) fn fits_after(net: &Network, before: &[Entry], entry: &Entry) -> bool
+    ensures { IsTrue result ↔ FitsAfter net.now before.now entry.now }
+{
+    match before.first() {
+        Some(first) => is_later(net, begin_said(&first.said), entry.place, &entry.said),
+        None => is_first(net, &entry.said),
+    }
+}
+
+/// The begin of the round, by the first record; 0 where there is none.
+pub(crate) fn now_of(entries: &[Entry]) -> u32
+    ensures { result ≡ now_of entries.now }
+{
+    match entries.first() {
+        Some(first) => begin_said(&first.said),
+        None => 0,
+    }
+}
+
+/// The second that is told as the begin of the round; 0 where none is.
+fn begin_said(said: &Said) -> u32
+    ensures { result ≡ begin_said said.now }
+{
+    match said {
+        Said::Begins(second) => *second,
+        _ => 0,
+    }
+}
+
+/// Whether the first record may say this.
+fn is_first(net: &Network, said: &Said) -> bool
+    ensures { IsTrue result ↔ IsFirstSaid net.now said.now }
+{
+    match said {
+        Said::Begins(second) => is_begin(net, *second),
+        _ => false,
+    }
+}
+
+/// Whether a later record may say this of a node or link.
+fn is_later(net: &Network, now: u32, place: u32, said: &Said) -> bool
+    ensures { IsTrue result ↔ IsLaterSaid net.now now place said.now }
+{
+    match said {
+        Said::Begins(_) => false,
+        Said::Comes(row) => is_on_the_way(net, now, place, row.second),
+        _ => true,
+    }
+}
+
+/// Whether a round begins in this second.
+fn is_begin(net: &Network, second: u32) -> bool
+    ensures { IsTrue result ↔ IsBegin net.now second }
+{
+    let run = net.run();
+    second / run.step < run.rounds && second % run.step == 0
+}
+
+/// Whether what comes on a link in this second is on the way.
+fn is_on_the_way(net: &Network, now: u32, link: u32, second: u32) -> bool
+    ensures { IsTrue result ↔ IsOnTheWay net.now now link second }
+{
+    link < net.links() && now <= second && second - now < net.link(link).travel
+}

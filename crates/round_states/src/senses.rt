@@ -1,0 +1,204 @@
+//! What the nodes of a state sense.
+ghost use Rattle.std.specs.Prelude.{◌≡◌, ◌↔◌, ℕ, ◌+◌, ◌<◌, ◌≤◌, All, IfErr, IfOk, IsTrue, MatchOption, OnOk, length, map, sum, sum_by};
+ghost use Rattle.std.specs.List.{range_with_len};
+ghost use Rattle.board_model.specs.Forecasts.{amount_at};
+ghost use Rattle.net_numbers.specs.Outline.{link_at};
+ghost use Rattle.road_net.specs.Network.{entry_links};
+ghost use Rattle.road_net.specs.Senses.{amount};
+ghost use Rattle.round_states.specs.Faults.{IsEntryFault, SensesFew};
+ghost use Rattle.round_states.specs.Order.{now_of};
+ghost use Rattle.round_states.specs.Texts.{IsSensedOnce, coming_in, sense_in, sensed_in};
+
+use crate::boards::are_rising;
+use crate::entries::{Entry, Standing};
+use crate::faults::StateFault;
+use crate::kept::{coming_of, queues_of};
+use crate::order::now_of;
+use board_model::Row;
+use foundation::items::Items;
+use road_net::{LinkSense, Network, Sensed};
+use std::alloc::{AllocError, Global};
+
+/// The most that a node may sense, in thousandths of a vehicle.
+const MOST: u32 = 2_000_000_000;
+
+/// Tests that what is sensed of each link is told once. The fault is `Sense` of the least link of which it is not.
+pub(crate) fn check_senses(
+    alloc: Global,
+    net: &Network,
+    entries: &[Entry],
+) -> Result<(), StateFault>
+    ensures ok { OnOk result ((l : ℕ) → l < length net.now.link_names → IsSensedOnce entries.now l) }
+    ensures first { IfErr result (IsEntryFault net.now entries.now) }
+{
+    for link in 0..net.links() {
+        let once = is_sensed_once(alloc, entries, link)?;
+        if !once {
+            return Err(StateFault::Sense(link));
+        }
+    }
+    Ok(())
+}
+
+/// Whether what is sensed of a link is told once. `Err`: out of memory.
+fn is_sensed_once(alloc: Global, entries: &[Entry], link: u32) -> Result<bool, AllocError>
+    ensures { IfOk result (λ once. IsTrue once ↔ IsSensedOnce entries.now link) }
+{
+    let queues = queues_of(alloc, entries, link)?;
+    let rows = coming_of(alloc, entries, link)?;
+    Ok(queues.len() <= 1 && are_rising(rows.as_slice()))
+}
+
+/// What each node senses. The fault is `Sum` of the least node that senses more than it may.
+pub(crate) fn senses(
+    alloc: Global,
+    net: &Network,
+    entries: &[Entry],
+) -> Result<Vec<Sensed>, StateFault>
+    requires now { now_of entries.now ≤ 18000 }
+    ensures ok { IfOk result (λ all. all.items
+        ≡ map (sensed_in net.now entries.now) (range_with_len 0 (length net.now.node_names))) }
+    ensures few { OnOk result ((n : ℕ) → n < length net.now.node_names → SensesFew net.now entries.now n) }
+    ensures first { IfErr result (IsEntryFault net.now entries.now) }
+{
+    let mut all = Vec::new(alloc);
+    for node in 0..net.nodes() {
+        let Some(sensed) = sensed(alloc, net, entries, node)? else {
+            return Err(StateFault::Sum(node));
+        };
+        all.push(sensed)?;
+    }
+    Ok(all)
+}
+
+/// What a node senses; none where it is more than it may be. `Err`: out of memory.
+fn sensed(
+    alloc: Global,
+    net: &Network,
+    entries: &[Entry],
+    node: u32,
+) -> Result<Option<Sensed>, AllocError>
+    requires now { now_of entries.now ≤ 18000 }
+    requires node { node < length net.now.node_names }
+    ensures { IfOk result (λ sensed. MatchOption sensed (¬ SensesFew net.now entries.now node)
+        (λ sensed. (sensed ≡ sensed_in net.now entries.now node) × SensesFew net.now entries.now node)) }
+{
+    let links = link_senses(alloc, net, entries, node)?;
+    if are_few(links.as_slice()) {
+        Ok(Some(Sensed {
+            now: now_of(entries),
+            links: Items::from_vec(links),
+        }))
+    } else {
+        Ok(None)
+    }
+}
+
+/// What is sensed of each entry link of a node. `Err`: out of memory.
+fn link_senses(
+    alloc: Global,
+    net: &Network,
+    entries: &[Entry],
+    node: u32,
+) -> Result<Vec<LinkSense>, AllocError>
+    requires now { now_of entries.now ≤ 18000 }
+    requires node { node < length net.now.node_names }
+    ensures { IfOk result (λ links. links.items
+        ≡ map (sense_in net.now entries.now) (entry_links net.now node)) }
+{
+    let mut links = Vec::new(alloc);
+    for link in net.entry_links(node) {
+        links.push(sense(alloc, net, entries, *link)?)?;
+    }
+    Ok(links)
+}
+
+/// What is sensed of a link. `Err`: out of memory.
+fn sense(
+    alloc: Global,
+    net: &Network,
+    entries: &[Entry],
+    link: u32,
+) -> Result<LinkSense, AllocError>
+    requires now { now_of entries.now ≤ 18000 }
+    requires link { link < length net.now.link_names }
+    ensures { IfOk result (λ sense. sense ≡ sense_in net.now entries.now link) }
+{
+    let queues = queues_of(alloc, entries, link)?;
+    let queue = queues.first().copied().unwrap_or(NO_QUEUE);
+    let rows = coming_of(alloc, entries, link)?;
+    let coming = coming(alloc, rows.as_slice(), now_of(entries), net.link(link).travel)?;
+    Ok(LinkSense {
+        link,
+        queue: queue.amount,
+        coming: Items::from_vec(coming),
+        stood: queue.stood,
+    })
+}
+
+/// What stands where no queue is told.
+const NO_QUEUE: Standing = Standing {
+    amount: 0,
+    stood: 0,
+};
+
+/// What comes in each of this number of seconds, from this one on. `Err`: out of memory.
+fn coming(alloc: Global, rows: &[Row], now: u32, travel: u32) -> Result<Vec<u32>, AllocError>
+    requires now { now ≤ 18000 }
+    requires travel { travel ≤ 120 }
+    ensures { IfOk result (λ all. all.items ≡ map (amount_at rows.now) (range_with_len now travel)) }
+{
+    let mut all = Vec::new(alloc);
+    for second in now..now + travel {
+        all.push(amount_in(rows, second))?;
+    }
+    Ok(all)
+}
+
+/// What comes in a second: the amount of the first row with it, and else 0.
+fn amount_in(rows: &[Row], second: u32) -> u32
+    ensures { result ≡ amount_at rows.now second }
+{
+    match rows.iter().find(|row| row.second == second) {
+        Some(row) => row.amount,
+        None => 0,
+    }
+}
+
+/// Whether what is sensed of all these links is no more than it may be.
+fn are_few(links: &[LinkSense]) -> bool
+    ensures { IsTrue result ↔ sum_by amount links.now ≤ 2000000000 }
+{
+    let mut left = MOST;
+    for sense in links {
+        match rest_after(sense, left) {
+            Some(rest) => left = rest,
+            None => return false,
+        }
+    }
+    true
+}
+
+/// What is left of an amount after what is sensed of a link; none where that is more.
+fn rest_after(sense: &LinkSense, left: u32) -> Option<u32>
+    ensures { MatchOption result (left < amount sense.now) (λ rest. rest + amount sense.now ≡ left) }
+{
+    if sense.queue > left {
+        return None;
+    }
+    rest_after_all(sense.coming.as_slice(), left - sense.queue)
+}
+
+/// What is left of an amount after all these; none where they are more.
+fn rest_after_all(amounts: &[u32], left: u32) -> Option<u32>
+    ensures { MatchOption result (left < sum amounts.now) (λ rest. rest + sum amounts.now ≡ left) }
+{
+    let mut rest = left;
+    for amount in amounts {
+        if *amount > rest {
+            return None;
+        }
+        rest -= *amount;
+    }
+    Some(rest)
+}

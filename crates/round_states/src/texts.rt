@@ -1,0 +1,141 @@
+//! The text of a state.
+ghost use Rattle.std.specs.Prelude.{◌≡◌, ◌<◌, ◌^◌, [], IfErr, IfOk, length};
+ghost use Rattle.csv.specs.Records.{fields_of};
+ghost use Rattle.road_net.specs.Network.{IsNetwork};
+ghost use Rattle.round_states.specs.Faults.{IsEntryFault, IsStateFault, Refuses};
+ghost use Rattle.round_states.specs.Order.{AreInOrder};
+ghost use Rattle.round_states.specs.States.{IsStateOf};
+ghost use Rattle.round_states.specs.Taking.{Adds, Reads};
+ghost use Rattle.round_states.specs.Texts.{IsStateText, TellState};
+ghost use Rattle.round_states.specs.declared.states.RoundState as spec;
+
+use crate::boards::boards;
+use crate::entries::{Entry, place_of};
+use crate::faults::StateFault;
+use crate::fields::{is_header, read_said};
+use crate::lines::lines;
+use crate::order::{fits_after, now_of};
+use crate::senses::{check_senses, senses};
+use crate::states::RoundState;
+use csv::ByteRecord;
+use foundation::items::Items;
+use record_text::{RecordTaker, take_records};
+use road_net::Network;
+use std::alloc::Global;
+
+/// The state that a text tells, by the names of a network. A round of the network begins in it. The text has fewer than
+/// 2^32 bytes.
+///
+/// The fault is `NoMemory`; or `Header`, where the text does not begin with the header; or that of the first row at
+/// fault, within a row in the order `Row`, `Name`, `Time`; or else the first that is found of `Sense`, `Board`, `Line`
+/// and `Sum` when what is told is put together.
+///
+/// docs/FORMATS.md, "State of a round".
+pub fn read_state(alloc: Global, bytes: &[u8], net: &Network) -> Result<RoundState, StateFault>
+    requires { length bytes.now < 2 ^ 32 }
+    ensures ok { IfOk result (IsStateText net.now bytes.now) }
+    ensures state { IfOk result (IsStateOf net.now) }
+    ensures refused { IfErr result (λ fault.
+        Refuses fault ((state : spec.RoundState) → ¬ IsStateText net.now bytes.now state)) }
+    ensures first { IfErr result (IsStateFault net.now bytes.now) }
+{
+    let mut taker = Entries::none(alloc, net);
+    match take_records(alloc, bytes, net, &mut taker) {
+        Ok(true) => state_of(alloc, net, taker.all.as_slice()),
+        Ok(false) => Err(StateFault::Header),
+        Err(fault) => Err(fault),
+    }
+}
+
+/// The state that these records tell, which stand in order.
+fn state_of(alloc: Global, net: &Network, entries: &[Entry]) -> Result<RoundState, StateFault>
+    requires network { IsNetwork net.now }
+    requires order { AreInOrder net.now entries.now }
+    ensures ok { IfOk result (TellState net.now entries.now) }
+    ensures first { IfErr result (IsEntryFault net.now entries.now) }
+{
+    check_senses(alloc, net, entries)?;
+    let boards = boards(alloc, net, entries)?;
+    let lines = lines(alloc, net, entries)?;
+    let sensed = senses(alloc, net, entries)?;
+    Ok(RoundState {
+        round: now_of(entries) / net.run().step,
+        sensed: Items::from_vec(sensed),
+        lines: Items::from_vec(lines),
+        boards: Items::from_vec(boards),
+    })
+}
+
+/// What the records so far tell.
+#[derive(Drop)]
+pub(crate) struct Entries {
+    all: Vec<Entry>,
+}
+
+impl Entries {
+    /// No record is taken.
+    fn none(alloc: Global, net: &Network) -> Entries
+        ensures none { result.all.items ≡ [] }
+        ensures network { IsNetwork net.now }
+    {
+        // Called for its clause `network`, and not for the count.
+        let _ = net.nodes();
+        Entries {
+            all: Vec::new(alloc),
+        }
+    }
+
+    /// Adds what the record with this number tells.
+    fn add(&mut self, net: &Network, entry: Entry, number: u32) -> Result<(), StateFault>
+        ensures { Adds net.now entry number self.old self.new result }
+    {
+        if !fits_after(net, self.all.as_slice(), &entry) {
+            return Err(StateFault::Time(number));
+        }
+        self.all.push(entry)?;
+        Ok(())
+    }
+}
+
+/// What the record with this number tells.
+#[tactic(auto, unfolding(crate::specs::Told::entry_of))]
+fn read_entry(net: &Network, row: &ByteRecord, number: u32) -> Result<Entry, StateFault>
+    requires { IsNetwork net.now }
+    ensures { Reads net.now (fields_of row.now) number result }
+{
+    let Some((name, said)) = read_said(row) else {
+        return Err(StateFault::Row(number));
+    };
+    match place_of(net, &said, name) {
+        Some(place) => Ok(Entry { place, said }),
+        None => Err(StateFault::Name(number)),
+    }
+}
+
+impl RecordTaker for Entries {
+    ghost use Rattle.round_states.specs.Taking.{HasTaken, IsRefused};
+    ghost use Rattle.round_states.specs.Told as told;
+
+    type Fault = StateFault;
+
+    ghost header = { told.header };
+
+    ghost has_taken = { HasTaken };
+
+    ghost at_fault = { IsRefused };
+
+    fn is_header(row: &ByteRecord) -> bool {
+        is_header(row)
+    }
+
+    fn take(
+        &mut self,
+        _alloc: Global,
+        net: &Network,
+        row: &ByteRecord,
+        number: u32,
+    ) -> Result<(), StateFault> {
+        let entry = read_entry(net, row, number)?;
+        self.add(net, entry, number)
+    }
+}
