@@ -75,3 +75,7 @@ pub record HaveDischarged (net : Net) (store : List ℕ) (served : List Bool) (n
   pub waits : (k : ℕ) → slice_index queues k + inward (link_at net k).to (slice_index (first_goes net store served n lv qs hs) k) ≡ slice_index qs k
   pub enters : (k : ℕ) → slice_index entering k ≡ slice_index en k + first_given net store served n lv qs hs k
   pub holds : (k : ℕ) → slice_index held k + inward (link_at net k).to (slice_index (first_goes net store served n lv qs hs) k) ≡ slice_index hs k + first_given net store served n lv qs hs k
+
+-- what enters a link from outside: as much of what waits there and of what arrives as there is room for
+abbrev pub comes_of : List ℕ → List ℕ → List ℕ → (ℕ → ℕ) → ℕ → ℕ
+comes_of store held outside arriving l = min (slice_index outside l + arriving l) (room_of store held l)

@@ -2,6 +2,7 @@
 #![tactic(auto)]
 
 mod discharges;
+mod ends;
 mod laws;
 mod searches;
 mod totals;

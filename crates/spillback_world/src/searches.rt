@@ -9,7 +9,7 @@ use road_net::{Network, part_of_turn};
 use stores::Store;
 
 /// How much more a link can hold.
-fn room(store: &Store, held: &[u32], link: u32) -> u32
+pub(crate) fn room(store: &Store, held: &[u32], link: u32) -> u32
     requires store { link < length store.now }
     requires held { link < length held.now }
     ensures { result ≡ room_of store.now held.now link }
