@@ -1,9 +1,9 @@
 -- Rows whose seconds rise, and forecasts.
-use Rattle.std.proofs.Common.{◌≡◌, ℕ, zero, suc, ◌+◌, ◌-◌, ◌<◌, ◌≤◌, List, [], ◌∷◌, ◌++◌, length, get_or, map, take, refl, sym, subst, ◌∙◌, arith}
+use Rattle.std.proofs.Common.{◌≡◌, ℕ, zero, suc, ◌+◌, ◌-◌, ◌<◌, ◌≤◌, List, [], ◌∷◌, ◌++◌, length, get_or, take, sym, subst, arith}
 use Rattle.std.specs.List.Sorted.{IsStrictlyIncreasing}
 use Rattle.std.proofs.lemmas.List.{get_or-map, length-map, take_more}
 use Rattle.board_model.specs.declared.forecasts.Row.{Row}
-use Rattle.board_model.specs.Forecasts.{IsAboveLast, IsForecast, seconds}
+use Rattle.board_model.specs.Forecasts.{IsAboveLast, seconds}
 use Rattle.board_model.proofs.ForCallers.{above-row}
 
 -- what stands where there is no row

@@ -1,10 +1,9 @@
 -- The fields of a record.
-use Rattle.std.proofs.Common.{◌≡◌, ◌≢◌, ℕ, ◌<◌, List, [], ◌∷◌, length, get_or, Option, Some, None, refl, sym, ap, ◌∙◌, arith}
+use Rattle.std.proofs.Common.{◌≡◌, ◌≢◌, ℕ, ◌<◌, List, [], ◌∷◌, length, Some, None, refl, sym, ap, arith}
 use Rattle.std.specs.Str.{bytes_eq}
 use Rattle.std.proofs.lemmas.List.Quantifiers.{position-Some}
 use Rattle.csv.specs.Records.{field_at}
 use Rattle.net_numbers.specs.Numbers.{number_of}
-use Rattle.round_states.specs.declared.entries.Said.{Said}
 use Rattle.round_states.specs.Told.{name_of, told, told_of}
 
 -- five fields that were read one after another are all of them

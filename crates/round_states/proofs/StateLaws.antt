@@ -1,18 +1,15 @@
 -- The state that records tell.
-use Rattle.std.proofs.Common.{◌≡◌, ℕ, ◌+◌, ◌/◌, ◌<◌, ◌≤◌, List, [], ◌∷◌, All, length, get_or, map, refl, sym, ap, ◌∙◌, subst, arith}
+use Rattle.std.proofs.Common.{◌≡◌, ℕ, ◌+◌, ◌/◌, ◌<◌, List, [], ◌∷◌, All, length, get_or, map, refl, sym, ap, ◌∙◌, subst, arith}
 use Rattle.std.specs.List.{range_with_len}
-use Rattle.std.proofs.lemmas.List.Elements.{All-map, All-from_get_or}
+use Rattle.std.proofs.lemmas.List.Elements.{All-map}
 use Rattle.std.proofs.lemmas.List.FromFn.{get_or-map-range_with_len, get_or-range_with_len, length-map-range_with_len, length-range_with_len}
-use Rattle.control_flow.specs.declared.greens.Green.{Green}
 use Rattle.net_numbers.specs.Numbers.{Net}
 use Rattle.net_numbers.specs.Outline.{link_at, plan_at}
 use Rattle.board_model.specs.Forecasts.{amount_at}
 use Rattle.road_net.specs.declared.senses.LinkSense.{LinkSense}
-use Rattle.road_net.specs.declared.senses.Sensed.{Sensed}
 use Rattle.road_net.specs.Network.{IsNetwork, entry_links}
 use Rattle.road_net.specs.Senses.{IsSensedOf}
 use Rattle.round_states.specs.declared.entries.Entry.{Entry}
-use Rattle.round_states.specs.declared.states.LinkBoard.{LinkBoard}
 use Rattle.round_states.specs.declared.states.RoundState.{RoundState}
 use Rattle.round_states.specs.Faults.{GoesOn, SensesFew}
 use Rattle.round_states.specs.Order.{AreInOrder, now_of}

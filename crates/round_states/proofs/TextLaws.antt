@@ -1,9 +1,7 @@
 -- The records of a state, one after another, and the first at fault.
-use Rattle.std.proofs.Common.{◌≡◌, ℕ, ◌+◌, ◌<◌, ◌≤◌, ◌^◌, List, [], ◌∷◌, ◌++◌, length, get_or, map, Option, Some, None, IsSomeAnd, Result, Ok, Err, IfOk, IfErr, OnOk, refl, sym, ap, ◌∙◌, subst, inl, inr, arith}
-use Rattle.std.specs.List.{range_with_len}
+use Rattle.std.proofs.Common.{◌≡◌, ℕ, ◌<◌, List, [], ◌∷◌, ◌++◌, length, get_or, Some, None, Result, Ok, Err, IfErr, OnOk, refl, sym, ap, ◌∙◌, subst, inl, inr, arith}
 use Rattle.std.proofs.lemmas.List.FromFn.{get_or-map-range_with_len}
 use Rattle.std.proofs.lemmas.Option.{same_Some, none-some}
-use Rattle.foundation.specs.Firsts.{IsFirstWithout}
 use Rattle.foundation.specs.Options.{◌>>=◌, each}
 use Rattle.foundation.proofs.EachLaws.{each-append, each-cons, each-push}
 use Rattle.foundation.proofs.OptionLaws.{and-at, and-some, bind-some}
@@ -21,8 +19,8 @@ use Rattle.round_states.specs.declared.states.RoundState.{RoundState}
 use Rattle.round_states.specs.declared.texts.Entries.{Entries}
 use Rattle.round_states.specs.Faults.{AreFaulty, AreReadAs, GoesOn, IsAtName, IsAtRow, IsAtTime, IsEntryFault, IsFirst, IsRecordFault, Refuses, SensesFew, TellNone}
 use Rattle.round_states.specs.Order.{AreInOrder, FitsAfter, now_of}
-use Rattle.round_states.specs.States.{IsLineAt, IsSensedAt, IsStateOf, begin_of, no_sense}
-use Rattle.round_states.specs.Taking.{Adds, HasTaken, IsRefused, Reads}
+use Rattle.round_states.specs.States.{IsLineAt, IsSensedAt, begin_of, no_sense}
+use Rattle.round_states.specs.Taking.{Adds, HasTaken, IsRefused}
 use Rattle.round_states.specs.Texts.{AreStateRecords, TellState, all_said, green_said, sensed_in, state_in}
 use Rattle.round_states.specs.Told.{entry_of, header, name_of, place_of, told_of}
 use Rattle.round_states.proofs.OrderLaws.{order-middle, order-none, order-push}
@@ -97,19 +95,19 @@ module _ (net : Net) (es : List Entry) (state : RoundState) (tell : TellState ne
   told-sensed : (n : ℕ) → n < length net.node_names → SensesFew net es n
   told-sensed n h =
       let same : get_or state.sensed n no_sense ≡ sensed_in net es n =
-              ap (λ (s : RoundState). get_or s.sensed n no_sense) tell.told ∙ get_or-map-range_with_len (sensed_in net es) 0 (length net.node_names) n n no_sense h (omega arith) in
+      ap (λ (s : RoundState). get_or s.sensed n no_sense) tell.told ∙ get_or-map-range_with_len (sensed_in net es) 0 (length net.node_names) n n no_sense h (omega arith) in
       (subst (IsSensedAt net (begin_of net state.round) n) same (tell.is.sensed n h)).sensed.amounts
 
   told-begin : (n : ℕ) → n < length net.node_names → begin_of net state.round ≡ now_of es
   told-begin n h =
       let same : get_or state.sensed n no_sense ≡ sensed_in net es n =
-              ap (λ (s : RoundState). get_or s.sensed n no_sense) tell.told ∙ get_or-map-range_with_len (sensed_in net es) 0 (length net.node_names) n n no_sense h (omega arith) in
+      ap (λ (s : RoundState). get_or s.sensed n no_sense) tell.told ∙ get_or-map-range_with_len (sensed_in net es) 0 (length net.node_names) n n no_sense h (omega arith) in
       sym ((subst (IsSensedAt net (begin_of net state.round) n) same (tell.is.sensed n h)).now)
 
   told-line : (n : ℕ) → n < length net.node_names → GoesOn net es n
   told-line n h =
       let same : get_or state.lines n [] ≡ all_said green_said es n =
-              ap (λ (s : RoundState). get_or s.lines n []) tell.told ∙ get_or-map-range_with_len (all_said green_said es) 0 (length net.node_names) n n [] h (omega arith) in
+      ap (λ (s : RoundState). get_or s.lines n []) tell.told ∙ get_or-map-range_with_len (all_said green_said es) 0 (length net.node_names) n n [] h (omega arith) in
       subst (λ now. IsLineAt (plan_at net n) now (all_said green_said es n)) (told-begin n h) (subst (IsLineAt (plan_at net n) (begin_of net state.round)) same (tell.is.lines n h))
 
   -- records that tell a state have no fault

@@ -39,11 +39,7 @@ pub(crate) fn queues_of(
 }
 
 /// What comes on a link. `Err`: out of memory.
-pub(crate) fn coming_of(
-    alloc: Global,
-    entries: &[Entry],
-    link: u32,
-) -> Result<Vec<Row>, AllocError>
+pub(crate) fn coming_of(alloc: Global, entries: &[Entry], link: u32) -> Result<Vec<Row>, AllocError>
     ensures { IfOk result (λ all. all.items ≡ all_said coming_said entries.now link) }
 {
     let mut all = Vec::new(alloc);

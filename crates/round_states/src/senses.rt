@@ -127,7 +127,12 @@ fn sense(
     let queues = queues_of(alloc, entries, link)?;
     let queue = queues.first().copied().unwrap_or(NO_QUEUE);
     let rows = coming_of(alloc, entries, link)?;
-    let coming = coming(alloc, rows.as_slice(), now_of(entries), net.link(link).travel)?;
+    let coming = coming(
+        alloc,
+        rows.as_slice(),
+        now_of(entries),
+        net.link(link).travel,
+    )?;
     Ok(LinkSense {
         link,
         queue: queue.amount,
