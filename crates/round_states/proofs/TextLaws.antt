@@ -21,7 +21,7 @@ use Rattle.round_states.specs.Faults.{AreFaulty, AreReadAs, GoesOn, IsAtName, Is
 use Rattle.round_states.specs.Order.{AreInOrder, FitsAfter, now_of}
 use Rattle.round_states.specs.States.{IsLineAt, IsSensedAt, begin_of, no_sense}
 use Rattle.round_states.specs.Taking.{Adds, HasTaken, IsRefused}
-use Rattle.round_states.specs.Texts.{AreStateRecords, TellState, all_said, green_said, sensed_in, state_in}
+use Rattle.round_states.specs.Texts.{AreStateRecords, TellState, all_said, green_said, sensed_in}
 use Rattle.round_states.specs.Told.{entry_of, header, name_of, place_of, told_of}
 use Rattle.round_states.proofs.OrderLaws.{order-middle, order-none, order-push}
 
@@ -89,9 +89,6 @@ told-text net all es state read tell = record { records = read.records; are = re
 
 -- what a state that records tell has of each node
 module _ (net : Net) (es : List Entry) (state : RoundState) (tell : TellState net es state) where
-  told-round : state.round ≡ (state_in net es).round
-  told-round = ap (λ (s : RoundState). s.round) tell.told
-
   told-sensed : (n : ℕ) → n < length net.node_names → SensesFew net es n
   told-sensed n h =
       let same : get_or state.sensed n no_sense ≡ sensed_in net es n =
