@@ -115,9 +115,9 @@ module _ (net : Net) (es : List Entry) (state : RoundState) (tell : TellState ne
   told-clash (Name n) h = h
   told-clash (Time n) h = h
   told-clash (Sense l) h = h.here (tell.senses l h.below)
-  told-clash (Board l) h = h.here (tell.boards l h.below)
-  told-clash (Line n) h = h.here (told-line n h.below)
-  told-clash (Sum n) h = h.here (told-sensed n h.below)
+  told-clash (Board l) h = h.1.here (tell.boards l h.1.below)
+  told-clash (Line n) h = h.2.here (told-line n h.2.below)
+  told-clash (Sum n) h = h.3.here (told-sensed n h.3.below)
 
 module _ (net : Net) (records : List (List (List ℕ))) (state : RoundState) (is : AreStateRecords net (header ∷ records) state) where
   reads-all : each (entry_of net) records ≡ Some is.entries

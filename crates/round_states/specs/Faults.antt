@@ -1,5 +1,5 @@
 -- The first fault of the text of a state.
-use Rattle.std.specs.Prelude.{◌≡◌, ◌≢◌, ℕ, ◌≤◌, List, ◌∷◌, Some, None, IsSomeAnd, length, sum_by}
+use Rattle.std.specs.Prelude.{◌≡◌, ◌≢◌, ℕ, ◌≤◌, ◌<◌, List, ◌∷◌, Some, None, IsSomeAnd, length, sum_by}
 use Rattle.foundation.specs.Firsts.{IsFirstWithout}
 use Rattle.foundation.specs.Options.{each}
 use Rattle.net_numbers.specs.Numbers.{Net}
@@ -43,13 +43,23 @@ SensesFew net es node = sum_by amount (sensed_in net es node).links ≤ 20000000
 abbrev pub GoesOn : Net → List Entry → ℕ → Type 0
 GoesOn net es node = IsLineAt (plan_at net node) (now_of es) (all_said green_said es node)
 
--- why what records tell is no state, where they are read and stand in order
+-- what is sensed of each link is told once; so is the board of each; and the greens of each node go on
+abbrev pub AreSensedOnce : Net → List Entry → Type 0
+AreSensedOnce net es = (l : ℕ) → l < length net.link_names → IsSensedOnce es l
+
+abbrev pub AreBoardsOnce : Net → List Entry → Type 0
+AreBoardsOnce net es = (l : ℕ) → l < length net.link_names → IsBoardOnce es l
+
+abbrev pub AllGoOn : Net → List Entry → Type 0
+AllGoOn net es = (n : ℕ) → n < length net.node_names → GoesOn net es n
+
+-- why what records tell is no state, where they are read and stand in order: the first of these, at the least link or node
 abbrev pub IsEntryFault : Net → List Entry → StateFault → Type 0
 IsEntryFault net es NoMemory = Unit {0}
 IsEntryFault net es (Sense link) = IsFirstWithout (IsSensedOnce es) (length net.link_names) link
-IsEntryFault net es (Board link) = IsFirstWithout (IsBoardOnce es) (length net.link_names) link
-IsEntryFault net es (Line node) = IsFirstWithout (GoesOn net es) (length net.node_names) node
-IsEntryFault net es (Sum node) = IsFirstWithout (SensesFew net es) (length net.node_names) node
+IsEntryFault net es (Board link) = AreSensedOnce net es × IsFirstWithout (IsBoardOnce es) (length net.link_names) link
+IsEntryFault net es (Line node) = AreSensedOnce net es × AreBoardsOnce net es × IsFirstWithout (GoesOn net es) (length net.node_names) node
+IsEntryFault net es (Sum node) = AreSensedOnce net es × AreBoardsOnce net es × AllGoOn net es × IsFirstWithout (SensesFew net es) (length net.node_names) node
 IsEntryFault net es _ = ⊥
 
 -- the records are read and stand in order, and what they tell is no state

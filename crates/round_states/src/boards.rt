@@ -3,7 +3,7 @@ ghost use Rattle.std.specs.Prelude.{◌≡◌, ◌↔◌, ℕ, ◌<◌, ◌≤�
 ghost use Rattle.std.specs.List.{range_with_len};
 ghost use Rattle.std.specs.List.Sorted.{IsStrictlyIncreasing};
 ghost use Rattle.board_model.specs.Forecasts.{IsForecast, IsRow, seconds};
-ghost use Rattle.round_states.specs.Faults.{IsEntryFault};
+ghost use Rattle.round_states.specs.Faults.{AreSensedOnce, IsEntryFault};
 ghost use Rattle.round_states.specs.States.{IsBoard};
 ghost use Rattle.round_states.specs.Texts.{IsBoardOnce, board_in};
 
@@ -27,12 +27,14 @@ const LAST_SECOND: u32 = 100_000;
 /// What a row of a forecast may have at the most, in thousandths of a vehicle.
 const MOST_IN_SECOND: u32 = 80_000;
 
-/// The board of each link. The fault is `Board` of the least link that has none.
+/// The board of each link, where what is sensed of each is told once. The fault is `Board` of the least link that has
+/// none.
 pub(crate) fn boards(
     alloc: Global,
     net: &Network,
     entries: &[Entry],
 ) -> Result<Vec<LinkBoard>, StateFault>
+    requires senses { AreSensedOnce net.now entries.now }
     ensures ok { IfOk result (λ boards. boards.items
         ≡ map (board_in entries.now) (range_with_len 0 (length net.now.link_names))) }
     ensures each { OnOk result ((l : ℕ) → l < length net.now.link_names → IsBoardOnce entries.now l) }

@@ -16,7 +16,7 @@ pub enum StateFault {
     Row(u32),
     /// The row names no node or link of which its kind can speak.
     Name(u32),
-    /// The row is out of its time: it is the first one and tells not the begin of a round, or it is a later one and
+    /// The row is out of its time: it is the first one and does not tell the begin of a round, or it is a later one and
     /// tells when the round begins, or what comes on a link outside of the seconds that it takes to travel it.
     Time(u32),
     /// The least link whose queue is told twice, or on which what comes is told in seconds that do not rise.

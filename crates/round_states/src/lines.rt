@@ -5,7 +5,7 @@ ghost use Rattle.control_flow.specs.Greens.{BeginBy, end_of};
 ghost use Rattle.net_numbers.specs.Outline.{plan_at};
 ghost use Rattle.phase_plan.specs.Phases.{IsPlan};
 ghost use Rattle.road_net.specs.Network.{IsNetwork};
-ghost use Rattle.round_states.specs.Faults.{GoesOn, IsEntryFault};
+ghost use Rattle.round_states.specs.Faults.{AreBoardsOnce, AreSensedOnce, GoesOn, IsEntryFault};
 ghost use Rattle.round_states.specs.Order.{now_of};
 ghost use Rattle.round_states.specs.States.{IsLineAt, last_begin};
 ghost use Rattle.round_states.specs.Texts.{all_said, green_said};
@@ -23,12 +23,15 @@ use std::alloc::{AllocError, Global};
 /// The last second in which a row of a timeline may begin.
 const LAST_BEGIN: u32 = 100_000;
 
-/// The timeline of each node. The fault is `Line` of the least node whose greens are none.
+/// The timeline of each node, where what is sensed of each link and its board are told once. The fault is `Line` of the
+/// least node whose greens are none.
 pub(crate) fn lines(
     alloc: Global,
     net: &Network,
     entries: &[Entry],
 ) -> Result<Vec<Timeline>, StateFault>
+    requires senses { AreSensedOnce net.now entries.now }
+    requires boards { AreBoardsOnce net.now entries.now }
     ensures ok { IfOk result (λ lines. lines.items
         ≡ map (all_said green_said entries.now) (range_with_len 0 (length net.now.node_names))) }
     ensures each { IfOk result (λ lines. (n : ℕ) → n < length net.now.node_names → GoesOn net.now entries.now n) }

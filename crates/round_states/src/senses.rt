@@ -5,7 +5,7 @@ ghost use Rattle.board_model.specs.Forecasts.{amount_at};
 ghost use Rattle.net_numbers.specs.Outline.{link_at};
 ghost use Rattle.road_net.specs.Network.{entry_links};
 ghost use Rattle.road_net.specs.Senses.{amount};
-ghost use Rattle.round_states.specs.Faults.{IsEntryFault, SensesFew};
+ghost use Rattle.round_states.specs.Faults.{AllGoOn, AreBoardsOnce, AreSensedOnce, IsEntryFault, SensesFew};
 ghost use Rattle.round_states.specs.Order.{now_of};
 ghost use Rattle.round_states.specs.Texts.{IsSensedOnce, coming_in, sense_in, sensed_in};
 
@@ -49,13 +49,17 @@ fn is_sensed_once(alloc: Global, entries: &[Entry], link: u32) -> Result<bool, A
     Ok(queues.len() <= 1 && are_rising(rows.as_slice()))
 }
 
-/// What each node senses. The fault is `Sum` of the least node that senses more than it may.
+/// What each node senses, where nothing else is at fault. The fault is `Sum` of the least node that senses more than it
+/// may.
 pub(crate) fn senses(
     alloc: Global,
     net: &Network,
     entries: &[Entry],
 ) -> Result<Vec<Sensed>, StateFault>
     requires now { now_of entries.now ≤ 18000 }
+    requires senses { AreSensedOnce net.now entries.now }
+    requires boards { AreBoardsOnce net.now entries.now }
+    requires lines { AllGoOn net.now entries.now }
     ensures ok { IfOk result (λ all. all.items
         ≡ map (sensed_in net.now entries.now) (range_with_len 0 (length net.now.node_names))) }
     ensures few { OnOk result ((n : ℕ) → n < length net.now.node_names → SensesFew net.now entries.now n) }

@@ -27,8 +27,8 @@ use std::alloc::Global;
 /// 2^32 bytes.
 ///
 /// The fault is `NoMemory`; or `Header`, where the text does not begin with the header; or that of the first row at
-/// fault, within a row in the order `Row`, `Name`, `Time`; or else the first that is found of `Sense`, `Board`, `Line`
-/// and `Sum` when what is told is put together.
+/// fault, within a row in the order `Row`, `Name`, `Time`; or else the first of `Sense`, `Board`, `Line` and `Sum`, at
+/// the least link or node.
 ///
 /// docs/FORMATS.md, "State of a round".
 pub fn read_state(alloc: Global, bytes: &[u8], net: &Network) -> Result<RoundState, StateFault>

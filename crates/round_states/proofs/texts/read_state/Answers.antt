@@ -7,11 +7,17 @@ use Rattle.round_states.specs.declared.entries.Entry.{Entry}
 use Rattle.round_states.specs.Faults.{IsEntryFault}
 use Rattle.round_states.specs.Taking.{HasTaken}
 use Rattle.round_states.specs.Told.{header}
-use Rattle.round_states.proofs.TextLaws.{first-fault, records-refuse, told-refuse}
+use Rattle.round_states.proofs.TextLaws.{first-fault, records-refuse, told-fault, told-refuse}
 use Rattle.round_states.proofs.texts.read_state.Goals as goal
 
 pub take_records-requires-clause-few : goal.take_records-requires-clause-few
 take_records-requires-clause-few c = counted-few _ _ (omega (arith, few-records c.args.bytes.now, c.requires))
+
+pub returns-in-Ok-true-clause-first : goal.returns-in-Ok-true-clause-first
+returns-in-Ok-true-clause-first c =
+    IfErr-weaker c.state_of.result (IsEntryFault c.args.net.now c.take_records.new.taker.all.items) _
+    (told-fault c.args.net.now (records_of c.args.bytes.now) c.take_records.new.taker.all.items (taken-after header (HasTaken c.args.net.now) (records_of c.args.bytes.now) c.take_records.new.taker _ c.in-Ok-true.field-0-test c.in-Ok-true.ensures.taken))
+    (subst (λ (es : List Entry). IfErr c.state_of.result (IsEntryFault c.args.net.now es)) c.as_slice.ensures.value c.state_of.ensures.first)
 
 pub returns-in-Ok-true-clause-refused : goal.returns-in-Ok-true-clause-refused
 returns-in-Ok-true-clause-refused c =

@@ -6,7 +6,12 @@ use Rattle.round_states.proofs.StateLaws.{tell-state, told-state}
 use Rattle.round_states.proofs.texts.state_of.Goals as goal
 
 pub senses-requires : goal.senses-requires
-senses-requires c = record { now = begin-bound c.args.net.now c.requires.network (now_of c.args.entries.now) (begin-now c.args.net.now c.requires.network c.args.entries.now c.requires.order) }
+senses-requires c = record {
+  now = begin-bound c.args.net.now c.requires.network (now_of c.args.entries.now) (begin-now c.args.net.now c.requires.network c.args.entries.now c.requires.order);
+  senses = c.in_ok-check_senses.ensures.ok;
+  boards = c.in_ok-boards.ensures.each;
+  lines = c.in_ok-lines.ensures.each;
+}
 
 pub returns-clause-ok : goal.returns-clause-ok
 returns-clause-ok c =
