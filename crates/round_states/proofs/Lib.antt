@@ -1,6 +1,6 @@
 pub mod BoardLaws
 pub mod FieldLaws
-pub mod KeptLaws
+pub mod SayingLaws
 pub mod LineLaws
 pub mod OrderLaws
 pub mod StateLaws

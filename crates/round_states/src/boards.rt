@@ -9,7 +9,7 @@ ghost use Rattle.round_states.specs.Texts.{IsBoardOnce, board_in};
 
 use crate::entries::Entry;
 use crate::faults::StateFault;
-use crate::kept::{rows_of, versions_of};
+use crate::sayings::{rows_of, versions_of};
 use crate::states::LinkBoard;
 use board_model::{Forecast, Row};
 use road_net::Network;

@@ -12,8 +12,8 @@ ghost use Rattle.round_states.specs.Texts.{all_said, green_said};
 
 use crate::entries::Entry;
 use crate::faults::StateFault;
-use crate::kept::greens_of;
 use crate::order::now_of;
+use crate::sayings::greens_of;
 use control_flow::greens::{Green, Timeline};
 use control_flow::is_lawful;
 use phase_plan::PhasePlan;

@@ -12,8 +12,8 @@ ghost use Rattle.round_states.specs.Texts.{IsSensedOnce, coming_in, sense_in, se
 use crate::boards::are_rising;
 use crate::entries::{Entry, Standing};
 use crate::faults::StateFault;
-use crate::kept::{coming_of, queues_of};
 use crate::order::now_of;
+use crate::sayings::{coming_of, queues_of};
 use board_model::Row;
 use foundation::items::Items;
 use road_net::{LinkSense, Network, Sensed};
@@ -67,7 +67,7 @@ pub(crate) fn senses(
 {
     let mut all = Vec::new(alloc);
     for node in 0..net.nodes() {
-        let Some(sensed) = sensed(alloc, net, entries, node)? else {
+        let Some(sensed) = node_sense(alloc, net, entries, node)? else {
             return Err(StateFault::Sum(node));
         };
         all.push(sensed)?;
@@ -76,7 +76,7 @@ pub(crate) fn senses(
 }
 
 /// What a node senses; none where it is more than it may be. `Err`: out of memory.
-fn sensed(
+fn node_sense(
     alloc: Global,
     net: &Network,
     entries: &[Entry],

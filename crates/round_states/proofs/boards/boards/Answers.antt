@@ -1,6 +1,6 @@
 use Rattle.std.proofs.Common.{arith}
 use Rattle.round_states.specs.Texts.{IsBoardOnce, board_in}
-use Rattle.round_states.proofs.KeptLaws.{each-below, map-step}
+use Rattle.round_states.proofs.SayingLaws.{each-below, map-step}
 use Rattle.round_states.proofs.boards.boards.Goals as goal
 
 pub loop-link-preserved : goal.loop-link-preserved

@@ -1,7 +1,7 @@
 use Rattle.std.proofs.Common.{sym, ◌∙◌, arith}
 use Rattle.std.proofs.lemmas.Bool.{false≢true}
 use Rattle.round_states.specs.Texts.{IsSensedOnce}
-use Rattle.round_states.proofs.KeptLaws.{each-below}
+use Rattle.round_states.proofs.SayingLaws.{each-below}
 use Rattle.round_states.proofs.senses.check_senses.Goals as goal
 
 pub returns-then-not-once-clause-first : goal.returns-then-not-once-clause-first

@@ -1,6 +1,6 @@
 use Rattle.std.proofs.Common.{◌≡◌, take}
 use Rattle.round_states.specs.Texts.{all_said, version_said}
-use Rattle.round_states.proofs.kept.versions_of.Given as goal
+use Rattle.round_states.proofs.sayings.versions_of.Given as goal
 
 -- what the records so far say
 abbrev pub invariant-loop-entry : goal.invariant-loop-entry

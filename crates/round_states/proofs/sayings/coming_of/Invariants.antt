@@ -1,6 +1,6 @@
 use Rattle.std.proofs.Common.{◌≡◌, take}
 use Rattle.round_states.specs.Texts.{all_said, coming_said}
-use Rattle.round_states.proofs.kept.coming_of.Given as goal
+use Rattle.round_states.proofs.sayings.coming_of.Given as goal
 
 -- what the records so far say
 abbrev pub invariant-loop-entry : goal.invariant-loop-entry
