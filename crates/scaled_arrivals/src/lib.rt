@@ -39,7 +39,7 @@ impl CrossesThreads for ScaleFault {}
 /// The fault is out of memory, or `Sum`.
 ///
 /// docs/RULES.md, "Scaled arrivals".
-pub fn scaled(
+pub fn scale(
     alloc: Global,
     net: &Network,
     arrivals: &Arrivals,
