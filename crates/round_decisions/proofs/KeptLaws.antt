@@ -1,0 +1,164 @@
+-- What every decision keeps.
+use Rattle.std.proofs.Common.{◌≡◌, ℕ, ◌+◌, ◌*◌, ◌<◌, ◌≤◌, Bool, true, false, List, [], ◌∷◌, ◌++◌, All, length, map, get_or, refl, sym, ap, subst, ◌∙◌, arith}
+use Rattle.std.specs.Prelude.{◌==◌, if◌then◌else◌, nat_lt}
+use Rattle.std.specs.List.{range_with_len}
+use Rattle.std.proofs.lemmas.Bool.{cond_both, eq-eqb, ltb-false, ne_eqb}
+use Rattle.std.proofs.lemmas.List.{ext_get_or}
+use Rattle.std.proofs.lemmas.List.FromFn.{get_or-map-range_with_len, length-map-range_with_len}
+use Rattle.board_model.specs.declared.boards.Heard.{Heard}
+use Rattle.board_model.specs.declared.forecasts.Row.{Row}
+use Rattle.control_flow.specs.Greens.{end_of, row_at, rows_before, spliced}
+use Rattle.control_flow.specs.declared.greens.Green.{Green}
+use Rattle.histories.specs.Steps.{publisher}
+use Rattle.intersection_actor.specs.Commits.{Commitment, IsCommit, IsProblemOf, used_of}
+use Rattle.intersection_actor.specs.declared.records.PlanRecord.{PlanRecord}
+use Rattle.intersection_actor.specs.declared.records.Used.{Used}
+use Rattle.net_numbers.specs.Numbers.{Net}
+use Rattle.road_net.specs.Network.{IsNetwork, heard_links}
+use Rattle.round_states.specs.States.{IsStateOf, begin_of}
+use Rattle.road_net.specs.declared.senses.Sensed.{Sensed}
+use Rattle.round_states.specs.declared.states.LinkBoard.{LinkBoard}
+use Rattle.round_states.specs.declared.states.RoundState.{RoundState}
+use Rattle.runs.proofs.Keep.{keeps}
+use Rattle.runs.proofs.PlanLaws.{used-links}
+use Rattle.runs.specs.Runs.{told_in}
+use Rattle.schedule_meaning.proofs.Choosing.{best-least}
+use Rattle.schedule_meaning.specs.Best.{IsLeast}
+use Rattle.signal_safety.proofs.Lines.{safe}
+use Rattle.signal_safety.proofs.Rounds.{KeepsLine}
+use Rattle.net_numbers.specs.Outline.{plan_at}
+use Rattle.round_decisions.specs.Decisions.{board_after, has_told, heard_in, line_of, plan_in, sensed_of}
+use Rattle.round_decisions.specs.Promises.{GoesOnAt, IsKeptDecision, IsKeptTurn, IsPlannedFrom, decided_line, forecast_of}
+use Rattle.round_decisions.specs.Steps.{HaveTurned}
+use Rattle.round_decisions.specs.Turns.{IsTurn, board_of, heard_on, hearing_on, next_board, no_board}
+use Rattle.round_decisions.specs.declared.decisions.Decision.{Decision}
+use Rattle.round_decisions.specs.declared.decisions.NodeDecision.{NodeDecision}
+use Rattle.round_decisions.specs.declared.rounds.Decided.{Decided}
+use Rattle.round_decisions.specs.declared.rounds.Waiting.{Waiting}
+
+-- the links of what is heard
+pub links-on : (boards : ℕ → LinkBoard) (xs : List ℕ) → map (λ (h : Heard). h.link) (map (hearing_on boards) xs) ≡ xs
+links-on boards [] = refl
+links-on boards (x ∷ xs) = ap (λ l. x ∷ l) (links-on boards xs)
+
+-- a spliced line begins no later than the old one
+spliced-first : (old next : List Green) → 0 < length old → (row_at (spliced old next) 0).from ≤ (row_at old 0).from
+spliced-first [] next some = absurd (omega arith)
+spliced-first (o ∷ os) [] some = omega arith
+spliced-first (o ∷ os) (row ∷ rows) some = cond_both (nat_lt o.from row.from) (o ∷ rows_before os row.from) [] (λ (l : List Green). (row_at (l ++ row ∷ rows) 0).from ≤ o.from)
+    (λ yes. omega arith) (λ no. ltb-false o.from row.from no)
+
+-- what ends after a second has a row
+some-by : (rows : List Green) (second : ℕ) → second < end_of rows → 0 < length rows
+some-by [] second ends = absurd (omega arith)
+some-by (row ∷ rows) second ends = omega arith
+
+next-later : (round step : ℕ) → round * step ≤ (round + 1) * step
+next-later round step = (let e : (round + 1) * step ≡ round * step + step = omega arith in omega arith)
+
+-- how a line goes on by a commit
+pub goes-on : (net : Net) → IsNetwork net → (state : RoundState) → IsStateOf net state → (n : ℕ) → n < length net.node_names → (heard : List Heard) (c : Commitment)
+    → IsCommit net n state.round (line_of state n) (sensed_of state n) heard c → (new : List Green) → new ≡ c.line → begin_of net (state.round + 1) < end_of new → GoesOnAt net state.round n (line_of state n) new
+goes-on net network state is n below heard c commit new same later =
+    let line = is.lines n below in
+    let at = is.sensed n below in
+    let k : KeepsLine (plan_at net n) (line_of state n) (sensed_of state n).now c.line =
+    keeps net network n below state.round (line_of state n) (sensed_of state n) heard c at.sensed.now (record { lawful = line.lawful; begins = line.begins }) commit in
+    let own : KeepsLine (plan_at net n) (line_of state n) (sensed_of state n).now new = subst (KeepsLine (plan_at net n) (line_of state n) (sensed_of state n).now) (sym same) k in
+    let first : (row_at new 0).from ≤ (row_at (line_of state n) 0).from =
+    subst (λ (l : List Green). (row_at l 0).from ≤ (row_at (line_of state n) 0).from) (sym (same ∙ commit.line)) (spliced-first (line_of state n) c.next line.some) in
+    record {
+      next = record {
+        lawful = own.line.lawful;
+        begins = own.line.begins;
+        some = some-by new (begin_of net (state.round + 1)) later;
+        begun = (let begun = line.begun in let more : begin_of net state.round ≤ begin_of net (state.round + 1) = next-later state.round net.run.step in omega (arith, first, begun, more));
+        ends = later;
+      };
+      past = λ second early. own.past second (subst (λ t. second < t) (sym at.now) early);
+    }
+
+module _ (net : Net) (network : IsNetwork net) (state : RoundState) (is : IsStateOf net state) where
+  -- the forecast of the version that a board has
+  back-by : (b : Bool) (old : LinkBoard) (told : List Row)
+      → (if (if b then next_board old told else old).version == old.version then old.forecast else told) ≡ (if b then next_board old told else old).forecast
+  back-by true old told = ap (λ t. if t then old.forecast else told) (ne_eqb (old.version + 1) old.version (λ same. omega arith))
+  back-by false old told = ap (λ t. if t then old.forecast else told) (eq-eqb old.version old.version refl)
+
+  forecast-back : (made : ℕ → Commitment) (n l : ℕ) → forecast_of net state made l (board_after net state made n l).version ≡ (board_after net state made n l).forecast
+  forecast-back made n l = back-by (has_told net n l) (board_of state.boards l) (told_in net state.round l (made (publisher net l)))
+
+  heard-back : (made : ℕ → Commitment) (n : ℕ) (xs : List ℕ)
+      → map (λ (u : Used). record { link = u.link; version = u.version; forecast = forecast_of net state made u.link u.version }) (used_of (map (hearing_on (board_after net state made n)) xs)) ≡ map (hearing_on (board_after net state made n)) xs
+  heard-back made n [] = refl
+  heard-back made n (x ∷ xs) =
+      ap (λ (f : List Row). record { link = x; version = (board_after net state made n x).version; forecast = f } ∷ map (λ (u : Used). record { link = u.link; version = u.version; forecast = forecast_of net state made u.link u.version }) (used_of (map (hearing_on (board_after net state made n)) xs))) (forecast-back made n x)
+      ∙ ap (λ l. hearing_on (board_after net state made n) x ∷ l) (heard-back made n xs)
+
+  module _ (waiting : Waiting) (decided : Decided) (h : HaveTurned net state (length net.node_names) waiting decided) (d : Decision) (plans : d.plans ≡ decided.plans.items) (lines : d.lines ≡ decided.lines.items) (boards : d.boards ≡ decided.boards.items) where
+    boards-are : decided.boards.items ≡ map (board_after net state h.made (length net.node_names)) (range_with_len 0 (length net.link_names))
+    boards-are = ext_get_or no_board decided.boards.items (map (board_after net state h.made (length net.node_names)) (range_with_len 0 (length net.link_names)))
+        (h.count ∙ is.board_count ∙ sym (length-map-range_with_len (board_after net state h.made (length net.node_names)) 0 (length net.link_names)))
+        (λ l inside. h.boards l (omega (arith, h.count))
+        ∙ sym (get_or-map-range_with_len (board_after net state h.made (length net.node_names)) 0 (length net.link_names) l l no_board (omega (arith, h.count, is.board_count)) (let e : 0 + l ≡ l = omega arith in e)))
+
+    all-plans : (P : PlanRecord → Type 0) → ((n : ℕ) → n < length net.node_names → P (plan_in net state h.made n)) → All P d.plans
+    all-plans P each = subst (All P) (sym (plans ∙ h.plans_are)) (λ k x inside.
+        let below : k < length net.node_names = omega (arith, length-map-range_with_len (plan_in net state h.made) 0 (length net.node_names)) in
+        subst P (sym (get_or-map-range_with_len (plan_in net state h.made) 0 (length net.node_names) k k x below (let e : 0 + k ≡ k = omega arith in e))) (each k below))
+
+    planned : (n : ℕ) → n < length net.node_names → IsPlannedFrom net state h.made (plan_in net state h.made n)
+    planned n below =
+        let c : Commitment = h.made n in
+        record {
+          round = refl;
+          links = used-links (heard_in net state h.made n) ∙ links-on (board_after net state h.made n) (heard_links net n);
+          head = c.head;
+          platoons = c.platoons;
+          window = c.window;
+          instance = subst (λ (x : List Heard). IsProblemOf net n (line_of state n) (sensed_of state n) x c.head c.platoons c.window c.problem) (sym (heard-back h.made n (heard_links net n))) (h.commits n below).problem;
+        }
+
+    line-is : (n : ℕ) → n < length net.node_names → decided_line d n ≡ (h.made n).line
+    line-is n below =
+        ap (λ (l : List (List Green)). get_or l n []) (lines ∙ h.lines_are)
+        ∙ get_or-map-range_with_len (λ k. (h.made k).line) 0 (length net.node_names) n n [] below (let e : 0 + n ≡ n = omega arith in e)
+
+    goes : (n : ℕ) → n < length net.node_names → GoesOnAt net state.round n (line_of state n) (decided_line d n)
+    goes n below = goes-on net network state is n below (heard_in net state h.made n) (h.made n) (h.commits n below) (decided_line d n) (line-is n below)
+        (subst (λ (l : List Green). begin_of net (state.round + 1) < end_of l) (sym (line-is n below)) (h.later n below))
+
+    kept-decision : IsKeptDecision net state d
+    kept-decision = record {
+      is = record { made = h.made; commits = h.commits; plans = plans ∙ h.plans_are; lines = lines ∙ h.lines_are; boards = boards ∙ boards-are };
+      kept = record {
+        planned = all-plans (IsPlannedFrom net state h.made) planned;
+        least = all-plans (λ (p : PlanRecord). IsLeast p.instance p.answer) (λ n below. best-least (h.made n).problem (h.made n).answer (h.commits n below).answer);
+        lines = goes;
+        safe = safe net network (decided_line d) (λ n below. (goes n below).next.lawful);
+      };
+    }
+
+  -- the turn of one node
+  kept-turn : (n : ℕ) → n < length net.node_names → (d : NodeDecision) → IsTurn net state.round n (line_of state n) (sensed_of state n) state.boards d.boards d.plan d.line → begin_of net (state.round + 1) < end_of d.line → IsKeptTurn net state n d
+  kept-turn n below d turn later = record {
+    is = turn;
+    links = ap (λ (p : PlanRecord). map (λ (u : Used). u.link) p.used) turn.plan_is ∙ used-links (heard_on net (board_of state.boards) n) ∙ links-on (board_of state.boards) (heard_links net n);
+    least = subst (λ (p : PlanRecord). IsLeast p.instance p.answer) (sym turn.plan_is) (best-least turn.made.problem turn.made.answer turn.commit.answer);
+    line = goes-on net network state is n below (heard_on net (board_of state.boards) n) turn.made turn.commit d.line turn.line_is later;
+  }
+
+  pub kept-turn-at : (n : ℕ) → n < length net.node_names → (line : List Green) (sensed : Sensed) (old new : List LinkBoard) → line ≡ line_of state n → sensed ≡ sensed_of state n → old ≡ state.boards
+      → (d : NodeDecision) → d.boards ≡ new → IsTurn net state.round n line sensed old new d.plan d.line → begin_of net (state.round + 1) < end_of d.line → IsKeptTurn net state n d
+  kept-turn-at n below line sensed old new lines senses boards d after turn later =
+      kept-turn n below d
+      (subst (λ (l : List Green). IsTurn net state.round n l (sensed_of state n) state.boards d.boards d.plan d.line) lines
+      (subst (λ (s : Sensed). IsTurn net state.round n line s state.boards d.boards d.plan d.line) senses
+      (subst (λ (b : List LinkBoard). IsTurn net state.round n line sensed b d.boards d.plan d.line) boards
+      (subst (λ (b : List LinkBoard). IsTurn net state.round n line sensed old b d.plan d.line) (sym after) turn)))) later
+
+-- the state from which the turns began
+pub kept-from : (net : Net) → IsNetwork net → (state begun : RoundState) → begun ≡ state → IsStateOf net state → (waiting : Waiting) (decided : Decided) → HaveTurned net begun (length net.node_names) waiting decided
+    → (d : Decision) → d.plans ≡ decided.plans.items → d.lines ≡ decided.lines.items → d.boards ≡ decided.boards.items → IsKeptDecision net state d
+kept-from net network state begun same is waiting decided turned d plans lines boards =
+    kept-decision net network state is waiting decided (subst (λ (s : RoundState). HaveTurned net s (length net.node_names) waiting decided) same turned) d plans lines boards

@@ -1,0 +1,9 @@
+pub mod Boards
+pub mod HearLaws
+pub mod KeptLaws
+pub mod LineLaws
+pub mod OfRunLaws
+pub mod PlayLaws
+pub mod RoundLaws
+pub mod TellLaws
+pub mod TurnPlaces

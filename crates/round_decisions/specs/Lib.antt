@@ -1,0 +1,6 @@
+pub mod Decisions
+pub mod Lines
+pub mod OfRuns
+pub mod Promises
+pub mod Steps
+pub mod Turns

@@ -1,0 +1,24 @@
+//! What decisions are in a run.
+ghost use Rattle.std.specs.Prelude.{ℕ, List};
+ghost use Rattle.board_model.specs.declared.boards.Heard.{Heard};
+ghost use Rattle.intersection_actor.specs.Commits.{Commitment};
+ghost use Rattle.round_states.specs.declared.states.RoundState.{RoundState};
+ghost use Rattle.runs.specs.declared.records.RunRecord.{RunRecord};
+ghost use Rattle.round_decisions.specs.Decisions.{IsDecision};
+ghost use Rattle.round_decisions.specs.OfRuns.{IsRoundIn, IsStateIn, IsTurnRun};
+ghost use Rattle.round_decisions.specs.declared.decisions.Decision.{Decision};
+
+use road_net::Network;
+
+/// Where a state is that of its round in the run of the turn order, each decision from it is the run's round: its plan records
+/// are those of the round, and its lines those of the round's commits.
+///
+/// docs/RULES.md, "Decision of a round".
+pub fn law_of_decisions(net: &Network)
+    ensures { (enters : ℕ → ℕ → ℕ) (heard : ℕ → ℕ → List Heard) (made : ℕ → ℕ → Commitment) (run : RunRecord)
+        (state : RoundState) (d : Decision)
+        → IsTurnRun net.now enters heard made run → IsStateIn net.now enters made state → IsDecision net.now state d
+        → IsRoundIn net.now heard made state.round d }
+{
+    let _nodes = net.nodes();
+}
