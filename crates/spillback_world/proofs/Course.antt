@@ -83,7 +83,7 @@ module _ (net : Net) (network : IsNetwork net) (arriving : ℕ → ℕ → ℕ) 
   course = rule-moved net (stored net arriving store shown) (λ x l h. goes-most net store (begin x) (length net.link_names) l)
 
   -- what a link discharges leaves the network, or goes into others
-  own-goes : (x l : ℕ) → l < length net.link_names → (to : Option ℕ) → (link_at net l).to ≡ to
+  pub own-goes : (x l : ℕ) → l < length net.link_names → (to : Option ℕ) → (link_at net l).to ≡ to
       → outward to (waiting net (past x) x l) + inward to (slice_index (first net store (begin x) (length net.link_names)) l) ≡ slice_index (first net store (begin x) (length net.link_names)) l
   own-goes x l inside None to = omega (arith, goes-out net store (begin x) (length net.link_names) l inside to)
   own-goes x l inside (Some node) to = omega arith
@@ -97,7 +97,7 @@ module _ (net : Net) (network : IsNetwork net) (arriving : ℕ → ℕ → ℕ) 
       let held = within net store (begin x) (plain-any net network) l (omega (arith, was)) (length net.link_names) in
       omega (arith, entered, left, held, held-given net store (begin x) (length net.link_names) l, own-goes x l inside (link_at net l).to refl)
 
-  within-at : (k l : ℕ) → l < length net.link_names → (past k k l).entered ≤ (past k k l).left + store l
+  pub within-at : (k l : ℕ) → l < length net.link_names → (past k k l).entered ≤ (past k k l).left + store l
   within-at zero l inside = omega (arith, ap (λ (q : Passed). q.entered) (course.first l))
   within-at (suc k) l inside =
       let e = add-one k in
@@ -110,11 +110,11 @@ module _ (net : Net) (network : IsNetwork net) (arriving : ℕ → ℕ → ℕ) 
 
   -- Below, nothing arrives at a link that comes from a node.
   module _ (sources : (x l node : ℕ) → (link_at net l).from ≡ Some node → arriving x l ≡ 0) where
-    let-in-most : (x l : ℕ) → l < length net.link_names → (moves x).comes l ≤ (total (λ y. arriving y l) x - (past x x l).entered) + arriving x l
+    pub let-in-most : (x l : ℕ) → l < length net.link_names → (moves x).comes l ≤ (total (λ y. arriving y l) x - (past x x l).entered) + arriving x l
     let-in-most x l inside = omega arith
 
     -- what is counted as entered is what came in from outside
-    entered-come : (n : ℕ) → (spilled net arriving (past n) n).entered ≡ come net (moves_by net (stored net arriving store shown)) n
+    pub entered-come : (n : ℕ) → (spilled net arriving (past n) n).entered ≡ come net (moves_by net (stored net arriving store shown)) n
     entered-come n =
         let each = total-same (λ l. from_outside (link_at net l).from (past n n l).entered) (λ l. total (λ y. (moves y).comes l) n) (length net.link_names) (λ l h. by l h (link_at net l).from refl) in
         omega (arith, each, total-swap (λ y. (moves_by net (stored net arriving store shown) y).comes) (length net.link_names) n)

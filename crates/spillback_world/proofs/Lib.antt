@@ -1,7 +1,11 @@
+pub mod Agreeing
 pub mod Ample
 pub mod Course
 pub mod Discharging
+pub mod Passing
+pub mod Played
 pub mod Searching
+pub mod Sensing
 pub mod Sources
 pub mod Start
 pub mod Whole

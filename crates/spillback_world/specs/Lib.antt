@@ -3,3 +3,4 @@ pub mod Laws
 pub mod Storage
 pub mod Spilled
 pub mod Steps
+pub mod Worlds

@@ -1,5 +1,5 @@
 -- What is counted of a world in which a full link holds back those who want to enter it.
-use Rattle.std.specs.Prelude.{ℕ, ◌+◌, Option, Some, None, length}
+use Rattle.std.specs.Prelude.{◌≡◌, ℕ, ◌+◌, Option, Some, None, length}
 use Rattle.net_numbers.specs.Numbers.{Net}
 use Rattle.net_numbers.specs.Outline.{link_at}
 use Rattle.road_net.specs.Totals.{total}
@@ -27,3 +27,7 @@ spilled net arriving past n = record {
   outside = outside_all net arriving past n;
   delay = total (λ x. total (λ l. queue net past (x + 1) l) (length net.link_names) + outside_all net arriving past (x + 1)) n;
 }
+
+-- what entered the network has left it or is in it
+abbrev pub IsBalanced : SpillTotals → Type 0
+IsBalanced t = t.entered ≡ t.left + t.on

@@ -1,11 +1,21 @@
 -- What the code does in one second, by what it keeps. No public clause names these terms.
-use Rattle.std.specs.Prelude.{◌≡◌, ◌≢◌, ℕ, ◌+◌, ◌≤◌, ◌<◌, ◌==◌, min, Bool, false, if◌then◌else◌, List, Option, Some, None, length, slice_index, slice_index_or}
+use Rattle.std.specs.Prelude.{◌≡◌, ◌≢◌, ℕ, ◌+◌, ◌*◌, ◌≤◌, ◌<◌, ◌==◌, min, Bool, false, if◌then◌else◌, List, Option, Some, None, length, replicate, slice_index, slice_index_or}
 use Rattle.net_numbers.specs.Numbers.{Net}
 use Rattle.net_numbers.specs.Outline.{link_at, turns_at}
+use Rattle.control_flow.specs.declared.greens.Green.{Green}
+use Rattle.net_simulator.specs.LinkSeconds.{is_open}
 use Rattle.spillback_world.specs.Filling.{fitting, room_of}
 use Rattle.road_net.specs.Joins.{split_of}
 use Rattle.road_net.specs.Totals.{total}
+use Rattle.spillback_world.specs.declared.totals.SpillTotals.{SpillTotals}
+use Rattle.spillback_world.specs.declared.worlds.Links.{Links}
 use Rattle.spillback_world.specs.Storage.{Opening, all_goes, inward}
+use Rattle.spillback_world.specs.Worlds.{SpillState}
+
+-- whether link l may discharge in second x, by the queues after each of the last seconds and what the nodes show
+abbrev pub served_at : Net → List ℕ → List (Option Green) → ℕ → ℕ → Option ℕ → Bool
+served_at net waits greens x l None = false
+served_at net waits greens x l (Some node) = is_open net waits x l node (slice_index_or greens node None)
 
 -- how a second begins, by the queues, what leaves the network, which links may discharge, and what is on each link
 abbrev pub opening_by : List ℕ → List ℕ → List Bool → List ℕ → Opening
@@ -79,3 +89,33 @@ pub record HaveDischarged (net : Net) (store : List ℕ) (served : List Bool) (n
 -- what enters a link from outside: as much of what waits there and of what arrives as there is room for
 abbrev pub comes_of : List ℕ → List ℕ → List ℕ → (ℕ → ℕ) → ℕ → ℕ
 comes_of store held outside arriving l = min (slice_index outside l + arriving l) (room_of store held l)
+
+-- a world by what is kept of its links
+abbrev pub state_of : Links → ℕ → ℕ → SpillTotals → SpillState
+state_of links second nodes totals = record {
+  second = second;
+  nodes = nodes;
+  queues = links.queues.items;
+  recent = links.recent.items;
+  waits = links.waits.items;
+  stood = links.stood.items;
+  outside = links.outside.items;
+  held = links.held.items;
+  totals = totals;
+}
+
+-- there is a place for each link in what a second needs
+pub record HaveScratch (links : Links) : Type 0 where
+  pub leaving : length links.leaving.items ≡ length links.queues.items
+  pub entering : length links.entering.items ≡ length links.queues.items
+  pub served : length links.served.items ≡ length links.queues.items
+
+-- what is kept of n links at second 0
+pub record AreEmpty (n : ℕ) (links : Links) : Type 0 where
+  pub queues : links.queues.items ≡ replicate n 0
+  pub recent : links.recent.items ≡ replicate (n * 128) 0
+  pub waits : links.waits.items ≡ replicate (n * 128) 0
+  pub stood : links.stood.items ≡ replicate n 0
+  pub outside : links.outside.items ≡ replicate n 0
+  pub held : links.held.items ≡ replicate n 0
+  pub scratch : HaveScratch links

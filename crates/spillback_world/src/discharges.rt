@@ -56,7 +56,7 @@ fn amount_of(queues: &[u32], held: &[u32], site: &Site, l: u32) -> u32
 }
 
 /// Each link can hold 1 to 2,000,000,000.
-fn law_of_storages(store: &Store, l: u32)
+pub(crate) fn law_of_storages(store: &Store, l: u32)
     requires { l < length store.now }
     ensures { All IsStorage store.now }
 {

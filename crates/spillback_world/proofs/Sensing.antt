@@ -1,0 +1,94 @@
+-- What a node sees, by what a world keeps; and the empty world.
+use Rattle.std.proofs.Common.{◌≡◌, ℕ, ◌+◌, ◌-◌, ◌*◌, ◌%◌, ◌<◌, List, All, Option, Some, None, length, map, replicate, slice_index, refl, sym, ap, ◌∙◌, arith}
+use Rattle.std.specs.List.Sorted.{IsStrictlyIncreasing}
+use Rattle.std.proofs.lemmas.List.{length-replicate}
+use Rattle.net_numbers.specs.Numbers.{Net}
+use Rattle.net_numbers.specs.Outline.{link_at}
+use Rattle.road_net.specs.declared.senses.LinkSense.{LinkSense}
+use Rattle.road_net.specs.declared.senses.Sensed.{Sensed}
+use Rattle.road_net.specs.Network.{IsNetwork, entry_links}
+use Rattle.road_net.specs.Senses.{IsSensedOf}
+use Rattle.road_net.proofs.TotalLaws.{total-same, total-zero}
+use Rattle.net_simulator.specs.Arriving.{arriving_of}
+use Rattle.net_simulator.specs.Flow.{Passed, nothing}
+use Rattle.net_simulator.specs.LinkSeconds.{seen_by}
+use Rattle.net_simulator.specs.Senses.{sense}
+use Rattle.net_simulator.specs.Sums.{outward}
+use Rattle.net_simulator.specs.Worlds.{standing_by}
+use Rattle.net_simulator.proofs.EveryWorld.{are-sound, road-most}
+use Rattle.net_simulator.proofs.MoveLaws.{moves_by, past_by, zero-by}
+use Rattle.net_simulator.proofs.Outside.{few-come}
+use Rattle.net_simulator.proofs.Passing.{few-of, zeros}
+use Rattle.net_simulator.proofs.Seeing.{are-sensed, gathered-by}
+use Rattle.net_simulator.proofs.Standing.{stood-none}
+use Rattle.spillback_world.specs.declared.totals.SpillTotals.{SpillTotals}
+use Rattle.spillback_world.specs.declared.worlds.Links.{Links}
+use Rattle.spillback_world.specs.Spilled.{from_outside, spilled}
+use Rattle.spillback_world.specs.Steps.{AreEmpty, state_of}
+use Rattle.spillback_world.specs.Storage.{outside, past_in, stored}
+use Rattle.spillback_world.specs.Worlds.{IsWorldOf, SpillState, Stands}
+use Rattle.spillback_world.proofs.Course.{course, let-in-most}
+use Rattle.spillback_world.proofs.Passing.{same-totals}
+use Rattle.spillback_world.proofs.Sources.{sources-of}
+
+-- what is gathered of what a world keeps is what the definition gives
+pub gathered : (net : Net) (node : ℕ) (w v : SpillState) (qs rs ss links : List ℕ) (out : List LinkSense) → IsNetwork net → v ≡ w → qs ≡ v.queues → rs ≡ v.recent → ss ≡ v.stood → links ≡ entry_links net node → out ≡ map (seen_by net qs rs ss v.second) links
+    → All (λ l. l < length net.link_names) (entry_links net node) → (arriving : ℕ → ℕ → ℕ) (store : ℕ → ℕ) (shown : ℕ → ℕ → Option (ℕ × ℕ)) → Stands net arriving store shown w
+    → (let s : Sensed = record { now = v.second; links = out } in s) ≡ sense net (past_in net arriving store shown w.second) w.second node
+gathered net node w v qs rs ss links out network view queues recent standing entries all below arriving store shown stands =
+    let one = queues ∙ ap (λ (k : SpillState). k.queues) view in
+    let two = recent ∙ ap (λ (k : SpillState). k.recent) view in
+    let three = standing ∙ ap (λ (k : SpillState). k.stood) view in
+    let now = ap (λ (k : SpillState). k.second) view in
+    let gathers : out ≡ map (seen_by net w.queues w.recent w.stood w.second) links = all ∙ (λ i. map (seen_by net (one i) (two i) (three i) (now i)) links) in
+    let second : (let s : Sensed = record { now = v.second; links = out } in s) ≡ (let t : Sensed = record { now = w.second; links = out } in t) = λ i. record { now = now i; links = out } in
+    second ∙ gathered-by net node w.second (past_in net arriving store shown w.second) w.queues w.recent w.waits w.stood links out network stands.keeps stands.stood entries gathers below
+
+-- and it is within the bounds of what a node sees
+pub is-sensed : (net : Net) (node : ℕ) (w : SpillState) → IsNetwork net → All (λ l. l < length net.link_names) (entry_links net node) → IsStrictlyIncreasing (entry_links net node) → (world : IsWorldOf net w)
+    → IsSensedOf net node (sense net (past_in net (arriving_of world.arrivals) world.store (standing_by world.lines) w.second) w.second node)
+is-sensed net node w network below rising world =
+    let a : ℕ → ℕ → ℕ = arriving_of world.arrivals in
+    let sources = sources-of net world.arrivals world.enter in
+    let shown : ℕ → ℕ → Option (ℕ × ℕ) = standing_by world.lines in
+    let all = course net network a world.store shown in
+    let few = few-come net network (moves_by net (stored net a world.store shown)) (past_by net (stored net a world.store shown)) all a (let-in-most net network a world.store shown sources) sources (few-of net network world.arrivals world.enter) in
+    are-sensed net node w.second (past_in net a world.store shown w.second) world.stands.by (are-sound net network (moves_by net (stored net a world.store shown)) (past_by net (stored net a world.store shown)) all w.second)
+    (road-most net network (moves_by net (stored net a world.store shown)) (past_by net (stored net a world.store shown)) all few w.second) below rising
+
+from-none : (from : Option ℕ) (a : ℕ) → a ≡ 0 → from_outside from a ≡ 0
+from-none None a none = none
+from-none (Some node) a none = refl
+
+outward-none : (to : Option ℕ) (a : ℕ) → a ≡ 0 → outward to a ≡ 0
+outward-none None a none = none
+outward-none (Some node) a none = refl
+
+pub stands-new : (net : Net) (arriving : ℕ → ℕ → ℕ) (store : ℕ → ℕ) (shown : ℕ → ℕ → Option (ℕ × ℕ)) (nodes n : ℕ) (links : Links) → AreEmpty n links → n ≡ length net.link_names → nodes ≡ length net.node_names
+    → Stands net arriving store shown (state_of links 0 nodes (record { entered = 0; left = 0; on = 0; outside = 0; delay = 0 }))
+stands-new net arriving store shown nodes n links empty long there =
+    let P : ℕ → ℕ → Passed = past_in net arriving store shown 0 in
+    let none : (k l : ℕ) → P k l ≡ nothing = λ k l. zero-by net (stored net arriving store shown) k l in
+    let in-none : (k l : ℕ) → (P k l).entered ≡ 0 = λ k l. ap (λ (q : Passed). q.entered) (none k l) in
+    let out-none : (k l : ℕ) → (P k l).left ≡ 0 = λ k l. ap (λ (q : Passed). q.left) (none k l) in
+    let one : (v : List ℕ) → v ≡ replicate n 0 → length v ≡ length net.link_names = λ v is. ap length is ∙ length-replicate n 0 ∙ long in
+    let rows : (v : List ℕ) → v ≡ replicate (n * 128) 0 → length v ≡ length net.link_names * 128 = λ v is. ap length is ∙ length-replicate (n * 128) 0 ∙ ap (λ (k : ℕ). k * 128) long in
+    let zero-at : (v : List ℕ) (m : ℕ) → v ≡ replicate m 0 → (k : ℕ) → slice_index v k ≡ 0 = λ v m is k. ap (λ u. slice_index u k) is ∙ zeros m k 0 in
+    let zero : SpillTotals = record { entered = 0; left = 0; on = 0; outside = 0; delay = 0 } in
+    let entered = total-same (λ l. from_outside (link_at net l).from (P 0 l).entered) (λ l. 0) (length net.link_names) (λ l h. from-none (link_at net l).from _ (in-none 0 l)) ∙ total-zero (length net.link_names) in
+    let left = total-same (λ l. outward (link_at net l).to (P 0 l).left) (λ l. 0) (length net.link_names) (λ l h. outward-none (link_at net l).to _ (out-none 0 l)) ∙ total-zero (length net.link_names) in
+    let on = total-same (λ l. (P 0 l).entered - (P 0 l).left) (λ l. 0) (length net.link_names) (λ l h. omega (arith, in-none 0 l)) ∙ total-zero (length net.link_names) in
+    let waits = total-same (outside arriving P 0) (λ l. 0) (length net.link_names) (λ l h. omega arith) ∙ total-zero (length net.link_names) in
+    record {
+      shape = record { nodes = there; queues = one _ empty.queues; recent = rows _ empty.recent; waits = rows _ empty.waits; stood = one _ empty.stood; outside = one _ empty.outside; held = one _ empty.held };
+      by = omega arith;
+      keeps = record {
+        queues = λ l h. omega (arith, zero-at _ n empty.queues l, in-none (0 - (link_at net l).travel) l);
+        recent = λ l d h some most. omega (arith, zero-at _ (n * 128) empty.recent (l * 128 + (0 + 128 - d) % 128), in-none (0 + 1 - d) l);
+        waits = λ l d h most. omega (arith, zero-at _ (n * 128) empty.waits (l * 128 + (0 + 128 - d) % 128), in-none (0 - d - (link_at net l).travel) l);
+      };
+      held = λ l h. omega (arith, zero-at _ n empty.held l, in-none 0 l);
+      totals = same-totals zero (spilled net arriving P 0) (sym entered) (sym left) (sym on) (sym waits) refl;
+      stood = λ l h. zero-at _ n empty.stood l ∙ sym (stood-none net P l);
+      outside = λ l h. omega (arith, zero-at _ n empty.outside l);
+    }

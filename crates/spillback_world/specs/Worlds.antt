@@ -1,0 +1,53 @@
+-- What a world whose links hold so much and no more stands for.
+use Rattle.std.specs.Prelude.{◌≡◌, ℕ, ◌-◌, ◌*◌, ◌<◌, ◌≤◌, List, Option, length, slice_index}
+use Rattle.control_flow.specs.declared.greens.Green.{Green}
+use Rattle.arrivals.specs.Amounts.{Amounts, AreArrivals}
+use Rattle.net_numbers.specs.Numbers.{Net}
+use Rattle.net_simulator.specs.Arriving.{arriving_of}
+use Rattle.net_simulator.specs.Senses.{stood}
+use Rattle.net_simulator.specs.Worlds.{Keeps, standing_by}
+use Rattle.spillback_world.specs.declared.totals.SpillTotals.{SpillTotals}
+use Rattle.spillback_world.specs.Spilled.{spilled}
+use Rattle.spillback_world.specs.Storage.{outside, past_in}
+
+-- what a world keeps: its second, how many nodes its network has, and for each link its queue, rows of what entered it and of its
+-- queues, for how long a queue has stood, what waits outside of it, what is on it, and what is counted
+pub record SpillState : Type 0 where
+  pub second : ℕ
+  pub nodes : ℕ
+  pub queues : List ℕ
+  pub recent : List ℕ
+  pub waits : List ℕ
+  pub stood : List ℕ
+  pub outside : List ℕ
+  pub held : List ℕ
+  pub totals : SpillTotals
+
+-- it has a place for each node and link
+pub record HasShape (net : Net) (w : SpillState) : Type 0 where
+  pub nodes : w.nodes ≡ length net.node_names
+  pub queues : length w.queues ≡ length net.link_names
+  pub recent : length w.recent ≡ length net.link_names * 128
+  pub waits : length w.waits ≡ length net.link_names * 128
+  pub stood : length w.stood ≡ length net.link_names
+  pub outside : length w.outside ≡ length net.link_names
+  pub held : length w.held ≡ length net.link_names
+
+-- All that a world keeps is what the definition gives for a network, arrivals, storages and what is shown over the seconds below its
+-- own.
+pub record Stands (net : Net) (arriving : ℕ → ℕ → ℕ) (store : ℕ → ℕ) (shown : ℕ → ℕ → Option (ℕ × ℕ)) (w : SpillState) : Type 0 where
+  pub shape : HasShape net w
+  pub by : w.second ≤ 18000
+  pub keeps : Keeps net (past_in net arriving store shown w.second) w.queues w.recent w.waits w.second
+  pub held : (l : ℕ) → l < length net.link_names → slice_index w.held l ≡ (past_in net arriving store shown w.second w.second l).entered - (past_in net arriving store shown w.second w.second l).left
+  pub totals : w.totals ≡ spilled net arriving (past_in net arriving store shown w.second) w.second
+  pub stood : (l : ℕ) → l < length net.link_names → slice_index w.stood l ≡ stood net (past_in net arriving store shown w.second) w.second l
+  pub outside : (l : ℕ) → l < length net.link_names → slice_index w.outside l ≡ outside arriving (past_in net arriving store shown w.second) w.second l
+
+-- a world stands for this network with some arrivals, storages and timelines
+pub record IsWorldOf (net : Net) (w : SpillState) : Type 0 where
+  pub arrivals : Amounts
+  pub store : ℕ → ℕ
+  pub lines : ℕ → List Green
+  pub enter : AreArrivals net arrivals
+  pub stands : Stands net (arriving_of arrivals) store (standing_by lines) w

@@ -1,0 +1,338 @@
+//! The world in which a full link holds back those who want to enter it.
+
+ghost use Rattle.std.specs.Prelude.{◌≡◌, ℕ, ◌+◌, ◌≤◌, ◌<◌, None, Option, IfOk, List, length, replicate, slice_index, slice_index_or};
+ghost use Rattle.arrivals.specs.Amounts.{AreArrivals};
+ghost use Rattle.control_flow.specs.declared.greens.Green.{Green};
+ghost use Rattle.control_flow.specs.Greens.{green_at};
+ghost use Rattle.net_simulator.specs.Arriving.{arriving_of};
+ghost use Rattle.net_simulator.specs.Senses.{sense};
+ghost use Rattle.net_simulator.specs.Worlds.{standing_by};
+ghost use Rattle.road_net.specs.Senses.{IsSensedOf};
+ghost use Rattle.spillback_world.specs.Spilled.{IsBalanced};
+ghost use Rattle.spillback_world.specs.Storage.{past_in};
+ghost use Rattle.spillback_world.specs.Steps.{AreEmpty, HaveScratch, state_of};
+ghost use Rattle.spillback_world.specs.Worlds.{SpillState, Stands, IsWorldOf};
+
+use crate::amounts::{clear, sum};
+use crate::discharges::{Site, discharge, law_of_storages};
+use crate::ends::{Gate, let_in, reach_ends};
+use crate::signals::serve;
+use crate::totals::SpillTotals;
+use arrivals::Arrivals;
+use control_flow::greens::Green;
+use foundation::items::Items;
+use foundation::threads::CrossesThreads;
+use net_simulator::Lights;
+use net_simulator::link_seconds::{look, remember};
+use net_simulator::sensing::{Sight, sense_links};
+use road_net::{Network, Sensed};
+use std::alloc::{AllocError, Global};
+use std::marker::Model;
+use stores::Store;
+
+/// What is kept of each link, in thousandths of a vehicle, and what a second needs.
+#[derive(Drop)]
+pub(crate) struct Links {
+    pub(crate) queues: Vec<u32>,
+    pub(crate) recent: Vec<u32>,
+    pub(crate) waits: Vec<u32>,
+    pub(crate) stood: Vec<u32>,
+    pub(crate) outside: Vec<u32>,
+    pub(crate) held: Vec<u32>,
+    pub(crate) leaving: Vec<u32>,
+    pub(crate) entering: Vec<u32>,
+    pub(crate) served: Vec<bool>,
+}
+
+/// The vehicles on the links of a network, each of which holds so much and no more, at a second.
+///
+/// A world stands for a network, arrivals, a store and timelines: all that it keeps is what the rules give for them over the
+/// seconds below its own.
+///
+/// docs/RULES.md, "Storage".
+#[derive(Drop)]
+pub struct SpillWorld {
+    second: u32,
+    links: Links,
+    greens: Vec<Option<Green>>,
+    totals: SpillTotals,
+}
+
+impl Model for SpillWorld {
+    ghost use Rattle.std.specs.Prelude.{length};
+    ghost use Rattle.spillback_world.specs.Spilled.{IsBalanced};
+    ghost use Rattle.spillback_world.specs.Steps.{HaveScratch, state_of};
+    ghost use Rattle.spillback_world.specs.Worlds.{SpillState};
+
+    ghost Value = { SpillState };
+
+    ghost view = { λ w. state_of w.links w.second (length w.greens.items) w.totals };
+
+    ghost invariant = { λ w. HaveScratch w.links × IsBalanced w.totals };
+}
+
+impl CrossesThreads for SpillWorld {}
+
+impl SpillWorld {
+    /// The empty world of a network, at second 0, with all the capacity that it will need.
+    ///
+    /// `Err`: out of memory.
+    ///
+    /// docs/RULES.md, "Storage".
+    pub fn new(alloc: Global, net: &Network) -> Result<SpillWorld, AllocError>
+        ensures second { IfOk result (λ w. w.second ≡ 0) }
+        ensures stands { (arriving : ℕ → ℕ → ℕ) (store : ℕ → ℕ) (shown : ℕ → ℕ → Option (ℕ × ℕ))
+            → IfOk result (λ w. Stands net.now arriving store shown w) }
+    {
+        let links = empty_links(alloc, net.links() as usize)?;
+        let greens = no_greens(alloc, net.nodes() as usize)?;
+        Ok(SpillWorld {
+            second: 0,
+            links,
+            greens,
+            totals: SpillTotals {
+                entered: 0,
+                left: 0,
+                on: 0,
+                outside: 0,
+                delay: 0,
+            },
+        })
+    }
+
+    /// The second up to which the world has moved, at most 18,000.
+    pub fn now(&self) -> u32
+        ensures { result ≡ self.now.second }
+    {
+        self.second
+    }
+
+    /// What is on link `link`: what entered it less what left it, in thousandths of a vehicle.
+    ///
+    /// docs/RULES.md, "Storage".
+    pub fn held(&self, link: u32) -> u64
+        requires { link < length self.now.held }
+        ensures { result ≡ slice_index self.now.held link }
+    {
+        u64::from(self.links.held[link as usize])
+    }
+
+    /// What is counted of the whole network: what entered it has left it or is on its links.
+    ///
+    /// docs/RULES.md, "Storage".
+    pub fn totals(&self) -> SpillTotals
+        ensures value { result ≡ self.now.totals }
+        ensures whole { IsBalanced result }
+    {
+        self.totals
+    }
+
+    /// What a node of the network sees of its entry links: their queues, for how long these have stood, and what is on its
+    /// way to their ends. What waits outside of them is not seen.
+    ///
+    /// `Err`: out of memory.
+    ///
+    /// docs/RULES.md, "What a node sees".
+    pub fn sense(&self, alloc: Global, net: &Network, node: u32) -> Result<Sensed, AllocError>
+        requires node { node < length net.now.node_names }
+        requires world { IsWorldOf net.now self.now }
+        ensures sensed { IfOk result (IsSensedOf net.now node) }
+        ensures value { (arriving : ℕ → ℕ → ℕ) (store : ℕ → ℕ) (shown : ℕ → ℕ → Option (ℕ × ℕ))
+            → Stands net.now arriving store shown self.now
+            → IfOk result (λ s. s ≡ sense net.now (past_in net.now arriving store shown self.now.second)
+            self.now.second node) }
+    {
+        let sight = Sight {
+            net,
+            queues: self.links.queues.as_slice(),
+            recent: self.links.recent.as_slice(),
+            stood: self.links.stood.as_slice(),
+            second: self.second,
+        };
+        let links = sense_links(alloc, &sight, net.entry_links(node), Vec::new(alloc))?;
+        Ok(Sensed {
+            now: self.second,
+            links: Items::from_vec(links),
+        })
+    }
+
+    /// Moves by `seconds` seconds under these lights, up to second 18,000.
+    ///
+    /// docs/RULES.md, "Storage".
+    pub fn advance<T: Lights>(
+        &mut self,
+        net: &Network,
+        store: &Store,
+        lights: &T,
+        arrivals: &Arrivals,
+        seconds: u32,
+    )
+        requires second { self.old.second + seconds ≤ 18000 }
+        requires store { length store.now ≡ length net.now.link_names }
+        requires arrivals { AreArrivals net.now arrivals.now }
+        requires stands { Stands net.now (arriving_of arrivals.now) (slice_index store.now)
+            (standing_by (T.lines lights.now)) self.old }
+        ensures second { self.new.second ≡ self.old.second + seconds }
+        ensures stands { Stands net.now (arriving_of arrivals.now) (slice_index store.now)
+            (standing_by (T.lines lights.now)) self.new }
+    {
+        for _i in 0..seconds {
+            self.pass(net, store, lights, arrivals);
+        }
+    }
+
+    /// Moves by one second.
+    fn pass<T: Lights>(&mut self, net: &Network, store: &Store, lights: &T, arrivals: &Arrivals)
+        requires second { self.old.second < 18000 }
+        requires store { length store.now ≡ length net.now.link_names }
+        requires arrivals { AreArrivals net.now arrivals.now }
+        requires stands { Stands net.now (arriving_of arrivals.now) (slice_index store.now)
+            (standing_by (T.lines lights.now)) self.old }
+        ensures second { self.new.second ≡ self.old.second + 1 }
+        ensures stands { Stands net.now (arriving_of arrivals.now) (slice_index store.now)
+            (standing_by (T.lines lights.now)) self.new }
+    {
+        let x = self.second;
+        look(self.greens.as_mut_slice(), net, lights, x);
+        let moment = Moment {
+            net,
+            store,
+            lights,
+            greens: self.greens.as_slice(),
+            arrivals,
+            totals: self.totals,
+            second: x,
+        };
+        self.totals = pass_second(&mut self.links, &moment);
+        self.second = x + 1;
+    }
+}
+
+/// What a second begins with: the network, how much its links can hold, its signals and what they show, what comes from
+/// outside, and what is counted so far.
+#[derive(Drop)]
+struct Moment<'a, T> {
+    net: &'a Network,
+    store: &'a Store,
+    lights: &'a T,
+    greens: &'a [Option<Green>],
+    arrivals: &'a Arrivals,
+    totals: SpillTotals,
+    second: u32,
+}
+
+/// What happens in one second. Answers what is counted then of the whole network.
+fn pass_second<T: Lights>(links: &mut Links, moment: &Moment<T>) -> SpillTotals
+    requires second { moment.now.second < 18000 }
+    requires scratch { HaveScratch links.old }
+    requires store { length moment.now.store.now ≡ length moment.now.net.now.link_names }
+    requires arrivals { AreArrivals moment.now.net.now moment.now.arrivals.now }
+    requires greens { (n : ℕ) → n < length moment.now.net.now.node_names
+        → slice_index_or moment.now.greens.now n None ≡ green_at (T.lines moment.now.lights.now n) moment.now.second }
+    requires stands { Stands moment.now.net.now (arriving_of moment.now.arrivals.now) (slice_index moment.now.store.now)
+        (standing_by (T.lines moment.now.lights.now))
+        (state_of links.old moment.now.second (length moment.now.greens.now) moment.now.totals) }
+    ensures scratch { HaveScratch links.new }
+    ensures whole { IsBalanced result }
+    ensures stands { Stands moment.now.net.now (arriving_of moment.now.arrivals.now) (slice_index moment.now.store.now)
+        (standing_by (T.lines moment.now.lights.now))
+        (state_of links.new (moment.now.second + 1) (length moment.now.greens.now) result) }
+{
+    let net = moment.net;
+    let store = moment.store;
+    let x = moment.second;
+    let all = net.links();
+    let leaving = links.leaving.as_mut_slice();
+    let queues = links.queues.as_mut_slice();
+    let entering = links.entering.as_mut_slice();
+    let held = links.held.as_mut_slice();
+    let outside = links.outside.as_mut_slice();
+    let recent = links.recent.as_mut_slice();
+    let waits = links.waits.as_mut_slice();
+    let served = links.served.as_mut_slice();
+    let out = reach_ends(leaving, queues, held, net, recent, x);
+    serve(served, net, waits, moment.greens, x);
+    clear(entering, all);
+    discharge(
+        leaving,
+        queues,
+        entering,
+        held,
+        &Site { net, store, served },
+    );
+    law_of_storages(store, 0);
+    let arrivals = moment.arrivals;
+    let second = x;
+    let come = let_in(
+        outside,
+        held,
+        recent,
+        entering,
+        &Gate {
+            store,
+            arrivals,
+            second,
+        },
+        all,
+    );
+    remember(waits, links.stood.as_mut_slice(), queues, all, x + 1);
+    let entered = moment.totals.entered + come;
+    let left = moment.totals.left + out;
+    let outside = sum(outside, all);
+    SpillTotals {
+        entered,
+        left,
+        on: entered - left,
+        outside,
+        delay: moment.totals.delay + (sum(queues, all) + outside),
+    }
+}
+
+/// What is kept of `n` links at second 0.
+fn empty_links(alloc: Global, n: usize) -> Result<Links, AllocError>
+    requires { n < 4294967296 }
+    ensures { IfOk result (λ links. AreEmpty n links) }
+{
+    let queues = zeros(alloc, n)?;
+    let recent = zeros(alloc, n * 128)?;
+    let waits = zeros(alloc, n * 128)?;
+    let stood = zeros(alloc, n)?;
+    let outside = zeros(alloc, n)?;
+    let held = zeros(alloc, n)?;
+    let leaving = zeros(alloc, n)?;
+    let entering = zeros(alloc, n)?;
+    let served = none_served(alloc, n)?;
+    Ok(Links {
+        queues,
+        recent,
+        waits,
+        stood,
+        outside,
+        held,
+        leaving,
+        entering,
+        served,
+    })
+}
+
+/// `n` zeros.
+fn zeros(alloc: Global, n: usize) -> Result<Vec<u32>, AllocError>
+    ensures { IfOk result (λ v. v.items ≡ replicate n 0) }
+{
+    vec![in alloc; 0; n]
+}
+
+/// That none of `n` links may discharge.
+fn none_served(alloc: Global, n: usize) -> Result<Vec<bool>, AllocError>
+    ensures { IfOk result (λ v. length v.items ≡ n) }
+{
+    vec![in alloc; false; n]
+}
+
+/// Capacity for what `n` nodes show.
+fn no_greens(alloc: Global, n: usize) -> Result<Vec<Option<Green>>, AllocError>
+    ensures { IfOk result (λ v. length v.items ≡ n) }
+{
+    let none: Option<Green> = None;
+    vec![in alloc; none; n]
+}
