@@ -14,7 +14,7 @@ use Rattle.round_states.specs.declared.states.RoundState.{RoundState}
 use Rattle.round_states.specs.Faults.{GoesOn, SensesFew}
 use Rattle.round_states.specs.Order.{AreInOrder, now_of}
 use Rattle.round_states.specs.States.{IsBoard, IsLineAt, IsSensedAt, IsStateOf, begin_of, no_sense}
-use Rattle.round_states.specs.Texts.{IsBoardOnce, IsSensedOnce, TellState, all_said, board_in, coming_said, green_said, sense_in, sensed_in, state_in}
+use Rattle.round_states.specs.Texts.{IsBoardOnce, IsSensedOnce, TellState, all_said, board_in, coming_said, green_said, round_in, sense_in, sensed_in, state_in}
 use Rattle.round_states.proofs.OrderLaws.{begin-bound, begin-now, begin-round}
 
 links-same : (net : Net) (es : List Entry) (links : List ℕ) → map (λ (s : LinkSense). s.link) (map (sense_in net es) links) ≡ links
@@ -35,7 +35,7 @@ module _ (net : Net) (network : IsNetwork net) (es : List Entry) (order : AreInO
   now-is : now_of es ≡ begin_of net (now_of es / net.run.step)
   now-is = begin-round net (now_of es) (begin-now net network es order)
 
-  module _ (boards : (l : ℕ) → l < length net.link_names → IsBoardOnce es l) (lines : (n : ℕ) → n < length net.node_names → GoesOn net es n) (few : (n : ℕ) → n < length net.node_names → SensesFew net es n) where
+  module _ (boards : (l : ℕ) → l < length net.link_names → IsBoardOnce net es l) (lines : (n : ℕ) → n < length net.node_names → GoesOn net es n) (few : (n : ℕ) → n < length net.node_names → SensesFew net es n) where
     sensed-at : (n : ℕ) → n < length net.node_names → IsSensedAt net (begin_of net (now_of es / net.run.step)) n (get_or (map (sensed_in net es) (range_with_len 0 (length net.node_names))) n no_sense)
     sensed-at n h =
         subst (IsSensedAt net (begin_of net (now_of es / net.run.step)) n) (sym (get_or-map-range_with_len (sensed_in net es) 0 (length net.node_names) n n no_sense h (omega arith)))
@@ -46,11 +46,11 @@ module _ (net : Net) (network : IsNetwork net) (es : List Entry) (order : AreInO
         subst (λ now. IsLineAt (plan_at net n) now (get_or (map (all_said green_said es) (range_with_len 0 (length net.node_names))) n [])) now-is
         (subst (IsLineAt (plan_at net n) (now_of es)) (sym (get_or-map-range_with_len (all_said green_said es) 0 (length net.node_names) n n [] h (omega arith))) (lines n h))
 
-    boards-are : All IsBoard (map (board_in es) (range_with_len 0 (length net.link_names)))
-    boards-are = All-map IsBoard (board_in es) (range_with_len 0 (length net.link_names)) (λ k d h.
+    boards-are : All (IsBoard (round_in net es)) (map (board_in es) (range_with_len 0 (length net.link_names)))
+    boards-are = All-map (IsBoard (round_in net es)) (board_in es) (range_with_len 0 (length net.link_names)) (λ k d h.
         let below : k < length net.link_names = omega (arith, h, length-range_with_len 0 (length net.link_names)) in
         let at : 0 + k ≡ k = omega arith in
-        subst (λ l. IsBoard (board_in es l)) (sym (get_or-range_with_len 0 (length net.link_names) k d below ∙ at)) (boards k below).board)
+        subst (λ l. IsBoard (round_in net es) (board_in es l)) (sym (get_or-range_with_len 0 (length net.link_names) k d below ∙ at)) (boards k below).board)
 
     state-is : IsStateOf net (state_in net es)
     state-is = record {

@@ -48,7 +48,7 @@ abbrev pub AreSensedOnce : Net → List Entry → Type 0
 AreSensedOnce net es = (l : ℕ) → l < length net.link_names → IsSensedOnce es l
 
 abbrev pub AreBoardsOnce : Net → List Entry → Type 0
-AreBoardsOnce net es = (l : ℕ) → l < length net.link_names → IsBoardOnce es l
+AreBoardsOnce net es = (l : ℕ) → l < length net.link_names → IsBoardOnce net es l
 
 abbrev pub AllGoOn : Net → List Entry → Type 0
 AllGoOn net es = (n : ℕ) → n < length net.node_names → GoesOn net es n
@@ -57,7 +57,7 @@ AllGoOn net es = (n : ℕ) → n < length net.node_names → GoesOn net es n
 abbrev pub IsEntryFault : Net → List Entry → StateFault → Type 0
 IsEntryFault net es NoMemory = Unit {0}
 IsEntryFault net es (Sense link) = IsFirstWithout (IsSensedOnce es) (length net.link_names) link
-IsEntryFault net es (Board link) = AreSensedOnce net es × IsFirstWithout (IsBoardOnce es) (length net.link_names) link
+IsEntryFault net es (Board link) = AreSensedOnce net es × IsFirstWithout (IsBoardOnce net es) (length net.link_names) link
 IsEntryFault net es (Line node) = AreSensedOnce net es × AreBoardsOnce net es × IsFirstWithout (GoesOn net es) (length net.node_names) node
 IsEntryFault net es (Sum node) = AreSensedOnce net es × AreBoardsOnce net es × AllGoOn net es × IsFirstWithout (SensesFew net es) (length net.node_names) node
 IsEntryFault net es _ = ⊥

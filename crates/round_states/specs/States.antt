@@ -15,10 +15,6 @@ use Rattle.round_states.specs.declared.states.RoundState.{RoundState}
 abbrev pub last_begin : ℕ
 last_begin = 100000
 
--- no forecast has a greater version
-abbrev pub last_version : ℕ
-last_version = 999
-
 -- the second in which a round begins
 abbrev pub begin_of : Net → ℕ → ℕ
 begin_of net round = round * net.run.step
@@ -40,9 +36,9 @@ pub record IsLineAt (plan : List Phase) (now : ℕ) (rows : List Green) : Type 0
   pub begun : (row_at rows 0).from ≤ now
   pub ends : now < end_of rows
 
--- the board of a link: a forecast with its version, and none at version 0
-pub record IsBoard (board : LinkBoard) : Type 0 where
-  pub version : board.version ≤ last_version
+-- the board of a link as a round begins: a forecast with its version, at most one for each round before, and none at version 0
+pub record IsBoard (round : ℕ) (board : LinkBoard) : Type 0 where
+  pub version : board.version ≤ round
   pub forecast : IsForecast board.forecast
   pub none : board.version ≡ 0 → board.forecast ≡ []
 
@@ -55,4 +51,4 @@ pub record IsStateOf (net : Net) (state : RoundState) : Type 0 where
   pub line_count : length state.lines ≡ length net.node_names
   pub lines : (n : ℕ) → n < length net.node_names → IsLineAt (plan_at net n) (begin_of net state.round) (slice_index_or state.lines n [])
   pub board_count : length state.boards ≡ length net.link_names
-  pub boards : All IsBoard state.boards
+  pub boards : All (IsBoard state.round) state.boards

@@ -1,12 +1,16 @@
 -- What the steps of the code keep. No public clause names these definitions.
-use Rattle.std.specs.Prelude.{◌≡◌, ℕ, ◌⊎◌, List, [], ◌∷◌, ◌++◌, Some, Result, Ok, Err}
+use Rattle.std.specs.Prelude.{◌≡◌, ℕ, ◌<◌, ◌⊎◌, List, [], ◌∷◌, ◌++◌, Option, Some, Result, Ok, Err, Vec, length, map, slice_index_or, slice_set}
+use Rattle.std.specs.List.{cons_option}
 use Rattle.net_numbers.specs.Numbers.{Net}
 use Rattle.round_states.specs.declared.entries.Entry.{Entry}
+use Rattle.round_states.specs.declared.entries.Said.{Said}
 use Rattle.round_states.specs.declared.faults.StateFault.{StateFault}
 use Rattle.round_states.specs.declared.faults.StateFault.TheVariants.{NoMemory, Row, Name, Time}
+use Rattle.round_states.specs.declared.sayings.Sayings.{Sayings}
 use Rattle.round_states.specs.declared.texts.Entries.{Entries}
 use Rattle.round_states.specs.Faults.{AreReadAs, IsAtName, IsAtRow}
 use Rattle.round_states.specs.Order.{FitsAfter}
+use Rattle.round_states.specs.Texts.{all_said, coming_said, green_said, queue_said, row_said, version_said}
 use Rattle.round_states.specs.Told.{entry_of}
 
 -- what a record tells; else it tells nothing, or its name is none of which it can speak
@@ -30,3 +34,24 @@ HasTaken net records taker = AreReadAs net records taker.all.items
 -- the record with this number tells nothing, or what it tells cannot be added
 abbrev pub IsRefused : Net → Entries → List (List ℕ) → ℕ → StateFault → Type 0
 IsRefused net taker fields number fault = Reads net fields number (Err fault) ⊎ ((e : Entry) × (entry_of net fields ≡ Some e) × (new : Entries) × Adds net e number taker new (Err fault))
+
+-- the elements of each of these lists
+abbrev pub lists_of : {X Z : Type 0} → List (Vec X Z) → List (List X)
+lists_of all = map (λ list. list.items) all
+
+-- lists once this was said, if something was, of a place
+abbrev pub with_said : {X : Type 0} → ℕ → Option X → List (List X) → List (List X)
+with_said place said lists = slice_set lists place (slice_index_or lists place [] ++ cons_option said [])
+
+-- of each place below this number there is a list of all that records say of it
+pub record HasAllSaid {X Z : Type 0} (of : Said → Option X) (es : List Entry) (count : ℕ) (all : List (Vec X Z)) : Type 0 where
+  pub count_is : length all ≡ count
+  pub each : (place : ℕ) → place < count → slice_index_or (lists_of all) place [] ≡ all_said of es place
+
+-- what records say of each node and link of a network
+pub record AreSayings (net : Net) (es : List Entry) (s : Sayings) : Type 0 where
+  pub greens : HasAllSaid green_said es (length net.node_names) s.greens.items
+  pub queues : HasAllSaid queue_said es (length net.link_names) s.queues.items
+  pub coming : HasAllSaid coming_said es (length net.link_names) s.coming.items
+  pub versions : HasAllSaid version_said es (length net.link_names) s.versions.items
+  pub rows : HasAllSaid row_said es (length net.link_names) s.rows.items

@@ -78,10 +78,14 @@ sensed_in net es node = record { now = now_of es; links = map (sense_in net es) 
 abbrev pub board_in : List Entry → ℕ → LinkBoard
 board_in es link = record { version = version_in es link; forecast = all_said row_said es link }
 
+-- the round that records tell
+abbrev pub round_in : Net → List Entry → ℕ
+round_in net es = now_of es / net.run.step
+
 -- the state that records tell: of each node what it senses and its greens, and the board of each link
 abbrev pub state_in : Net → List Entry → RoundState
 state_in net es = record {
-  round = now_of es / net.run.step;
+  round = round_in net es;
   sensed = map (sensed_in net es) (range_with_len 0 (length net.node_names));
   lines = map (all_said green_said es) (range_with_len 0 (length net.node_names));
   boards = map (board_in es) (range_with_len 0 (length net.link_names));
@@ -93,16 +97,16 @@ pub record IsSensedOnce (es : List Entry) (link : ℕ) : Type 0 where
   pub rising : IsStrictlyIncreasing (seconds (all_said coming_said es link))
 
 -- the version of a link is told once at most, and its rows are a forecast of this version
-pub record IsBoardOnce (es : List Entry) (link : ℕ) : Type 0 where
+pub record IsBoardOnce (net : Net) (es : List Entry) (link : ℕ) : Type 0 where
   pub version : length (all_said version_said es link) ≤ 1
-  pub board : IsBoard (board_in es link)
+  pub board : IsBoard (round_in net es) (board_in es link)
 
 -- Records that tell a state: they stand in order, say of each link once what is said once, and what they tell is a state in which
 -- a round begins.
 pub record TellState (net : Net) (es : List Entry) (state : RoundState) : Type 0 where
   pub order : AreInOrder net es
   pub senses : (l : ℕ) → l < length net.link_names → IsSensedOnce es l
-  pub boards : (l : ℕ) → l < length net.link_names → IsBoardOnce es l
+  pub boards : (l : ℕ) → l < length net.link_names → IsBoardOnce net es l
   pub told : state ≡ state_in net es
   pub is : IsStateOf net state
 

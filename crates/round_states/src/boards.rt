@@ -5,18 +5,17 @@ ghost use Rattle.std.specs.List.Sorted.{IsStrictlyIncreasing};
 ghost use Rattle.board_model.specs.Forecasts.{IsForecast, IsRow, seconds};
 ghost use Rattle.round_states.specs.Faults.{AreSensedOnce, IsEntryFault};
 ghost use Rattle.round_states.specs.States.{IsBoard};
-ghost use Rattle.round_states.specs.Texts.{IsBoardOnce, board_in};
+ghost use Rattle.round_states.specs.Taking.{AreSayings};
+ghost use Rattle.round_states.specs.Texts.{IsBoardOnce, all_said, board_in, row_said, version_said};
 
 use crate::entries::Entry;
 use crate::faults::StateFault;
-use crate::sayings::{rows_of, versions_of};
+use crate::order::round_of;
+use crate::sayings::{Sayings, list_of};
 use crate::states::LinkBoard;
 use board_model::{Forecast, Row};
 use road_net::Network;
 use std::alloc::{AllocError, Global};
-
-/// No forecast has a greater version.
-const LAST_VERSION: u32 = 999;
 
 /// No forecast has more rows.
 const MOST_ROWS: usize = 180;
@@ -33,16 +32,20 @@ pub(crate) fn boards(
     alloc: Global,
     net: &Network,
     entries: &[Entry],
+    said: &Sayings,
 ) -> Result<Vec<LinkBoard>, StateFault>
+    requires said { AreSayings net.now entries.now said.now }
     requires senses { AreSensedOnce net.now entries.now }
     ensures ok { IfOk result (λ boards. boards.items
         ≡ map (board_in entries.now) (range_with_len 0 (length net.now.link_names))) }
-    ensures each { OnOk result ((l : ℕ) → l < length net.now.link_names → IsBoardOnce entries.now l) }
+    ensures each { OnOk result ((l : ℕ) → l < length net.now.link_names → IsBoardOnce net.now entries.now l) }
     ensures first { IfErr result (IsEntryFault net.now entries.now) }
 {
     let mut boards = Vec::new(alloc);
     for link in 0..net.links() {
-        let Some(board) = board(alloc, entries, link)? else {
+        let versions = list_of(said.versions.as_slice(), link);
+        let rows = list_of(said.rows.as_slice(), link);
+        let Some(board) = board(alloc, net, entries, link, versions, rows)? else {
             return Err(StateFault::Board(link));
         };
         boards.push(board)?;
@@ -50,26 +53,35 @@ pub(crate) fn boards(
     Ok(boards)
 }
 
-/// The board of a link; none where its version is told twice, or where what is told is no board. `Err`: out of memory.
-fn board(alloc: Global, entries: &[Entry], link: u32) -> Result<Option<LinkBoard>, AllocError>
-    ensures { IfOk result (λ board. MatchOption board (¬ IsBoardOnce entries.now link)
-        (λ board. (board ≡ board_in entries.now link) × IsBoardOnce entries.now link)) }
+/// The board of a link, from the versions and the rows that are told of it; none where its version is told twice, or where
+/// what is told is no board. `Err`: out of memory.
+fn board(
+    alloc: Global,
+    net: &Network,
+    entries: &[Entry],
+    link: u32,
+    versions: &[u32],
+    rows: &[Row],
+) -> Result<Option<LinkBoard>, AllocError>
+    requires versions { versions.now ≡ all_said version_said entries.now link }
+    requires rows { rows.now ≡ all_said row_said entries.now link }
+    ensures { IfOk result (λ board. MatchOption board (¬ IsBoardOnce net.now entries.now link)
+        (λ board. (board ≡ board_in entries.now link) × IsBoardOnce net.now entries.now link)) }
 {
-    let versions = versions_of(alloc, entries, link)?;
+    let round = round_of(net, entries);
     let version = versions.first().copied().unwrap_or(0);
-    let rows = rows_of(alloc, entries, link)?;
-    if versions.len() > 1 || !is_board(version, rows.as_slice()) {
+    if versions.len() > 1 || !is_board(round, version, rows) {
         return Ok(None);
     }
-    let forecast = forecast(alloc, rows.as_slice())?;
+    let forecast = forecast(alloc, rows)?;
     Ok(Some(LinkBoard { version, forecast }))
 }
 
-/// Whether a version and rows are a board.
-fn is_board(version: u32, rows: &[Row]) -> bool
-    ensures { IsTrue result ↔ IsBoard (record { version = version; forecast = rows.now }) }
+/// Whether a version and rows are a board as this round begins.
+fn is_board(round: u32, version: u32, rows: &[Row]) -> bool
+    ensures { IsTrue result ↔ IsBoard round (record { version = version; forecast = rows.now }) }
 {
-    version <= LAST_VERSION && (version > 0 || rows.is_empty()) && is_forecast(rows)
+    version <= round && (version > 0 || rows.is_empty()) && is_forecast(rows)
 }
 
 /// Whether rows are a forecast.

@@ -8,12 +8,13 @@ ghost use Rattle.road_net.specs.Network.{IsNetwork};
 ghost use Rattle.round_states.specs.Faults.{AreBoardsOnce, AreSensedOnce, GoesOn, IsEntryFault};
 ghost use Rattle.round_states.specs.Order.{now_of};
 ghost use Rattle.round_states.specs.States.{IsLineAt, last_begin};
+ghost use Rattle.round_states.specs.Taking.{AreSayings};
 ghost use Rattle.round_states.specs.Texts.{all_said, green_said};
 
 use crate::entries::Entry;
 use crate::faults::StateFault;
 use crate::order::now_of;
-use crate::sayings::greens_of;
+use crate::sayings::{Sayings, list_of};
 use control_flow::greens::{Green, Timeline};
 use control_flow::is_lawful;
 use phase_plan::PhasePlan;
@@ -29,7 +30,9 @@ pub(crate) fn lines(
     alloc: Global,
     net: &Network,
     entries: &[Entry],
+    said: &Sayings,
 ) -> Result<Vec<Timeline>, StateFault>
+    requires said { AreSayings net.now entries.now said.now }
     requires senses { AreSensedOnce net.now entries.now }
     requires boards { AreBoardsOnce net.now entries.now }
     ensures ok { IfOk result (λ lines. lines.items
@@ -39,7 +42,8 @@ pub(crate) fn lines(
 {
     let mut lines = Vec::new(alloc);
     for node in 0..net.nodes() {
-        let Some(line) = line(alloc, net, entries, node)? else {
+        let greens = list_of(said.greens.as_slice(), node);
+        let Some(line) = line(alloc, net, entries, node, greens)? else {
             return Err(StateFault::Line(node));
         };
         lines.push(line)?;
@@ -47,23 +51,25 @@ pub(crate) fn lines(
     Ok(lines)
 }
 
-/// The timeline of a node, where its greens are one that goes on as the round begins. `Err`: out of memory.
+/// The timeline of a node, where its greens, which are told, are one that goes on as the round begins. `Err`: out of memory.
 fn line(
     alloc: Global,
     net: &Network,
     entries: &[Entry],
     node: u32,
+    greens: &[Green],
 ) -> Result<Option<Timeline>, AllocError>
     requires node { node < length net.now.node_names }
+    requires greens { greens.now ≡ all_said green_said entries.now node }
     ensures { IfOk result (λ line. MatchOption line (¬ GoesOn net.now entries.now node)
         (λ line. (line ≡ all_said green_said entries.now node) × GoesOn net.now entries.now node)) }
 {
-    let rows = greens_of(alloc, entries, node)?;
-    if goes_on(net.plan(node), now_of(entries), rows.as_slice()) {
-        Ok(Some(Timeline::from_rows(rows)))
-    } else {
-        Ok(None)
+    if !goes_on(net.plan(node), now_of(entries), greens) {
+        return Ok(None);
     }
+    let mut rows = Vec::with_capacity(alloc, greens.len())?;
+    rows.extend_from_slice(greens)?;
+    Ok(Some(Timeline::from_rows(rows)))
 }
 
 /// Whether rows are a timeline that goes on in this second.

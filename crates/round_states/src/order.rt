@@ -2,6 +2,7 @@
 ghost use Rattle.std.specs.Prelude.{◌≡◌, ◌↔◌, IsTrue};
 ghost use Rattle.road_net.specs.Network.{IsNetwork};
 ghost use Rattle.round_states.specs.Order.{FitsAfter, IsBegin, IsFirstSaid, IsLaterSaid, IsOnTheWay, begin_said, now_of};
+ghost use Rattle.round_states.specs.Texts.{round_in};
 
 use crate::entries::{Entry, Said};
 use road_net::Network;
@@ -24,6 +25,13 @@ pub(crate) fn now_of(entries: &[Entry]) -> u32
         Some(first) => begin_said(&first.said),
         None => 0,
     }
+}
+
+/// The round that begins then.
+pub(crate) fn round_of(net: &Network, entries: &[Entry]) -> u32
+    ensures { result ≡ round_in net.now entries.now }
+{
+    now_of(entries) / net.run().step
 }
 
 /// The second that is told as the begin of the round; 0 where none is.

@@ -1,139 +1,193 @@
-//! What the records of a state say of one node or link, in their order.
-ghost use Rattle.std.specs.Prelude.{◌≡◌, ◌++◌, [], IfOk, OnOk};
-ghost use Rattle.std.specs.List.{cons_option};
-ghost use Rattle.round_states.specs.Texts.{all_said, coming_said, green_said, queue_said, row_said, said_of, version_said};
+//! What the records of a state say: a list for each node or link, in the order of the records.
+ghost use Rattle.std.specs.Prelude.{◌≡◌, [], IfOk, OnOk, length, map, slice_index_or};
+ghost use Rattle.std.specs.List.{range_with_len};
+ghost use Rattle.round_states.specs.Taking.{AreSayings, HasAllSaid, lists_of, with_said};
+ghost use Rattle.round_states.specs.Texts.{coming_said, green_said, queue_said, row_said, version_said};
 
 use crate::entries::{Entry, Said, Standing};
 use board_model::Row;
 use control_flow::greens::Green;
+use road_net::Network;
 use std::alloc::{AllocError, Global};
 
-/// The greens of a node. `Err`: out of memory.
-pub(crate) fn greens_of(
+/// What records say of each node and link.
+#[derive(Drop)]
+pub(crate) struct Sayings {
+    /// The greens of each node.
+    pub greens: Vec<Vec<Green>>,
+    /// The queues of each link.
+    pub queues: Vec<Vec<Standing>>,
+    /// What comes on each link.
+    pub coming: Vec<Vec<Row>>,
+    /// The versions of each link.
+    pub versions: Vec<Vec<u32>>,
+    /// The rows of the forecast of each link.
+    pub rows: Vec<Vec<Row>>,
+}
+
+/// What these records say of each node and link of a network. `Err`: out of memory.
+pub(crate) fn sort_entries(
+    alloc: Global,
+    net: &Network,
+    entries: &[Entry],
+) -> Result<Sayings, AllocError>
+    ensures { IfOk result (AreSayings net.now entries.now) }
+{
+    let greens = all_greens(alloc, entries, net.nodes())?;
+    let queues = all_queues(alloc, entries, net.links())?;
+    let coming = all_coming(alloc, entries, net.links())?;
+    let versions = all_versions(alloc, entries, net.links())?;
+    let rows = all_rows(alloc, entries, net.links())?;
+    Ok(Sayings {
+        greens,
+        queues,
+        coming,
+        versions,
+        rows,
+    })
+}
+
+/// The list of a place; an empty one past the last place.
+pub(crate) fn list_of<T>(lists: &[Vec<T>], place: u32) -> &[T]
+    ensures { result.now ≡ slice_index_or (lists_of lists.now) place [] }
+{
+    match lists.get(place as usize) {
+        Some(list) => list.as_slice(),
+        None => &[],
+    }
+}
+
+/// The greens of each of this number of nodes. `Err`: out of memory.
+fn all_greens(alloc: Global, entries: &[Entry], nodes: u32) -> Result<Vec<Vec<Green>>, AllocError>
+    ensures { IfOk result (λ all. HasAllSaid green_said entries.now nodes all.items) }
+{
+    let mut all = no_lists(alloc, nodes)?;
+    for entry in entries {
+        keep(&mut all, entry.place, green_said(&entry.said))?;
+    }
+    Ok(all)
+}
+
+/// The queues of each of this number of links. `Err`: out of memory.
+fn all_queues(
     alloc: Global,
     entries: &[Entry],
-    node: u32,
-) -> Result<Vec<Green>, AllocError>
-    ensures { IfOk result (λ all. all.items ≡ all_said green_said entries.now node) }
+    links: u32,
+) -> Result<Vec<Vec<Standing>>, AllocError>
+    ensures { IfOk result (λ all. HasAllSaid queue_said entries.now links all.items) }
 {
-    let mut all = Vec::new(alloc);
+    let mut all = no_lists(alloc, links)?;
     for entry in entries {
-        keep(&mut all, green_of(entry, node))?;
+        keep(&mut all, entry.place, queue_said(&entry.said))?;
     }
     Ok(all)
 }
 
-/// The queues of a link. `Err`: out of memory.
-pub(crate) fn queues_of(
-    alloc: Global,
-    entries: &[Entry],
-    link: u32,
-) -> Result<Vec<Standing>, AllocError>
-    ensures { IfOk result (λ all. all.items ≡ all_said queue_said entries.now link) }
+/// What comes on each of this number of links. `Err`: out of memory.
+fn all_coming(alloc: Global, entries: &[Entry], links: u32) -> Result<Vec<Vec<Row>>, AllocError>
+    ensures { IfOk result (λ all. HasAllSaid coming_said entries.now links all.items) }
 {
-    let mut all = Vec::new(alloc);
+    let mut all = no_lists(alloc, links)?;
     for entry in entries {
-        keep(&mut all, queue_of(entry, link))?;
+        keep(&mut all, entry.place, coming_said(&entry.said))?;
     }
     Ok(all)
 }
 
-/// What comes on a link. `Err`: out of memory.
-pub(crate) fn coming_of(alloc: Global, entries: &[Entry], link: u32) -> Result<Vec<Row>, AllocError>
-    ensures { IfOk result (λ all. all.items ≡ all_said coming_said entries.now link) }
+/// The versions of each of this number of links. `Err`: out of memory.
+fn all_versions(alloc: Global, entries: &[Entry], links: u32) -> Result<Vec<Vec<u32>>, AllocError>
+    ensures { IfOk result (λ all. HasAllSaid version_said entries.now links all.items) }
 {
-    let mut all = Vec::new(alloc);
+    let mut all = no_lists(alloc, links)?;
     for entry in entries {
-        keep(&mut all, comes_of(entry, link))?;
+        keep(&mut all, entry.place, version_said(&entry.said))?;
     }
     Ok(all)
 }
 
-/// The versions of a link. `Err`: out of memory.
-pub(crate) fn versions_of(
-    alloc: Global,
-    entries: &[Entry],
-    link: u32,
-) -> Result<Vec<u32>, AllocError>
-    ensures { IfOk result (λ all. all.items ≡ all_said version_said entries.now link) }
+/// The rows of the forecast of each of this number of links. `Err`: out of memory.
+fn all_rows(alloc: Global, entries: &[Entry], links: u32) -> Result<Vec<Vec<Row>>, AllocError>
+    ensures { IfOk result (λ all. HasAllSaid row_said entries.now links all.items) }
 {
-    let mut all = Vec::new(alloc);
+    let mut all = no_lists(alloc, links)?;
     for entry in entries {
-        keep(&mut all, version_of(entry, link))?;
+        keep(&mut all, entry.place, row_said(&entry.said))?;
     }
     Ok(all)
 }
 
-/// The rows of the forecast of a link. `Err`: out of memory.
-pub(crate) fn rows_of(alloc: Global, entries: &[Entry], link: u32) -> Result<Vec<Row>, AllocError>
-    ensures { IfOk result (λ all. all.items ≡ all_said row_said entries.now link) }
+/// An empty list for each of this number of places. `Err`: out of memory.
+fn no_lists<T: Drop>(alloc: Global, count: u32) -> Result<Vec<Vec<T>>, AllocError>
+    ensures { IfOk result (λ all. lists_of all.items ≡ map (λ place. []) (range_with_len 0 count)) }
 {
-    let mut all = Vec::new(alloc);
-    for entry in entries {
-        keep(&mut all, row_of(entry, link))?;
+    let mut all = Vec::with_capacity(alloc, count as usize)?;
+    for _place in 0..count {
+        all.push(Vec::new(alloc))?;
     }
     Ok(all)
 }
 
-/// Appends what is said, if something is. `Err`: out of memory.
-fn keep<T: Copy>(all: &mut Vec<T>, said: Option<T>) -> Result<(), AllocError>
-    ensures { OnOk result (all.new.items ≡ all.old.items ++ cons_option said []) }
+/// Appends to the list of a place what is said, if something is, and if there is one. `Err`: out of memory.
+fn keep<T: Copy>(all: &mut Vec<Vec<T>>, place: u32, said: Option<T>) -> Result<(), AllocError>
+    ensures { OnOk result (lists_of all.new.items ≡ with_said place said (lists_of all.old.items)) }
+{
+    let place = place as usize;
+    let Some(value) = said else {
+        return Ok(());
+    };
+    if place >= all.len() {
+        return Ok(());
+    }
+    all[place].push(value)?;
+    Ok(())
+}
+
+/// The green that is said, if one is.
+fn green_said(said: &Said) -> Option<Green>
+    ensures { result ≡ green_said said.now }
 {
     match said {
-        Some(value) => {
-            all.push(value)?;
-            Ok(())
-        }
-        None => Ok(()),
-    }
-}
-
-/// The green of this node that a record says, if it does.
-fn green_of(entry: &Entry, node: u32) -> Option<Green>
-    ensures { result ≡ said_of green_said node entry.now }
-{
-    match entry.said {
-        Said::Shows(green) if entry.place == node => Some(green),
+        Said::Shows(green) => Some(*green),
         _ => None,
     }
 }
 
-/// The queue of this link that a record says, if it does.
-fn queue_of(entry: &Entry, link: u32) -> Option<Standing>
-    ensures { result ≡ said_of queue_said link entry.now }
+/// The queue that is said, if one is.
+fn queue_said(said: &Said) -> Option<Standing>
+    ensures { result ≡ queue_said said.now }
 {
-    match entry.said {
-        Said::Stands(queue) if entry.place == link => Some(queue),
+    match said {
+        Said::Stands(queue) => Some(*queue),
         _ => None,
     }
 }
 
-/// What comes on this link that a record says, if it does.
-fn comes_of(entry: &Entry, link: u32) -> Option<Row>
-    ensures { result ≡ said_of coming_said link entry.now }
+/// What is said to come, if something is.
+fn coming_said(said: &Said) -> Option<Row>
+    ensures { result ≡ coming_said said.now }
 {
-    match entry.said {
-        Said::Comes(row) if entry.place == link => Some(row),
+    match said {
+        Said::Comes(row) => Some(*row),
         _ => None,
     }
 }
 
-/// The version of this link that a record says, if it does.
-fn version_of(entry: &Entry, link: u32) -> Option<u32>
-    ensures { result ≡ said_of version_said link entry.now }
+/// The version that is said, if one is.
+fn version_said(said: &Said) -> Option<u32>
+    ensures { result ≡ version_said said.now }
 {
-    match entry.said {
-        Said::Publishes(version) if entry.place == link => Some(version),
+    match said {
+        Said::Publishes(version) => Some(*version),
         _ => None,
     }
 }
 
-/// The row of the forecast of this link that a record says, if it does.
-fn row_of(entry: &Entry, link: u32) -> Option<Row>
-    ensures { result ≡ said_of row_said link entry.now }
+/// The row of a forecast that is said, if one is.
+fn row_said(said: &Said) -> Option<Row>
+    ensures { result ≡ row_said said.now }
 {
-    match entry.said {
-        Said::Tells(row) if entry.place == link => Some(row),
+    match said {
+        Said::Tells(row) => Some(*row),
         _ => None,
     }
 }

@@ -7,13 +7,14 @@ ghost use Rattle.road_net.specs.Network.{entry_links};
 ghost use Rattle.road_net.specs.Senses.{amount};
 ghost use Rattle.round_states.specs.Faults.{AllGoOn, AreBoardsOnce, AreSensedOnce, IsEntryFault, SensesFew};
 ghost use Rattle.round_states.specs.Order.{now_of};
-ghost use Rattle.round_states.specs.Texts.{IsSensedOnce, coming_in, sense_in, sensed_in};
+ghost use Rattle.round_states.specs.Taking.{AreSayings};
+ghost use Rattle.round_states.specs.Texts.{IsSensedOnce, all_said, coming_in, coming_said, queue_said, sense_in, sensed_in};
 
 use crate::boards::are_rising;
 use crate::entries::{Entry, Standing};
 use crate::faults::StateFault;
 use crate::order::now_of;
-use crate::sayings::{coming_of, queues_of};
+use crate::sayings::{Sayings, list_of};
 use board_model::Row;
 use foundation::items::Items;
 use road_net::{LinkSense, Network, Sensed};
@@ -24,15 +25,18 @@ const MOST: u32 = 2_000_000_000;
 
 /// Tests that what is sensed of each link is told once. The fault is `Sense` of the least link of which it is not.
 pub(crate) fn check_senses(
-    alloc: Global,
     net: &Network,
     entries: &[Entry],
+    said: &Sayings,
 ) -> Result<(), StateFault>
+    requires { AreSayings net.now entries.now said.now }
     ensures ok { OnOk result ((l : ℕ) → l < length net.now.link_names → IsSensedOnce entries.now l) }
     ensures first { IfErr result (IsEntryFault net.now entries.now) }
 {
     for link in 0..net.links() {
-        let once = is_sensed_once(alloc, entries, link)?;
+        let queues = list_of(said.queues.as_slice(), link);
+        let rows = list_of(said.coming.as_slice(), link);
+        let once = is_sensed_once(entries, link, queues, rows);
         if !once {
             return Err(StateFault::Sense(link));
         }
@@ -40,13 +44,13 @@ pub(crate) fn check_senses(
     Ok(())
 }
 
-/// Whether what is sensed of a link is told once. `Err`: out of memory.
-fn is_sensed_once(alloc: Global, entries: &[Entry], link: u32) -> Result<bool, AllocError>
-    ensures { IfOk result (λ once. IsTrue once ↔ IsSensedOnce entries.now link) }
+/// Whether what is sensed of a link is told once, where these are its queues and what comes on it.
+fn is_sensed_once(entries: &[Entry], link: u32, queues: &[Standing], rows: &[Row]) -> bool
+    requires queues { queues.now ≡ all_said queue_said entries.now link }
+    requires rows { rows.now ≡ all_said coming_said entries.now link }
+    ensures { IsTrue result ↔ IsSensedOnce entries.now link }
 {
-    let queues = queues_of(alloc, entries, link)?;
-    let rows = coming_of(alloc, entries, link)?;
-    Ok(queues.len() <= 1 && are_rising(rows.as_slice()))
+    queues.len() <= 1 && are_rising(rows)
 }
 
 /// What each node senses, where nothing else is at fault. The fault is `Sum` of the least node that senses more than it
@@ -55,7 +59,9 @@ pub(crate) fn senses(
     alloc: Global,
     net: &Network,
     entries: &[Entry],
+    said: &Sayings,
 ) -> Result<Vec<Sensed>, StateFault>
+    requires said { AreSayings net.now entries.now said.now }
     requires now { now_of entries.now ≤ 18000 }
     requires senses { AreSensedOnce net.now entries.now }
     requires boards { AreBoardsOnce net.now entries.now }
@@ -67,7 +73,7 @@ pub(crate) fn senses(
 {
     let mut all = Vec::new(alloc);
     for node in 0..net.nodes() {
-        let Some(sensed) = node_sense(alloc, net, entries, node)? else {
+        let Some(sensed) = node_sense(alloc, net, entries, said, node)? else {
             return Err(StateFault::Sum(node));
         };
         all.push(sensed)?;
@@ -80,14 +86,16 @@ fn node_sense(
     alloc: Global,
     net: &Network,
     entries: &[Entry],
+    said: &Sayings,
     node: u32,
 ) -> Result<Option<Sensed>, AllocError>
+    requires said { AreSayings net.now entries.now said.now }
     requires now { now_of entries.now ≤ 18000 }
     requires node { node < length net.now.node_names }
     ensures { IfOk result (λ sensed. MatchOption sensed (¬ SensesFew net.now entries.now node)
         (λ sensed. (sensed ≡ sensed_in net.now entries.now node) × SensesFew net.now entries.now node)) }
 {
-    let links = link_senses(alloc, net, entries, node)?;
+    let links = link_senses(alloc, net, entries, said, node)?;
     if are_few(links.as_slice()) {
         Ok(Some(Sensed {
             now: now_of(entries),
@@ -103,8 +111,10 @@ fn link_senses(
     alloc: Global,
     net: &Network,
     entries: &[Entry],
+    said: &Sayings,
     node: u32,
 ) -> Result<Vec<LinkSense>, AllocError>
+    requires said { AreSayings net.now entries.now said.now }
     requires now { now_of entries.now ≤ 18000 }
     requires node { node < length net.now.node_names }
     ensures { IfOk result (λ links. links.items
@@ -112,31 +122,30 @@ fn link_senses(
 {
     let mut links = Vec::new(alloc);
     for link in net.entry_links(node) {
-        links.push(sense(alloc, net, entries, *link)?)?;
+        let queues = list_of(said.queues.as_slice(), *link);
+        let rows = list_of(said.coming.as_slice(), *link);
+        links.push(sense(alloc, net, entries, *link, queues, rows)?)?;
     }
     Ok(links)
 }
 
-/// What is sensed of a link. `Err`: out of memory.
+/// What is sensed of a link, where these are its queues and what comes on it. `Err`: out of memory.
 fn sense(
     alloc: Global,
     net: &Network,
     entries: &[Entry],
     link: u32,
+    queues: &[Standing],
+    rows: &[Row],
 ) -> Result<LinkSense, AllocError>
     requires now { now_of entries.now ≤ 18000 }
     requires link { link < length net.now.link_names }
+    requires queues { queues.now ≡ all_said queue_said entries.now link }
+    requires rows { rows.now ≡ all_said coming_said entries.now link }
     ensures { IfOk result (λ sense. sense ≡ sense_in net.now entries.now link) }
 {
-    let queues = queues_of(alloc, entries, link)?;
     let queue = queues.first().copied().unwrap_or(NO_QUEUE);
-    let rows = coming_of(alloc, entries, link)?;
-    let coming = coming(
-        alloc,
-        rows.as_slice(),
-        now_of(entries),
-        net.link(link).travel,
-    )?;
+    let coming = coming(alloc, rows, now_of(entries), net.link(link).travel)?;
     Ok(LinkSense {
         link,
         queue: queue.amount,

@@ -11,7 +11,7 @@ use road_net::Sensed;
 /// docs/FORMATS.md, "State of a round".
 #[derive(Drop)]
 pub struct LinkBoard {
-    /// The version of the forecast, at most 999; 0 where none was published.
+    /// The version of the forecast, at most the number of the round; 0 where none was published.
     pub version: u32,
     /// The forecast; no row where none was published.
     pub forecast: Forecast,

@@ -5,7 +5,7 @@ ghost use Rattle.road_net.specs.Network.{IsNetwork};
 ghost use Rattle.round_states.specs.Faults.{IsEntryFault, IsStateFault, Refuses};
 ghost use Rattle.round_states.specs.Order.{AreInOrder};
 ghost use Rattle.round_states.specs.States.{IsStateOf};
-ghost use Rattle.round_states.specs.Taking.{Adds, Reads};
+ghost use Rattle.round_states.specs.Taking.{Adds, AreSayings, Reads};
 ghost use Rattle.round_states.specs.Texts.{IsStateText, TellState};
 ghost use Rattle.round_states.specs.declared.states.RoundState as spec;
 
@@ -14,7 +14,8 @@ use crate::entries::{Entry, place_of};
 use crate::faults::StateFault;
 use crate::fields::{is_header, read_said};
 use crate::lines::lines;
-use crate::order::{fits_after, now_of};
+use crate::order::{fits_after, round_of};
+use crate::sayings::{Sayings, sort_entries};
 use crate::senses::{check_senses, senses};
 use crate::states::RoundState;
 use csv::ByteRecord;
@@ -54,12 +55,29 @@ fn state_of(alloc: Global, net: &Network, entries: &[Entry]) -> Result<RoundStat
     ensures ok { IfOk result (TellState net.now entries.now) }
     ensures first { IfErr result (IsEntryFault net.now entries.now) }
 {
-    check_senses(alloc, net, entries)?;
-    let boards = boards(alloc, net, entries)?;
-    let lines = lines(alloc, net, entries)?;
-    let sensed = senses(alloc, net, entries)?;
+    let said = sort_entries(alloc, net, entries)?;
+    state_by(alloc, net, entries, &said)
+}
+
+/// The same, where this is what they say.
+fn state_by(
+    alloc: Global,
+    net: &Network,
+    entries: &[Entry],
+    said: &Sayings,
+) -> Result<RoundState, StateFault>
+    requires network { IsNetwork net.now }
+    requires order { AreInOrder net.now entries.now }
+    requires said { AreSayings net.now entries.now said.now }
+    ensures ok { IfOk result (TellState net.now entries.now) }
+    ensures first { IfErr result (IsEntryFault net.now entries.now) }
+{
+    check_senses(net, entries, said)?;
+    let boards = boards(alloc, net, entries, said)?;
+    let lines = lines(alloc, net, entries, said)?;
+    let sensed = senses(alloc, net, entries, said)?;
     Ok(RoundState {
-        round: now_of(entries) / net.run().step,
+        round: round_of(net, entries),
         sensed: Items::from_vec(sensed),
         lines: Items::from_vec(lines),
         boards: Items::from_vec(boards),

@@ -1,10 +1,16 @@
-use Rattle.std.proofs.Common.{arith}
-use Rattle.round_states.specs.Texts.{IsBoardOnce, board_in}
-use Rattle.round_states.proofs.SayingLaws.{each-below, map-step}
+use Rattle.std.proofs.Common.{length, arith}
+use Rattle.round_states.specs.Texts.{IsBoardOnce, board_in, row_said, version_said}
+use Rattle.round_states.proofs.SayingLaws.{each-below, map-step, said-there}
 use Rattle.round_states.proofs.boards.boards.Goals as goal
+
+pub board-requires : goal.board-requires
+board-requires c = record {
+  versions = said-there version_said c.args.entries.now (length c.args.net.now.link_names) c.args.said.now.versions.items _ c.loop-link.link _ c.requires.said.versions (omega arith) c.as_slice.ensures.value c.list_of-versions.ensures;
+  rows = said-there row_said c.args.entries.now (length c.args.net.now.link_names) c.args.said.now.rows.items _ c.loop-link.link _ c.requires.said.rows (omega arith) c.as_slice-in-loop-link.ensures.value c.list_of-rows.ensures;
+}
 
 pub loop-link-preserved : goal.loop-link-preserved
 loop-link-preserved c = record {
   boards = map-step (board_in c.args.entries.now) 0 c.loop-link.link c.loop-link.link _ _ _ (omega arith) c.in_ok-push.ensures.items c.loop-link.invariant.boards (rw c.in-Some.is at c.in_ok-board.ensures).0;
-  once = each-below (IsBoardOnce c.args.entries.now) c.loop-link.link c.loop-link.invariant.once (rw c.in-Some.is at c.in_ok-board.ensures).1;
+  once = each-below (IsBoardOnce c.args.net.now c.args.entries.now) c.loop-link.link c.loop-link.invariant.once (rw c.in-Some.is at c.in_ok-board.ensures).1;
 }

@@ -7,5 +7,5 @@ use Rattle.round_states.proofs.boards.boards.Given as goal
 abbrev pub invariant-loop-link : goal.invariant-loop-link
 invariant-loop-link l = record {
   boards : l.boards.items ≡ map (board_in l.entries) (range_with_len 0 l.link);
-  once : (k : ℕ) → k < l.link → IsBoardOnce l.entries k;
+  once : (k : ℕ) → k < l.link → IsBoardOnce l.net l.entries k;
 }

@@ -1,0 +1,13 @@
+use Rattle.std.proofs.Common.{refl, arith}
+use Rattle.round_states.specs.Texts.{green_said}
+use Rattle.round_states.proofs.SayingLaws.{said-all, said-more, said-none}
+use Rattle.round_states.proofs.sayings.all_greens.Goals as goal
+
+pub loop-entry-init : goal.loop-entry-init
+loop-entry-init c = said-none green_said c.args.nodes _ c.in_ok-all.ensures
+
+pub loop-entry-preserved : goal.loop-entry-preserved
+loop-entry-preserved c = said-more green_said c.args.entries.now c.args.nodes c.loop-entry.entry-index _ _ c.loop-entry-test.true refl c.loop-entry.all.items c.keep.new.all.items c.green_said.result c.green_said.ensures c.in_ok-keep.ensures c.loop-entry.invariant
+
+pub returns : goal.returns
+returns c = said-all green_said c.args.entries.now c.args.nodes c.loop-entry.entry-index c.loop-entry.all.items (omega arith) c.loop-entry.invariant
