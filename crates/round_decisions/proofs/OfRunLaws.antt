@@ -1,8 +1,11 @@
 -- A decision from the state of a run's round is that round.
-use Rattle.std.proofs.Common.{◌≡◌, ℕ, zero, suc, ◌+◌, ◌*◌, ◌<◌, ◌≤◌, true, false, List, [], ◌∷◌, Some, length, get_or, is_some, take, refl, sym, ap, subst, ◌∙◌, inl, inr, arith}
-use Rattle.std.specs.Prelude.{◌&&◌, IsSome, if◌then◌else◌, nat_lt}
+use Rattle.std.proofs.Common.{◌≡◌, ℕ, zero, suc, ◌+◌, ◌*◌, ◌<◌, ◌≤◌, true, false, List, [], ◌∷◌, Option, Some, IfSome, length, get_or, is_some, take, refl, sym, ap, subst, ◌∙◌, inl, inr, arith}
+use Rattle.std.specs.Prelude.{◌&&◌, IsSome, if◌then◌else◌, nat_lt, unwrap_or}
 use Rattle.std.proofs.lemmas.Bool.{and_from, and_left, cases_lt, le-ltb, lt-ltb}
-use Rattle.std.proofs.lemmas.List.{ext_get_or, get_or-map, length-map, take_more}
+use Rattle.std.proofs.lemmas.List.{ext_get_or, get_or-map, get_or_past, length-map, take_more}
+use Rattle.std.proofs.lemmas.List.Elements.{All-get_or}
+use Rattle.std.proofs.lemmas.List.FromFn.{get_or-map-range_with_len}
+use Rattle.std.proofs.lemmas.Option.{none-some}
 use Rattle.board_model.specs.declared.boards.Heard.{Heard}
 use Rattle.control_flow.specs.declared.greens.Green.{Green}
 use Rattle.histories.specs.Histories.{IsLawful, count, turn_order, version_at}
@@ -12,8 +15,9 @@ use Rattle.histories.proofs.StepLaws.{steps-beyond}
 use Rattle.histories.proofs.TurnOrder.{turns-rounds}
 use Rattle.histories.proofs.Versions.{made-within, version-is, version-law}
 use Rattle.intersection_actor.specs.Commits.{Commitment, IsCommit, record_of}
-use Rattle.net_numbers.specs.Numbers.{Net}
-use Rattle.net_numbers.specs.Outline.{link_at}
+use Rattle.net_numbers.specs.Numbers.{Net, no_link}
+use Rattle.net_numbers.specs.Outline.{IsLink, link_at}
+use Rattle.net_numbers.specs.declared.roads.Link.{Link}
 use Rattle.road_net.specs.Network.{IsNetwork, heard_links}
 use Rattle.road_net.specs.declared.senses.Sensed.{Sensed}
 use Rattle.round_states.specs.declared.states.LinkBoard.{LinkBoard}
@@ -22,11 +26,11 @@ use Rattle.runs.proofs.Committed.{one-commit}
 use Rattle.runs.proofs.Heard.{Ends, heard-at, heard-count, heard-ends}
 use Rattle.runs.proofs.Places.{StandsAt, first-small, once, others, place-of, published}
 use Rattle.runs.proofs.SameParts.{map-range-same}
-use Rattle.runs.specs.Runs.{hearing, line_before, sensed_in, told_in}
+use Rattle.runs.specs.Runs.{forecast_at, hearing, line_before, sensed_in, told_in}
 use Rattle.runs.specs.declared.records.RunRecord.{RunRecord}
 use Rattle.round_decisions.specs.Decisions.{IsDecision, board_after, has_told, heard_in, is_below, line_of, plan_in, sensed_of}
 use Rattle.round_decisions.specs.OfRuns.{IsRoundIn, IsStateIn, IsTurnRun}
-use Rattle.round_decisions.specs.Turns.{board_of, heard_on, hearing_on, next_board}
+use Rattle.round_decisions.specs.Turns.{board_of, heard_on, hearing_on, next_board, no_board}
 use Rattle.round_decisions.specs.declared.decisions.Decision.{Decision}
 use Rattle.round_decisions.proofs.RoundLaws.{after-same}
 use Rattle.round_decisions.proofs.TurnPlaces.{count-grows, greater-none, lesser-all}
@@ -34,6 +38,15 @@ use Rattle.round_decisions.proofs.TurnPlaces.{count-grows, greater-none, lesser-
 -- the turn order is lawful
 order-lawful : (net : Net) → IsNetwork net → IsLawful net (turn_order net)
 order-lawful net network = turns-rounds (board_steps net) (length net.node_names) (λ q past. steps-beyond net network q past) net.run.rounds
+
+-- a link that comes from a node, and the node, are there
+link-there : (net : Net) → IsNetwork net → (link from : ℕ) → (link_at net link).from ≡ Some from → (link < length net.link_names) × (from < length net.node_names)
+link-there net network link from comes = elim (cases_lt link (length net.links)) [
+  | inl inside ↦
+      let is : IsLink (length net.node_names) (link_at net link) = All-get_or (IsLink (length net.node_names)) net.links link no_link inside network.outline.links in
+      (omega (arith, inside, network.outline.link_count), subst (λ o. IfSome o (λ k. k < length net.node_names)) comes is.from)
+  | inr past ↦ absurd (none-some from (sym (ap (λ (l : Link). l.from) (get_or_past net.links link no_link past)) ∙ comes))
+]
 
 module _ (net : Net) (network : IsNetwork net) (r n q place : ℕ) (less : r < net.run.rounds) (below : n < length net.node_names) (first : q < length (heard_links net n)) (at : StandsAt net (turn_order net) r n q place)
     (link f : ℕ) (from : (link_at net link).from ≡ Some f) (to : (link_at net link).to ≡ Some n) where
@@ -143,6 +156,23 @@ module _ (net : Net) (network : IsNetwork net) (enters : ℕ → ℕ → ℕ) (h
       | inr last ↦ subst (λ j. decision.made j ≡ made state.round j) (let e : m ≡ k = omega arith in e) (commit-same m (omega arith) (all-same m (omega arith)))
     ]
 
+    -- each board on which a node tells another one
+    board-in : (link from to : ℕ) → (link_at net link).from ≡ Some from → (link_at net link).to ≡ Some to → board_of d.boards link ≡ record { version = state.round + 1; forecast = forecast_at net made link (state.round + 1) }
+    board-in link from to comes goes =
+        let (exists, below) = link-there net network link from comes in
+        let told : has_told net (length net.node_names) link ≡ true =
+        ap (λ o. is_below (length net.node_names) o && is_some (link_at net link).to) comes
+        ∙ and_from (nat_lt from (length net.node_names)) (is_some (link_at net link).to) (lt-ltb from (length net.node_names) below) (ap is_some goes) in
+        let tells : publisher net link ≡ from = ap (λ (o : Option ℕ). unwrap_or o 0) comes in
+        let same : decision.made (publisher net link) ≡ made state.round (publisher net link) = all-same (length net.node_names) (omega arith) (publisher net link) (omega (arith, tells, below)) in
+        let next : state.round + 1 ≡ suc state.round = omega arith in
+        ap (λ (b : List LinkBoard). board_of b link) decision.boards
+        ∙ get_or-map-range_with_len (board_after net state decision.made (length net.node_names)) 0 (length net.link_names) link link no_board exists (let e : 0 + link ≡ link = omega arith in e)
+        ∙ ap (λ b. if b then next_board (board_of state.boards link) (told_in net state.round link (decision.made (publisher net link))) else board_of state.boards link) told
+        ∙ ap (λ (b : LinkBoard). next_board b (told_in net state.round link (decision.made (publisher net link)))) (at.boards link from to comes goes)
+        ∙ ap (λ (c : Commitment). record { version = state.round + 1; forecast = told_in net state.round link c }) same
+        ∙ sym (ap (λ v. record { version = state.round + 1; forecast = forecast_at net made link v }) next)
+
     pub round-in : IsRoundIn net heard made state.round d
     round-in = record {
       plans = decision.plans ∙ map-range-same (plan_in net state decision.made) (λ n. record_of n state.round (heard state.round n) (made state.round n)) 0 (length net.node_names) (λ n least less.
@@ -150,4 +180,5 @@ module _ (net : Net) (network : IsNetwork net) (enters : ℕ → ℕ → ℕ) (h
           let same : (k : ℕ) → k < n → decision.made k ≡ made state.round k = λ k early. all-same n (omega arith) k early in
           ap (λ (x : List Heard). record_of n state.round x (decision.made n)) (heard-by n same ∙ sym (heard-is n below)) ∙ ap (record_of n state.round (heard state.round n)) (commit-same n below same));
       lines = decision.lines ∙ map-range-same (λ n. (decision.made n).line) (λ n. (made state.round n).line) 0 (length net.node_names) (λ n least less. ap (λ (c : Commitment). c.line) (all-same (length net.node_names) (omega arith) n (omega arith)));
+      boards = board-in;
     }

@@ -155,7 +155,7 @@ module _ (net : Net) (network : IsNetwork net) (state : RoundState) (is : IsStat
       let within : link < length state.boards = omega (arith, h.count) in
       let e : board_of old.boards.items link ≡ board_of state.boards link = h.boards link within ∙ after-none net state h.made n link told in
       let most = (is.boards link no_board within).version in
-      omega (arith, ap (λ (b : LinkBoard). b.version) e, most)
+      omega (arith, ap (λ (b : LinkBoard). b.version) e, most, is.round, network.outline.run.rounds.1)
 
   pub can-turn : CanTurn net state.round n (get_or waits.lines.items 0 []) (get_or waits.sensed.items 0 no_sense) old.boards.items
   can-turn =
@@ -243,8 +243,8 @@ module _ (net : Net) (network : IsNetwork net) (state : RoundState) (is : IsStat
     }
 
 -- in a state each node may have its turn
-can-from-state : (net : Net) (state : RoundState) → IsStateOf net state → (n : ℕ) → n < length net.node_names → CanTurn net state.round n (line_of state n) (sensed_of state n) state.boards
-can-from-state net state is n below =
+can-from-state : (net : Net) → IsNetwork net → (state : RoundState) → IsStateOf net state → (n : ℕ) → n < length net.node_names → CanTurn net state.round n (line_of state n) (sensed_of state n) state.boards
+can-from-state net network state is n below =
     let line = is.lines n below in
     record {
       node_is = below;
@@ -254,12 +254,12 @@ can-from-state net state is n below =
       begins = line.begins;
       ends = line.ends;
       count = is.board_count;
-      below = λ link inside told. (let most = (is.boards link no_board inside).version in omega arith);
+      below = λ link inside told. (let most = (is.boards link no_board inside).version in omega (arith, most, is.round, network.outline.run.rounds.1));
     }
 
-pub can-at : (net : Net) (state : RoundState) → IsStateOf net state → (n : ℕ) → n < length net.node_names → (line : List Green) (sensed : Sensed) (boards : List LinkBoard)
+pub can-at : (net : Net) → IsNetwork net → (state : RoundState) → IsStateOf net state → (n : ℕ) → n < length net.node_names → (line : List Green) (sensed : Sensed) (boards : List LinkBoard)
     → line ≡ line_of state n → sensed ≡ sensed_of state n → boards ≡ state.boards → CanTurn net state.round n line sensed boards
-can-at net state is n below line sensed boards lines senses same =
+can-at net network state is n below line sensed boards lines senses same =
     subst (λ (l : List Green). CanTurn net state.round n l sensed boards) (sym lines)
     (subst (λ (s : Sensed). CanTurn net state.round n (line_of state n) s boards) (sym senses)
-    (subst (λ (b : List LinkBoard). CanTurn net state.round n (line_of state n) (sensed_of state n) b) (sym same) (can-from-state net state is n below)))
+    (subst (λ (b : List LinkBoard). CanTurn net state.round n (line_of state n) (sensed_of state n) b) (sym same) (can-from-state net network state is n below)))

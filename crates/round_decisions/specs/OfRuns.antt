@@ -1,5 +1,5 @@
 -- Decisions in a run.
-use Rattle.std.specs.Prelude.{◌≡◌, ℕ, ◌<◌, List, Some, length, map}
+use Rattle.std.specs.Prelude.{◌≡◌, ℕ, ◌+◌, ◌<◌, List, Some, length, map}
 use Rattle.std.specs.List.{range_with_len}
 use Rattle.board_model.specs.declared.boards.Heard.{Heard}
 use Rattle.histories.specs.Histories.{turn_order}
@@ -27,7 +27,10 @@ pub record IsStateIn (net : Net) (enters : ℕ → ℕ → ℕ) (made : ℕ → 
   pub boards : (link from to : ℕ) → (link_at net link).from ≡ Some from → (link_at net link).to ≡ Some to
       → board_of state.boards link ≡ record { version = state.round; forecast = forecast_at net made link state.round }
 
--- a decision has the plan records of a run's round, and the lines of its commits
+-- A decision has the plan records of a run's round, and the lines of its commits; and each board of a link between two nodes has
+-- the next version, with its forecast in the run, as in the run's next round.
 pub record IsRoundIn (net : Net) (heard : ℕ → ℕ → List Heard) (made : ℕ → ℕ → Commitment) (round : ℕ) (d : Decision) : Type 0 where
   pub plans : d.plans ≡ plans_in net heard made round
   pub lines : d.lines ≡ map (λ node. (made round node).line) (range_with_len 0 (length net.node_names))
+  pub boards : (link from to : ℕ) → (link_at net link).from ≡ Some from → (link_at net link).to ≡ Some to
+      → board_of d.boards link ≡ record { version = round + 1; forecast = forecast_at net made link (round + 1) }

@@ -11,7 +11,7 @@ ghost use Rattle.round_decisions.specs.declared.decisions.Decision.{Decision};
 use road_net::Network;
 
 /// Where a state is that of its round in the run of the turn order, each decision from it is the run's round: its plan records
-/// are those of the round, and its lines those of the round's commits.
+/// are those of the round, its lines those of the round's commits, and its boards those with which the run's next round begins.
 ///
 /// docs/RULES.md, "Decision of a round".
 pub fn law_of_decisions(net: &Network)
