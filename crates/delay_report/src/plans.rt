@@ -73,8 +73,11 @@ fn write_plan(
     }
 }
 
-/// The versions that a plan used, with a semicolon between each two.
-fn used_text(alloc: Global, net: &Network, used: &[Used]) -> Result<Vec<u8>, AllocError>
+/// The versions that a plan used, each after the name of its link and `=`, with a semicolon between each two. `Err`: out
+/// of memory.
+///
+/// docs/FORMATS.md, "Report".
+pub fn used_text(alloc: Global, net: &Network, used: &[Used]) -> Result<Vec<u8>, AllocError>
     requires { All (λ u. u.link < length net.now.link_names) used.now }
     ensures { IfOk result (λ text. text.items ≡ join_with_byte 59 (map (report.used_text net.now) used.now)) }
 {
@@ -107,8 +110,10 @@ fn push_version(net: &Network, used: Used, text: &mut Vec<u8>) -> Result<(), All
     push_number(text, u64::from(used.version))
 }
 
-/// Phases one after another.
-fn phase_digits(alloc: Global, phases: &[u8]) -> Result<Vec<u8>, AllocError>
+/// The digits of phases, one after another. `Err`: out of memory.
+///
+/// docs/FORMATS.md, "Report".
+pub fn phase_digits(alloc: Global, phases: &[u8]) -> Result<Vec<u8>, AllocError>
     ensures { IfOk result (λ text. text.items ≡ flat_map decimal phases.now) }
 {
     let mut text = Vec::with_capacity(alloc, phases.len())?;
