@@ -1,5 +1,5 @@
 -- The text of what is decided in a round: its records, and what may be told so.
-use Rattle.std.specs.Prelude.{codes, ◌≡◌, ℕ, ◌<◌, ◌≤◌, ◌&&◌, Bool, List, [], ◌∷◌, ◌++◌, All, Option, Some, None, if◌then◌else◌, is_some, length, map}
+use Rattle.std.specs.Prelude.{codes, ◌≡◌, ℕ, ◌<◌, ◌&&◌, Bool, List, [], ◌∷◌, ◌++◌, All, Option, Some, None, if◌then◌else◌, is_some, length, map}
 use Rattle.std.specs.Fmt.{decimal}
 use Rattle.std.specs.List.{flat_map, join_with_byte, range_with_len}
 use Rattle.board_model.specs.declared.forecasts.Row.{Row}

@@ -44,6 +44,19 @@ fn write_if_shown(
     if !is_shown(net, node, link) {
         return Ok(());
     }
+    write_board(net, link, board, out)
+}
+
+/// Writes the records of the board of a link.
+fn write_board(
+    net: &Network,
+    link: u32,
+    board: &LinkBoard,
+    out: &mut Writer<Vec<u8>>,
+) -> Result<(), AllocError>
+    requires { link < length net.now.link_names }
+    ensures { OnOk result (Adds out.old out.new (board_records net.now link board.now)) }
+{
     write_version(net, link, board.version, out)?;
     write_rows(net, link, board.forecast.rows(), out)
 }
