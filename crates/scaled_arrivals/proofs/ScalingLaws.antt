@@ -1,11 +1,12 @@
 -- Rows that bring scaled arrivals.
-use Rattle.std.proofs.Common.{◌≡◌, ℕ, zero, suc, ◌+◌, ◌-◌, ◌*◌, ◌/◌, ◌<◌, ◌≤◌, ◌&&◌, ◌==◌, eqb, eq-eqb, cond, Bool, true, false, List, [], ◌∷◌, ◌++◌, length, filter, sum_by, le_refl, refl, sym, ap, subst, ◌∙◌, inl, inr, arith}
+use Rattle.std.proofs.Common.{◌≡◌, ℕ, zero, suc, ◌+◌, ◌-◌, ◌*◌, ◌/◌, ◌<◌, ◌≤◌, ◌&&◌, ◌==◌, eqb, eq-eqb, cond, Bool, true, false, List, [], ◌∷◌, ◌++◌, All, length, filter, sum_by, le_refl, refl, sym, ap, subst, ◌∙◌, inl, inr, arith}
 use Rattle.std.proofs.lemmas.Bool.{and_parts, cases_Bool, cases_lt, eqb-true}
 use Rattle.std.proofs.lemmas.List.Elements.{All-append, All-cons, All-nil, filter-append}
 use Rattle.std.proofs.lemmas.List.Sums.{sum_by-append, sum_by-cons}
 use Rattle.std.proofs.lemmas.Nat.{mul-le}
 use Rattle.std.proofs.lemmas.Option.{same_Some}
 use Rattle.foundation.proofs.EachLaws.{each-self}
+use Rattle.foundation.proofs.ListLaws.{All-middle}
 use Rattle.net_numbers.specs.Numbers.{Net}
 use Rattle.road_net.specs.Totals.{total}
 use Rattle.road_net.proofs.TotalLaws.{total-le, total-same}
@@ -13,7 +14,7 @@ use Rattle.arrivals.specs.Amounts.{Amounts, AreArrivals, AreArrivalsOf, entering
 use Rattle.arrivals.specs.Faults.{IsRowFault}
 use Rattle.arrivals.specs.Rows.{IsRow, IsSource, amount_of, entering_by, is_at, most_of_all, seconds}
 use Rattle.arrivals.specs.declared.rows.ArrivalRow.{ArrivalRow}
-use Rattle.arrivals.specs.declared.rows.RowFault.TheVariants.{Sum}
+use Rattle.arrivals.specs.declared.rows.RowFault.TheVariants.{Bound, Link, Sum}
 use Rattle.arrivals.proofs.SumLaws.{entering-beyond}
 use Rattle.scaled_arrivals.specs.Rows.{Brings, HaveCome}
 use Rattle.scaled_arrivals.specs.Scaling.{IsScaled, entered, scaled_whole, share_of}
@@ -113,7 +114,7 @@ module _ (net : Net) (factor : ℕ) (a : Amounts) where
 
   module _ (link second : ℕ) (rows : List ArrivalRow) (come : HaveCome net factor a link second rows) where
     -- one second more
-    pub come-more : (new : List ArrivalRow) (amount : ℕ) → amount + share_of factor (entered a link second) ≡ share_of factor (entered a link (second + 1)) → Brings net link second amount rows new → HaveCome net factor a link (second + 1) new
+    pub come-more : (new : List ArrivalRow) (amount : ℕ) → amount + share_of factor (entered (entering a) link second) ≡ share_of factor (entered (entering a) link (second + 1)) → Brings net link second amount rows new → HaveCome net factor a link (second + 1) new
     come-more new amount adds brings = record {
       lawful = brings.lawful come.lawful;
       before = λ l n h. total-same (entering_by new l) (entering_by rows l) n (λ x low. omega (arith, brings.each l x, at-other link second l x amount (λ e f. omega (arith, e, h)))) ∙ come.before l n h;
@@ -126,7 +127,7 @@ module _ (net : Net) (factor : ℕ) (a : Amounts) where
         early : (n : ℕ) → n ≤ second → total (entering_by new link) n ≡ total (entering_by rows link) n
         early n h = total-same (entering_by new link) (entering_by rows link) n (λ x low. omega (arith, brings.each link x, at-other link second link x amount (λ e f. omega (arith, f, low, h))))
 
-        last : total (entering_by new link) (second + 1) ≡ share_of factor (entered a link (second + 1))
+        last : total (entering_by new link) (second + 1) ≡ share_of factor (entered (entering a) link (second + 1))
         last =
             omega (
               arith,
@@ -139,9 +140,9 @@ module _ (net : Net) (factor : ℕ) (a : Amounts) where
               adds,
             )
 
-        here : (n : ℕ) → n ≤ second + 1 → total (entering_by new link) n ≡ share_of factor (entered a link n)
+        here : (n : ℕ) → n ≤ second + 1 → total (entering_by new link) n ≡ share_of factor (entered (entering a) link n)
         here n h = elim (cases_lt second n) [
-          | inl more ↦ let e : second + 1 ≡ n = omega (arith, h, more) in subst (λ k. total (entering_by new link) k ≡ share_of factor (entered a link k)) e last
+          | inl more ↦ let e : second + 1 ≡ n = omega (arith, h, more) in subst (λ k. total (entering_by new link) k ≡ share_of factor (entered (entering a) link k)) e last
           | inr less ↦ early n less ∙ come.here n less
         ]
 
@@ -154,29 +155,29 @@ module _ (net : Net) (factor : ℕ) (a : Amounts) where
     later = λ x h. come.others (link + 1) x (omega arith);
     others = λ l x h. come.others l x (omega (arith, h));
     whole =
-        whole-next (sum_by amount_of rows) (total (λ l. share_of factor (entered a l seconds)) link) (share_of factor (entered a link seconds)) (total (λ l. share_of factor (entered a l seconds)) (link + 1)) (share_of factor 0) come.whole
-        (total-next (λ l. share_of factor (entered a l seconds)) link) (share-none factor);
+        whole-next (sum_by amount_of rows) (total (λ l. share_of factor (entered (entering a) l seconds)) link) (share_of factor (entered (entering a) link seconds)) (total (λ l. share_of factor (entered (entering a) l seconds)) (link + 1)) (share_of factor 0) come.whole
+        (total-next (λ l. share_of factor (entered (entering a) l seconds)) link) (share-none factor);
   }
     where
-      all : (n : ℕ) → total (entering_by rows link) n ≡ share_of factor (entered a link n)
+      all : (n : ℕ) → total (entering_by rows link) n ≡ share_of factor (entered (entering a) link n)
       all n = elim (cases_lt seconds n) [
         | inl more ↦
             let d = n - seconds in
             let e : seconds + d ≡ n = omega (arith, more) in
             let left = total-flat (entering_by rows link) seconds d come.later in
             let right = total-flat (entering a link) seconds d (λ x h. entering-late a link x h) in
-            subst (λ k. total (entering_by rows link) k ≡ share_of factor (entered a link k)) e (left ∙ come.here seconds (le_refl seconds) ∙ ap (share_of factor) (sym right))
+            subst (λ k. total (entering_by rows link) k ≡ share_of factor (entered (entering a) link k)) e (left ∙ come.here seconds (le_refl seconds) ∙ ap (share_of factor) (sym right))
         | inr less ↦ come.here n less
       ]
 
-      before : (l n : ℕ) → l < link + 1 → total (entering_by rows l) n ≡ share_of factor (entered a l n)
+      before : (l n : ℕ) → l < link + 1 → total (entering_by rows l) n ≡ share_of factor (entered (entering a) l n)
       before l n h = elim (cases_lt l link) [
         | inl less ↦ come.before l n less
-        | inr most ↦ let e : link ≡ l = omega (arith, h, most) in subst (λ k. total (entering_by rows k) n ≡ share_of factor (entered a k n)) e (all n)
+        | inr most ↦ let e : link ≡ l = omega (arith, h, most) in subst (λ k. total (entering_by rows k) n ≡ share_of factor (entered (entering a) k n)) e (all n)
       ]
 
   -- all links
-  pub come-scaled : (rows : List ArrivalRow) (b : Amounts) → AreArrivals net a → HaveCome net factor a (length net.link_names) 0 rows → AreArrivalsOf net rows b → IsScaled factor a b
+  pub come-scaled : (rows : List ArrivalRow) (b : Amounts) → AreArrivals net a → HaveCome net factor a (length net.link_names) 0 rows → AreArrivalsOf net rows b → IsScaled factor (entering a) (entering b)
   come-scaled rows b are come of_rows link n = total-same (entering b link) (entering_by rows link) n (λ x h. of_rows.sums link x) ∙ elim (cases_lt link (length net.link_names)) [
     | inl below ↦ come.before link n below
     | inr past ↦
@@ -184,7 +185,7 @@ module _ (net : Net) (factor : ℕ) (a : Amounts) where
         let left = total-flat (entering_by rows link) 0 n (λ x _. zero_rows x) in
         let right = total-flat (entering a link) 0 n (λ x _. entering-other a link x (omega (arith, past, are.links))) in
         let e : 0 + n ≡ n = omega arith in
-        subst (λ k. total (entering_by rows link) k ≡ share_of factor (entered a link k)) e (left ∙ sym (share-none factor) ∙ ap (share_of factor) (sym right))
+        subst (λ k. total (entering_by rows link) k ≡ share_of factor (entered (entering a) link k)) e (left ∙ sym (share-none factor) ∙ ap (share_of factor) (sym right))
   ]
     where
       none : (l x : ℕ) → length net.link_names ≤ l → entering_by rows l x ≡ 0
@@ -194,28 +195,39 @@ module _ (net : Net) (factor : ℕ) (a : Amounts) where
       ]
 
   -- rows that bring too much
-  pub come-over : (rows : List ArrivalRow) (n : ℕ) → HaveCome net factor a (length net.link_names) 0 rows → IsRowFault net rows (Sum n) → most_of_all < scaled_whole net factor a
+  pub come-over : (rows : List ArrivalRow) (n : ℕ) → HaveCome net factor a (length net.link_names) 0 rows → IsRowFault net rows (Sum n) → most_of_all < scaled_whole net factor (entering a)
   come-over rows n come first =
       let same : first.before ≡ first.so_far = same_Some first.before first.so_far (sym (each-self first.before) ∙ first.reads.reads) in
       let split = ap (sum_by amount_of) first.are ∙ sum_by-append amount_of first.before (first.here ∷ first.after) in
       omega (arith, first.faulty.1, split, ap (sum_by amount_of) same, sum_by-cons amount_of first.here first.after, come.whole, share-none factor)
 
+  -- rows that are arrivals bring no more than they may
+  pub come-few : (rows : List ArrivalRow) (b : Amounts) → HaveCome net factor a (length net.link_names) 0 rows → AreArrivalsOf net rows b → scaled_whole net factor (entering a) ≤ most_of_all
+  come-few rows b come of_rows = omega (arith, of_rows.lawful.few, come.whole, share-none factor)
+
+-- of lawful rows none is the first at fault by itself
+pub no-link : (net : Net) (rows : List ArrivalRow) (n : ℕ) → All (IsRow net) rows → IsRowFault net rows (Link n) → ⊥
+no-link net rows n all first = first.faulty (All-middle (IsRow net) first.before first.after first.here (subst (All (IsRow net)) first.are all)).source
+
+pub no-bound : (net : Net) (rows : List ArrivalRow) (n : ℕ) → All (IsRow net) rows → IsRowFault net rows (Bound n) → ⊥
+no-bound net rows n all first = first.faulty.1 (All-middle (IsRow net) first.before first.after first.here (subst (All (IsRow net)) first.are all)).bounds
+
 -- of more there is no less
 pub share-rises : (factor m n : ℕ) → m ≤ n → share_of factor m ≤ share_of factor n
 share-rises factor m n h = let product : m * factor ≤ n * factor = mul-le m factor n factor h (omega arith) in omega (arith, product)
 
-pub entered-next : (a : Amounts) (link n : ℕ) → entered a link (n + 1) ≡ entered a link n + entering a link n
+pub entered-next : (a : Amounts) (link n : ℕ) → entered (entering a) link (n + 1) ≡ entered (entering a) link n + entering a link n
 entered-next a link n = total-next (entering a link) n
 
 -- no more enters a link than all links
-pub entered-most : (a : Amounts) → ((n m : ℕ) → total (λ x. total (λ l. entering a l x) m) n ≤ most_of_all) → (link n : ℕ) → entered a link n ≤ most_of_all
+pub entered-most : (a : Amounts) → ((n m : ℕ) → total (λ x. total (λ l. entering a l x) m) n ≤ most_of_all) → (link n : ℕ) → entered (entering a) link n ≤ most_of_all
 entered-most a few link n = omega (arith, total-le (entering a link) (λ x. total (λ l. entering a l x) (link + 1)) n (λ x _. each x), few n (link + 1))
   where
     each : (x : ℕ) → entering a link x ≤ total (λ l. entering a l x) (link + 1)
     each x = omega (arith, total-next (λ l. entering a l x) link)
 
 -- what is brought to a link is brought from outside
-pub brought-source : (net : Net) (factor : ℕ) (a : Amounts) → AreArrivals net a → (link second before after : ℕ) → before ≡ entered a link second → after ≡ before + entering a link second
+pub brought-source : (net : Net) (factor : ℕ) (a : Amounts) → AreArrivals net a → (link second before after : ℕ) → before ≡ entered (entering a) link second → after ≡ before + entering a link second
     → 0 < share_of factor after - share_of factor before → IsSource net link
 brought-source net factor a are link second before after is_before is_after some = are.sources link second (by (entering a link second) refl)
   where

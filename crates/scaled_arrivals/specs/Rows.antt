@@ -2,7 +2,7 @@
 use Rattle.std.specs.Prelude.{◌≡◌, ℕ, ◌+◌, ◌<◌, ◌≤◌, ◌==◌, ◌&&◌, if◌then◌else◌, List, All, sum_by}
 use Rattle.net_numbers.specs.Numbers.{Net}
 use Rattle.road_net.specs.Totals.{total}
-use Rattle.arrivals.specs.Amounts.{Amounts}
+use Rattle.arrivals.specs.Amounts.{Amounts, entering}
 use Rattle.arrivals.specs.Rows.{IsRow, amount_of, entering_by, seconds}
 use Rattle.arrivals.specs.declared.rows.ArrivalRow.{ArrivalRow}
 use Rattle.scaled_arrivals.specs.Scaling.{entered, share_of}
@@ -16,8 +16,8 @@ pub record Brings (net : Net) (link second amount : ℕ) (old new : List Arrival
 -- the rows bring what the first links, and the next one in the first seconds, have of scaled arrivals
 pub record HaveCome (net : Net) (factor : ℕ) (a : Amounts) (link second : ℕ) (rows : List ArrivalRow) : Type 0 where
   pub lawful : All (IsRow net) rows
-  pub before : (l n : ℕ) → l < link → total (entering_by rows l) n ≡ share_of factor (entered a l n)
-  pub here : (n : ℕ) → n ≤ second → total (entering_by rows link) n ≡ share_of factor (entered a link n)
+  pub before : (l n : ℕ) → l < link → total (entering_by rows l) n ≡ share_of factor (entered (entering a) l n)
+  pub here : (n : ℕ) → n ≤ second → total (entering_by rows link) n ≡ share_of factor (entered (entering a) link n)
   pub later : (x : ℕ) → second ≤ x → entering_by rows link x ≡ 0
   pub others : (l x : ℕ) → link < l → entering_by rows l x ≡ 0
-  pub whole : sum_by amount_of rows ≡ total (λ l. share_of factor (entered a l seconds)) link + share_of factor (entered a link second)
+  pub whole : sum_by amount_of rows ≡ total (λ l. share_of factor (entered (entering a) l seconds)) link + share_of factor (entered (entering a) link second)

@@ -2,7 +2,6 @@
 use Rattle.std.specs.Prelude.{◌≡◌, ℕ, ◌*◌, ◌/◌, length}
 use Rattle.net_numbers.specs.Numbers.{Net}
 use Rattle.road_net.specs.Totals.{total}
-use Rattle.arrivals.specs.Amounts.{Amounts, entering}
 use Rattle.arrivals.specs.Rows.{seconds}
 
 -- the greatest factor
@@ -13,14 +12,14 @@ greatest_factor = 10000
 abbrev pub share_of : ℕ → ℕ → ℕ
 share_of factor amount = amount * factor / 1000
 
--- all that enters a link in the first n seconds
-abbrev pub entered : Amounts → ℕ → ℕ → ℕ
-entered a link n = total (entering a link) n
+-- all that enters a link in the first n seconds, where `enters link second` enters it in a second
+abbrev pub entered : (ℕ → ℕ → ℕ) → ℕ → ℕ → ℕ
+entered enters link n = total (enters link) n
 
--- b is a scaled by a factor: of all that entered a link in the first n seconds, b has this many thousandths, rounded down
-abbrev pub IsScaled : ℕ → Amounts → Amounts → Type 0
-IsScaled factor a b = (link n : ℕ) → entered b link n ≡ share_of factor (entered a link n)
+-- what enters is scaled by a factor: of all that entered a link in the first n seconds, this many thousandths then do, rounded down
+abbrev pub IsScaled : ℕ → (ℕ → ℕ → ℕ) → (ℕ → ℕ → ℕ) → Type 0
+IsScaled factor enters scaled = (link n : ℕ) → entered scaled link n ≡ share_of factor (entered enters link n)
 
 -- all that then enters the links of a network
-abbrev pub scaled_whole : Net → ℕ → Amounts → ℕ
-scaled_whole net factor a = total (λ link. share_of factor (entered a link seconds)) (length net.link_names)
+abbrev pub scaled_whole : Net → ℕ → (ℕ → ℕ → ℕ) → ℕ
+scaled_whole net factor enters = total (λ link. share_of factor (entered enters link seconds)) (length net.link_names)

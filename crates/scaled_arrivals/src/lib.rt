@@ -3,7 +3,7 @@
 
 ghost use Rattle.std.specs.Prelude.{◌≡◌, ◌+◌, ◌<◌, ◌≤◌, IfOk, OnOk, length};
 ghost use Rattle.std.specs.Result.{IsErrOf};
-ghost use Rattle.arrivals.specs.Amounts.{AreArrivals};
+ghost use Rattle.arrivals.specs.Amounts.{AreArrivals, entering};
 ghost use Rattle.arrivals.specs.Rows.{IsSource, most_of_all};
 ghost use Rattle.scaled_arrivals.specs.Rows.{Brings, HaveCome};
 ghost use Rattle.scaled_arrivals.specs.Scaling as spec;
@@ -47,17 +47,23 @@ pub fn scale(
 ) -> Result<Arrivals, ScaleFault>
     requires arrivals { AreArrivals net.now arrivals.now }
     requires factor { factor ≤ greatest_factor }
-    ensures ok { IfOk result (IsScaled factor arrivals.now) }
+    ensures ok { IfOk result (λ scaled. IsScaled factor (entering arrivals.now) (entering scaled)) }
     ensures arrivals { IfOk result (AreArrivals net.now) }
-    ensures sum { IsErrOf result ScaleFault.Sum → most_of_all < scaled_whole net.now factor arrivals.now }
+    ensures few { OnOk result (scaled_whole net.now factor (entering arrivals.now) ≤ most_of_all) }
+    ensures sum { IsErrOf result ScaleFault.Sum → most_of_all < scaled_whole net.now factor (entering arrivals.now) }
 {
     let Ok(rows) = scaled_rows(alloc, net, arrivals, factor) else {
         return Err(ScaleFault::NoMemory);
     };
     match Arrivals::new(alloc, net, rows) {
         Ok(scaled) => Ok(scaled),
+        Err(RowFault::NoMemory) => Err(ScaleFault::NoMemory),
         Err(RowFault::Sum(_)) => Err(ScaleFault::Sum),
-        Err(_) => Err(ScaleFault::NoMemory),
+        // Each row is lawful.
+        Err(RowFault::Header) => unreachable!(),
+        Err(RowFault::Row(_)) => unreachable!(),
+        Err(RowFault::Link(_)) => unreachable!(),
+        Err(RowFault::Bound(_)) => unreachable!(),
     }
 }
 
