@@ -3,7 +3,7 @@ use Rattle.std.proofs.Common.{rules, ◌≡◌, ℕ, List, [], ◌∷◌, true, 
 use Rattle.std.proofs.lemmas.Bool.{false≢true}
 use Rattle.std.proofs.lemmas.Fmt.{decimal_injective}
 use Rattle.std.specs.Str.{bytes_eq}
-use Rattle.commands.specs.Commands.{Actuate, Audit, Call, IsCall, Certify, CertifyBound, CertifyPar, Check, Compare, Grid, Instance, Net, Plan, Queues, Replay, Turns, Upgrade, words_of}
+use Rattle.commands.specs.Commands.{Actuate, Audit, Call, IsCall, Certify, CertifyBound, CertifyPar, Check, Compare, CompareFixed, Fixed, Grid, Instance, Net, Plan, Queues, Replay, Scale, Turns, Upgrade, words_of}
 
 -- the first word
 first : List (List ℕ) → List ℕ
@@ -41,7 +41,18 @@ one_call words (Instance n a h k r) (Instance m b i l q) is other =
     let round : r ≡ q = decimal_injective r q (omega (arith, is.within)) (omega (arith, other.within)) (cc) in
     cc
 one_call words (Actuate n a) (Actuate m b) is other = let e = is.words_are in let d = other.words_are in cc
+one_call words (Fixed n a p) (Fixed m b q) is other = let e = is.words_are in let d = other.words_are in cc
 one_call words (Compare n a) (Compare m b) is other = let e = is.words_are in let d = other.words_are in cc
+one_call words (Compare n a) (CompareFixed m b q) is other = let e = is.words_are in let d = other.words_are in absurd (cc)
+one_call words (CompareFixed n a p) (Compare m b) is other = let e = is.words_are in let d = other.words_are in absurd (cc)
+one_call words (CompareFixed n a p) (CompareFixed m b q) is other = let e = is.words_are in let d = other.words_are in cc
+one_call words (Scale n a f l s) (Scale m b g k t) is other =
+    let e = is.words_are in
+    let d = other.words_are in
+    let first : f ≡ g = decimal_injective f g (omega (arith, is.within.ordered, is.within.most)) (omega (arith, other.within.ordered, other.within.most)) (cc) in
+    let last : l ≡ k = decimal_injective l k (omega (arith, is.within.most)) (omega (arith, other.within.most)) (cc) in
+    let step : s ≡ t = decimal_injective s t (omega (arith, is.within.bits)) (omega (arith, other.within.bits)) (cc) in
+    cc
 one_call words (Audit n a r) (Audit m b q) is other = let e = is.words_are in let d = other.words_are in cc
 one_call words (Queues n a r) (Queues m b q) is other = let e = is.words_are in let d = other.words_are in cc
 one_call words (Grid n s r) (Grid m t q) is other =

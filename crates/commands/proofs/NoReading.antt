@@ -12,6 +12,15 @@ use Rattle.delay_report.specs.declared.faults.HistoryFault.TheVariants as histor
 use Rattle.sheets.specs.Faults as sheets
 use Rattle.sheets.specs.declared.faults.SheetFault.{SheetFault}
 use Rattle.sheets.specs.declared.faults.SheetFault.TheVariants as sheet
+use Rattle.stores.specs.Texts as stores
+use Rattle.stores.specs.declared.faults.StoreFault.{StoreFault}
+use Rattle.stores.specs.declared.faults.StoreFault.TheVariants as store
+use Rattle.fixed_plans.specs.Faults as plans
+use Rattle.fixed_plans.specs.declared.faults.FixedFault.{FixedFault}
+use Rattle.fixed_plans.specs.declared.faults.FixedFault.TheVariants as plan
+use Rattle.round_states.specs.Faults as states
+use Rattle.round_states.specs.declared.faults.StateFault.{StateFault}
+use Rattle.round_states.specs.declared.faults.StateFault.TheVariants as state
 
 -- of a network
 pub no_network : (fault : NetFault) (fact : Type 0) → Unless fault fact → fault ≢ net.NoMemory → fact
@@ -32,3 +41,18 @@ no_history _ fact refuses other = refuses
 pub no_sheet : (fault : SheetFault) (fact : Type 0) → sheets.Refuses fault fact → fault ≢ sheet.NoMemory → fact
 no_sheet sheet.NoMemory fact refuses other = absurd (other refl)
 no_sheet _ fact refuses other = refuses
+
+-- of a store
+pub no_store : (fault : StoreFault) (fact : Type 0) → stores.Refuses fault fact → fault ≢ store.NoMemory → fact
+no_store store.NoMemory fact refuses other = absurd (other refl)
+no_store _ fact refuses other = refuses
+
+-- of a fixed plan
+pub no_fixed_plan : (fault : FixedFault) (fact : Type 0) → plans.Refuses fault fact → fault ≢ plan.NoMemory → fact
+no_fixed_plan plan.NoMemory fact refuses other = absurd (other refl)
+no_fixed_plan _ fact refuses other = refuses
+
+-- of a state
+pub no_state : (fault : StateFault) (fact : Type 0) → states.Refuses fault fact → fault ≢ state.NoMemory → fact
+no_state state.NoMemory fact refuses other = absurd (other refl)
+no_state _ fact refuses other = refuses

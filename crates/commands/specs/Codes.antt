@@ -22,8 +22,14 @@ use Rattle.delay_report.specs.declared.faults.HistoryFault.{HistoryFault}
 use Rattle.delay_report.specs.declared.faults.HistoryFault.TheVariants as history
 use Rattle.sheets.specs.declared.faults.SheetFault.{SheetFault}
 use Rattle.sheets.specs.declared.faults.SheetFault.TheVariants as sheet
+use Rattle.stores.specs.declared.faults.StoreFault.{StoreFault}
+use Rattle.stores.specs.declared.faults.StoreFault.TheVariants as store
+use Rattle.fixed_plans.specs.declared.faults.FixedFault.{FixedFault}
+use Rattle.fixed_plans.specs.declared.faults.FixedFault.TheVariants as fixed
+use Rattle.round_states.specs.declared.faults.StateFault.{StateFault}
+use Rattle.round_states.specs.declared.faults.StateFault.TheVariants as state
 use Rattle.commands.specs.declared.bad_texts.BadText.{BadText}
-use Rattle.commands.specs.declared.bad_texts.BadText.TheVariants.{Long, Fault, Certificate, Network, Arrivals, History, Sheet}
+use Rattle.commands.specs.declared.bad_texts.BadText.TheVariants.{Long, Fault, Certificate, Network, Arrivals, History, Sheet, Store, FixedPlan, State}
 
 -- the name of a time of a phase, as the phase line of a text has it
 abbrev pub field_name : Field → List ℕ
@@ -115,6 +121,38 @@ sheet_code (sheet.Extra n) = codes "extra " ++ decimal n
 sheet_code (sheet.Name n) = codes "name " ++ decimal n
 sheet_code sheet.Short = codes "short"
 
+-- the code of a fault of a store: the header, or the first row at fault, from 1; `NoMemory` has none
+abbrev pub store_code : StoreFault → List ℕ
+store_code store.NoMemory = []
+store_code store.Header = codes "header"
+store_code (store.Row n) = codes "row " ++ decimal n
+store_code (store.Link n) = codes "link " ++ decimal n
+store_code (store.Bound n) = codes "storage " ++ decimal n
+store_code (store.Twice n) = codes "twice " ++ decimal n
+
+-- the code of a fault of a fixed plan: the header, the first row at fault, from 1, or that it ends too early; `NoMemory` has none
+abbrev pub fixed_code : FixedFault → List ℕ
+fixed_code fixed.NoMemory = []
+fixed_code fixed.Header = codes "header"
+fixed_code (fixed.Row n) = codes "row " ++ decimal n
+fixed_code (fixed.Node n) = codes "node " ++ decimal n
+fixed_code (fixed.Phase n) = codes "phase " ++ decimal n
+fixed_code (fixed.Green n) = codes "green " ++ decimal n
+fixed_code (fixed.Offset n) = codes "offset " ++ decimal n
+fixed_code fixed.Short = codes "short"
+
+-- the code of a fault of a state: the header, the first row at fault, or a link or node by its number, all from 1; `NoMemory` has none
+abbrev pub state_code : StateFault → List ℕ
+state_code state.NoMemory = []
+state_code state.Header = codes "header"
+state_code (state.Row n) = codes "row " ++ decimal n
+state_code (state.Name n) = codes "name " ++ decimal n
+state_code (state.Time n) = codes "time " ++ decimal n
+state_code (state.Sense link) = codes "sense " ++ decimal (link + 1)
+state_code (state.Board link) = codes "board " ++ decimal (link + 1)
+state_code (state.Line node) = codes "line " ++ decimal (node + 1)
+state_code (state.Sum node) = codes "sum " ++ decimal (node + 1)
+
 -- the code of what is wrong with a text: it is long, or the first line that has not its form, from 1, or else the fault
 -- of the phases, or else that of the instance; `NoMemory` is no fault of a text and has no code
 abbrev pub code_of : BadText → List ℕ
@@ -128,3 +166,6 @@ code_of (Network fault) = net_code fault
 code_of (Arrivals fault) = row_code fault
 code_of (History fault) = history_code fault
 code_of (Sheet fault) = sheet_code fault
+code_of (Store fault) = store_code fault
+code_of (FixedPlan fault) = fixed_code fault
+code_of (State fault) = state_code fault

@@ -25,15 +25,15 @@ use Rattle.scenario_gen.specs.Grids.{AreRounds}
 use Rattle.scenario_gen.specs.Layout.{IsSide}
 use Rattle.signal_safety.specs.Safe.{IsSafe}
 use Rattle.commands.specs.Answers.{answer_text}
-use Rattle.commands.specs.Controllers.{IsActuatedReport, IsComparison}
+use Rattle.commands.specs.Controllers.{AreFactors, BringTooMuch, IsActuatedReport, IsComparison, IsComparisonWith, IsFixedReport, IsScaleTable, factors}
 use Rattle.commands.specs.Headline.{Headline, IsGridSummary, IsPlannedText, ToldHeadline}
 use Rattle.commands.specs.Limits.{most_bytes}
-use Rattle.commands.specs.Texts.{AllSaid, CertificateText, InstanceText, NetworkText, Next, NoMore, IsTextFor, Texts, history_texts, network_texts, sheet_texts}
+use Rattle.commands.specs.Texts.{AllSaid, CertificateText, InstanceText, NetworkText, Next, NoMore, IsTextFor, Texts, history_texts, network_texts, plan_texts, sheet_texts}
 use Rattle.commands.specs.Verdicts.{accepted_line, rejected_line, unclean_line}
 use Rattle.commands.specs.declared.words.Command.{Command}
 use Rattle.commands.specs.declared.words.Command.TheVariants as command
 use Rattle.commands.specs.declared.refusals.Named.{Named}
-use Rattle.commands.specs.declared.refusals.Named.TheVariants.{Node, Round}
+use Rattle.commands.specs.declared.refusals.Named.TheVariants.{Factor, Node, Round}
 
 -- a command with its further words
 pub data Call : Type 0 where
@@ -47,7 +47,10 @@ pub data Call : Type 0 where
   Net : (net arr : List ℕ) → Call
   Instance : (net arr hist node : List ℕ) → (round : ℕ) → Call
   Actuate : (net arr : List ℕ) → Call
+  Fixed : (net arr plan : List ℕ) → Call
   Compare : (net arr : List ℕ) → Call
+  CompareFixed : (net arr plan : List ℕ) → Call
+  Scale : (net arr : List ℕ) → (first last step : ℕ) → Call
   Audit : (net arr report : List ℕ) → Call
   Queues : (net arr report : List ℕ) → Call
   Grid : (number side rounds : ℕ) → Call
@@ -65,7 +68,10 @@ words_of (Replay net arr hist) = codes "replay" ∷ net ∷ arr ∷ hist ∷ []
 words_of (Net net arr) = codes "net" ∷ net ∷ arr ∷ []
 words_of (Instance net arr hist node round) = codes "instance" ∷ net ∷ arr ∷ hist ∷ node ∷ decimal round ∷ []
 words_of (Actuate net arr) = codes "actuate" ∷ net ∷ arr ∷ []
+words_of (Fixed net arr plan) = codes "fixed" ∷ net ∷ arr ∷ plan ∷ []
 words_of (Compare net arr) = codes "compare" ∷ net ∷ arr ∷ []
+words_of (CompareFixed net arr plan) = codes "compare" ∷ net ∷ arr ∷ plan ∷ []
+words_of (Scale net arr first last step) = codes "scale" ∷ net ∷ arr ∷ decimal first ∷ decimal last ∷ decimal step ∷ []
 words_of (Audit net arr report) = codes "audit" ∷ net ∷ arr ∷ report ∷ []
 words_of (Queues net arr report) = codes "queues" ∷ net ∷ arr ∷ report ∷ []
 words_of (Grid number side rounds) = codes "grid" ∷ decimal number ∷ decimal side ∷ decimal rounds ∷ []
@@ -75,8 +81,18 @@ words_of (Upgrade net) = codes "upgrade" ∷ net ∷ []
 abbrev pub IsWithin : Call → Type 0
 IsWithin (CertifyPar file width) = (1 ≤ width) × (width ≤ 4096)
 IsWithin (Instance net arr hist node round) = round < 2 ^ 32
+IsWithin (Scale net arr first last step) = AreFactors first last step
 IsWithin (Grid number side rounds) = (number < 2 ^ 64) × IsSide side × AreRounds rounds
 IsWithin _ = Unit {0}
+
+-- a command that runs a network under other controllers than the planners, or under several
+abbrev pub IsOfControllers : Call → Type 0
+IsOfControllers (Actuate net arr) = Unit {0}
+IsOfControllers (Fixed net arr plan) = Unit {0}
+IsOfControllers (Compare net arr) = Unit {0}
+IsOfControllers (CompareFixed net arr plan) = Unit {0}
+IsOfControllers (Scale net arr first last step) = Unit {0}
+IsOfControllers _ = ⊥
 
 -- a command over a network and what enters it
 abbrev pub IsOverNetwork : Call → Type 0
@@ -84,11 +100,9 @@ IsOverNetwork (Turns net arr) = Unit {0}
 IsOverNetwork (Replay net arr hist) = Unit {0}
 IsOverNetwork (Net net arr) = Unit {0}
 IsOverNetwork (Instance net arr hist node round) = Unit {0}
-IsOverNetwork (Actuate net arr) = Unit {0}
-IsOverNetwork (Compare net arr) = Unit {0}
 IsOverNetwork (Audit net arr report) = Unit {0}
 IsOverNetwork (Queues net arr report) = Unit {0}
-IsOverNetwork _ = ⊥
+IsOverNetwork call = IsOfControllers call
 
 -- these are the words of this command
 pub record IsCall (words : List (List ℕ)) (call : Call) : Type 0 where
@@ -107,7 +121,10 @@ texts_of (Replay net arr hist) = history_texts net arr hist
 texts_of (Net net arr) = network_texts net arr (λ network. NoMore)
 texts_of (Instance net arr hist node round) = history_texts net arr hist
 texts_of (Actuate net arr) = network_texts net arr (λ network. NoMore)
+texts_of (Fixed net arr plan) = plan_texts net arr plan
 texts_of (Compare net arr) = network_texts net arr (λ network. NoMore)
+texts_of (CompareFixed net arr plan) = plan_texts net arr plan
+texts_of (Scale net arr first last step) = network_texts net arr (λ network. NoMore)
 texts_of (Audit net arr report) = sheet_texts net arr report
 texts_of (Queues net arr report) = sheet_texts net arr report
 texts_of (Grid number side rounds) = NoMore
@@ -128,7 +145,7 @@ IsWholeCertificate p bytes =
     × IsAcceptedText bytes c
 
 -- what is written where the work is done; of the texts of a network `said.0` is the network, `said.1.0` what enters it, and
--- `said.1.1.0` the history or the sheet
+-- `said.1.1.0` the history, the sheet or the rows of the fixed plan
 abbrev pub IsTextOf : (call : Call) → AllSaid (texts_of call) → List ℕ → Type 0
 IsTextOf (Plan file) said bytes = (answer : Answer) × IsBest said.0 answer × IsLeast said.0 answer × (bytes ≡ answer_text answer)
 IsTextOf (Certify file) said bytes = IsWholeCertificate said.0 bytes
@@ -140,7 +157,10 @@ IsTextOf (Replay net arr hist) said bytes = Headline said.0 said.1.0 said.1.1.0 
 IsTextOf (Net net arr) said bytes = ToldHeadline said.0 said.1.0 bytes
 IsTextOf (Instance net arr hist node round) said bytes = IsPlannedText said.0 said.1.0 said.1.1.0 node round bytes
 IsTextOf (Actuate net arr) said bytes = IsActuatedReport said.0 said.1.0 bytes
+IsTextOf (Fixed net arr plan) said bytes = IsFixedReport said.0 said.1.0 said.1.1.0 bytes
 IsTextOf (Compare net arr) said bytes = IsComparison said.0 said.1.0 bytes
+IsTextOf (CompareFixed net arr plan) said bytes = IsComparisonWith said.0 said.1.0 said.1.1.0 bytes
+IsTextOf (Scale net arr first last step) said bytes = IsScaleTable said.0 said.1.0 first last step bytes
 IsTextOf (Audit net arr report) said bytes =
     IsClean said.0 (arriving_by said.1.0) said.1.1.0 × IsSafe said.0 (line_in said.1.1.0.lines) × (bytes ≡ accepted_line)
 IsTextOf (Queues net arr report) said bytes =
@@ -167,10 +187,12 @@ IsRejectionOf (Queues net arr report) said bytes =
     × (bytes ≡ unclean_line said.0 why)
 IsRejectionOf _ said bytes = ⊥
 
--- what a word of the command names is not in its texts: the network has no such node, or it has, and fewer rounds
+-- what a word of the command names is not in its texts: the network has no such node, or it has, and fewer rounds; or scaled by
+-- a factor, the arrivals are none
 abbrev pub IsMissing : (call : Call) → AllSaid (texts_of call) → Named → Type 0
 IsMissing (Instance net arr hist node round) said Node = number_of said.0.node_names node ≡ None
 IsMissing (Instance net arr hist node round) said Round = IsSome (number_of said.0.node_names node) × (said.0.run.rounds ≤ round)
+IsMissing (Scale net arr first last step) said Factor = BringTooMuch said.0 said.1.0 (factors first last step)
 IsMissing _ said what = ⊥
 
 -- whatever the words of a command name is in its texts
@@ -189,7 +211,10 @@ call_of (command.Replay net arr hist) = Replay net.now arr.now hist.now
 call_of (command.Net net arr) = Net net.now arr.now
 call_of (command.Instance net arr hist node round) = Instance net.now arr.now hist.now node.now round
 call_of (command.Actuate net arr) = Actuate net.now arr.now
+call_of (command.Fixed net arr plan) = Fixed net.now arr.now plan.now
 call_of (command.Compare net arr) = Compare net.now arr.now
+call_of (command.CompareFixed net arr plan) = CompareFixed net.now arr.now plan.now
+call_of (command.Scale net arr first last step) = Scale net.now arr.now first last step
 call_of (command.Audit net arr report) = Audit net.now arr.now report.now
 call_of (command.Queues net arr report) = Queues net.now arr.now report.now
 call_of (command.Grid number side rounds) = Grid number side rounds

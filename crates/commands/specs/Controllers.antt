@@ -1,18 +1,26 @@
--- What the commands write that run a network under actuated control.
-use Rattle.std.specs.Prelude.{◌≡◌, ℕ, List, ◌++◌, codes}
+-- What the commands write that run a network under other controllers than the planners, or under several.
+use Rattle.std.specs.Prelude.{◌≡◌, ℕ, ◌+◌, ◌-◌, ◌*◌, ◌/◌, ◌^◌, ◌<◌, ◌≤◌, List, ◌∷◌, ◌++◌, Contains, codes, length, map}
+use Rattle.std.specs.List.{AllZip, concat, range_with_len}
 use Rattle.actuated.specs.ActRuns.{IsActRun, ShowsGreens}
 use Rattle.actuated.specs.Reports.{act_text}
 use Rattle.actuated.specs.declared.records.ActRecord.{ActRecord}
-use Rattle.audit.specs.Audits.{AreLawful, IsCleanText}
+use Rattle.arrivals.specs.Rows.{most_of_all}
+use Rattle.audit.specs.Audits.{AreLawful, IsCleanText, all_shown, link_shown}
+use Rattle.control_flow.specs.declared.greens.Green.{Green}
+use Rattle.fixed_plans.specs.Lines.{fixed_line}
+use Rattle.fixed_plans.specs.declared.rows.FixedRow.{FixedRow}
 use Rattle.histories.specs.Histories.{turn_order}
 use Rattle.net_numbers.specs.Numbers.{Net}
+use Rattle.net_simulator.specs.Sums.{end_of_run}
 use Rattle.net_simulator.specs.Worlds.{line_in}
 use Rattle.net_simulator.specs.declared.totals.Totals.{Totals}
 use Rattle.runs.specs.Runs.{arriving_by}
 use Rattle.runs.specs.declared.records.RunRecord.{RunRecord}
+use Rattle.scaled_arrivals.specs.Scaling.{IsScaled, greatest_factor, scaled_whole}
 use Rattle.signal_safety.specs.Safe.{IsSafe}
+use Rattle.world_records.specs.Records.{header, records_text, shown_records}
 use Rattle.commands.specs.Headline.{IsRunOf}
-use Rattle.commands.specs.Summary.{totals_line}
+use Rattle.commands.specs.Summary.{scale_line, totals_line}
 
 -- The run of a network under actuated control, where this enters each link in each second: all last lines are lawful, the network is
 -- safe under them, and in each second of the run they show the greens, with the same begin, by which the world moved.
@@ -48,3 +56,62 @@ pub record IsComparison (net : Net) (enters : ℕ → ℕ → ℕ) (bytes : List
   pub of_calls : Totals
   pub are_of_calls : AreActuatedTotals net enters of_calls
   pub lines : bytes ≡ totals_line (codes "planned") of_plans ++ totals_line (codes "actuated") of_calls
+
+-- ---- fixed plans
+
+-- the timelines of a fixed plan, by node
+abbrev pub fixed_timelines : Net → List FixedRow → List (List Green)
+fixed_timelines net rows = map (fixed_line net rows) (range_with_len 0 (length net.node_names))
+
+-- the report of timelines: the greens that begin before the end of the run, and what the world shows under them until then
+abbrev pub shown_text : Net → (ℕ → ℕ → ℕ) → List (List Green) → List ℕ
+shown_text net arriving lines =
+    records_text (header ∷ shown_records net lines (map (link_shown net arriving lines) (range_with_len 0 (length net.link_names))) (all_shown net arriving lines) (end_of_run net))
+
+-- The bytes are the report of the timelines of a fixed plan: they are lawful, the network is safe under them, and an audit finds
+-- nothing in the report.
+pub record IsFixedReport (net : Net) (enters : ℕ → ℕ → ℕ) (rows : List FixedRow) (bytes : List ℕ) : Type 0 where
+  pub lawful : AreLawful net (fixed_timelines net rows)
+  pub safe : IsSafe net (line_in (fixed_timelines net rows))
+  pub report : bytes ≡ shown_text net (arriving_by enters) (fixed_timelines net rows)
+  pub clean : IsCleanText net (arriving_by enters) bytes
+
+-- the bytes are the lines of both runs, and a third: what the world has counted in all under the fixed plan
+pub record IsComparisonWith (net : Net) (enters : ℕ → ℕ → ℕ) (rows : List FixedRow) (bytes : List ℕ) : Type 0 where
+  pub both : List ℕ
+  pub are_both : IsComparison net enters both
+  pub lines : bytes ≡ both ++ totals_line (codes "fixed") (all_shown net (arriving_by enters) (fixed_timelines net rows))
+
+-- ---- scaled arrivals
+
+-- the factors from the first on, a step apart, up to the last
+abbrev pub factors : ℕ → ℕ → ℕ → List ℕ
+factors first last step = map (λ k. first + k * step) (range_with_len 0 ((last - first) / step + 1))
+
+-- the words of a command may name these factors: there are at most 20
+pub record AreFactors (first last step : ℕ) : Type 0 where
+  pub ordered : first ≤ last
+  pub most : last ≤ greatest_factor
+  pub apart : 1 ≤ step
+  pub bits : step < 2 ^ 32
+  pub few : (last - first) / step < 20
+
+-- the line of a factor: what both runs have counted in all where the arrivals are scaled by it
+pub record IsScaleLine (net : Net) (enters : ℕ → ℕ → ℕ) (factor : ℕ) (bytes : List ℕ) : Type 0 where
+  pub scaled : ℕ → ℕ → ℕ
+  pub is_scaled : IsScaled factor enters scaled
+  pub of_plans : Totals
+  pub are_of_plans : ArePlannedTotals net scaled of_plans
+  pub of_calls : Totals
+  pub are_of_calls : AreActuatedTotals net scaled of_calls
+  pub line : bytes ≡ scale_line factor of_plans of_calls
+
+-- the bytes are the lines of the factors, one after another
+pub record IsScaleTable (net : Net) (enters : ℕ → ℕ → ℕ) (first last step : ℕ) (bytes : List ℕ) : Type 0 where
+  pub lines : List (List ℕ)
+  pub each : AllZip (IsScaleLine net enters) (factors first last step) lines
+  pub are : bytes ≡ concat lines
+
+-- scaled by one of the factors, the arrivals bring more than arrivals may
+abbrev pub BringTooMuch : Net → (ℕ → ℕ → ℕ) → List ℕ → Type 0
+BringTooMuch net enters all = (factor : ℕ) × Contains all factor × (most_of_all < scaled_whole net factor enters)

@@ -4,7 +4,7 @@ use Rattle.std.specs.Fmt.{decimal}
 use Rattle.outside_world.specs.Sink.{Breaks, Gains, SinkState}
 use Rattle.commands.specs.Codes.{code_of}
 use Rattle.commands.specs.declared.refusals.Named.{Named}
-use Rattle.commands.specs.declared.refusals.Named.TheVariants.{Node, Round}
+use Rattle.commands.specs.declared.refusals.Named.TheVariants.{Factor, Node, Round}
 use Rattle.commands.specs.declared.refusals.TextPlace.{TextPlace}
 use Rattle.commands.specs.declared.refusals.TextPlace.TheVariants.{First, Second, Third}
 use Rattle.commands.specs.declared.refusals.Refusal.{Refusal}
@@ -38,6 +38,7 @@ unread_line Third = codes "signal: cannot read 3\n"
 abbrev pub missing_line : Named → List ℕ
 missing_line Node = codes "signal: bad node\n"
 missing_line Round = codes "signal: bad round\n"
+missing_line Factor = codes "signal: bad factor\n"
 
 -- the line of a refusal
 abbrev pub line_of : Refusal → List ℕ

@@ -32,6 +32,14 @@ number_line word numbers = line (word ∷ map decimal numbers)
 abbrev pub totals_line : List ℕ → Totals → List ℕ
 totals_line word totals = number_line word (totals.entered ∷ totals.left ∷ totals.on ∷ totals.delay ∷ [])
 
+-- the words of what was counted in all
+abbrev pub totals_words : Totals → List (List ℕ)
+totals_words totals = map decimal (totals.entered ∷ totals.left ∷ totals.on ∷ totals.delay ∷ [])
+
+-- a line of a factor and of what was counted in all in two runs
+abbrev pub scale_line : ℕ → Totals → Totals → List ℕ
+scale_line factor of_plans of_calls = line (decimal factor ∷ codes "planned" ∷ totals_words of_plans ++ codes "actuated" ∷ totals_words of_calls)
+
 -- The five lines: what was asked for, how many plans there are, how many of them are none, the delays that the others plan, and what
 -- was counted in all.
 abbrev pub summary_text : ℕ → ℕ → ℕ → RunRecord → List ℕ

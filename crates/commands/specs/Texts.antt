@@ -16,13 +16,23 @@ use Rattle.arrivals.specs.declared.rows.RowFault.TheVariants as row
 use Rattle.delay_report.specs.Faults as histories
 use Rattle.delay_report.specs.Texts.{IsHistoryText}
 use Rattle.delay_report.specs.declared.faults.HistoryFault.TheVariants as history
+use Rattle.fixed_plans.specs.Faults.{IsPlanFault, IsPlanText}
+use Rattle.fixed_plans.specs.declared.faults.FixedFault.TheVariants as plan
+use Rattle.fixed_plans.specs.declared.rows.FixedRow.{FixedRow}
+use Rattle.round_states.specs.Faults.{IsStateFault}
+use Rattle.round_states.specs.Texts.{IsStateText}
+use Rattle.round_states.specs.declared.faults.StateFault.TheVariants as state
+use Rattle.round_states.specs.declared.states.RoundState.{RoundState}
 use Rattle.sheets.specs.Faults.{IsSheetFault}
 use Rattle.sheets.specs.Texts.{IsSheetText}
 use Rattle.sheets.specs.declared.faults.SheetFault.TheVariants as sheet
 use Rattle.sheets.specs.declared.sheet.Sheet as sheets
+use Rattle.stores.specs.Texts as stores
+use Rattle.stores.specs.Texts.{IsStoreText}
+use Rattle.stores.specs.declared.faults.StoreFault.TheVariants as store
 use Rattle.commands.specs.Limits.{most_bytes}
 use Rattle.commands.specs.declared.bad_texts.BadText.{BadText}
-use Rattle.commands.specs.declared.bad_texts.BadText.TheVariants.{Long, Fault, Certificate, Network, Arrivals, History, Sheet}
+use Rattle.commands.specs.declared.bad_texts.BadText.TheVariants.{Long, Fault, Certificate, Network, Arrivals, History, Sheet, Store, FixedPlan, State}
 use Rattle.commands.specs.declared.refusals.TextPlace.{TextPlace}
 use Rattle.commands.specs.declared.refusals.TextPlace.TheVariants.{First, Second, Third}
 
@@ -34,9 +44,12 @@ pub data Kind : Type 0 where
   ArrivalsText : (net : Net) → Kind
   HistoryText : (net : Net) → Kind
   SheetText : (net : Net) → Kind
+  StoreText : (net : Net) → Kind
+  PlanText : (net : Net) → Kind
+  StateText : (net : Net) → Kind
 
 -- what a text of this kind says: an instance, a certificate, a network, what enters each link in each second, the node of each
--- board step, or the greens and totals of a report
+-- board step, the greens and totals of a report, how much each link can hold, the rows of a fixed plan, or the state of a round
 abbrev pub Said : Kind → Type 0
 Said InstanceText = Problem
 Said CertificateText = Claim
@@ -44,6 +57,9 @@ Said NetworkText = Net
 Said (ArrivalsText net) = ℕ → ℕ → ℕ
 Said (HistoryText net) = List ℕ
 Said (SheetText net) = sheets.Sheet
+Said (StoreText net) = List ℕ
+Said (PlanText net) = List FixedRow
+Said (StateText net) = RoundState
 
 -- the arrivals of a text bring this
 pub record IsBroughtBy (net : Net) (text : List ℕ) (enters : ℕ → ℕ → ℕ) : Type 0 where
@@ -59,6 +75,9 @@ IsTextFor NetworkText text net = IsNetworkText text net
 IsTextFor (ArrivalsText net) text enters = IsBroughtBy net text enters
 IsTextFor (HistoryText net) text history = IsHistoryText net text history
 IsTextFor (SheetText net) text sheet = IsSheetText net text sheet
+IsTextFor (StoreText net) text store = IsStoreText net text store
+IsTextFor (PlanText net) text rows = IsPlanText net text rows
+IsTextFor (StateText net) text state = IsStateText net text state
 
 -- a text is read as this: it is within the limit, and is the text of it
 abbrev pub Reads : (kind : Kind) → List ℕ → Said kind → Type 0
@@ -72,6 +91,9 @@ IsFault NetworkText text (Network fault) = IsCause text fault × (fault ≢ net.
 IsFault (ArrivalsText net) text (Arrivals fault) = arrivals.IsTextFault net text fault × (fault ≢ row.NoMemory)
 IsFault (HistoryText net) text (History fault) = histories.IsTextFault net text fault × (fault ≢ history.NoMemory)
 IsFault (SheetText net) text (Sheet fault) = IsSheetFault net text fault × (fault ≢ sheet.NoMemory)
+IsFault (StoreText net) text (Store fault) = stores.IsTextFault net text fault × (fault ≢ store.NoMemory)
+IsFault (PlanText net) text (FixedPlan fault) = IsPlanFault net text fault × (fault ≢ plan.NoMemory)
+IsFault (StateText net) text (State fault) = IsStateFault net text fault × (fault ≢ state.NoMemory)
 IsFault _ text _ = ⊥
 
 -- why a text is refused: it is longer than the limit; or it is within the limit, and this is its first fault
@@ -118,6 +140,18 @@ history_texts net arr hist = three_texts HistoryText net arr hist
 -- the third a report, of which the sheet is read
 abbrev pub sheet_texts : List ℕ → List ℕ → List ℕ → Texts
 sheet_texts net arr report = three_texts SheetText net arr report
+
+-- the third a store
+abbrev pub store_texts : List ℕ → List ℕ → List ℕ → Texts
+store_texts net arr store = three_texts StoreText net arr store
+
+-- the third a fixed plan
+abbrev pub plan_texts : List ℕ → List ℕ → List ℕ → Texts
+plan_texts net arr plan = three_texts PlanText net arr plan
+
+-- a network's text, and that of a state in which a round of it begins
+abbrev pub state_texts : List ℕ → List ℕ → Texts
+state_texts net state = Next NetworkText net (λ network. Next (StateText network) state (λ said. NoMore))
 
 -- what such texts say, one after another
 abbrev pub AllSaid : Texts → Type 0

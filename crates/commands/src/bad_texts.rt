@@ -1,17 +1,24 @@
 //! What is wrong with a text, and its code.
 ghost use Rattle.std.specs.Prelude.{◌≡◌, ◌∷◌, ◌++◌, OnOk};
-ghost use Rattle.commands.specs.Codes.{cert_code, code_of, field_name, history_code, instance_code, net_code, part_name, place_text, plan_code, row_code, sheet_code};
+ghost use Rattle.commands.specs.Codes.{cert_code, code_of, field_name, instance_code, net_code, part_name, place_text, plan_code};
 
 use super::pieces::{push_one, push_two};
+use super::record_codes::{
+    push_fixed_code, push_history_code, push_row_code, push_sheet_code, push_state_code,
+    push_store_code,
+};
 use arrivals::RowFault;
 use certificate_form::CertText;
 use delay_report::HistoryFault;
 use dp_certificate::CertFault;
+use fixed_plans::FixedFault;
 use net_draft::{NetFault, Place, Section};
 use phase_plan::{Field, PlanFault};
+use round_states::StateFault;
 use schedule_meaning::{InstanceFault, TextFault};
 use sheets::SheetFault;
 use std::alloc::AllocError;
+use stores::StoreFault;
 
 /// What is wrong with a text.
 ///
@@ -32,6 +39,12 @@ pub enum BadText {
     History(HistoryFault),
     /// It is within the limit, and is read as no sheet of the network that was read before it.
     Sheet(SheetFault),
+    /// It is within the limit, and no store's of the network that was read before it.
+    Store(StoreFault),
+    /// It is within the limit, and no fixed plan's of the network that was read before it.
+    FixedPlan(FixedFault),
+    /// It is within the limit, and no state's of the network that was read before it.
+    State(StateFault),
 }
 
 /// Appends the code of what is wrong with a text to a line. `Err`: out of memory.
@@ -49,6 +62,9 @@ pub fn push_code(line: &mut Vec<u8>, why: BadText) -> Result<(), AllocError>
         BadText::Arrivals(fault) => push_row_code(line, fault),
         BadText::History(fault) => push_history_code(line, fault),
         BadText::Sheet(fault) => push_sheet_code(line, fault),
+        BadText::Store(fault) => push_store_code(line, fault),
+        BadText::FixedPlan(fault) => push_fixed_code(line, fault),
+        BadText::State(fault) => push_state_code(line, fault),
     }
 }
 
@@ -154,48 +170,5 @@ fn part_name(part: Section) -> &'static [u8]
         Section::Link => b"link",
         Section::Turn => b"turn",
         Section::Conflict => b"conflict",
-    }
-}
-
-// Appends the code of a fault of arrivals.
-fn push_row_code(line: &mut Vec<u8>, fault: RowFault) -> Result<(), AllocError>
-    ensures { OnOk result (line.new.items ≡ line.old.items ++ row_code fault) }
-{
-    match fault {
-        RowFault::NoMemory => Err(AllocError),
-        RowFault::Header => line.extend_from_slice(b"header"),
-        RowFault::Row(number) => push_one(line, b"row ", u64::from(number)),
-        RowFault::Link(number) => push_one(line, b"link ", u64::from(number)),
-        RowFault::Bound(number) => push_one(line, b"amount ", u64::from(number)),
-        RowFault::Sum(number) => push_one(line, b"sum ", u64::from(number)),
-    }
-}
-
-// Appends the code of a fault of a history.
-fn push_history_code(line: &mut Vec<u8>, fault: HistoryFault) -> Result<(), AllocError>
-    ensures { OnOk result (line.new.items ≡ line.old.items ++ history_code fault) }
-{
-    match fault {
-        HistoryFault::NoMemory => Err(AllocError),
-        HistoryFault::Header => line.extend_from_slice(b"header"),
-        HistoryFault::Row(number) => push_one(line, b"row ", u64::from(number)),
-        HistoryFault::Node(number) => push_one(line, b"node ", u64::from(number)),
-        HistoryFault::Extra(number) => push_one(line, b"extra ", u64::from(number)),
-        HistoryFault::Turn(number) => push_one(line, b"turn ", u64::from(number)),
-        HistoryFault::Short => line.extend_from_slice(b"short"),
-    }
-}
-
-// Appends the code of a fault of a sheet.
-fn push_sheet_code(line: &mut Vec<u8>, fault: SheetFault) -> Result<(), AllocError>
-    ensures { OnOk result (line.new.items ≡ line.old.items ++ sheet_code fault) }
-{
-    match fault {
-        SheetFault::NoMemory => Err(AllocError),
-        SheetFault::Header => line.extend_from_slice(b"header"),
-        SheetFault::Row(number) => push_one(line, b"row ", u64::from(number)),
-        SheetFault::Extra(number) => push_one(line, b"extra ", u64::from(number)),
-        SheetFault::Name(number) => push_one(line, b"name ", u64::from(number)),
-        SheetFault::Short => line.extend_from_slice(b"short"),
     }
 }

@@ -5,6 +5,7 @@
 mod bad_texts;
 mod ending;
 mod pieces;
+mod record_codes;
 mod refusals;
 mod scenes;
 mod status;
@@ -16,10 +17,12 @@ pub use ending::{Made, end};
 pub use pieces::{push_one, push_two};
 pub use refusals::{Named, Refusal, TextPlace, refuse};
 pub use scenes::{
-    HistoryScene, Scene, SheetScene, fetch_history_scene, fetch_scene, fetch_sheet_scene,
+    HistoryScene, PlanScene, Scene, SheetScene, StateScene, StoreScene, fetch_history_scene,
+    fetch_plan_scene, fetch_scene, fetch_sheet_scene, fetch_state_scene, fetch_store_scene,
 };
 pub use status::Status;
 pub use texts::{
-    fetch_arrivals, fetch_certificate, fetch_history, fetch_instance, fetch_network, fetch_sheet,
+    fetch_arrivals, fetch_certificate, fetch_fixed_plan, fetch_history, fetch_instance,
+    fetch_network, fetch_sheet, fetch_state, fetch_store,
 };
 pub use words::{Command, command_of};

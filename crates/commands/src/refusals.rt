@@ -28,6 +28,8 @@ pub enum Named {
     Node,
     /// A round of the run, from 0.
     Round,
+    /// A factor by which arrivals are scaled, in thousandths.
+    Factor,
 }
 
 /// Why a command is refused.
@@ -105,6 +107,7 @@ fn missing_line(what: Named) -> &'static [u8]
     match what {
         Named::Node => b"signal: bad node\n",
         Named::Round => b"signal: bad round\n",
+        Named::Factor => b"signal: bad factor\n",
     }
 }
 

@@ -1,11 +1,13 @@
 //! The texts of a command, fetched from the shelf and read.
 ghost use Rattle.std.specs.Prelude.{◌≡◌, ◌<◌, ◌≤◌, ◌^◌, All, IfOk, IfErr, OnOk, IsSome, Some, length};
 ghost use Rattle.arrivals.specs.Amounts.{AreArrivals, entering};
+ghost use Rattle.fixed_plans.specs.Rows.{IsFixedPlan};
 ghost use Rattle.histories.specs.Histories.{IsLawful};
+ghost use Rattle.round_states.specs.States.{IsStateOf};
 ghost use Rattle.commands.specs.Stops.{StopsAt};
 ghost use Rattle.commands.specs.Limits.{most_bytes};
 ghost use Rattle.sheets.specs.Texts.{HasShape};
-ghost use Rattle.commands.specs.Texts.{ArrivalsText, CertificateText, HistoryText, InstanceText, IsIn, Kind, NetworkText, SheetText, text_of};
+ghost use Rattle.commands.specs.Texts.{ArrivalsText, CertificateText, HistoryText, InstanceText, IsIn, Kind, NetworkText, PlanText, SheetText, StateText, StoreText, text_of};
 
 use super::bad_texts::BadText;
 use super::refusals::{Refusal, TextPlace};
@@ -13,13 +15,16 @@ use arrivals::{Arrivals, RowFault, read_arrivals};
 use certificate_form::{CertText, read_certificate};
 use delay_report::{HistoryFault, read_history};
 use dp_certificate::Certificate;
+use fixed_plans::{FixedFault, FixedPlan, read_fixed_plan};
 use histories::History;
 use net_draft::NetFault;
 use outside_world::{Shelf, ShelfFault};
 use road_net::{Network, read_network};
+use round_states::{RoundState, StateFault, read_state};
 use schedule_meaning::{Instance, TextFault, read_instance};
 use sheets::{Sheet, SheetFault, read_sheet};
 use std::alloc::Global;
+use stores::{Store, StoreFault, read_store};
 
 /// The greatest length of a text, in bytes.
 ///
@@ -205,6 +210,87 @@ pub fn fetch_sheet<S: Shelf>(
         Err(fault) => Err(Refusal::Bad {
             text: place,
             why: BadText::Sheet(fault),
+        }),
+    }
+}
+
+/// How much each link of a network can hold, of the text at this place.
+///
+/// `Err`: `Unread` where the shelf fails, `Bad` where the text is too long or is none of its kind, `NoMemory` where memory runs out.
+pub fn fetch_store<S: Shelf>(
+    alloc: Global,
+    shelf: &mut S,
+    place: TextPlace,
+    file: &str,
+    net: &Network,
+) -> Result<Store, Refusal>
+    ensures text { IfOk result (IsIn (S.state shelf.old).files file.now (StoreText net.now)) }
+    ensures links { IfOk result (λ store. length store ≡ length net.now.link_names) }
+    ensures ok { OnOk result (S.state shelf.new ≡ S.state shelf.old) }
+    ensures refused { IfErr result (λ why. StopsAt why place (StoreText net.now) file.now (S.state shelf.old)
+        (S.state shelf.new)) }
+{
+    let text = fetch_text(alloc, shelf, place, file)?;
+    match read_store(alloc, &text, net) {
+        Ok(store) => Ok(store),
+        Err(StoreFault::NoMemory) => Err(Refusal::NoMemory),
+        Err(fault) => Err(Refusal::Bad {
+            text: place,
+            why: BadText::Store(fault),
+        }),
+    }
+}
+
+/// The fixed plan of a network, of the text at this place.
+///
+/// `Err`: `Unread` where the shelf fails, `Bad` where the text is too long or is none of its kind, `NoMemory` where memory runs out.
+pub fn fetch_fixed_plan<S: Shelf>(
+    alloc: Global,
+    shelf: &mut S,
+    place: TextPlace,
+    file: &str,
+    net: &Network,
+) -> Result<FixedPlan, Refusal>
+    ensures text { IfOk result (IsIn (S.state shelf.old).files file.now (PlanText net.now)) }
+    ensures plan { IfOk result (IsFixedPlan net.now) }
+    ensures ok { OnOk result (S.state shelf.new ≡ S.state shelf.old) }
+    ensures refused { IfErr result (λ why. StopsAt why place (PlanText net.now) file.now (S.state shelf.old)
+        (S.state shelf.new)) }
+{
+    let text = fetch_text(alloc, shelf, place, file)?;
+    match read_fixed_plan(alloc, &text, net) {
+        Ok(plan) => Ok(plan),
+        Err(FixedFault::NoMemory) => Err(Refusal::NoMemory),
+        Err(fault) => Err(Refusal::Bad {
+            text: place,
+            why: BadText::FixedPlan(fault),
+        }),
+    }
+}
+
+/// The state in which a round of a network begins, of the text at this place.
+///
+/// `Err`: `Unread` where the shelf fails, `Bad` where the text is too long or is none of its kind, `NoMemory` where memory runs out.
+pub fn fetch_state<S: Shelf>(
+    alloc: Global,
+    shelf: &mut S,
+    place: TextPlace,
+    file: &str,
+    net: &Network,
+) -> Result<RoundState, Refusal>
+    ensures text { IfOk result (IsIn (S.state shelf.old).files file.now (StateText net.now)) }
+    ensures state { IfOk result (IsStateOf net.now) }
+    ensures ok { OnOk result (S.state shelf.new ≡ S.state shelf.old) }
+    ensures refused { IfErr result (λ why. StopsAt why place (StateText net.now) file.now (S.state shelf.old)
+        (S.state shelf.new)) }
+{
+    let text = fetch_text(alloc, shelf, place, file)?;
+    match read_state(alloc, &text, net) {
+        Ok(state) => Ok(state),
+        Err(StateFault::NoMemory) => Err(Refusal::NoMemory),
+        Err(fault) => Err(Refusal::Bad {
+            text: place,
+            why: BadText::State(fault),
         }),
     }
 }

@@ -1,9 +1,10 @@
 //! The commands, and the words that each has.
-ghost use Rattle.std.specs.Prelude.{◌≡◌, ◌≢◌, ◌^◌, ◌<◌, ◌≤◌, ℕ, List, [], ◌∷◌, IfSome, IfNone};
+ghost use Rattle.std.specs.Prelude.{◌≡◌, ◌≢◌, ◌^◌, ◌<◌, ◌≤◌, ◌↔◌, ℕ, List, [], ◌∷◌, IfSome, IfNone, IsTrue, codes};
 ghost use Rattle.std.specs.Fmt.{decimal};
 ghost use Rattle.scenario_gen.specs.Grids.{AreRounds};
 ghost use Rattle.scenario_gen.specs.Layout.{IsSide};
-ghost use Rattle.commands.specs.Commands.{Call, IsCall, IsOverNetwork, call_of};
+ghost use Rattle.commands.specs.Commands.{Call, IsCall, IsOfControllers, IsOverNetwork, call_of};
+ghost use Rattle.commands.specs.Controllers.{AreFactors};
 
 use foundation::text::Text;
 use number_words::{number_u32, number_u64, number_within};
@@ -63,10 +64,30 @@ pub enum Command<'a> {
         net: &'a str,
         arr: &'a str,
     },
+    /// Writes the report of the run under a fixed plan.
+    Fixed {
+        net: &'a str,
+        arr: &'a str,
+        plan: &'a str,
+    },
     /// Writes what two runs counted in all: that of the turn order, and that under actuated control.
     Compare {
         net: &'a str,
         arr: &'a str,
+    },
+    /// Writes the same, and what the run under a fixed plan counted in all.
+    CompareFixed {
+        net: &'a str,
+        arr: &'a str,
+        plan: &'a str,
+    },
+    /// Writes what two runs counted in all for arrivals scaled by several factors, in thousandths.
+    Scale {
+        net: &'a str,
+        arr: &'a str,
+        first: u32,
+        last: u32,
+        step: u32,
     },
     /// Writes the verdict on what a report says of greens and totals.
     Audit {
@@ -158,14 +179,6 @@ fn network_command<'a>(word: &str, rest: &'a [Text]) -> Option<Command<'a>>
                 round,
             })
         }
-        "actuate" => {
-            let (net, arr) = two_words(rest)?;
-            Some(Command::Actuate { net, arr })
-        }
-        "compare" => {
-            let (net, arr) = two_words(rest)?;
-            Some(Command::Compare { net, arr })
-        }
         "audit" => {
             let (net, arr, report) = three_words(rest)?;
             Some(Command::Audit { net, arr, report })
@@ -174,6 +187,54 @@ fn network_command<'a>(word: &str, rest: &'a [Text]) -> Option<Command<'a>>
             let (net, arr, report) = three_words(rest)?;
             Some(Command::Queues { net, arr, report })
         }
+        _ => controllers_command(word, rest),
+    }
+}
+
+// The command of this word that runs a network under several controllers, with these words after it.
+fn controllers_command<'a>(word: &str, rest: &'a [Text]) -> Option<Command<'a>>
+    ensures some { IfSome result (λ command. IsCall (word.now ∷ rest.now) (call_of command)) }
+    ensures none { IfNone result ((call : Call) → IsOfControllers call → ¬ IsCall (word.now ∷ rest.now) call) }
+{
+    match word {
+        "actuate" => {
+            let (net, arr) = two_words(rest)?;
+            Some(Command::Actuate { net, arr })
+        }
+        "fixed" => {
+            let (net, arr, plan) = three_words(rest)?;
+            Some(Command::Fixed { net, arr, plan })
+        }
+        "compare" => comparison_of(rest),
+        "scale" => {
+            let (net, arr, first, last, step) = two_words_and_factors(rest)?;
+            Some(Command::Scale {
+                net,
+                arr,
+                first,
+                last,
+                step,
+            })
+        }
+        _ => None,
+    }
+}
+
+// The comparison of two runs, or of three, where the words are those after `compare`.
+fn comparison_of(words: &[Text]) -> Option<Command<'_>>
+    ensures some { IfSome result (λ command. IsCall (codes "compare" ∷ words.now) (call_of command)) }
+    ensures none { IfNone result ((call : Call) → ¬ IsCall (codes "compare" ∷ words.now) call) }
+{
+    match words {
+        [net, arr] => Some(Command::Compare {
+            net: net.as_str(),
+            arr: arr.as_str(),
+        }),
+        [net, arr, plan] => Some(Command::CompareFixed {
+            net: net.as_str(),
+            arr: arr.as_str(),
+            plan: plan.as_str(),
+        }),
         _ => None,
     }
 }
@@ -245,6 +306,48 @@ fn four_words_and_number(words: &[Text]) -> Option<(&str, &str, &str, &str, u32)
         }
         _ => None,
     }
+}
+
+// The two words, and the first and the last of factors and the step between two after them, where there are just these.
+fn two_words_and_factors(words: &[Text]) -> Option<(&str, &str, u32, u32, u32)>
+    ensures some { IfSome result (λ w. (words.now ≡ w.0.now ∷ w.1.now ∷ decimal w.2 ∷ decimal w.3 ∷ decimal w.4 ∷ [])
+        × AreFactors w.2 w.3 w.4) }
+    ensures none { IfNone result ((a b : List ℕ) (first last step : ℕ) → AreFactors first last step
+        → words.now ≢ a ∷ b ∷ decimal first ∷ decimal last ∷ decimal step ∷ []) }
+{
+    match words {
+        [net, arr, first, last, step] => {
+            let (first, last, step) = factors_of(first.as_str(), last.as_str(), step.as_str())?;
+            Some((net.as_str(), arr.as_str(), first, last, step))
+        }
+        _ => None,
+    }
+}
+
+// The numbers of the words, where they are factors of a command.
+fn factors_of(first: &str, last: &str, step: &str) -> Option<(u32, u32, u32)>
+    ensures some { IfSome result (λ w. (first.now ≡ decimal w.0) × (last.now ≡ decimal w.1) × (step.now ≡ decimal w.2)
+        × AreFactors w.0 w.1 w.2) }
+    ensures none { IfNone result ((f l s : ℕ) → AreFactors f l s → first.now ≡ decimal f → last.now ≡ decimal l
+        → step.now ≢ decimal s) }
+{
+    let first = number_within(first, 0, 10_000)?;
+    let last = number_within(last, 0, 10_000)?;
+    let step = number_within(step, 1, u32::MAX)?;
+    if are_factors(first, last, step) {
+        Some((first, last, step))
+    } else {
+        None
+    }
+}
+
+// Whether the words of a command may name the factors from the first to the last, a step apart.
+fn are_factors(first: u32, last: u32, step: u32) -> bool
+    requires most { last ≤ 10000 }
+    requires apart { 1 ≤ step }
+    ensures { IsTrue result ↔ AreFactors first last step }
+{
+    first <= last && (last - first) / step < 20
 }
 
 // The number of a grid, how many nodes a side it has, and for how many rounds, where the words are just these.
