@@ -17,7 +17,7 @@ use Rattle.fixed_plans.specs.declared.rows.FixedRow.{FixedRow}
 use Rattle.fixed_plans.specs.Faults.{AreFaulty, ArePlanRecords, IsAtGreen, IsAtNode, IsAtOffset, IsAtPhase, IsAtRow, IsFirst, IsRecordFault, Refuses, TellRows}
 use Rattle.fixed_plans.specs.Records.{Told, header, row_of, told_of}
 use Rattle.fixed_plans.specs.Rows.{AreRowsAfter, ComesNext, HasOffset, IsEnd, IsRow, last_of}
-use Rattle.fixed_plans.specs.Taken.{Adds, HasTaken, IsPlaced, IsRefused}
+use Rattle.fixed_plans.specs.Drafts.{Adds, HasTaken, IsPlaced, IsRefused}
 use Rattle.fixed_plans.proofs.RowLaws.{last-more, last-placed, row-amid, rows-more}
 
 -- what a row was read from

@@ -1,6 +1,6 @@
 pub mod Cycles
+pub mod Drafts
 pub mod Faults
 pub mod Lines
 pub mod Records
 pub mod Rows
-pub mod Taken

@@ -22,7 +22,7 @@ span plan r = r.green + (phase_at plan r.phase).yellow + (phase_at plan r.phase)
 abbrev pub cycle_length : List Phase → List FixedRow → ℕ
 cycle_length plan rows = sum_by (span plan) rows
 
--- the second at which the first cycle begins
+-- a second at which a cycle begins
 abbrev pub offset_of : List FixedRow → ℕ
 offset_of [] = 0
 offset_of (r ∷ rs) = r.offset

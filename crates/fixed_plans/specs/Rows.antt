@@ -7,9 +7,9 @@ use Rattle.net_numbers.specs.Numbers.{Net}
 use Rattle.net_numbers.specs.Outline.{plan_at}
 use Rattle.fixed_plans.specs.declared.rows.FixedRow.{FixedRow}
 
--- the last second at which a first cycle may begin
-abbrev pub latest_offset : ℕ
-latest_offset = 17999
+-- the greatest offset
+abbrev pub greatest_offset : ℕ
+greatest_offset = 17999
 
 -- the phases from this number on, up to the other, are marked
 abbrev pub AreMarked : List Phase → ℕ → ℕ → Type 0
@@ -40,8 +40,8 @@ pub record HasGreen (plan : List Phase) (r : FixedRow) : Type 0 where
 
 -- the offset of a row is that of the row before it of the same node
 abbrev pub HasOffset : Option FixedRow → FixedRow → Type 0
-HasOffset None r = r.offset ≤ latest_offset
-HasOffset (Some b) r = (r.offset ≤ latest_offset) × (r.node ≡ b.node → r.offset ≡ b.offset)
+HasOffset None r = r.offset ≤ greatest_offset
+HasOffset (Some b) r = (r.offset ≤ greatest_offset) × (r.node ≡ b.node → r.offset ≡ b.offset)
 
 -- a lawful row after the row before it
 pub record IsRow (net : Net) (before : Option FixedRow) (r : FixedRow) : Type 0 where

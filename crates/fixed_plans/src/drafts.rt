@@ -1,6 +1,6 @@
 //! A fixed plan that is being read.
 ghost use Rattle.std.specs.Prelude.{◌≡◌, ◌<◌, IfSome, None, [], length};
-ghost use Rattle.fixed_plans.specs.Taken.{Adds, IsPlaced};
+ghost use Rattle.fixed_plans.specs.Drafts.{Adds, IsPlaced};
 
 use crate::faults::FixedFault;
 use crate::order::{comes_next, has_green, has_offset};

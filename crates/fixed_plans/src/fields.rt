@@ -3,7 +3,7 @@ ghost use Rattle.std.specs.Prelude.{◌≡◌, ◌≢◌, ◌↔◌, [], ◌∷�
 ghost use Rattle.csv.specs.Records.{fields_of};
 ghost use Rattle.road_net.specs.Network.{IsNetwork};
 ghost use Rattle.fixed_plans.specs.Records.{header, told_of};
-ghost use Rattle.fixed_plans.specs.Taken.{Reads};
+ghost use Rattle.fixed_plans.specs.Drafts.{Reads};
 
 use crate::faults::FixedFault;
 use crate::rows::FixedRow;

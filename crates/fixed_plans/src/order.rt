@@ -1,14 +1,14 @@
 //! Which row may come after another one.
 ghost use Rattle.std.specs.Prelude.{◌↔◌, ◌<◌, ◌≤◌, IfSome, IsTrue, length};
 ghost use Rattle.fixed_plans.specs.Rows.{AreMarked, ComesNext, HasGreen, HasOffset, IsEnd, IsFirstFrom, IsLastRow};
-ghost use Rattle.fixed_plans.specs.Taken.{IsPlaced};
+ghost use Rattle.fixed_plans.specs.Drafts.{IsPlaced};
 
 use crate::rows::FixedRow;
 use phase_plan::PhasePlan;
 use road_net::Network;
 
-/// The last second at which a first cycle may begin.
-const LATEST_OFFSET: u32 = 17_999;
+/// The greatest offset, in seconds.
+const GREATEST_OFFSET: u32 = 17_999;
 
 /// Whether a row comes next after the row before it.
 pub(crate) fn comes_next(net: &Network, before: Option<FixedRow>, row: &FixedRow) -> bool
@@ -86,8 +86,8 @@ pub(crate) fn has_offset(before: Option<FixedRow>, row: &FixedRow) -> bool
     ensures { IsTrue result ↔ HasOffset before row.now }
 {
     match before {
-        None => row.offset <= LATEST_OFFSET,
-        Some(last) => row.offset <= LATEST_OFFSET
+        None => row.offset <= GREATEST_OFFSET,
+        Some(last) => row.offset <= GREATEST_OFFSET
             && (row.node != last.node || row.offset == last.offset),
     }
 }

@@ -12,7 +12,7 @@ pub struct FixedRow {
     pub phase: u32,
     /// How many seconds its green lasts, from the least to the greatest green of the phase.
     pub green: u32,
-    /// The second at which the first green of the first cycle begins, 0 to 17,999; the same in each row of a node.
+    /// A second at which the first green of a cycle begins, 0 to 17,999; the same in each row of a node.
     pub offset: u32,
 }
 

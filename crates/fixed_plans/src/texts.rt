@@ -46,7 +46,7 @@ pub fn read_fixed_plan(alloc: Global, bytes: &[u8], net: &Network) -> Result<Fix
 
 impl RecordTaker for Draft {
     ghost use Rattle.fixed_plans.specs.Records as records;
-    ghost use Rattle.fixed_plans.specs.Taken.{HasTaken, IsRefused};
+    ghost use Rattle.fixed_plans.specs.Drafts.{HasTaken, IsRefused};
 
     type Fault = FixedFault;
 

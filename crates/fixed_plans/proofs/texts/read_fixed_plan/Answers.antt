@@ -5,7 +5,7 @@ use Rattle.record_text.proofs.WalkLaws.{counted-few, taken-after}
 use Rattle.world_records.proofs.RecordLaws.{few-records}
 use Rattle.fixed_plans.specs.Faults.{AreFaulty}
 use Rattle.fixed_plans.specs.Records.{header}
-use Rattle.fixed_plans.specs.Taken.{HasTaken}
+use Rattle.fixed_plans.specs.Drafts.{HasTaken}
 use Rattle.fixed_plans.proofs.TextLaws.{first-fault, records-refuse, taken-none, taken-placed}
 use Rattle.fixed_plans.proofs.texts.read_fixed_plan.Goals as goal
 

@@ -1,4 +1,4 @@
--- What the steps of the code answer, and what they keep. No public clause names these definitions.
+-- The draft of a plan: what it has taken, and what a row adds to it. No public clause names these definitions.
 use Rattle.std.specs.Prelude.{◌≡◌, ℕ, ◌<◌, ◌⊎◌, length, List, [], ◌∷◌, ◌++◌, None, Some, Result, Ok, Err, IsSomeAnd}
 use Rattle.foundation.specs.Options.{each}
 use Rattle.net_numbers.specs.Numbers.{Net, number_of}
