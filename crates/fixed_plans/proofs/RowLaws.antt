@@ -1,5 +1,5 @@
 -- Rows of a fixed plan, one after another.
-use Rattle.std.proofs.Common.{◌≡◌, ◌<◌, List, [], ◌∷◌, ◌++◌, length, Option, None, Some, IfSome, refl, inl, inr}
+use Rattle.std.proofs.Common.{◌≡◌, ℕ, ◌+◌, ◌*◌, ◌<◌, ◌≤◌, List, [], ◌∷◌, ◌++◌, length, Option, None, Some, IfSome, refl, inl, inr, arith}
 use Rattle.net_numbers.specs.Numbers.{Net}
 use Rattle.net_numbers.specs.Outline.{plan_at}
 use Rattle.fixed_plans.specs.declared.rows.FixedRow.{FixedRow}
@@ -30,3 +30,30 @@ phase-exists net (Some b) r (inr next) = next.2.exists
 pub last-placed : (net : Net) (before : Option FixedRow) (rows : List FixedRow) → IfSome before (IsPlaced net) → AreRowsAfter net before rows → IfSome (last_of before rows) (IsPlaced net)
 last-placed net before [] placed are = placed
 last-placed net before (r ∷ rows) placed are = last-placed net (Some r) rows (record { node = are.0.node; phase = phase-exists net before r are.0.next }) are.1
+
+-- how many phases of all nodes there are up to a row, where each node has four
+abbrev pub passed_by : Option FixedRow → ℕ
+passed_by None = 0
+passed_by (Some r) = r.node * 4 + r.phase + 1
+
+-- the rows are no more than the phases that they pass
+module _ (net : Net) (phases : (node : ℕ) → node < length net.node_names → length (plan_at net node) ≤ 4) where
+  one-passed : (before : Option FixedRow) (r : FixedRow) → IfSome before (IsPlaced net) → ComesNext net before r → passed_by before + 1 ≤ passed_by (Some r)
+  one-passed None r placed next = omega arith
+  one-passed (Some b) r placed (inl next) = omega (arith, next.0, next.1.later)
+  one-passed (Some b) r placed (inr next) = omega (arith, next.0, placed.phase, phases b.node placed.node)
+
+  all-passed : (before : Option FixedRow) (rows : List FixedRow) → IfSome before (IsPlaced net) → AreRowsAfter net before rows → passed_by before + length rows ≤ passed_by (last_of before rows)
+  all-passed before [] placed are = omega arith
+  all-passed before (r ∷ rows) placed are =
+      let here = one-passed before r placed are.0.next in
+      let rest = all-passed (Some r) rows (record { node = are.0.node; phase = phase-exists net before r are.0.next }) are.1 in
+      omega (arith, here, rest)
+
+  last-passed : (before : Option FixedRow) → length net.node_names ≤ 64 → IfSome before (IsPlaced net) → passed_by before ≤ 256
+  last-passed None few placed = omega arith
+  last-passed (Some r) few placed = omega (arith, few, placed.node, placed.phase, phases r.node placed.node)
+
+  -- lawful rows are few
+  pub rows-few : length net.node_names ≤ 64 → (rows : List FixedRow) → AreRowsAfter net None rows → length rows ≤ 256
+  rows-few few rows are = omega (arith, all-passed None rows tt are, last-passed (last_of None rows) few (last-placed net None rows tt are))

@@ -1,13 +1,15 @@
 -- The records of a fixed plan, one after another, and the first at fault.
-use Rattle.std.proofs.Common.{◌≡◌, ℕ, ◌<◌, List, [], ◌∷◌, ◌++◌, length, Option, Some, None, IfSome, IsSomeAnd, IfErr, OnOk, Result, Ok, Err, sym, ap, ◌∙◌, subst, inl, inr}
+use Rattle.std.proofs.Common.{◌≡◌, ℕ, ◌<◌, ◌≤◌, List, [], ◌∷◌, ◌++◌, length, Option, Some, None, IfSome, IsSomeAnd, IfErr, OnOk, Result, Ok, Err, sym, ap, ◌∙◌, subst, inl, inr, arith}
 use Rattle.std.proofs.lemmas.Option.{same_Some, none-some}
 use Rattle.foundation.specs.Options.{each, ◌>>=◌}
-use Rattle.foundation.proofs.EachLaws.{each-append, each-cons, each-push}
+use Rattle.foundation.proofs.EachLaws.{each-append, each-cons, each-length, each-push}
 use Rattle.foundation.proofs.OptionLaws.{and-at, and-some, bind-some}
 use Rattle.net_numbers.specs.Numbers.{Net, number_of}
+use Rattle.net_numbers.specs.Outline.{plan_at}
 use Rattle.net_numbers.proofs.DraftParts.{number_of-within}
+use Rattle.road_net.specs.Network.{IsNetwork}
 use Rattle.record_text.specs.Faults.{HasAfterHeader}
-use Rattle.record_text.specs.Walks.{IsFaultAmong, OrMemory}
+use Rattle.record_text.specs.Walks.{AreCounted, IsFaultAmong, OrMemory}
 use Rattle.record_text.proofs.FaultLaws.{one-after}
 use Rattle.record_text.proofs.WalkLaws.{fault-after}
 use Rattle.fixed_plans.specs.declared.drafts.Draft.{Draft}
@@ -18,7 +20,7 @@ use Rattle.fixed_plans.specs.Faults.{AreFaulty, ArePlanRecords, IsAtGreen, IsAtN
 use Rattle.fixed_plans.specs.Records.{Told, header, row_of, told_of}
 use Rattle.fixed_plans.specs.Rows.{AreRowsAfter, ComesNext, HasOffset, IsEnd, IsRow, last_of}
 use Rattle.fixed_plans.specs.Drafts.{Adds, HasTaken, IsPlaced, IsRefused}
-use Rattle.fixed_plans.proofs.RowLaws.{last-more, last-placed, row-amid, rows-more}
+use Rattle.fixed_plans.proofs.RowLaws.{last-more, last-placed, row-amid, rows-few, rows-more}
 
 -- what a row was read from
 record IsToldBy (net : Net) (fields : List (List ℕ)) (r : FixedRow) : Type 0 where
@@ -44,6 +46,12 @@ taken-none net draft none first = record {
   lawful = subst (AreRowsAfter net None) (sym none) tt;
   last = first ∙ ap (last_of None) (sym none);
 }
+
+-- the rows that were taken are few
+pub taken-few : (net : Net) → IsNetwork net → (all : List (List (List ℕ))) → AreCounted (HasTaken net) all
+taken-few net network all =
+    let phases : (node : ℕ) → node < length net.node_names → length (plan_at net node) ≤ 4 = λ node below. (network.outline.plans node [] (omega (arith, below, network.outline.plan_count))).count.1 in
+    λ header front here rest draft are taken. omega (arith, rows-few net phases network.outline.node_count.1 draft.rows.items taken.lawful, each-length (row_of net) front draft.rows.items taken.reads)
 
 -- the last row that was taken is one of the network
 pub taken-placed : (net : Net) (records : List (List (List ℕ))) (draft : Draft) → HasTaken net records draft → IfSome draft.last (IsPlaced net)

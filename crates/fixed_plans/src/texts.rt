@@ -1,5 +1,5 @@
 //! The file of a fixed plan.
-ghost use Rattle.std.specs.Prelude.{◌<◌, ◌^◌, IfErr, IfOk, List, length};
+ghost use Rattle.std.specs.Prelude.{IfErr, IfOk, List};
 ghost use Rattle.fixed_plans.specs.Faults.{IsPlanFault, IsPlanText, Refuses};
 ghost use Rattle.fixed_plans.specs.Rows.{IsFixedPlan};
 ghost use Rattle.fixed_plans.specs.declared.rows.FixedRow as spec;
@@ -15,8 +15,7 @@ use road_net::Network;
 use std::alloc::Global;
 
 /// The fixed plan of a file, whose nodes stand by their names in the network: for each node, in the order of the
-/// nodes, one row for each unmarked phase of its ring, from phase 0 up; a marked phase may have a row. The file has
-/// fewer than 2^32 bytes.
+/// nodes, one row for each unmarked phase of its ring, from phase 0 up; a marked phase may have a row.
 ///
 /// The fault is out of memory; or `Header`, where the file does not begin with the header; or that of the first row at
 /// fault, within a row in the order `Row`, `Node`, `Phase`, `Green`, `Offset`; or else `Short`, where the file ends
@@ -24,7 +23,6 @@ use std::alloc::Global;
 ///
 /// docs/FORMATS.md, "Fixed plan".
 pub fn read_fixed_plan(alloc: Global, bytes: &[u8], net: &Network) -> Result<FixedPlan, FixedFault>
-    requires { length bytes.now < 2 ^ 32 }
     ensures ok { IfOk result (IsPlanText net.now bytes.now) }
     ensures plan { IfOk result (IsFixedPlan net.now) }
     ensures refused { IfErr result (λ fault.

@@ -1,16 +1,14 @@
-use Rattle.std.proofs.Common.{arith}
 use Rattle.std.proofs.lemmas.Result.{err_from_is_err_and, IfErr-weaker}
 use Rattle.record_text.specs.Records.{records_of}
-use Rattle.record_text.proofs.WalkLaws.{counted-few, taken-after}
-use Rattle.world_records.proofs.RecordLaws.{few-records}
+use Rattle.record_text.proofs.WalkLaws.{taken-after}
 use Rattle.fixed_plans.specs.Faults.{AreFaulty}
 use Rattle.fixed_plans.specs.Records.{header}
 use Rattle.fixed_plans.specs.Drafts.{HasTaken}
-use Rattle.fixed_plans.proofs.TextLaws.{first-fault, records-refuse, taken-none, taken-placed}
+use Rattle.fixed_plans.proofs.TextLaws.{first-fault, records-refuse, taken-few, taken-none, taken-placed}
 use Rattle.fixed_plans.proofs.texts.read_fixed_plan.Goals as goal
 
 pub take_records-requires-clause-few : goal.take_records-requires-clause-few
-take_records-requires-clause-few c = counted-few _ _ (omega (arith, few-records c.args.bytes.now, c.requires))
+take_records-requires-clause-few c = taken-few c.args.net.now c.nodes-nodes.ensures.network (records_of c.args.bytes.now)
 
 pub take_records-requires-clause-none : goal.take_records-requires-clause-none
 take_records-requires-clause-none c = taken-none c.args.net.now _ c.none-draft.ensures.rows c.none-draft.ensures.last
