@@ -1,6 +1,5 @@
 mod NearLaws
 mod LineLaws
 mod OneRun
-mod ReportLaws
 mod RunLaws
 mod WorkedRows
