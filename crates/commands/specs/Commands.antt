@@ -28,7 +28,8 @@ use Rattle.commands.specs.Answers.{answer_text}
 use Rattle.commands.specs.Controllers.{AreFactors, BringTooMuch, IsActuatedReport, IsComparison, IsComparisonWith, IsFixedReport, IsScaleTable, factors}
 use Rattle.commands.specs.Headline.{Headline, IsGridSummary, IsPlannedText, ToldHeadline}
 use Rattle.commands.specs.Limits.{most_bytes}
-use Rattle.commands.specs.Texts.{AllSaid, CertificateText, InstanceText, NetworkText, Next, NoMore, IsTextFor, Texts, history_texts, network_texts, plan_texts, sheet_texts}
+use Rattle.commands.specs.Rounds.{IsDecisionText, IsNodeDecisionText}
+use Rattle.commands.specs.Texts.{AllSaid, CertificateText, InstanceText, NetworkText, Next, NoMore, IsTextFor, Texts, history_texts, network_texts, plan_texts, sheet_texts, state_texts}
 use Rattle.commands.specs.Verdicts.{accepted_line, rejected_line, unclean_line}
 use Rattle.commands.specs.declared.words.Command.{Command}
 use Rattle.commands.specs.declared.words.Command.TheVariants as command
@@ -51,6 +52,8 @@ pub data Call : Type 0 where
   Compare : (net arr : List ℕ) → Call
   CompareFixed : (net arr plan : List ℕ) → Call
   Scale : (net arr : List ℕ) → (first last step : ℕ) → Call
+  Decide : (net state : List ℕ) → Call
+  DecideNode : (net state node : List ℕ) → Call
   Audit : (net arr report : List ℕ) → Call
   Queues : (net arr report : List ℕ) → Call
   Grid : (number side rounds : ℕ) → Call
@@ -72,6 +75,8 @@ words_of (Fixed net arr plan) = codes "fixed" ∷ net ∷ arr ∷ plan ∷ []
 words_of (Compare net arr) = codes "compare" ∷ net ∷ arr ∷ []
 words_of (CompareFixed net arr plan) = codes "compare" ∷ net ∷ arr ∷ plan ∷ []
 words_of (Scale net arr first last step) = codes "scale" ∷ net ∷ arr ∷ decimal first ∷ decimal last ∷ decimal step ∷ []
+words_of (Decide net state) = codes "decide" ∷ net ∷ state ∷ []
+words_of (DecideNode net state node) = codes "decide" ∷ net ∷ state ∷ node ∷ []
 words_of (Audit net arr report) = codes "audit" ∷ net ∷ arr ∷ report ∷ []
 words_of (Queues net arr report) = codes "queues" ∷ net ∷ arr ∷ report ∷ []
 words_of (Grid number side rounds) = codes "grid" ∷ decimal number ∷ decimal side ∷ decimal rounds ∷ []
@@ -85,16 +90,18 @@ IsWithin (Scale net arr first last step) = AreFactors first last step
 IsWithin (Grid number side rounds) = (number < 2 ^ 64) × IsSide side × AreRounds rounds
 IsWithin _ = Unit {0}
 
--- a command that runs a network under other controllers than the planners, or under several
+-- a command that runs a network under other controllers than the planners, or under several, or decides a round of it
 abbrev pub IsOfControllers : Call → Type 0
 IsOfControllers (Actuate net arr) = Unit {0}
 IsOfControllers (Fixed net arr plan) = Unit {0}
 IsOfControllers (Compare net arr) = Unit {0}
 IsOfControllers (CompareFixed net arr plan) = Unit {0}
 IsOfControllers (Scale net arr first last step) = Unit {0}
+IsOfControllers (Decide net state) = Unit {0}
+IsOfControllers (DecideNode net state node) = Unit {0}
 IsOfControllers _ = ⊥
 
--- a command over a network and what enters it
+-- a command over a network, and what enters it or a state of it
 abbrev pub IsOverNetwork : Call → Type 0
 IsOverNetwork (Turns net arr) = Unit {0}
 IsOverNetwork (Replay net arr hist) = Unit {0}
@@ -125,6 +132,8 @@ texts_of (Fixed net arr plan) = plan_texts net arr plan
 texts_of (Compare net arr) = network_texts net arr (λ network. NoMore)
 texts_of (CompareFixed net arr plan) = plan_texts net arr plan
 texts_of (Scale net arr first last step) = network_texts net arr (λ network. NoMore)
+texts_of (Decide net state) = state_texts net state
+texts_of (DecideNode net state node) = state_texts net state
 texts_of (Audit net arr report) = sheet_texts net arr report
 texts_of (Queues net arr report) = sheet_texts net arr report
 texts_of (Grid number side rounds) = NoMore
@@ -144,8 +153,8 @@ IsWholeCertificate p bytes =
     (c : Claim) × (c.problem ≡ p) × IsWhole c.problem c.entries × IsBest c.problem c.answer × (bytes ≡ certificate_text c)
     × IsAcceptedText bytes c
 
--- what is written where the work is done; of the texts of a network `said.0` is the network, `said.1.0` what enters it, and
--- `said.1.1.0` the history, the sheet or the rows of the fixed plan
+-- what is written where the work is done; of the texts of a network `said.0` is the network, `said.1.0` what enters it or a state of
+-- it, and `said.1.1.0` the history, the sheet or the rows of the fixed plan
 abbrev pub IsTextOf : (call : Call) → AllSaid (texts_of call) → List ℕ → Type 0
 IsTextOf (Plan file) said bytes = (answer : Answer) × IsBest said.0 answer × IsLeast said.0 answer × (bytes ≡ answer_text answer)
 IsTextOf (Certify file) said bytes = IsWholeCertificate said.0 bytes
@@ -161,6 +170,8 @@ IsTextOf (Fixed net arr plan) said bytes = IsFixedReport said.0 said.1.0 said.1.
 IsTextOf (Compare net arr) said bytes = IsComparison said.0 said.1.0 bytes
 IsTextOf (CompareFixed net arr plan) said bytes = IsComparisonWith said.0 said.1.0 said.1.1.0 bytes
 IsTextOf (Scale net arr first last step) said bytes = IsScaleTable said.0 said.1.0 first last step bytes
+IsTextOf (Decide net state) said bytes = IsDecisionText said.0 said.1.0 bytes
+IsTextOf (DecideNode net state node) said bytes = IsNodeDecisionText said.0 said.1.0 node bytes
 IsTextOf (Audit net arr report) said bytes =
     IsClean said.0 (arriving_by said.1.0) said.1.1.0 × IsSafe said.0 (line_in said.1.1.0.lines) × (bytes ≡ accepted_line)
 IsTextOf (Queues net arr report) said bytes =
@@ -192,6 +203,7 @@ IsRejectionOf _ said bytes = ⊥
 abbrev pub IsMissing : (call : Call) → AllSaid (texts_of call) → Named → Type 0
 IsMissing (Instance net arr hist node round) said Node = number_of said.0.node_names node ≡ None
 IsMissing (Instance net arr hist node round) said Round = IsSome (number_of said.0.node_names node) × (said.0.run.rounds ≤ round)
+IsMissing (DecideNode net state node) said Node = number_of said.0.node_names node ≡ None
 IsMissing (Scale net arr first last step) said Factor = BringTooMuch said.0 said.1.0 (factors first last step)
 IsMissing _ said what = ⊥
 
@@ -215,6 +227,8 @@ call_of (command.Fixed net arr plan) = Fixed net.now arr.now plan.now
 call_of (command.Compare net arr) = Compare net.now arr.now
 call_of (command.CompareFixed net arr plan) = CompareFixed net.now arr.now plan.now
 call_of (command.Scale net arr first last step) = Scale net.now arr.now first last step
+call_of (command.Decide net state) = Decide net.now state.now
+call_of (command.DecideNode net state node) = DecideNode net.now state.now node.now
 call_of (command.Audit net arr report) = Audit net.now arr.now report.now
 call_of (command.Queues net arr report) = Queues net.now arr.now report.now
 call_of (command.Grid number side rounds) = Grid number side rounds

@@ -7,6 +7,7 @@ pub mod Headline
 pub mod Limits
 pub mod Outcome
 pub mod Refusals
+pub mod Rounds
 pub mod Stops
 pub mod Summary
 pub mod Texts

@@ -89,6 +89,17 @@ pub enum Command<'a> {
         last: u32,
         step: u32,
     },
+    /// Writes what is decided in the round of a state.
+    Decide {
+        net: &'a str,
+        state: &'a str,
+    },
+    /// Writes what one node decides in the round of a state.
+    DecideNode {
+        net: &'a str,
+        state: &'a str,
+        node: &'a str,
+    },
     /// Writes the verdict on what a report says of greens and totals.
     Audit {
         net: &'a str,
@@ -191,7 +202,7 @@ fn network_command<'a>(word: &str, rest: &'a [Text]) -> Option<Command<'a>>
     }
 }
 
-// The command of this word that runs a network under several controllers, with these words after it.
+// The command of this word that runs a network under several controllers or decides a round of it, with these words after it.
 fn controllers_command<'a>(word: &str, rest: &'a [Text]) -> Option<Command<'a>>
     ensures some { IfSome result (λ command. IsCall (word.now ∷ rest.now) (call_of command)) }
     ensures none { IfNone result ((call : Call) → IsOfControllers call → ¬ IsCall (word.now ∷ rest.now) call) }
@@ -206,6 +217,7 @@ fn controllers_command<'a>(word: &str, rest: &'a [Text]) -> Option<Command<'a>>
             Some(Command::Fixed { net, arr, plan })
         }
         "compare" => comparison_of(rest),
+        "decide" => decision_of(rest),
         "scale" => {
             let (net, arr, first, last, step) = two_words_and_factors(rest)?;
             Some(Command::Scale {
@@ -234,6 +246,25 @@ fn comparison_of(words: &[Text]) -> Option<Command<'_>>
             net: net.as_str(),
             arr: arr.as_str(),
             plan: plan.as_str(),
+        }),
+        _ => None,
+    }
+}
+
+// The decision of a round, or that of one node, where the words are those after `decide`.
+fn decision_of(words: &[Text]) -> Option<Command<'_>>
+    ensures some { IfSome result (λ command. IsCall (codes "decide" ∷ words.now) (call_of command)) }
+    ensures none { IfNone result ((call : Call) → ¬ IsCall (codes "decide" ∷ words.now) call) }
+{
+    match words {
+        [net, state] => Some(Command::Decide {
+            net: net.as_str(),
+            state: state.as_str(),
+        }),
+        [net, state, node] => Some(Command::DecideNode {
+            net: net.as_str(),
+            state: state.as_str(),
+            node: node.as_str(),
         }),
         _ => None,
     }
