@@ -1,5 +1,5 @@
 -- What a node sees of its entry links.
-use Rattle.std.specs.Prelude.{ℕ, zero, suc, ◌+◌, ◌-◌, nat_lt, if◌then◌else◌, map}
+use Rattle.std.specs.Prelude.{ℕ, zero, suc, ◌+◌, ◌-◌, nat_lt, if◌then◌else◌, map, sum, take}
 use Rattle.std.specs.List.{range_with_len}
 use Rattle.net_numbers.specs.Numbers.{Net}
 use Rattle.net_numbers.specs.Outline.{link_at}
@@ -25,6 +25,14 @@ link_sense net past n l = record {
   coming = map (coming net past n l) (range_with_len 0 (link_at net l).travel);
   stood = stood net past n l;
 }
+
+-- what is near on a link that is seen: its queue, and what reaches its end now and in each of the next `gap` seconds
+abbrev pub near_of : LinkSense → ℕ → ℕ
+near_of seen gap = seen.queue + sum (take (gap + 1) seen.coming)
+
+-- what is near on a link in second n
+abbrev pub near_on : Net → (ℕ → ℕ → Passed) → ℕ → ℕ → ℕ → ℕ
+near_on net past n gap l = near_of (link_sense net past n l) gap
 
 -- what a node sees in second n
 abbrev pub sense : Net → (ℕ → ℕ → Passed) → ℕ → ℕ → Sensed

@@ -7,6 +7,7 @@ pub mod link_seconds;
 pub mod rows;
 mod seconds;
 pub mod sensing;
+pub mod starts;
 mod totals;
 mod world;
 

@@ -1,8 +1,9 @@
 //! What a node sees, by what a world keeps.
 
-ghost use Rattle.std.specs.Prelude.{◌≡◌, ◌+◌, ◌-◌, ◌*◌, ◌≤◌, ◌<◌, All, IfOk, OnOk, length, map, slice_index};
+ghost use Rattle.std.specs.Prelude.{◌≡◌, ◌+◌, ◌-◌, ◌*◌, ◌≤◌, ◌<◌, ◌^◌, All, IfOk, OnOk, length, map, slice_index};
 ghost use Rattle.net_numbers.specs.Outline.{link_at};
 ghost use Rattle.net_simulator.specs.LinkSeconds.{seen_by};
+ghost use Rattle.net_simulator.specs.Senses.{near_of};
 
 use super::rows;
 use foundation::items::Items;
@@ -53,6 +54,29 @@ pub fn sense_links(
         see(alloc, sight, link, &mut senses[place])?;
     }
     Ok(senses)
+}
+
+/// What is near on a link, in thousandths of a vehicle: its queue, and what reaches its end in this second and in each of
+/// the next `gap` ones, as far as that is on the link. It is the sum of what `sense_links` answers of the link.
+///
+/// docs/RULES.md, "Actuated control".
+pub fn near_amount(sight: &Sight, link: u32, gap: u32) -> u32
+    requires link { link < length sight.now.net.now.link_names }
+    requires queues { length sight.now.queues.now ≡ length sight.now.net.now.link_names }
+    requires recent { length sight.now.recent.now ≡ length sight.now.net.now.link_names * 128 }
+    requires second { sight.now.second ≤ 18000 }
+    requires fits { near_of (seen_by sight.now.net.now sight.now.queues.now sight.now.recent.now
+        sight.now.stood.now sight.now.second link) gap < 2 ^ 32 }
+    ensures { result ≡ near_of (seen_by sight.now.net.now sight.now.queues.now sight.now.recent.now
+        sight.now.stood.now sight.now.second link) gap }
+{
+    let travel = sight.net.link(link).travel;
+    let first = sight.second + 128 - travel;
+    let mut near = sight.queues[link as usize];
+    for i in 0..travel.min(gap.saturating_add(1)) {
+        near += rows::at(sight.recent, link, first + i);
+    }
+    near
 }
 
 /// What is known of a link that is not seen yet.

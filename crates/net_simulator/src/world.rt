@@ -8,14 +8,15 @@ ghost use Rattle.net_numbers.specs.Numbers.{Net};
 ghost use Rattle.net_simulator.specs.Arriving.{arriving_of};
 ghost use Rattle.net_simulator.specs.Counts.{counts_at, no_totals, IsBalanced};
 ghost use Rattle.net_simulator.specs.Flow.{past_of};
-ghost use Rattle.net_simulator.specs.Senses.{sense};
+ghost use Rattle.net_simulator.specs.Senses.{near_on, sense};
 ghost use Rattle.net_simulator.specs.Worlds.{WorldState, Stands, IsWorldOf, standing_by};
 ghost use Rattle.road_net.specs.Senses.{IsSensedOf};
 
 use super::lights::Lights;
 use super::link_seconds::{look, remember};
 use super::seconds;
-use super::sensing::{Sight, sense_links};
+use super::sensing::{Sight, near_amount, sense_links};
+use super::starts::{no_greens, zeros};
 use super::totals::{LinkTotals, Totals};
 use arrivals::Arrivals;
 use control_flow::greens::Green;
@@ -184,6 +185,31 @@ impl World {
         })
     }
 
+    /// What is near on a link of the network, in thousandths of a vehicle: its queue, and what reaches its end in this second
+    /// and in each of the next `gap` ones, as far as that is on the link. It is of what `sense` answers to the node where the
+    /// link ends, and takes no list.
+    ///
+    /// docs/RULES.md, "Actuated control".
+    pub fn near(&self, net: &Network, link: u32, gap: u32) -> u32
+        requires link { link < length net.now.link_names }
+        requires world { IsWorldOf net.now self.now }
+        ensures { (arriving : ℕ → ℕ → ℕ) (lines : ℕ → List Green)
+            → Stands net.now arriving (standing_by lines) self.now
+            → result ≡ near_on net.now (past_of net.now arriving (standing_by lines) self.now.second)
+            self.now.second gap link }
+    {
+        // Called for its clause `network`.
+        let _ = net.links();
+        let sight = Sight {
+            net,
+            queues: self.queues.as_slice(),
+            recent: self.recent.as_slice(),
+            stood: self.stood.as_slice(),
+            second: self.second,
+        };
+        near_amount(&sight, link, gap)
+    }
+
     /// Moves by `seconds` seconds under these lights, up to second 18,000.
     ///
     /// docs/RULES.md, "World".
@@ -317,13 +343,6 @@ pub fn law_of_lights()
         → Stands net arriving (standing_by others) w }
 {}
 
-/// `count` zeros.
-fn zeros(alloc: Global, n: usize) -> Result<Vec<u32>, AllocError>
-    ensures { IfOk result (λ v. v.items ≡ replicate n 0) }
-{
-    vec![in alloc; 0; n]
-}
-
 /// What is counted at second 0 of `links` links.
 fn no_counts(alloc: Global, n: usize) -> Result<Vec<LinkTotals>, AllocError>
     ensures { IfOk result (λ v. v.items ≡ replicate n no_totals) }
@@ -334,12 +353,4 @@ fn no_counts(alloc: Global, n: usize) -> Result<Vec<LinkTotals>, AllocError>
         delay: 0,
     };
     vec![in alloc; nothing; n]
-}
-
-/// Capacity for what `nodes` nodes show.
-fn no_greens(alloc: Global, n: usize) -> Result<Vec<Option<Green>>, AllocError>
-    ensures { IfOk result (λ v. length v.items ≡ n) }
-{
-    let none: Option<Green> = None;
-    vec![in alloc; none; n]
 }

@@ -1,0 +1,18 @@
+use Rattle.std.proofs.Common.{◌∙◌, arith}
+use Rattle.net_simulator.specs.Arriving.{arriving_of}
+use Rattle.net_simulator.proofs.Seeing.{near-fits, near-gathered}
+use Rattle.net_simulator.proofs.world.World.near.Goals as goal
+
+pub near_amount-requires-clause-fits : goal.near_amount-requires-clause-fits
+near_amount-requires-clause-fits c =
+    let world = c.requires.world in
+    omega (
+      arith,
+      near-gathered c.args.net.now c.args.self.now _ _ _ _ c.args.gap c.args.link c.links.ensures.network c.self.view_is c.as_slice.ensures.value c.as_slice-2.ensures.value c.as_slice-3.ensures.value c.requires.link (arriving_of world.arrivals) world.lines world.stands,
+      near-fits c.args.net.now c.args.self.now c.args.gap c.args.link c.links.ensures.network world c.requires.link,
+    )
+
+pub returns : goal.returns
+returns c arriving lines stands =
+    c.near_amount.ensures
+    ∙ near-gathered c.args.net.now c.args.self.now _ _ _ _ c.args.gap c.args.link c.links.ensures.network c.self.view_is c.as_slice.ensures.value c.as_slice-2.ensures.value c.as_slice-3.ensures.value c.requires.link arriving lines stands
