@@ -1,5 +1,9 @@
+pub mod Acting
+pub mod LineLaws
 mod NearLaws
 mod LineLaws
 mod OneRun
+pub mod OneRun
+mod ReportLaws
 mod RunLaws
 mod WorkedRows

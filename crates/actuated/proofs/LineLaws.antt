@@ -61,22 +61,12 @@ module _ (net : Net) (network : IsNetwork net) (node : ℕ) (below : node < leng
       subst (KeepsLine (plan_at net node) old n) (sym next.is) (spliced-keeps (plan_at net node) old n next.head _ plan line next.at (act-next (plan_at net node) next.head _ (n + net.run.look) plan head (omega arith)))
 
 -- what a node makes of its line
-pub renewed : (net : Net) (w : WorldState) (node : ℕ) (old next new : List Green) (head : Head) (sensed : Sensed) (calls : List ℕ) (until : ℕ)
-    → net.run.step ≤ net.run.look → head_at (plan_at net node) old w.second ≡ Some head
-    → next ≡ act_line (plan_at net node) head calls until → calls ≡ map (calling net node sensed) (range_with_len 0 (length (plan_at net node))) → until ≡ w.second + net.run.look
-    → ((arriving : ℕ → ℕ → ℕ) (lines : ℕ → List Green) → Stands net arriving (standing_by lines) w → sensed ≡ sense net (past_of net arriving (standing_by lines) w.second) w.second node)
-    → new ≡ spliced old next → IsContinued (plan_at net node) old w.second next new → BeginBy 100000 old → BeginBy 100000 next → until < end_of next
-    → IsRenewed net w node old new
-renewed net w node old next new head sensed calls until within at made called soon seen is continued first more ends = record {
-  next = λ arriving lines stands. record {
-    head = head;
-    at = at;
-    is =
-        is
-        ∙ ap (spliced old) (made
-        ∙ ap (λ (cs : List ℕ). act_line (plan_at net node) head cs until) (called ∙ ap (λ (s : Sensed). map (calling net node s) (range_with_len 0 (length (plan_at net node)))) (seen arriving lines stands))
-        ∙ ap (λ u. act_line (plan_at net node) head (map (calling net node (sense net (past_of net arriving (standing_by lines) w.second) w.second node)) (range_with_len 0 (length (plan_at net node)))) u) soon);
-  };
+pub renewed : (net : Net) (s node : ℕ) (old next new : List Green) (head : Head) (calls : List ℕ) (until : ℕ)
+    → net.run.step ≤ net.run.look → head_at (plan_at net node) old s ≡ Some head → next ≡ act_line (plan_at net node) head calls until → until ≡ s + net.run.look
+    → new ≡ spliced old next → IsContinued (plan_at net node) old s next new → BeginBy 100000 old → BeginBy 100000 next → until < end_of next
+    → IsRenewed net calls s node old new
+renewed net s node old next new head calls until within at made soon is continued first more ends = record {
+  next = record { head = head; at = at; is = is ∙ ap (spliced old) (made ∙ ap (act_line (plan_at net node) head calls) soon) };
   past = continued.past;
   ready = record { lawful = continued.lawful; begins = continued.begins_by 100000 first more; ahead = omega (arith, continued.end, ends, soon, within) };
 }

@@ -27,11 +27,15 @@ first_line net node = rotation_of (plan_at net node) first_head 0
 abbrev pub calls_at : Net → (ℕ → ℕ → Passed) → ℕ → ℕ → List ℕ
 calls_at net past n node = map (calling net node (sense net past n node)) (range_with_len 0 (length (plan_at net node)))
 
--- the next line of a node in second n: the old one, spliced with that from its head by what the node senses
-pub record IsNextLine (net : Net) (past : ℕ → ℕ → Passed) (n node : ℕ) (old next : List Green) : Type 0 where
+-- the next line of a node in second n by what calls for its phases: the old one, spliced with that from its head
+pub record IsNextBy (net : Net) (calls : List ℕ) (n node : ℕ) (old next : List Green) : Type 0 where
   pub head : Head
   pub at : head_at (plan_at net node) old n ≡ Some head
-  pub is : next ≡ spliced old (act_line (plan_at net node) head (calls_at net past n node) (n + net.run.look))
+  pub is : next ≡ spliced old (act_line (plan_at net node) head calls (n + net.run.look))
+
+-- the same by what the node senses
+abbrev pub IsNextLine : Net → (ℕ → ℕ → Passed) → ℕ → ℕ → List Green → List Green → Type 0
+IsNextLine net past n node old next = IsNextBy net (calls_at net past n node) n node old next
 
 -- a node acts in a round: its line becomes the next one when the round begins
 abbrev pub Acts : Net → ((ℕ → ℕ → Option (ℕ × ℕ)) → ℕ → ℕ → ℕ → Passed) → (ℕ → ℕ → List Green) → ℕ → ℕ → Type 0

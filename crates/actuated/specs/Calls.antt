@@ -1,6 +1,6 @@
 -- A controller that holds a green while it is called for, and else lets the ring turn.
-use Rattle.std.specs.Prelude.{ℕ, ◌+◌, ◌||◌, nat_lt, not, Bool, if◌then◌else◌, List, sum, sum_by, take, drop}
-use Rattle.std.specs.List.{list_any}
+use Rattle.std.specs.Prelude.{ℕ, ◌+◌, ◌||◌, nat_lt, not, Bool, if◌then◌else◌, List, length, map, sum_by, take, drop}
+use Rattle.std.specs.List.{list_any, range_with_len}
 use Rattle.phase_plan.specs.Phases.{phase_at}
 use Rattle.phase_plan.specs.declared.Phase.{Phase}
 use Rattle.switch_rules.specs.Serving.{earliest_end}
@@ -9,16 +9,21 @@ use Rattle.clusters.specs.Inflow.{sense_of}
 use Rattle.control_flow.specs.Timelines.{calls_for, stops_at, turned}
 use Rattle.control_flow.specs.declared.greens.Green.{Green}
 use Rattle.net_numbers.specs.Numbers.{Net}
-use Rattle.net_numbers.specs.Outline.{phase_links_at}
+use Rattle.net_numbers.specs.Outline.{phase_links_at, plan_at}
+use Rattle.net_simulator.specs.Senses.{near_of}
 use Rattle.road_net.specs.declared.senses.Sensed.{Sensed}
 
 -- what waits at the end of a link, or reaches it now or within so many seconds after
 abbrev pub amount_near : Sensed → ℕ → ℕ → ℕ
-amount_near sensed gap link = (sense_of sensed link).queue + sum (take (gap + 1) (sense_of sensed link).coming)
+amount_near sensed gap link = near_of (sense_of sensed link) gap
 
 -- what calls for a phase of a node: what is near on its links
 abbrev pub calling : Net → ℕ → Sensed → ℕ → ℕ
 calling net node sensed k = sum_by (amount_near sensed net.run.gap) (phase_links_at net node k)
+
+-- what calls for each phase of a node, where this is near on each link
+abbrev pub calls_by : Net → (ℕ → ℕ) → ℕ → List ℕ
+calls_by net near node = map (λ k. sum_by near (phase_links_at net node k)) (range_with_len 0 (length (plan_at net node)))
 
 -- whether another phase than this is called
 abbrev pub another_calls : List ℕ → ℕ → Bool

@@ -10,14 +10,16 @@ ghost use Rattle.net_simulator.specs.Worlds.{line_in};
 ghost use Rattle.signal_safety.specs.Safe.{IsSafe};
 ghost use Rattle.sheets.specs.Texts.{HasShape};
 ghost use Rattle.actuated.specs.ActRuns.{IsActRun, ShowsGreens, sheet_of};
-ghost use Rattle.actuated.specs.Rounds.{HaveActed};
+ghost use Rattle.actuated.specs.Rounds.{HavePlayed};
 ghost use Rattle.actuated.specs.declared.records.ActRecord as spec;
 
 use super::records::ActRecord;
-use super::renewing::{Lists, first_lines, renew_lines};
+use super::renewing::{first_lines, renew_lines};
+use super::sensing::sense_near;
 use arrivals::Arrivals;
 use control_flow::greens::Timeline;
 use foundation::items::Items;
+use net_simulator::starts::zeros;
 use net_simulator::{Lines, LinkTotals, World};
 use road_net::Network;
 use std::alloc::{AllocError, Global};
@@ -80,16 +82,23 @@ fn play_rounds(
     world: &mut World,
 ) -> Result<(), AllocError>
     requires arrivals { AreArrivals net.now arrivals.now }
-    requires first { HaveActed net.now (arriving_of arrivals.now) 0 lines.old.items world.old }
-    ensures { OnOk result (HaveActed net.now (arriving_of arrivals.now) net.now.run.rounds lines.new.items world.new) }
+    requires first { HavePlayed net.now (arriving_of arrivals.now) 0 lines.old.items world.old }
+    ensures { OnOk result (HavePlayed net.now (arriving_of arrivals.now) net.now.run.rounds
+        lines.new.items world.new) }
 {
-    let mut lists = Lists {
-        calls: Vec::with_capacity(alloc, 4)?,
-        sensed: Vec::new(alloc),
-    };
+    let mut near = zeros(alloc, net.links() as usize)?;
+    let mut calls = Vec::with_capacity(alloc, 4)?;
     let run = net.run();
     for _round in 0..run.rounds {
-        renew_lines(alloc, net, world, lines, &mut lists)?;
+        sense_near(near.as_mut_slice(), net, world);
+        renew_lines(
+            alloc,
+            net,
+            world.now(),
+            near.as_slice(),
+            lines,
+            &mut calls,
+        )?;
         world.advance(
             net,
             &Lines {

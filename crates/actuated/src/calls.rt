@@ -1,7 +1,6 @@
-//! What calls for the phases of a node.
+//! What calls for a phase of a node, by what the node sensed.
 
-ghost use Rattle.std.specs.Prelude.{◌≡◌, ◌≢◌, ◌<◌, ◌≤◌, AllPairs, IfOk, OnOk, length, map, sum, sum_by};
-ghost use Rattle.std.specs.List.{range_with_len};
+ghost use Rattle.std.specs.Prelude.{◌≡◌, ◌≢◌, ◌<◌, ◌≤◌, AllPairs, length, sum, sum_by};
 ghost use Rattle.net_numbers.specs.Outline.{plan_at};
 ghost use Rattle.road_net.specs.Senses.{IsSensedOf, amount};
 ghost use Rattle.actuated.specs.Calls as spec;
@@ -9,7 +8,6 @@ ghost use Rattle.actuated.specs.Calls.{calling, amount_near};
 
 use clusters::sensed_of;
 use road_net::{Network, Sensed};
-use std::alloc::AllocError;
 
 /// What calls for a phase of a node, in thousandths of a vehicle: on the links of the phase, what waits
 /// at their ends, and what reaches these in this second and in each of the next `gap` ones.
@@ -24,25 +22,6 @@ pub fn calling(net: &Network, node: u32, sensed: &Sensed, phase: u8) -> u32
     ensures { result ≡ calling net.now node sensed.entry.now phase }
 {
     all_near_amounts(sensed, net.run().gap, net.phase_links(node, phase))
-}
-
-/// What calls for each phase of a node, written into a list. `Err`: out of memory.
-pub(crate) fn list_calls(
-    net: &Network,
-    node: u32,
-    sensed: &Sensed,
-    calls: &mut Vec<u32>,
-) -> Result<(), AllocError>
-    requires node { node < length net.now.node_names }
-    requires sensed { IsSensedOf net.now node sensed.now }
-    ensures { OnOk result (calls.new.items
-        ≡ map (calling net.now node sensed.entry.now) (range_with_len 0 (length (plan_at net.now node)))) }
-{
-    calls.clear();
-    for phase in 0..net.plan(node).count() {
-        calls.push(calling(net, node, sensed, phase))?;
-    }
-    Ok(())
 }
 
 /// What is near on these links.

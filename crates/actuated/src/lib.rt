@@ -6,11 +6,14 @@ mod act_lines;
 mod act_reports;
 mod act_runs;
 mod calls;
+mod near_calls;
 mod records;
 mod renewing;
+mod sensing;
 
 pub use act_lines::act_line;
 pub use act_reports::act_report;
 pub use act_runs::{law_of_one_run, run_actuated};
 pub use calls::calling;
 pub use records::ActRecord;
+pub use renewing::{first_lines, renew_lines};

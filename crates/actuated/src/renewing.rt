@@ -1,29 +1,18 @@
 //! How the timelines of the nodes go on when a round begins.
 
-ghost use Rattle.std.specs.Prelude.{◌≡◌, ℕ, ◌<◌, IfOk, OnOk, length};
+ghost use Rattle.std.specs.Prelude.{◌≡◌, ℕ, ◌<◌, ◌≤◌, IfOk, OnOk, length};
 ghost use Rattle.net_numbers.specs.Outline.{plan_at};
-ghost use Rattle.net_simulator.specs.Worlds.{IsWorldOf, line_in};
+ghost use Rattle.net_simulator.specs.Worlds.{line_in};
 ghost use Rattle.actuated.specs.ActRuns as spec;
-ghost use Rattle.actuated.specs.Rounds.{AreFirstLines, AreRenewed, IsReady, IsRenewed};
+ghost use Rattle.actuated.specs.Rounds.{AreAmounts, AreFirstLines, AreRenewed, IsReady, IsRenewed};
 
 use super::act_lines::act_line;
-use super::calls::list_calls;
+use super::near_calls::list_calls;
 use control_flow::greens::Timeline;
 use control_flow::{head_at, rotation};
-use net_simulator::World;
-use road_net::{LinkSense, Network};
+use road_net::Network;
 use std::alloc::{AllocError, Global};
-use std::mem::replace;
 use switch_rules::Head;
-
-/// Lists that are written anew for each node, and whose memory is kept.
-#[derive(Drop)]
-pub(crate) struct Lists {
-    /// What calls for each phase.
-    pub(crate) calls: Vec<u32>,
-    /// What is sensed of each link.
-    pub(crate) sensed: Vec<LinkSense>,
-}
 
 /// The first timeline of a node.
 fn first_line(alloc: Global, net: &Network, node: u32) -> Result<Timeline, AllocError>
@@ -43,8 +32,10 @@ fn first_line(alloc: Global, net: &Network, node: u32) -> Result<Timeline, Alloc
     rotation(alloc, plan, &first, 0)
 }
 
-/// The first timelines of all nodes.
-pub(crate) fn first_lines(alloc: Global, net: &Network) -> Result<Vec<Timeline>, AllocError>
+/// The first timelines of all nodes, with which a run begins: the ring turns from second 0. `Err`: out of memory.
+///
+/// docs/RULES.md, "Actuated control".
+pub fn first_lines(alloc: Global, net: &Network) -> Result<Vec<Timeline>, AllocError>
     ensures { IfOk result (λ lines. AreFirstLines net.now (length net.now.node_names) lines.items) }
 {
     let mut lines = Vec::with_capacity(alloc, net.nodes() as usize)?;
@@ -54,54 +45,61 @@ pub(crate) fn first_lines(alloc: Global, net: &Network) -> Result<Vec<Timeline>,
     Ok(lines)
 }
 
-/// A node's timeline goes on by what the node senses. What it senses and what calls is written into these lists.
+/// A node's timeline goes on in second `now` by what calls for its phases.
 fn renew_line(
     alloc: Global,
     net: &Network,
-    world: &World,
+    now: u32,
     node: u32,
+    calls: &[u32],
     line: &mut Timeline,
-    lists: &mut Lists,
 ) -> Result<(), AllocError>
+    requires now { now ≤ 18000 }
     requires node { node < length net.now.node_names }
-    requires world { IsWorldOf net.now world.now }
-    requires ready { IsReady (plan_at net.now node) world.now.second line.old }
-    ensures { OnOk result (IsRenewed net.now world.now node line.old line.new) }
+    requires calls { length calls.now ≡ length (plan_at net.now node) }
+    requires ready { IsReady (plan_at net.now node) now line.old }
+    ensures { OnOk result (IsRenewed net.now calls.now now node line.old line.new) }
 {
     let plan = net.plan(node);
-    let now = world.now();
-    let spare = replace(&mut lists.sensed, Vec::new(alloc));
-    let sensed = world.sense_again(alloc, net, node, spare)?;
-    list_calls(net, node, &sensed, &mut lists.calls)?;
     let head = head_at(plan, line, now);
-    let next = act_line(
-        alloc,
-        plan,
-        &head,
-        lists.calls.as_slice(),
-        now + net.run().look,
-    )?;
+    let next = act_line(alloc, plan, &head, calls, now + net.run().look)?;
     line.splice(next)?;
-    lists.sensed = sensed.links.into_vec();
     Ok(())
 }
 
-/// The timeline of each node goes on.
-pub(crate) fn renew_lines(
+/// The timeline of each node goes on when a round begins in second `now`, at most 18,000, by what calls for the node's
+/// phases: what is near on the links that they serve. `near` says what is near on each link, whatever the world is; in
+/// `calls` is written what calls for the phases of a node.
+///
+/// `Err`: out of memory.
+///
+/// docs/RULES.md, "Actuated control".
+pub fn renew_lines(
     alloc: Global,
     net: &Network,
-    world: &World,
+    now: u32,
+    near: &[u32],
     lines: &mut Vec<Timeline>,
-    lists: &mut Lists,
+    calls: &mut Vec<u32>,
 ) -> Result<(), AllocError>
-    requires world { IsWorldOf net.now world.now }
+    requires now { now ≤ 18000 }
+    requires near { AreAmounts net.now near.now }
     requires count { length lines.old.items ≡ length net.now.node_names }
     requires ready { (node : ℕ) → node < length net.now.node_names
-        → IsReady (plan_at net.now node) world.now.second (line_in lines.old.items node) }
-    ensures { OnOk result (AreRenewed net.now world.now (length net.now.node_names) lines.old.items lines.new.items) }
+        → IsReady (plan_at net.now node) now (line_in lines.old.items node) }
+    ensures { OnOk result (AreRenewed net.now near.now now (length net.now.node_names)
+        lines.old.items lines.new.items) }
 {
     for node in 0..net.nodes() {
-        renew_line(alloc, net, world, node, &mut lines[node as usize], lists)?;
+        list_calls(net, node, near, calls)?;
+        renew_line(
+            alloc,
+            net,
+            now,
+            node,
+            calls.as_slice(),
+            &mut lines[node as usize],
+        )?;
     }
     Ok(())
 }

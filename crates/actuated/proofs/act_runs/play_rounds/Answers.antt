@@ -1,22 +1,38 @@
-use Rattle.std.proofs.Common.{◌+◌, List, sym, ap, subst, ◌∙◌}
+use Rattle.std.proofs.Common.{◌≡◌, ◌+◌, List, length, sym, ap, subst, ◌∙◌, arith}
 use Rattle.control_flow.specs.declared.greens.Green.{Green}
+use Rattle.clusters.proofs.SeenLaws.{written}
 use Rattle.net_draft.specs.declared.drafts.Run.{Run}
 use Rattle.net_simulator.specs.Arriving.{arriving_of}
+use Rattle.net_simulator.specs.Flow.{past_of}
 use Rattle.net_simulator.specs.Worlds.{Stands, line_in, standing_by}
-use Rattle.actuated.proofs.RunLaws.{more-acted, renewed-stands}
+use Rattle.actuated.specs.Rounds.{AreNear, AreRenewed}
+use Rattle.actuated.proofs.RunLaws.{more-played, renewed-stands}
 use Rattle.actuated.proofs.act_runs.play_rounds.Goals as goal
 
 pub advance-requires-clause-stands : goal.advance-requires-clause-stands
 advance-requires-clause-stands c =
     let l = c.loop-round in
+    let net = c.args.net.now in
     let arriving = arriving_of c.args.arrivals.now in
-    subst (λ (lines : List (List Green)). Stands c.args.net.now arriving (standing_by (line_in lines)) l.world) (sym c.as_slice.ensures.value)
-    (renewed-stands c.args.net.now c.run-run.ensures.network arriving l._round l.lines.items c.renew_lines.new.lines.items l.world l.invariant c.in_ok-renew_lines.ensures)
+    let renewed = c.renew_lines.new.lines.items in
+    let are = subst (λ s. AreRenewed net c.as_slice.result.now s (length net.node_names) l.lines.items renewed) c.now.ensures c.in_ok-renew_lines.ensures in
+    subst (λ (lines : List (List Green)). Stands net arriving (standing_by (line_in lines)) l.world) (sym c.as_slice-in-loop-round.ensures.value)
+    (renewed-stands net c.run-run.ensures.network arriving l._round l.lines.items renewed c.as_slice.result.now l.world l.invariant.played are)
 
 pub loop-round-preserved : goal.loop-round-preserved
 loop-round-preserved c =
     let l = c.loop-round in
+    let net = c.args.net.now in
     let arriving = arriving_of c.args.arrivals.now in
-    more-acted c.args.net.now c.run-run.ensures.network arriving l._round l.lines.items c.renew_lines.new.lines.items l.world l.invariant c.in_ok-renew_lines.ensures c.advance.new.self
-    (c.advance.ensures.second ∙ ap (λ (r : Run). l.world.second + r.step) c.run-run.ensures.value)
-    (subst (λ (lines : List (List Green)). Stands c.args.net.now arriving (standing_by (line_in lines)) c.advance.new.self) c.as_slice.ensures.value c.advance.ensures.stands)
+    let renewed = c.renew_lines.new.lines.items in
+    let near = c.as_slice.result.now in
+    let count = c.sense_near.ensures.amounts.count in
+    let list = written l.near.items c.sense_near.new.near l.near.len (count ∙ sym l.invariant.near) l.near.ok.0 in
+    let are = subst (λ s. AreRenewed net near s (length net.node_names) l.lines.items renewed) c.now.ensures c.in_ok-renew_lines.ensures in
+    let sensed = subst (AreNear net (past_of net arriving (standing_by (line_in l.lines.items)) l.world.second) l.world.second) (sym (c.as_slice.ensures.value ∙ list)) (c.sense_near.ensures.near arriving (line_in l.lines.items) l.invariant.played.stands) in
+    record {
+      near = ap length list ∙ count;
+      played = more-played net c.run-run.ensures.network arriving l._round l.lines.items renewed near l.world l.invariant.played are sensed c.advance.new.self
+          (c.advance.ensures.second ∙ ap (λ (r : Run). l.world.second + r.step) c.run-run.ensures.value)
+          (subst (λ (lines : List (List Green)). Stands net arriving (standing_by (line_in lines)) c.advance.new.self) c.as_slice-in-loop-round.ensures.value c.advance.ensures.stands);
+    }

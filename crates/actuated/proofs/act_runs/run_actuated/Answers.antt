@@ -1,11 +1,11 @@
 use Rattle.std.proofs.Common.{◌∙◌}
 use Rattle.net_simulator.specs.Arriving.{arriving_of}
-use Rattle.actuated.proofs.RunLaws.{ended, none-acted}
+use Rattle.actuated.proofs.RunLaws.{ended, none-played}
 use Rattle.actuated.proofs.act_runs.run_actuated.Goals as goal
 
 pub play_rounds-requires-clause-first : goal.play_rounds-requires-clause-first
 play_rounds-requires-clause-first c =
-    none-acted c.args.net.now (arriving_of c.args.arrivals.now) c.in_ok-lines.lines.items c.in_ok-world.world c.in_ok-lines.ensures c.in_ok-world.ensures.second
+    none-played c.args.net.now (arriving_of c.args.arrivals.now) c.in_ok-lines.lines.items c.in_ok-world.world c.in_ok-lines.ensures c.in_ok-world.ensures.second
     (λ shown. c.in_ok-world.ensures.stands (arriving_of c.args.arrivals.now) shown)
 
 pub returns-clause-run : goal.returns-clause-run

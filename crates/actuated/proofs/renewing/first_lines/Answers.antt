@@ -1,6 +1,6 @@
 use Rattle.std.proofs.Common.{◌+◌, subst, sym}
 use Rattle.actuated.specs.Rounds.{AreFirstLines}
-use Rattle.actuated.proofs.RunLaws.{more-first, none-first}
+use Rattle.actuated.proofs.Acting.{more-first, none-first}
 use Rattle.actuated.proofs.renewing.first_lines.Goals as goal
 
 pub loop-node-init : goal.loop-node-init

@@ -1,0 +1,32 @@
+use Rattle.std.proofs.Common.{◌≡◌, ◌<◌, ℕ, length, slice_index, sym, ap, ◌∙◌, inl, inr, arith, length-set, get_or-set_other, get_or-set_same}
+use Rattle.std.proofs.lemmas.Bool.{cases_eq}
+use Rattle.net_draft.specs.declared.drafts.Run.{Run}
+use Rattle.road_net.proofs.TotalLaws.{total-same}
+use Rattle.net_simulator.specs.Arriving.{arriving_of}
+use Rattle.net_simulator.specs.Flow.{past_of}
+use Rattle.net_simulator.specs.Senses.{near_on}
+use Rattle.net_simulator.specs.Worlds.{standing_by}
+use Rattle.net_simulator.proofs.Seeing.{near-all-fits}
+use Rattle.actuated.proofs.NearLaws.{amounts-of, more-near}
+use Rattle.actuated.proofs.sensing.sense_near.Goals as goal
+
+pub loop-link-preserved : goal.loop-link-preserved
+loop-link-preserved c =
+    let l = c.loop-link in
+    let net = c.args.net.now in
+    let w = c.args.world.now in
+    record {
+      count = length-set l.near l.link c.near.result ∙ l.invariant.count;
+      are = λ arriving lines stands. more-near (near_on net (past_of net arriving (standing_by lines) w.second) w.second net.run.gap) l.near l.link c.near.result (omega (arith, c.loop-link-test.true, c.links-link-end.ensures.value, l.invariant.count, c.requires.near))
+          (c.near.ensures arriving lines stands ∙ ap (λ (r : Run). near_on net (past_of net arriving (standing_by lines) w.second) w.second r.gap l.link) c.run.ensures.value) (l.invariant.are arriving lines stands);
+    }
+
+pub returns-clause-amounts : goal.returns-clause-amounts
+returns-clause-amounts c =
+    let l = c.loop-link in
+    let net = c.args.net.now in
+    let w = c.args.world.now in
+    let world = c.requires.world in
+    amounts-of net (near_on net (past_of net (arriving_of world.arrivals) (standing_by world.lines) w.second) w.second net.run.gap) l.near (l.invariant.count ∙ c.requires.near)
+    (λ k inside. l.invariant.are (arriving_of world.arrivals) world.lines world.stands k (omega (arith, inside, c.loop-link-test.false, c.links-link-end.ensures.value)))
+    (near-all-fits net w net.run.gap c.links-link-end.ensures.network world)
