@@ -161,27 +161,29 @@ module _ (net : Net) (network : IsNetwork net) (shown : ℕ → Option (ℕ × �
       by None e shares = absurd (cc)
       by (Some k) e shares = let same : k ≡ node = same_Some k node e in λ i d h. shares.leave i d h ∙ ap Some same
 
-  -- what link l discharges, once the links before it have discharged what they would without bounds
-  goes-here : (m d : ℕ) → m + d ≡ n → m < n → (to : Option ℕ) → (link_at net m).to ≡ to → next_goes net (λ e. 2000000000) (opening net shown past x) (first m) m to ≡ discharged_to net shown past x m to
-  goes-here m d whole inside None to = refl
-  goes-here m d whole inside (Some node) to =
-      let wish = min (link_at net m).sat (waiting net past x m) in
-      let exits = leave-to (turns_at net m) m node inside to refl in
-      let fits = all-fit (turns_at net m) (turns_at net m) (λ e. 2000000000 - held m e) wish (λ i t h.
-      let exit = exits i t h in
-      room-for m m node wish (get_or (turns_at net m) i t).exit d whole inside (omega arith) exit.0 (exit-other m node (get_or (turns_at net m) i t).exit inside to exit.1 exit.0) to (omega arith)
-      (part-most m node wish (get_or (turns_at net m) i t).exit inside to exit.0)) in
-      ap (λ a. cond (may_go net past x m node (shown node)) a 0) (greatest-all (has_room (turns_at net m) (λ e. 2000000000 - held m e)) wish fits)
+  module _ (store : ℕ → ℕ) (wide : (e : ℕ) → e < n → store e ≡ 2000000000) where
+    -- what link l discharges, once the links before it have discharged what they would without bounds
+    goes-here : (m d : ℕ) → m + d ≡ n → m < n → (to : Option ℕ) → (link_at net m).to ≡ to → next_goes net store (opening net shown past x) (first m) m to ≡ discharged_to net shown past x m to
+    goes-here m d whole inside None to = refl
+    goes-here m d whole inside (Some node) to =
+        let wish = min (link_at net m).sat (waiting net past x m) in
+        let exits = leave-to (turns_at net m) m node inside to refl in
+        let fits = all-fit (turns_at net m) (turns_at net m) (λ e. store e - held m e) wish (λ i t h.
+        let exit = exits i t h in
+        let there = room-for m m node wish (get_or (turns_at net m) i t).exit d whole inside (omega arith) exit.0 (exit-other m node (get_or (turns_at net m) i t).exit inside to exit.1 exit.0) to (omega arith)
+        (part-most m node wish (get_or (turns_at net m) i t).exit inside to exit.0) in
+        omega (arith, there, wide (get_or (turns_at net m) i t).exit exit.0)) in
+        ap (λ a. cond (may_go net past x m node (shown node)) a 0) (greatest-all (has_room (turns_at net m) (λ e. store e - held m e)) wish fits)
 
-  -- so all discharge what they would without bounds
-  pub goes-all : (m d : ℕ) → m + d ≡ n → goes_of net (λ e. 2000000000) shown past x m ≡ first m
-  unfolding all_goes
-  goes-all zero d whole = refl
-  goes-all (suc m) d whole =
-      let before = goes-all m (suc d) (omega arith) in
-      let here = goes-here m (suc d) (omega arith) (omega arith) (link_at net m).to refl in
-      let grows : first (suc m) ≡ first m ++ D m ∷ [] = more D m in
-      ap (λ g. g ++ next_goes net (λ e. 2000000000) (opening net shown past x) g m (link_at net m).to ∷ []) before ∙ ap (λ a. first m ++ a ∷ []) here ∙ sym grows
-    where
-      more : (f : ℕ → ℕ) (m : ℕ) → map f (range_with_len 0 (suc m)) ≡ map f (range_with_len 0 m) ++ f m ∷ []
-      more f m = ap (λ k. map f (range_with_len 0 k)) (sym (add-one m)) ∙ map-range_with_len_more f 0 m m (omega arith)
+    -- so all discharge what they would without bounds
+    pub goes-all : (m d : ℕ) → m + d ≡ n → goes_of net store shown past x m ≡ first m
+    unfolding all_goes
+    goes-all zero d whole = refl
+    goes-all (suc m) d whole =
+        let before = goes-all m (suc d) (omega arith) in
+        let here = goes-here m (suc d) (omega arith) (omega arith) (link_at net m).to refl in
+        let grows : first (suc m) ≡ first m ++ D m ∷ [] = more D m in
+        ap (λ g. g ++ next_goes net store (opening net shown past x) g m (link_at net m).to ∷ []) before ∙ ap (λ a. first m ++ a ∷ []) here ∙ sym grows
+      where
+        more : (f : ℕ → ℕ) (m : ℕ) → map f (range_with_len 0 (suc m)) ≡ map f (range_with_len 0 m) ++ f m ∷ []
+        more f m = ap (λ k. map f (range_with_len 0 k)) (sym (add-one m)) ∙ map-range_with_len_more f 0 m m (omega arith)

@@ -1,11 +1,13 @@
 pub mod Agreeing
 pub mod Ample
+pub mod AmpleTotals
 pub mod Course
 pub mod Discharging
 pub mod Passing
 pub mod Played
 pub mod Searching
 pub mod Sensing
+pub mod Shown
 pub mod Sources
 pub mod Start
 pub mod Whole

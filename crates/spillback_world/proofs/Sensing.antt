@@ -1,5 +1,5 @@
 -- What a node sees, by what a world keeps; and the empty world.
-use Rattle.std.proofs.Common.{◌≡◌, ℕ, ◌+◌, ◌-◌, ◌*◌, ◌%◌, ◌<◌, List, All, Option, Some, None, length, map, replicate, slice_index, refl, sym, ap, ◌∙◌, arith}
+use Rattle.std.proofs.Common.{◌≡◌, ℕ, ◌+◌, ◌-◌, ◌*◌, ◌%◌, ◌<◌, ◌≤◌, List, All, Option, Some, None, length, map, replicate, slice_index, refl, sym, ap, ◌∙◌, arith}
 use Rattle.std.specs.List.Sorted.{IsStrictlyIncreasing}
 use Rattle.std.proofs.lemmas.List.{length-replicate}
 use Rattle.net_numbers.specs.Numbers.{Net}
@@ -12,14 +12,16 @@ use Rattle.road_net.proofs.TotalLaws.{total-same, total-zero}
 use Rattle.net_simulator.specs.Arriving.{arriving_of}
 use Rattle.net_simulator.specs.Flow.{Passed, nothing}
 use Rattle.net_simulator.specs.LinkSeconds.{seen_by}
-use Rattle.net_simulator.specs.Senses.{sense}
-use Rattle.net_simulator.specs.Sums.{outward}
+use Rattle.net_simulator.specs.Senses.{near_of, near_on, sense}
+use Rattle.net_simulator.specs.Sums.{on_road, outward}
 use Rattle.net_simulator.specs.Worlds.{standing_by}
-use Rattle.net_simulator.proofs.EveryWorld.{are-sound, road-most}
+use Rattle.net_simulator.proofs.EveryWorld.{are-sound, bounds-of, road-most}
 use Rattle.net_simulator.proofs.MoveLaws.{moves_by, past_by, zero-by}
 use Rattle.net_simulator.proofs.Outside.{few-come}
 use Rattle.net_simulator.proofs.Passing.{few-of, zeros}
-use Rattle.net_simulator.proofs.Seeing.{are-sensed, gathered-by}
+use Rattle.net_simulator.proofs.Seeing.{are-sensed, gathered-by, near-few, near-road, seen-same}
+use Rattle.net_simulator.proofs.Sound.{AreMoved, IsSound}
+use Rattle.road_net.specs.Totals.{total}
 use Rattle.net_simulator.proofs.Standing.{stood-none}
 use Rattle.spillback_world.specs.declared.totals.SpillTotals.{SpillTotals}
 use Rattle.spillback_world.specs.declared.worlds.Links.{Links}
@@ -92,3 +94,38 @@ stands-new net arriving store shown nodes n links empty long there =
       stood = λ l h. zero-at _ n empty.stood l ∙ sym (stood-none net P l);
       outside = λ l h. omega (arith, zero-at _ n empty.outside l);
     }
+
+-- what is near by what a world keeps is what the definition gives
+pub near-gathered : (net : Net) (w v : SpillState) (qs rs ss : List ℕ) (gap l : ℕ) → IsNetwork net → v ≡ w → qs ≡ v.queues → rs ≡ v.recent → ss ≡ v.stood → l < length net.link_names
+    → (arriving : ℕ → ℕ → ℕ) (store : ℕ → ℕ) (shown : ℕ → ℕ → Option (ℕ × ℕ)) → Stands net arriving store shown w → near_of (seen_by net qs rs ss v.second l) gap ≡ near_on net (past_in net arriving store shown w.second) w.second gap l
+near-gathered net w v qs rs ss gap l network view queues recent standing inside arriving store shown stands =
+    let one = queues ∙ ap (λ (k : SpillState). k.queues) view in
+    let two = recent ∙ ap (λ (k : SpillState). k.recent) view in
+    let three = standing ∙ ap (λ (k : SpillState). k.stood) view in
+    let now = ap (λ (k : SpillState). k.second) view in
+    (λ i. near_of (seen_by net (one i) (two i) (three i) (now i) l) gap)
+    ∙ ap (λ (s : LinkSense). near_of s gap) (seen-same net (past_in net arriving store shown w.second) w.queues w.recent w.waits w.stood w.second l stands.keeps (stands.stood l inside) inside ((bounds-of net network).most l inside))
+
+-- what is on the road of such a world is within bounds
+module _ (net : Net) (network : IsNetwork net) (w : SpillState) (world : IsWorldOf net w) where
+  abbrev seen : ℕ → ℕ → Passed
+  seen = past_in net (arriving_of world.arrivals) world.store (standing_by world.lines) w.second
+
+  all-moved : AreMoved net (moves_by net (stored net (arriving_of world.arrivals) world.store (standing_by world.lines))) (past_by net (stored net (arriving_of world.arrivals) world.store (standing_by world.lines)))
+  all-moved = course net network (arriving_of world.arrivals) world.store (standing_by world.lines)
+
+  sound : IsSound net (past_in net (arriving_of world.arrivals) world.store (standing_by world.lines) w.second) w.second
+  sound = are-sound net network (moves_by net (stored net (arriving_of world.arrivals) world.store (standing_by world.lines))) (past_by net (stored net (arriving_of world.arrivals) world.store (standing_by world.lines))) all-moved w.second
+
+  road : on_road net (past_in net (arriving_of world.arrivals) world.store (standing_by world.lines) w.second) w.second ≤ 2000000000
+  road =
+      let sources = sources-of net world.arrivals world.enter in
+      let few = few-come net network (moves_by net (stored net (arriving_of world.arrivals) world.store (standing_by world.lines))) (past_by net (stored net (arriving_of world.arrivals) world.store (standing_by world.lines))) all-moved (arriving_of world.arrivals)
+      (let-in-most net network (arriving_of world.arrivals) world.store (standing_by world.lines) sources) sources (few-of net network world.arrivals world.enter) in
+      road-most net network (moves_by net (stored net (arriving_of world.arrivals) world.store (standing_by world.lines))) (past_by net (stored net (arriving_of world.arrivals) world.store (standing_by world.lines))) all-moved few w.second
+
+  pub near-fits : (gap l : ℕ) → l < length net.link_names → near_on net (past_in net (arriving_of world.arrivals) world.store (standing_by world.lines) w.second) w.second gap l ≤ 2000000000
+  near-fits gap l inside = near-few net seen w.second sound gap l road inside
+
+  pub near-all-fits : (gap : ℕ) → total (near_on net (past_in net (arriving_of world.arrivals) world.store (standing_by world.lines) w.second) w.second gap) (length net.link_names) ≤ 2000000000
+  near-all-fits gap = near-road net seen w.second sound gap road

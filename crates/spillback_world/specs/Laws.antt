@@ -1,10 +1,11 @@
 -- What holds of every world whose links hold so much and no more.
-use Rattle.std.specs.Prelude.{◌≡◌, ℕ, ◌+◌, Option}
+use Rattle.std.specs.Prelude.{◌≡◌, ℕ, ◌+◌, All, List, Option}
 use Rattle.arrivals.specs.Amounts.{Amounts}
 use Rattle.net_numbers.specs.Numbers.{Net}
 use Rattle.net_simulator.specs.Arriving.{arriving_of}
 use Rattle.net_simulator.specs.Flow.{past_of}
-use Rattle.net_simulator.specs.Sums.{arrived}
+use Rattle.net_simulator.specs.Sums.{arrived, totals}
+use Rattle.net_simulator.specs.declared.totals.Totals.{Totals}
 use Rattle.spillback_world.specs.declared.totals.SpillTotals.{SpillTotals}
 use Rattle.spillback_world.specs.Spilled.{spilled}
 use Rattle.spillback_world.specs.Storage.{AreWithin, past_in}
@@ -21,8 +22,21 @@ pub record IsKept (net : Net) (arrivals : Amounts) (store : ℕ → ℕ) (shown 
   pub whole : (spilled_in net arrivals store shown n).entered ≡ (spilled_in net arrivals store shown n).left + (spilled_in net arrivals store shown n).on
   pub all : arrived net (arriving_of arrivals) n ≡ (spilled_in net arrivals store shown n).entered + (spilled_in net arrivals store shown n).outside
 
--- Where each link can hold all that may ever arrive, what passes the links is what passes those without bounds, and nothing waits
--- outside.
+-- what is counted of a world without bounds, outside of which nothing waits
+abbrev pub unbounded : Totals → SpillTotals
+unbounded t = record { entered = t.entered; left = t.left; on = t.on; outside = 0; delay = t.delay }
+
+-- the same of the first n seconds
+abbrev pub unbounded_in : Net → Amounts → (ℕ → ℕ → Option (ℕ × ℕ)) → ℕ → SpillTotals
+unbounded_in net arrivals shown n = unbounded (totals net (arriving_of arrivals) (past_of net (arriving_of arrivals) shown n) n)
+
+-- each link can hold all that may ever arrive
+abbrev pub AreAmple : List ℕ → Type 0
+AreAmple store = All (λ storage. storage ≡ most_of_link) store
+
+-- Where each link can hold all that may ever arrive, what passes the links is what passes those without bounds, nothing waits
+-- outside, and the totals are those of the world without bounds.
 pub record IsAmple (net : Net) (arrivals : Amounts) (shown : ℕ → ℕ → Option (ℕ × ℕ)) (n : ℕ) : Type 0 where
   pub past : past_in net (arriving_of arrivals) (λ l. most_of_link) shown n ≡ past_of net (arriving_of arrivals) shown n
   pub none : (spilled_in net arrivals (λ l. most_of_link) shown n).outside ≡ 0
+  pub totals : spilled_in net arrivals (λ l. most_of_link) shown n ≡ unbounded_in net arrivals shown n

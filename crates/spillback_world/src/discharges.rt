@@ -104,8 +104,9 @@ pub(crate) fn discharge(
         site.now.served.now }
     requires held { AreHeld site.now.net.now site.now.store.now queues.old entering.old held.old }
     requires left { HaveLeft site.now.net.now queues.old leaving.old }
-    ensures { HaveDischarged site.now.net.now site.now.store.now site.now.served.now (length site.now.net.now.link_names)
-        leaving.old queues.old entering.old held.old leaving.new queues.new entering.new held.new }
+    ensures { HaveDischarged site.now.net.now site.now.store.now site.now.served.now
+        (length site.now.net.now.link_names) leaving.old queues.old entering.old held.old
+        leaving.new queues.new entering.new held.new }
 {
     for l in 0..site.net.links() {
         discharge_link(leaving, queues, entering, held, site, l);

@@ -1,10 +1,14 @@
 //! What holds of every world whose links hold so much and no more.
 
-ghost use Rattle.std.specs.Prelude.{ℕ, Option};
+ghost use Rattle.std.specs.Prelude.{◌≡◌, ℕ, ◌<◌, List, Option};
 ghost use Rattle.arrivals.specs.Amounts.{Amounts, AreArrivals};
+ghost use Rattle.control_flow.specs.Greens.{standing};
+ghost use Rattle.control_flow.specs.declared.greens.Green.{Green};
 ghost use Rattle.net_numbers.specs.Numbers.{Net};
+ghost use Rattle.net_simulator.specs.Worlds.{standing_by};
 ghost use Rattle.road_net.specs.Network.{IsNetwork};
 ghost use Rattle.spillback_world.specs.Laws.{IsAmple, IsKept};
+ghost use Rattle.spillback_world.specs.Worlds.{SpillState, Stands};
 
 /// In a world whose links hold so much and no more, nothing is lost, and no link ever holds more than its storage, whatever
 /// the signals show: what entered has left or is on the links, and what arrived has entered or waits outside.
@@ -15,10 +19,22 @@ pub fn law_of_storage()
         → IsNetwork net → AreArrivals net arrivals → IsKept net arrivals store shown n }
 {}
 
-/// Where each link can hold all that may ever arrive, it is the world without bounds: nothing waits outside of it.
+/// Where each link can hold all that may ever arrive, it is the world without bounds: nothing waits outside of it, and what
+/// is counted is the same.
 ///
 /// docs/RULES.md, "Storage".
 pub fn law_of_ample_storage()
     ensures { (net : Net) (arrivals : Amounts) (shown : ℕ → ℕ → Option (ℕ × ℕ)) (n : ℕ)
         → IsNetwork net → AreArrivals net arrivals → IsAmple net arrivals shown n }
+{}
+
+/// A timeline counts for a world only by what it shows in the seconds below the world's: which phase is green, and since
+/// when. So a world goes on under timelines that are spliced from its second on.
+///
+/// docs/RULES.md, "Storage".
+pub fn law_of_stored_lights()
+    ensures { (net : Net) (arriving : ℕ → ℕ → ℕ) (store : ℕ → ℕ) (lines others : ℕ → List Green) (w : SpillState)
+        → Stands net arriving store (standing_by lines) w
+        → ((x node : ℕ) → x < w.second → standing (lines node) x ≡ standing (others node) x)
+        → Stands net arriving store (standing_by others) w }
 {}

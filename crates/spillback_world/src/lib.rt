@@ -11,7 +11,7 @@ mod signals;
 mod totals;
 mod worlds;
 
-pub use laws::{law_of_ample_storage, law_of_storage};
+pub use laws::{law_of_ample_storage, law_of_storage, law_of_stored_lights};
 pub use lines::spill_lines;
 pub use totals::SpillTotals;
 pub use worlds::SpillWorld;

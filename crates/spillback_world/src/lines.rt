@@ -4,7 +4,7 @@ ghost use Rattle.std.specs.Prelude.{◌≡◌, IfOk, length, slice_index};
 ghost use Rattle.arrivals.specs.Amounts.{AreArrivals};
 ghost use Rattle.net_simulator.specs.Sums.{end_of_run};
 ghost use Rattle.net_simulator.specs.Worlds.{line_in, standing_by};
-ghost use Rattle.spillback_world.specs.Laws.{spilled_in};
+ghost use Rattle.spillback_world.specs.Laws.{AreAmple, spilled_in, unbounded_in};
 
 use crate::totals::SpillTotals;
 use crate::worlds::SpillWorld;
@@ -15,7 +15,7 @@ use std::alloc::{AllocError, Global};
 use stores::Store;
 
 /// What is counted of a network whose links hold what the store says, over its whole run under these timelines. Where every
-/// storage is 2,000,000,000, `law_of_ample_storage` says that it is the world without a store.
+/// storage is 2,000,000,000, it is what `net_simulator::play` counts under them, and nothing waits outside.
 ///
 /// `Err`: out of memory.
 ///
@@ -29,9 +29,13 @@ pub fn spill_lines<'a>(
 ) -> Result<SpillTotals, AllocError>
     requires arrivals { AreArrivals net.now arrivals.now }
     requires store { length store.now ≡ length net.now.link_names }
-    ensures { IfOk result (λ t. t ≡ spilled_in net.now arrivals.now (slice_index store.now)
+    ensures value { IfOk result (λ t. t ≡ spilled_in net.now arrivals.now (slice_index store.now)
+        (standing_by (line_in lines.now.all.now)) (end_of_run net.now)) }
+    ensures ample { AreAmple store.now → IfOk result (λ t. t ≡ unbounded_in net.now arrivals.now
         (standing_by (line_in lines.now.all.now)) (end_of_run net.now)) }
 {
+    // Called for its clause `network`.
+    let _ = net.links();
     let mut world = SpillWorld::new(alloc, net)?;
     let seconds = end_of_run(net);
     world.advance(net, store, lines, arrivals, seconds);

@@ -5,7 +5,7 @@ ghost use Rattle.arrivals.specs.Amounts.{AreArrivals};
 ghost use Rattle.control_flow.specs.declared.greens.Green.{Green};
 ghost use Rattle.control_flow.specs.Greens.{green_at};
 ghost use Rattle.net_simulator.specs.Arriving.{arriving_of};
-ghost use Rattle.net_simulator.specs.Senses.{sense};
+ghost use Rattle.net_simulator.specs.Senses.{near_on, sense};
 ghost use Rattle.net_simulator.specs.Worlds.{standing_by};
 ghost use Rattle.road_net.specs.Senses.{IsSensedOf};
 ghost use Rattle.spillback_world.specs.Spilled.{IsBalanced};
@@ -24,7 +24,8 @@ use foundation::items::Items;
 use foundation::threads::CrossesThreads;
 use net_simulator::Lights;
 use net_simulator::link_seconds::{look, remember};
-use net_simulator::sensing::{Sight, sense_links};
+use net_simulator::sensing::{Sight, near_amount, sense_links};
+use net_simulator::starts::{no_greens, zeros};
 use road_net::{Network, Sensed};
 use std::alloc::{AllocError, Global};
 use std::marker::Model;
@@ -156,6 +157,31 @@ impl SpillWorld {
         })
     }
 
+    /// What is near on a link of the network, in thousandths of a vehicle: its queue, and what reaches its end in this second
+    /// and in each of the next `gap` ones, as far as that is on the link. It is of what `sense` answers to the node where the
+    /// link ends, and takes no list. What waits outside of the link is not near.
+    ///
+    /// docs/RULES.md, "Storage".
+    pub fn near(&self, net: &Network, link: u32, gap: u32) -> u32
+        requires link { link < length net.now.link_names }
+        requires world { IsWorldOf net.now self.now }
+        ensures { (arriving : ℕ → ℕ → ℕ) (store : ℕ → ℕ) (shown : ℕ → ℕ → Option (ℕ × ℕ))
+            → Stands net.now arriving store shown self.now
+            → result ≡ near_on net.now (past_in net.now arriving store shown self.now.second)
+            self.now.second gap link }
+    {
+        // Called for its clause `network`.
+        let _ = net.links();
+        let sight = Sight {
+            net,
+            queues: self.links.queues.as_slice(),
+            recent: self.links.recent.as_slice(),
+            stood: self.links.stood.as_slice(),
+            second: self.second,
+        };
+        near_amount(&sight, link, gap)
+    }
+
     /// Moves by `seconds` seconds under these lights, up to second 18,000.
     ///
     /// docs/RULES.md, "Storage".
@@ -253,28 +279,15 @@ fn pass_second<T: Lights>(links: &mut Links, moment: &Moment<T>) -> SpillTotals
     let out = reach_ends(leaving, queues, held, net, recent, x);
     serve(served, net, waits, moment.greens, x);
     clear(entering, all);
-    discharge(
-        leaving,
-        queues,
-        entering,
-        held,
-        &Site { net, store, served },
-    );
+    let site = Site { net, store, served };
+    discharge(leaving, queues, entering, held, &site);
     law_of_storages(store, 0);
-    let arrivals = moment.arrivals;
-    let second = x;
-    let come = let_in(
-        outside,
-        held,
-        recent,
-        entering,
-        &Gate {
-            store,
-            arrivals,
-            second,
-        },
-        all,
-    );
+    let gate = Gate {
+        store,
+        arrivals: moment.arrivals,
+        second: x,
+    };
+    let come = let_in(outside, held, recent, entering, &gate, all);
     remember(waits, links.stood.as_mut_slice(), queues, all, x + 1);
     let entered = moment.totals.entered + come;
     let left = moment.totals.left + out;
@@ -315,24 +328,9 @@ fn empty_links(alloc: Global, n: usize) -> Result<Links, AllocError>
     })
 }
 
-/// `n` zeros.
-fn zeros(alloc: Global, n: usize) -> Result<Vec<u32>, AllocError>
-    ensures { IfOk result (λ v. v.items ≡ replicate n 0) }
-{
-    vec![in alloc; 0; n]
-}
-
 /// That none of `n` links may discharge.
 fn none_served(alloc: Global, n: usize) -> Result<Vec<bool>, AllocError>
     ensures { IfOk result (λ v. length v.items ≡ n) }
 {
     vec![in alloc; false; n]
-}
-
-/// Capacity for what `n` nodes show.
-fn no_greens(alloc: Global, n: usize) -> Result<Vec<Option<Green>>, AllocError>
-    ensures { IfOk result (λ v. length v.items ≡ n) }
-{
-    let none: Option<Green> = None;
-    vec![in alloc; none; n]
 }
