@@ -1,0 +1,20 @@
+-- In a world with a store a network has one run under actuated control for what arrives at it.
+use Rattle.std.proofs.Common.{◌≡◌, ℕ, ◌<◌, length, sym, ap, ◌∙◌, arith}
+use Rattle.net_numbers.specs.Numbers.{Net}
+use Rattle.net_simulator.specs.Flow.{Passed}
+use Rattle.net_simulator.specs.Sums.{end_of_run}
+use Rattle.road_net.specs.Network.{IsNetwork}
+use Rattle.actuated.proofs.OneRun.{past-same, same-before}
+use Rattle.spillback_world.specs.Spilled.{spilled}
+use Rattle.spillback_world.specs.Storage.{past_in}
+use Rattle.spillback_world.specs.declared.totals.SpillTotals.{SpillTotals}
+use Rattle.spillback_world.proofs.Shown.{past-at-nodes}
+use Rattle.spillback_control.specs.SpillRuns.{IsActuatedIn}
+
+pub one-spill : (net : Net) → IsNetwork net → (arriving : ℕ → ℕ → ℕ) (store : ℕ → ℕ) (one other : SpillTotals) → IsActuatedIn net arriving store one → IsActuatedIn net arriving store other → one ≡ other
+one-spill net network arriving store one other a b =
+    let before : (s n : ℕ) → s < net.run.rounds → n < length net.node_names → a.made s n ≡ b.made s n =
+    same-before net network (past_in net arriving store) (past-at-nodes net network arriving store) a.made b.made net.run.rounds a.acts b.acts net.run.rounds (omega arith) in
+    a.are
+    ∙ ap (λ (p : ℕ → ℕ → Passed). spilled net arriving p (end_of_run net)) (past-same net network (past_in net arriving store) (past-at-nodes net network arriving store) a.made b.made net.run.rounds before)
+    ∙ sym b.are

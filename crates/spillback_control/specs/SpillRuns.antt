@@ -1,0 +1,23 @@
+-- A run of actuated control in a world in which a full link holds back those who want to enter it: the nodes sense that world.
+use Rattle.std.specs.Prelude.{◌≡◌, ℕ, List, length, map}
+use Rattle.std.specs.List.{range_with_len}
+use Rattle.actuated.specs.ActRuns.{AllAct, first_line}
+use Rattle.control_flow.specs.declared.greens.Green.{Green}
+use Rattle.net_numbers.specs.Numbers.{Net}
+use Rattle.net_simulator.specs.Sums.{end_of_run}
+use Rattle.signal_safety.specs.Rounds.{line_before, shown_by}
+use Rattle.spillback_world.specs.Spilled.{spilled}
+use Rattle.spillback_world.specs.Storage.{past_in}
+use Rattle.spillback_world.specs.declared.totals.SpillTotals.{SpillTotals}
+
+-- Below, `made round node` is the line of a node in a round. What is counted in the run, where `arriving second link` comes from
+-- outside and `store link` is how much a link can hold: in each round each node makes its next line by what it senses of the world
+-- with that store, which moves by the lines that were made.
+pub record IsActuatedIn (net : Net) (arriving : ℕ → ℕ → ℕ) (store : ℕ → ℕ) (totals : SpillTotals) : Type 0 where
+  pub made : ℕ → ℕ → List Green
+  pub acts : AllAct net (past_in net arriving store) made net.run.rounds
+  pub are : totals ≡ spilled net arriving (past_in net arriving store (shown_by net made) (end_of_run net)) (end_of_run net)
+
+-- the line of each node after the last round
+abbrev pub last_lines : Net → (ℕ → ℕ → List Green) → List (List Green)
+last_lines net made = map (line_before (first_line net) made net.run.rounds) (range_with_len 0 (length net.node_names))

@@ -1,0 +1,23 @@
+//! What is near on the links of a world with a store.
+
+ghost use Rattle.std.specs.Prelude.{◌≡◌, ℕ, Option, length};
+ghost use Rattle.actuated.specs.Rounds.{AreAmounts, AreNear};
+ghost use Rattle.spillback_world.specs.Storage.{past_in};
+ghost use Rattle.spillback_world.specs.Worlds.{IsWorldOf, Stands};
+
+use road_net::Network;
+use spillback_world::SpillWorld;
+
+/// Writes what is near on each link of the network.
+pub(crate) fn sense_near(near: &mut [u32], net: &Network, world: &SpillWorld)
+    requires near { length near.old ≡ length net.now.link_names }
+    requires world { IsWorldOf net.now world.now }
+    ensures amounts { AreAmounts net.now near.new }
+    ensures near { (arriving : ℕ → ℕ → ℕ) (store : ℕ → ℕ) (shown : ℕ → ℕ → Option (ℕ × ℕ))
+        → Stands net.now arriving store shown world.now
+        → AreNear net.now (past_in net.now arriving store shown world.now.second) world.now.second near.new }
+{
+    for link in 0..net.links() {
+        near[link as usize] = world.near(net, link, net.run().gap);
+    }
+}

@@ -1,0 +1,100 @@
+//! The run of a network under actuated control in the world with a store.
+
+ghost use Rattle.std.specs.Prelude.{◌≡◌, ℕ, IfOk, OnOk, length, slice_index};
+ghost use Rattle.arrivals.specs.Amounts.{AreArrivals};
+ghost use Rattle.audit.specs.Audits.{AreLawful};
+ghost use Rattle.net_simulator.specs.Arriving.{arriving_of};
+ghost use Rattle.net_simulator.specs.Worlds.{line_in};
+ghost use Rattle.signal_safety.specs.Safe.{IsSafe};
+ghost use Rattle.spillback_control.specs.SpillRounds.{HaveSpilled};
+ghost use Rattle.spillback_control.specs.SpillRuns.{IsActuatedIn, last_lines};
+ghost use Rattle.spillback_world.specs.Spilled.{IsBalanced};
+ghost use Rattle.spillback_world.specs.declared.totals.SpillTotals as spec;
+
+use crate::sensing::sense_near;
+use actuated::{first_lines, renew_lines};
+use arrivals::Arrivals;
+use control_flow::greens::Timeline;
+use net_simulator::Lines;
+use net_simulator::starts::zeros;
+use road_net::Network;
+use spillback_world::{SpillTotals, SpillWorld};
+use std::alloc::{AllocError, Global};
+use stores::Store;
+
+/// What is counted of a network whose links hold what the store says, in its run under actuated control from second 0 up
+/// to the end of the last round: when a round begins, the timeline of each node goes on by what the node senses then of the
+/// world with that store; and then this world moves by the timelines up to the next round.
+///
+/// All timelines are lawful, and the network is safe. What entered has left or is on the links.
+///
+/// `Err`: out of memory.
+///
+/// docs/RULES.md, "Storage".
+pub fn spill_actuated(
+    alloc: Global,
+    net: &Network,
+    arrivals: &Arrivals,
+    store: &Store,
+) -> Result<SpillTotals, AllocError>
+    requires arrivals { AreArrivals net.now arrivals.now }
+    requires store { length store.now ≡ length net.now.link_names }
+    ensures run { IfOk result (IsActuatedIn net.now (arriving_of arrivals.now) (slice_index store.now)) }
+    ensures lawful { IfOk result (λ t. (is : IsActuatedIn net.now (arriving_of arrivals.now) (slice_index store.now) t)
+        → AreLawful net.now (last_lines net.now is.made)) }
+    ensures safe { IfOk result (λ t. (is : IsActuatedIn net.now (arriving_of arrivals.now) (slice_index store.now) t)
+        → IsSafe net.now (line_in (last_lines net.now is.made))) }
+    ensures whole { IfOk result IsBalanced }
+{
+    // Called for its clause `network`.
+    let _ = net.nodes();
+    let mut lines = first_lines(alloc, net)?;
+    let mut world = SpillWorld::new(alloc, net)?;
+    play_rounds(alloc, net, arrivals, store, &mut lines, &mut world)?;
+    Ok(world.totals())
+}
+
+/// In a world with a store a network has one run under actuated control for what arrives at it: what is counted in two of
+/// them is the same.
+///
+/// docs/RULES.md, "Storage".
+pub fn law_of_one_spill(net: &Network)
+    ensures { (arriving : ℕ → ℕ → ℕ) (store : ℕ → ℕ) (one other : spec.SpillTotals)
+        → IsActuatedIn net.now arriving store one → IsActuatedIn net.now arriving store other → one ≡ other }
+{
+    let _nodes = net.nodes();
+}
+
+/// Plays all rounds from the first one.
+fn play_rounds(
+    alloc: Global,
+    net: &Network,
+    arrivals: &Arrivals,
+    store: &Store,
+    lines: &mut Vec<Timeline>,
+    world: &mut SpillWorld,
+) -> Result<(), AllocError>
+    requires arrivals { AreArrivals net.now arrivals.now }
+    requires store { length store.now ≡ length net.now.link_names }
+    requires first { HaveSpilled net.now (arriving_of arrivals.now) (slice_index store.now) 0 lines.old.items world.old }
+    ensures { OnOk result (HaveSpilled net.now (arriving_of arrivals.now) (slice_index store.now) net.now.run.rounds
+        lines.new.items world.new) }
+{
+    let mut near = zeros(alloc, net.links() as usize)?;
+    let mut calls = Vec::with_capacity(alloc, 4)?;
+    let run = net.run();
+    for _round in 0..run.rounds {
+        sense_near(near.as_mut_slice(), net, world);
+        renew_lines(alloc, net, world.now(), near.as_slice(), lines, &mut calls)?;
+        world.advance(
+            net,
+            store,
+            &Lines {
+                all: lines.as_slice(),
+            },
+            arrivals,
+            run.step,
+        );
+    }
+    Ok(())
+}
