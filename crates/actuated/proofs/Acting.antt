@@ -12,7 +12,7 @@ use Rattle.net_simulator.specs.Flow.{Passed}
 use Rattle.net_simulator.specs.Worlds.{line_in, standing_by}
 use Rattle.road_net.specs.Network.{IsNetwork}
 use Rattle.signal_safety.specs.Rounds.{line_before, shown_by}
-use Rattle.actuated.specs.ActRuns.{AllAct, IsNextBy, IsNextLine, calls_at, first_line}
+use Rattle.actuated.specs.ActRuns.{AllAct, IsNextBy, IsNextLine, first_line}
 use Rattle.actuated.specs.Calls.{calls_by}
 use Rattle.actuated.specs.Rounds.{AreFirstLines, AreNear, AreRenewed, CountsBefore, HaveActed, IsReady, IsRenewed}
 use Rattle.actuated.proofs.NearLaws.{calls-are}

@@ -1,6 +1,5 @@
 -- What the line from a head keeps, and how a line goes on.
-use Rattle.std.proofs.Common.{◌≡◌, ℕ, ◌+◌, ◌<◌, ◌≤◌, List, Some, length, map, sym, ap, subst, ◌∙◌, arith}
-use Rattle.std.specs.List.{range_with_len}
+use Rattle.std.proofs.Common.{◌≡◌, ℕ, ◌+◌, ◌<◌, ◌≤◌, List, Some, length, sym, ap, subst, ◌∙◌, arith}
 use Rattle.std.proofs.lemmas.Bool.{cond_both}
 use Rattle.phase_plan.specs.Phases.{IsPlan, phase_at}
 use Rattle.phase_plan.specs.declared.Phase.{Phase}
@@ -13,14 +12,11 @@ use Rattle.control_flow.specs.declared.greens.Green.{Green}
 use Rattle.control_flow.proofs.TurningLaws.{passes-called, turned-by, turned-line}
 use Rattle.net_numbers.specs.Numbers.{Net}
 use Rattle.net_numbers.specs.Outline.{plan_at}
-use Rattle.net_simulator.specs.Flow.{Passed, past_of}
-use Rattle.net_simulator.specs.Senses.{sense}
-use Rattle.net_simulator.specs.Worlds.{Stands, WorldState, standing_by}
+use Rattle.net_simulator.specs.Flow.{Passed}
 use Rattle.road_net.specs.Network.{IsNetwork}
-use Rattle.road_net.specs.declared.senses.Sensed.{Sensed}
 use Rattle.signal_safety.proofs.Lines.{plan-is}
 use Rattle.signal_safety.proofs.Rounds.{IsLine, IsNext, IsSoonHead, KeepsLine, head-of, rotation-next, spliced-keeps}
-use Rattle.actuated.specs.Calls.{act_line, calling, held_until, is_held}
+use Rattle.actuated.specs.Calls.{act_line, held_until, is_held}
 use Rattle.actuated.specs.ActRuns.{IsNextLine}
 use Rattle.actuated.specs.Rounds.{IsRenewed}
 

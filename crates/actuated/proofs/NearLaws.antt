@@ -1,5 +1,5 @@
 -- What is near on the links of a phase is within what is sensed, and within all that is near.
-use Rattle.std.proofs.Common.{◌≡◌, ◌≢◌, ℕ, zero, suc, ◌+◌, ◌<◌, ◌≤◌, Bool, cond, min, nat_eq, List, [], ◌∷◌, Option, Some, None, Contains, find, map, set, slice_index, get_or-set_other, get_or-set_same, unwrap_or, length, get_or, take, sum, sum_by, All, AllPairs, ne_eqb, refl, sym, ap, ◌∙◌, inl, inr, arith}
+use Rattle.std.proofs.Common.{◌≡◌, ◌≢◌, ℕ, zero, suc, ◌+◌, ◌<◌, ◌≤◌, Bool, cond, min, nat_eq, List, [], ◌∷◌, Option, Some, Contains, find, map, set, slice_index, get_or-set_other, get_or-set_same, unwrap_or, length, get_or, take, sum, sum_by, All, AllPairs, ne_eqb, refl, sym, ap, ◌∙◌, inl, inr, arith}
 use Rattle.std.proofs.lemmas.Bool.{cases_eq, cases_lt, eq-eqb}
 use Rattle.std.proofs.lemmas.Option.{none-some}
 use Rattle.std.proofs.lemmas.List.{get_or_default, get_or_past, take_all}

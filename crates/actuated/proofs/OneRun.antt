@@ -1,5 +1,6 @@
 -- A network has one run under actuated control for what arrives at it.
 use Rattle.std.proofs.Common.{◌≡◌, ℕ, zero, suc, ◌+◌, ◌*◌, ◌/◌, ◌<◌, ◌≤◌, List, [], length, map, refl, sym, ap, subst, ◌∙◌, inl, inr, arith}
+use Rattle.std.proofs.Common.{◌≡◌, ℕ, zero, suc, ◌+◌, ◌*◌, ◌/◌, ◌<◌, ◌≤◌, List, [], Option, length, map, refl, sym, ap, subst, ◌∙◌, inl, inr, arith}
 use Rattle.std.specs.List.{range_with_len}
 use Rattle.std.proofs.lemmas.Bool.{cases_lt}
 use Rattle.std.proofs.lemmas.List.{ext_get_or}
@@ -18,6 +19,7 @@ use Rattle.signal_safety.specs.Rounds.{line_before, shown_by}
 use Rattle.switch_rules.specs.declared.Head.{Head}
 use Rattle.actuated.specs.ActRuns.{AllAct, IsActRun, IsNextLine, calls_at, first_line}
 use Rattle.actuated.specs.Calls.{act_line}
+use Rattle.actuated.specs.Rounds.{CountsAtNodes}
 use Rattle.actuated.specs.declared.records.ActRecord.{ActRecord}
 
 -- a line has one next line
@@ -29,21 +31,21 @@ next-one net n node past seen same_past old older next other same_old is also =
     let head : moved.head ≡ also.head = same_Some moved.head also.head (sym moved.at ∙ also.at) in
     moved.is ∙ ap (λ (h : Head). spliced older (act_line (plan_at net node) h (calls_at net seen n node) (n + net.run.look))) head ∙ sym also.is
 
-module _ (net : Net) (network : IsNetwork net) (arriving : ℕ → ℕ → ℕ) (made other : ℕ → ℕ → List Green) where
+module _ (net : Net) (network : IsNetwork net) (under : (ℕ → ℕ → Option (ℕ × ℕ)) → ℕ → ℕ → ℕ → Passed) (counts : CountsAtNodes net under) (made other : ℕ → ℕ → List Green) where
   -- the lines that were made before a round are the same
-  abbrev SameBefore : ℕ → Type 0
+  abbrev pub SameBefore : ℕ → Type 0
   SameBefore r = (s n : ℕ) → s < r → n < length net.node_names → made s n ≡ other s n
 
-  lines-same : (r n : ℕ) → SameBefore r → n < length net.node_names → line_before (first_line net) made r n ≡ line_before (first_line net) other r n
+  pub lines-same : (r n : ℕ) → SameBefore r → n < length net.node_names → line_before (first_line net) made r n ≡ line_before (first_line net) other r n
   lines-same zero n before below = refl
   lines-same (suc r) n before below = before r n (omega arith) below
 
-  past-same : (r : ℕ) → SameBefore r → past_of net arriving (shown_by net made) (r * net.run.step) ≡ past_of net arriving (shown_by net other) (r * net.run.step)
+  pub past-same : (r : ℕ) → SameBefore r → under (shown_by net made) (r * net.run.step) ≡ under (shown_by net other) (r * net.run.step)
   past-same r before =
-      past-at-nodes net network arriving (shown_by net made) (shown_by net other) (r * net.run.step)
+      counts (shown_by net made) (shown_by net other) (r * net.run.step)
       (λ x n less below. ap (λ (l : List Green). standing l x) (before (x / net.run.step) n (div_below x net.run.step r network.outline.run.step.0 less) below))
 
-  same-before : (rounds : ℕ) → AllAct net (past_of net arriving) made rounds → AllAct net (past_of net arriving) other rounds → (r : ℕ) → r ≤ rounds → SameBefore r
+  pub same-before : (rounds : ℕ) → AllAct net under made rounds → AllAct net under other rounds → (r : ℕ) → r ≤ rounds → SameBefore r
   same-before rounds acts also zero most s n less below = absurd (omega (arith, less))
   same-before rounds acts also (suc r) most s n less below = elim (cases_lt s r) [
     | inl earlier ↦ same-before rounds acts also r (omega arith) s n earlier below
@@ -51,7 +53,7 @@ module _ (net : Net) (network : IsNetwork net) (arriving : ℕ → ℕ → ℕ) 
         let here : r ≡ s = omega (arith, less, late) in
         let before = same-before rounds acts also r (omega arith) in
         subst (λ q. made q n ≡ other q n) here
-        (next-one net (r * net.run.step) n (past_of net arriving (shown_by net made) (r * net.run.step)) (past_of net arriving (shown_by net other) (r * net.run.step)) (past-same r before)
+        (next-one net (r * net.run.step) n (under (shown_by net made) (r * net.run.step)) (under (shown_by net other) (r * net.run.step)) (past-same r before)
         (line_before (first_line net) made r n) (line_before (first_line net) other r n) (made r n) (other r n) (lines-same r n before below)
         (acts r n (omega arith) below) (also r n (omega arith) below))
   ]
@@ -60,10 +62,10 @@ pub one-run : (net : Net) → IsNetwork net → (arriving : ℕ → ℕ → ℕ)
 one-run net network arriving one other a b = λ i. record { timelines = timelines i; links = links i; totals = all i }
   where
     before : (s n : ℕ) → s < net.run.rounds → n < length net.node_names → a.made s n ≡ b.made s n
-    before = same-before net network arriving a.made b.made net.run.rounds a.by.acts b.by.acts net.run.rounds (omega arith)
+    before = same-before net network (past_of net arriving) (past-at-nodes net network arriving) a.made b.made net.run.rounds a.by.acts b.by.acts net.run.rounds (omega arith)
 
     past : past_of net arriving (shown_by net a.made) (end_of_run net) ≡ past_of net arriving (shown_by net b.made) (end_of_run net)
-    past = past-same net network arriving a.made b.made net.run.rounds before
+    past = past-same net network (past_of net arriving) (past-at-nodes net network arriving) a.made b.made net.run.rounds before
 
     last : (ℕ → ℕ → List Green) → ℕ → List Green
     last made = line_before (first_line net) made net.run.rounds
@@ -77,7 +79,7 @@ one-run net network arriving one other a b = λ i. record { timelines = timeline
         (λ n inside.
         let below : n < nodes = omega (arith, inside, length-map-range_with_len (last a.made) 0 nodes) in
         get_or-map-range_with_len (last a.made) 0 nodes n n [] below (omega arith)
-        ∙ lines-same net network arriving a.made b.made net.run.rounds n before below
+        ∙ lines-same net network (past_of net arriving) (past-at-nodes net network arriving) a.made b.made net.run.rounds n before below
         ∙ sym (get_or-map-range_with_len (last b.made) 0 nodes n n [] below (omega arith)))
 
     timelines : one.timelines ≡ other.timelines

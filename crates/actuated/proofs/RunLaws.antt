@@ -1,5 +1,5 @@
 -- How the rounds of a run go on, and what every run keeps.
-use Rattle.std.proofs.Common.{◌≡◌, ℕ, ◌+◌, ◌*◌, ◌/◌, ◌<◌, ◌≤◌, List, [], Option, length, get_or, map, refl, sym, ap, subst, ◌∙◌, arith}
+use Rattle.std.proofs.Common.{◌≡◌, ℕ, ◌+◌, ◌*◌, ◌<◌, ◌≤◌, List, [], Option, length, get_or, map, refl, sym, ap, subst, ◌∙◌, arith}
 use Rattle.std.specs.List.{range_with_len}
 use Rattle.std.proofs.lemmas.List.FromFn.{fill_by_all, get_or-map-range_with_len, length-map-range_with_len}
 use Rattle.std.proofs.lemmas.Nat.{div_below}
@@ -22,8 +22,8 @@ use Rattle.signal_safety.specs.Safe.{IsSafe}
 use Rattle.signal_safety.proofs.Lines.{safe}
 use Rattle.signal_safety.proofs.Rounds.{AllKeep, shows, all-keep as lines-keep}
 use Rattle.sheets.specs.Texts.{HasShape}
-use Rattle.actuated.specs.ActRuns.{AllAct, IsActRun, ShowsGreens, first_line, past_by, sheet_of}
-use Rattle.actuated.specs.Rounds.{AreFirstLines, AreNear, AreRenewed, CountsBefore, HavePlayed}
+use Rattle.actuated.specs.ActRuns.{IsActRun, ShowsGreens, first_line, past_by, sheet_of}
+use Rattle.actuated.specs.Rounds.{AreFirstLines, AreNear, AreRenewed, HavePlayed}
 use Rattle.actuated.specs.declared.records.ActRecord.{ActRecord}
 use Rattle.actuated.proofs.Acting.{more-acted, none-acted, one-round, same-before, time-for}
 use Rattle.actuated.proofs.LineLaws.{first-is-line, next-keeps}

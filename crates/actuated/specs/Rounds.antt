@@ -51,6 +51,10 @@ AreNear net past second near = (l : ℕ) → l < length net.link_names → slice
 abbrev pub CountsBefore : ((ℕ → ℕ → Option (ℕ × ℕ)) → ℕ → ℕ → ℕ → Passed) → Type 0
 CountsBefore under = (shown seen : ℕ → ℕ → Option (ℕ × ℕ)) (n : ℕ) → ((x node : ℕ) → x < n → shown x node ≡ seen x node) → under shown n ≡ under seen n
 
+-- and of these only what the nodes of the network show
+abbrev pub CountsAtNodes : Net → ((ℕ → ℕ → Option (ℕ × ℕ)) → ℕ → ℕ → ℕ → Passed) → Type 0
+CountsAtNodes net under = (shown seen : ℕ → ℕ → Option (ℕ × ℕ)) (n : ℕ) → ((x node : ℕ) → x < n → node < length net.node_names → shown x node ≡ seen x node) → under shown n ≡ under seen n
+
 -- after so many rounds: these are the lines that the nodes made, by what they sensed of a world in which `under shown n` is what
 -- passed the links in the first n seconds
 pub record HaveActed (net : Net) (under : (ℕ → ℕ → Option (ℕ × ℕ)) → ℕ → ℕ → ℕ → Passed) (rounds : ℕ) (lines : List (List Green)) : Type 0 where

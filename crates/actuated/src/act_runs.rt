@@ -91,14 +91,7 @@ fn play_rounds(
     let run = net.run();
     for _round in 0..run.rounds {
         sense_near(near.as_mut_slice(), net, world);
-        renew_lines(
-            alloc,
-            net,
-            world.now(),
-            near.as_slice(),
-            lines,
-            &mut calls,
-        )?;
+        renew_lines(alloc, net, world.now(), near.as_slice(), lines, &mut calls)?;
         world.advance(
             net,
             &Lines {

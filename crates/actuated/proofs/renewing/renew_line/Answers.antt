@@ -1,4 +1,4 @@
-use Rattle.std.proofs.Common.{◌≡◌, ◌+◌, ℕ, List, Some, length, sym, ap, subst, ◌∙◌, arith}
+use Rattle.std.proofs.Common.{◌≡◌, ◌+◌, ℕ, List, Some, sym, ap, subst, ◌∙◌, arith}
 use Rattle.control_flow.specs.Greens.{IsLawful, head_at}
 use Rattle.net_draft.specs.declared.drafts.Run.{Run}
 use Rattle.net_numbers.specs.Outline.{plan_at}
