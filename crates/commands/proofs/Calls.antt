@@ -3,7 +3,7 @@ use Rattle.std.proofs.Common.{rules, ◌≡◌, ℕ, List, [], ◌∷◌, true, 
 use Rattle.std.proofs.lemmas.Bool.{false≢true}
 use Rattle.std.proofs.lemmas.Fmt.{decimal_injective}
 use Rattle.std.specs.Str.{bytes_eq}
-use Rattle.commands.specs.Commands.{Actuate, Audit, Call, IsCall, Certify, CertifyBound, CertifyPar, Check, Compare, CompareFixed, Decide, DecideNode, Fixed, Grid, Instance, Net, Plan, Queues, Replay, Scale, Turns, Upgrade, words_of}
+use Rattle.commands.specs.Commands.{Actuate, Audit, Call, IsCall, Certify, CertifyBound, CertifyPar, Check, Compare, CompareFixed, Decide, DecideNode, Fixed, Grid, Instance, Net, Plan, Queues, Replay, Scale, Spill, Turns, Upgrade, words_of}
 
 -- the first word
 first : List (List ℕ) → List ℕ
@@ -53,6 +53,7 @@ one_call words (Scale n a f l s) (Scale m b g k t) is other =
     let last : l ≡ k = decimal_injective l k (omega (arith, is.within.most)) (omega (arith, other.within.most)) (cc) in
     let step : s ≡ t = decimal_injective s t (omega (arith, is.within.bits)) (omega (arith, other.within.bits)) (cc) in
     cc
+one_call words (Spill n a r) (Spill m b q) is other = let e = is.words_are in let d = other.words_are in cc
 one_call words (Decide n s) (Decide m t) is other = let e = is.words_are in let d = other.words_are in cc
 one_call words (Decide n s) (DecideNode m t k) is other = let e = is.words_are in let d = other.words_are in absurd (cc)
 one_call words (DecideNode n s k) (Decide m t) is other = let e = is.words_are in let d = other.words_are in absurd (cc)

@@ -29,7 +29,8 @@ use Rattle.commands.specs.Controllers.{AreFactors, BringTooMuch, IsActuatedRepor
 use Rattle.commands.specs.Headline.{Headline, IsGridSummary, IsPlannedText, ToldHeadline}
 use Rattle.commands.specs.Limits.{most_bytes}
 use Rattle.commands.specs.Rounds.{IsDecisionText, IsNodeDecisionText}
-use Rattle.commands.specs.Texts.{AllSaid, CertificateText, InstanceText, NetworkText, Next, NoMore, IsTextFor, Texts, history_texts, network_texts, plan_texts, sheet_texts, state_texts}
+use Rattle.commands.specs.Storages.{IsSpillTable}
+use Rattle.commands.specs.Texts.{AllSaid, CertificateText, InstanceText, NetworkText, Next, NoMore, IsTextFor, Texts, history_texts, network_texts, plan_texts, sheet_texts, state_texts, store_texts}
 use Rattle.commands.specs.Verdicts.{accepted_line, rejected_line, unclean_line}
 use Rattle.commands.specs.declared.words.Command.{Command}
 use Rattle.commands.specs.declared.words.Command.TheVariants as command
@@ -52,6 +53,7 @@ pub data Call : Type 0 where
   Compare : (net arr : List ℕ) → Call
   CompareFixed : (net arr plan : List ℕ) → Call
   Scale : (net arr : List ℕ) → (first last step : ℕ) → Call
+  Spill : (net arr store : List ℕ) → Call
   Decide : (net state : List ℕ) → Call
   DecideNode : (net state node : List ℕ) → Call
   Audit : (net arr report : List ℕ) → Call
@@ -75,6 +77,7 @@ words_of (Fixed net arr plan) = codes "fixed" ∷ net ∷ arr ∷ plan ∷ []
 words_of (Compare net arr) = codes "compare" ∷ net ∷ arr ∷ []
 words_of (CompareFixed net arr plan) = codes "compare" ∷ net ∷ arr ∷ plan ∷ []
 words_of (Scale net arr first last step) = codes "scale" ∷ net ∷ arr ∷ decimal first ∷ decimal last ∷ decimal step ∷ []
+words_of (Spill net arr store) = codes "spill" ∷ net ∷ arr ∷ store ∷ []
 words_of (Decide net state) = codes "decide" ∷ net ∷ state ∷ []
 words_of (DecideNode net state node) = codes "decide" ∷ net ∷ state ∷ node ∷ []
 words_of (Audit net arr report) = codes "audit" ∷ net ∷ arr ∷ report ∷ []
@@ -97,6 +100,7 @@ IsOfControllers (Fixed net arr plan) = Unit {0}
 IsOfControllers (Compare net arr) = Unit {0}
 IsOfControllers (CompareFixed net arr plan) = Unit {0}
 IsOfControllers (Scale net arr first last step) = Unit {0}
+IsOfControllers (Spill net arr store) = Unit {0}
 IsOfControllers (Decide net state) = Unit {0}
 IsOfControllers (DecideNode net state node) = Unit {0}
 IsOfControllers _ = ⊥
@@ -132,6 +136,7 @@ texts_of (Fixed net arr plan) = plan_texts net arr plan
 texts_of (Compare net arr) = network_texts net arr (λ network. NoMore)
 texts_of (CompareFixed net arr plan) = plan_texts net arr plan
 texts_of (Scale net arr first last step) = network_texts net arr (λ network. NoMore)
+texts_of (Spill net arr store) = store_texts net arr store
 texts_of (Decide net state) = state_texts net state
 texts_of (DecideNode net state node) = state_texts net state
 texts_of (Audit net arr report) = sheet_texts net arr report
@@ -154,7 +159,7 @@ IsWholeCertificate p bytes =
     × IsAcceptedText bytes c
 
 -- what is written where the work is done; of the texts of a network `said.0` is the network, `said.1.0` what enters it or a state of
--- it, and `said.1.1.0` the history, the sheet or the rows of the fixed plan
+-- it, and `said.1.1.0` the history, the sheet, the rows of the fixed plan or the store
 abbrev pub IsTextOf : (call : Call) → AllSaid (texts_of call) → List ℕ → Type 0
 IsTextOf (Plan file) said bytes = (answer : Answer) × IsBest said.0 answer × IsLeast said.0 answer × (bytes ≡ answer_text answer)
 IsTextOf (Certify file) said bytes = IsWholeCertificate said.0 bytes
@@ -170,6 +175,7 @@ IsTextOf (Fixed net arr plan) said bytes = IsFixedReport said.0 said.1.0 said.1.
 IsTextOf (Compare net arr) said bytes = IsComparison said.0 said.1.0 bytes
 IsTextOf (CompareFixed net arr plan) said bytes = IsComparisonWith said.0 said.1.0 said.1.1.0 bytes
 IsTextOf (Scale net arr first last step) said bytes = IsScaleTable said.0 said.1.0 first last step bytes
+IsTextOf (Spill net arr store) said bytes = IsSpillTable said.0 said.1.0 said.1.1.0 bytes
 IsTextOf (Decide net state) said bytes = IsDecisionText said.0 said.1.0 bytes
 IsTextOf (DecideNode net state node) said bytes = IsNodeDecisionText said.0 said.1.0 node bytes
 IsTextOf (Audit net arr report) said bytes =
@@ -227,6 +233,7 @@ call_of (command.Fixed net arr plan) = Fixed net.now arr.now plan.now
 call_of (command.Compare net arr) = Compare net.now arr.now
 call_of (command.CompareFixed net arr plan) = CompareFixed net.now arr.now plan.now
 call_of (command.Scale net arr first last step) = Scale net.now arr.now first last step
+call_of (command.Spill net arr store) = Spill net.now arr.now store.now
 call_of (command.Decide net state) = Decide net.now state.now
 call_of (command.DecideNode net state node) = DecideNode net.now state.now node.now
 call_of (command.Audit net arr report) = Audit net.now arr.now report.now

@@ -9,6 +9,7 @@ pub mod Outcome
 pub mod Refusals
 pub mod Rounds
 pub mod Stops
+pub mod Storages
 pub mod Summary
 pub mod Texts
 pub mod Verdicts

@@ -5,6 +5,7 @@ use Rattle.intersection_actor.specs.declared.records.PlanRecord.{PlanRecord}
 use Rattle.net_simulator.specs.declared.totals.Totals.{Totals}
 use Rattle.text_lines.specs.Lines.{line}
 use Rattle.runs.specs.declared.records.RunRecord.{RunRecord}
+use Rattle.spillback_world.specs.declared.totals.SpillTotals.{SpillTotals}
 use Rattle.schedule_meaning.specs.declared.planners.Answer.{Answer}
 use Rattle.schedule_meaning.specs.declared.planners.Answer.TheVariants.{Plan, NoPlan}
 
@@ -31,6 +32,10 @@ number_line word numbers = line (word ∷ map decimal numbers)
 -- a line of a word and what was counted in all: what entered, left, is on the links, and waited
 abbrev pub totals_line : List ℕ → Totals → List ℕ
 totals_line word totals = number_line word (totals.entered ∷ totals.left ∷ totals.on ∷ totals.delay ∷ [])
+
+-- the same where links hold so much and no more, with what waits outside
+abbrev pub spilled_line : List ℕ → SpillTotals → List ℕ
+spilled_line word totals = number_line word (totals.entered ∷ totals.left ∷ totals.on ∷ totals.outside ∷ totals.delay ∷ [])
 
 -- the words of what was counted in all
 abbrev pub totals_words : Totals → List (List ℕ)

@@ -89,6 +89,12 @@ pub enum Command<'a> {
         last: u32,
         step: u32,
     },
+    /// Writes what two runs counted in all where each link holds so much and no more.
+    Spill {
+        net: &'a str,
+        arr: &'a str,
+        store: &'a str,
+    },
     /// Writes what is decided in the round of a state.
     Decide {
         net: &'a str,
@@ -217,6 +223,10 @@ fn controllers_command<'a>(word: &str, rest: &'a [Text]) -> Option<Command<'a>>
             Some(Command::Fixed { net, arr, plan })
         }
         "compare" => comparison_of(rest),
+        "spill" => {
+            let (net, arr, store) = three_words(rest)?;
+            Some(Command::Spill { net, arr, store })
+        }
         "decide" => decision_of(rest),
         "scale" => {
             let (net, arr, first, last, step) = two_words_and_factors(rest)?;
