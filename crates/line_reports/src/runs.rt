@@ -9,7 +9,7 @@ ghost use Rattle.net_simulator.specs.Counts.{IsBalanced, counts_at};
 ghost use Rattle.net_simulator.specs.Worlds.{line_in};
 ghost use Rattle.signal_safety.specs.Safe.{IsSafe};
 ghost use Rattle.sheets.specs.Texts.{HasShape};
-ghost use Rattle.line_reports.specs.Runs.{sheet_of};
+ghost use Rattle.line_reports.specs.Runs.{sheet_of, shown_sheet};
 
 use arrivals::Arrivals;
 use control_flow::greens::Timeline;
@@ -49,7 +49,7 @@ pub fn run_lines(
     requires nodes { length lines.items ≡ length net.now.node_names }
     requires lawful { AreLawful net.now lines.items }
     requires arrivals { AreArrivals net.now arrivals.now }
-    ensures lines { IfOk result (λ run. run.timelines ≡ lines.items) }
+    ensures value { IfOk result (λ run. sheet_of run ≡ shown_sheet net.now (arriving_of arrivals.now) lines.items) }
     ensures shape { IfOk result (λ run. HasShape net.now (sheet_of run)) }
     ensures clean { IfOk result (λ run. IsClean net.now (arriving_of arrivals.now) (sheet_of run)) }
     ensures safe { IfOk result (λ run. IsSafe net.now (line_in run.timelines)) }
