@@ -34,6 +34,8 @@ pub fn kept_run(
 }
 
 /// The run of the turn order, with all that it keeps; it has at most 38,400 plans. `Err`: out of memory.
+///
+/// docs/RULES.md, "Run".
 pub fn run_of_turns(
     alloc: Global,
     net: &Network,

@@ -1,12 +1,10 @@
-//! The commands over a network: the report of the turn order's run, that of a history's run, that of a run in threads, and that of a
-//! run under actuated control; the totals of two controllers; the instance that a node planned in a run; the verdict on a report,
-//! and the queues under its greens; the summary of a run on a grid; and a network as a file of version 2.
+//! The commands over a network: the report of the turn order's run, that of a history's run, and that of a run in threads; the
+//! instance that a node planned in a run; the verdict on a report, and the queues under its greens; the summary of a run on a grid; and
+//! a network as a file of version 2.
 #![tactic(auto)]
 
-mod actuate;
 mod audits;
 mod calls;
-mod compare;
 mod grid;
 mod history_runs;
 mod instance;
@@ -19,14 +17,14 @@ mod summary;
 mod turns;
 mod upgrade;
 
-pub use actuate::actuate_job;
 pub use audits::audit_job;
-pub use compare::compare_job;
 pub use grid::grid_job;
+pub use history_runs::run_of_turns;
 pub use instance::instance_job;
 pub use laws::{law_of_instances, law_of_replays};
 pub use net::net_job;
 pub use queues::queues_job;
 pub use replay::replay_job;
+pub use summary::push_totals;
 pub use turns::turns_job;
 pub use upgrade::upgrade_job;

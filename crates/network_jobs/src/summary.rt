@@ -38,12 +38,11 @@ pub fn summary(
     Ok(text)
 }
 
-/// Appends a line of a word and totals to a text. `Err`: out of memory.
-pub(crate) fn push_totals(
-    text: &mut Vec<u8>,
-    word: &[u8],
-    totals: &Totals,
-) -> Result<(), AllocError>
+/// Appends a line of a word and totals to a text: what entered, left, is on the links, and waited, in thousandths. `Err`: out of
+/// memory.
+///
+/// docs/FORMATS.md, "Summary text".
+pub fn push_totals(text: &mut Vec<u8>, word: &[u8], totals: &Totals) -> Result<(), AllocError>
     requires { length word.now < 70 }
     ensures { OnOk result (text.new.items ≡ text.old.items ++ totals_line word.now totals.now) }
 {

@@ -11,10 +11,10 @@ use super::check::check_job;
 use super::plan::plan_job;
 use board_model::Gate;
 use commands::{Command, Refusal, Status, command_of, refuse};
+use controller_jobs::{actuate_job, compare_job};
 use foundation::text::Text;
 use network_jobs::{
-    actuate_job, audit_job, compare_job, grid_job, instance_job, net_job, queues_job, replay_job,
-    turns_job, upgrade_job,
+    audit_job, grid_job, instance_job, net_job, queues_job, replay_job, turns_job, upgrade_job,
 };
 use outside_world::{Shelf, Sink};
 use std::alloc::Global;

@@ -1,7 +1,7 @@
 use Rattle.arrivals.specs.Amounts.{entering}
 use Rattle.net_simulator.proofs.Passing.{few-of}
 use Rattle.runs.specs.Runs.{arriving_by}
-use Rattle.network_jobs.proofs.actuate.report_actuated.Goals as goal
+use Rattle.controller_jobs.proofs.actuate.report_actuated.Goals as goal
 
 pub returns : goal.returns
 returns c = record {

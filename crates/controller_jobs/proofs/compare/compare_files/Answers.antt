@@ -2,7 +2,7 @@ use Rattle.arrivals.specs.Amounts.{entering}
 use Rattle.commands.specs.Texts.{NoMore}
 use Rattle.commands.specs.Commands.{Compare}
 use Rattle.commands.proofs.Outcomes.{failed}
-use Rattle.network_jobs.proofs.compare.compare_files.Goals as goal
+use Rattle.controller_jobs.proofs.compare.compare_files.Goals as goal
 
 pub returns-in_err-scene : goal.returns-in_err-scene
 returns-in_err-scene g c = failed (Compare c.args.net.now c.args.arr.now) _ _ c.from_residual.result _ (c.in_err-scene.ensures.refused (λ network. NoMore)) c.from_residual.ensures.1

@@ -7,11 +7,10 @@ ghost use Rattle.commands.specs.Ending.{Makes};
 ghost use Rattle.commands.specs.Outcome.{Outcome};
 
 use super::actuate::actuated_run;
-use super::history_runs::run_of_turns;
-use super::summary::push_totals;
 use arrivals::Arrivals;
 use commands::{Made, Refusal, Status, end, fetch_scene};
 use net_simulator::Totals;
+use network_jobs::{push_totals, run_of_turns};
 use outside_world::{Shelf, Sink};
 use road_net::Network;
 use std::alloc::{AllocError, Global};
