@@ -3,7 +3,7 @@ use Rattle.std.proofs.Common.{◌≡◌, ℕ, ◌<◌, List, Option, Some, None,
 use Rattle.outside_world.specs.Shelf.{ShelfState}
 use Rattle.net_numbers.specs.Numbers.{Net, number_of}
 use Rattle.commands.specs.Texts.{ArrivalsText, HistoryText, IsIn, NetworkText}
-use Rattle.commands.specs.declared.refusals.Named.TheVariants.{Node, Round}
+use Rattle.commands.specs.declared.refusals.Named.TheVariants.{Factor, Node, Round}
 use Rattle.commands.specs.declared.refusals.Refusal.{Refusal}
 use Rattle.commands.specs.declared.refusals.Refusal.TheVariants as refusal
 use Rattle.commands.specs.Commands.{Instance, MissesNothing}
@@ -20,6 +20,7 @@ module _ (net arr hist node : List ℕ) (round : ℕ) (network : Net) (enters : 
       → Misses network node round why → Explains (Instance net arr hist node round) old new why
   missed old new (refusal.Missing Node) same is bring tells misses = (same, ((network, (enters, (history, tt))), (is, (bring, (tells, tt))), misses))
   missed old new (refusal.Missing Round) same is bring tells misses = (same, ((network, (enters, (history, tt))), (is, (bring, (tells, tt))), misses))
+  missed old new (refusal.Missing Factor) same is bring tells misses = absurd misses
   missed old new refusal.NoMemory same is bring tells misses = same
   missed old new refusal.Usage same is bring tells misses = misses
   missed old new (refusal.Bad text why) same is bring tells misses = absurd misses
@@ -30,3 +31,4 @@ module _ (net arr hist node : List ℕ) (round : ℕ) (network : Net) (enters : 
   pub none_missed : IsSome (number_of network.node_names node) → round < network.run.rounds → MissesNothing (Instance net arr hist node round) (network, (enters, (history, tt)))
   none_missed some within Node missing = some_none (number_of network.node_names node) some missing
   none_missed some within Round missing = omega (arith, missing.1, within)
+  none_missed some within Factor missing = missing
