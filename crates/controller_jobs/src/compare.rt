@@ -15,8 +15,12 @@ use outside_world::{Shelf, Sink};
 use road_net::Network;
 use std::alloc::{AllocError, Global};
 
-// The totals of the run of the turn order.
-fn planned_totals(alloc: Global, net: &Network, arrivals: &Arrivals) -> Result<Totals, AllocError>
+/// The totals of the run of the turn order. `Err`: out of memory.
+pub(crate) fn planned_totals(
+    alloc: Global,
+    net: &Network,
+    arrivals: &Arrivals,
+) -> Result<Totals, AllocError>
     requires { AreArrivals net.now arrivals.now }
     ensures { IfOk result (ArePlannedTotals net.now (entering arrivals.now)) }
 {
@@ -24,8 +28,12 @@ fn planned_totals(alloc: Global, net: &Network, arrivals: &Arrivals) -> Result<T
     Ok(run.totals)
 }
 
-// The totals of the run under actuated control.
-fn actuated_totals(alloc: Global, net: &Network, arrivals: &Arrivals) -> Result<Totals, AllocError>
+/// The totals of the run under actuated control. `Err`: out of memory.
+pub(crate) fn actuated_totals(
+    alloc: Global,
+    net: &Network,
+    arrivals: &Arrivals,
+) -> Result<Totals, AllocError>
     requires { AreArrivals net.now arrivals.now }
     ensures { IfOk result (AreActuatedTotals net.now (entering arrivals.now)) }
 {
@@ -33,8 +41,12 @@ fn actuated_totals(alloc: Global, net: &Network, arrivals: &Arrivals) -> Result<
     Ok(run.totals)
 }
 
-// The totals of both runs. The first leaves nothing in memory when the second begins.
-fn comparison(alloc: Global, net: &Network, arrivals: &Arrivals) -> Result<Vec<u8>, AllocError>
+/// The totals of both runs. The first leaves nothing in memory when the second begins. `Err`: out of memory.
+pub(crate) fn comparison(
+    alloc: Global,
+    net: &Network,
+    arrivals: &Arrivals,
+) -> Result<Vec<u8>, AllocError>
     requires { AreArrivals net.now arrivals.now }
     ensures { IfOk result (λ text. IsComparison net.now (entering arrivals.now) text.items) }
 {

@@ -1,0 +1,17 @@
+use Rattle.arrivals.specs.Amounts.{entering}
+use Rattle.commands.specs.Commands.{Fixed}
+use Rattle.commands.proofs.Outcomes.{failed}
+use Rattle.controller_jobs.proofs.fixed.fixed_files.Goals as goal
+
+pub returns-in_err-read : goal.returns-in_err-read
+returns-in_err-read g c = failed (Fixed c.args.net.now c.args.arr.now c.args.plan.now) _ _ c.from_residual.result _ c.in_err-read.ensures.refused c.from_residual.ensures.1
+
+pub returns : goal.returns
+returns g c = (
+  c.in_ok-read.ensures.ok,
+  (
+    (c.in_ok-read.read.scene.network, (entering c.in_ok-read.read.scene.arrivals, (c.in_ok-read.read.plan, tt))),
+    c.in_ok-read.ensures.texts,
+    ((c.in_ok-text.ensures, λ against. against), λ what missing. missing),
+  ),
+)

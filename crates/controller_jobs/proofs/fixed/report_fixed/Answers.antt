@@ -1,0 +1,18 @@
+use Rattle.std.proofs.Common.{ap}
+use Rattle.arrivals.specs.Amounts.{entering}
+use Rattle.line_reports.specs.Runs.{sheet_of}
+use Rattle.net_simulator.proofs.Passing.{few-of}
+use Rattle.runs.specs.Runs.{arriving_by}
+use Rattle.sheets.specs.declared.sheet.Sheet.{Sheet}
+use Rattle.controller_jobs.proofs.fixed.report_fixed.Goals as goal
+
+pub returns : goal.returns
+returns c = record {
+  sheet = sheet_of c.in_ok-run.run';
+  lines = ap (λ (s : Sheet). s.lines) c.in_ok-run.ensures.value;
+  shape = c.in_ok-run.ensures.shape;
+  shows = c.in_ok-run.ensures.clean;
+  safe = c.in_ok-run.ensures.safe;
+  report = c.in_ok-text.ensures.text;
+  clean = c.in_ok-text.ensures.clean (arriving_by (entering c.args.arrivals.now)) (few-of c.args.net.now c.nodes-nodes.ensures.network c.args.arrivals.now c.requires.arrivals) c.in_ok-run.ensures.clean;
+}
