@@ -1,1 +1,3 @@
 pub mod Decided
+mod FactorLaws
+mod LineLaws

@@ -1,7 +1,7 @@
 //! The commands that run a network under other controllers than plans: the report of the run under actuated control; and what the
 //! run of plans and the run of each other controller come to; and the decision of a round from a state of it.
 //! The commands that run a network under other controllers than the planners, or under several: the report of the run under actuated
-//! control, and that of a fixed plan; and what two or three controllers come to.
+//! control, and that of a fixed plan; and what two or three controllers come to, also for arrivals scaled by several factors.
 #![tactic(auto)]
 
 mod actuate;
@@ -13,8 +13,10 @@ pub use compare::compare_job;
 pub use decide::{decide_job, decide_node_job};
 mod compare_fixed;
 mod fixed;
+mod scale;
 
 pub use actuate::actuate_job;
 pub use compare::compare_job;
 pub use compare_fixed::compare_fixed_job;
 pub use fixed::fixed_job;
+pub use scale::scale_job;

@@ -1,0 +1,27 @@
+-- The lines of factors, and why a factor has none. No public clause names these definitions.
+use Rattle.std.specs.Prelude.{◌≡◌, ℕ, ◌<◌, List, ◌++◌}
+use Rattle.arrivals.specs.Rows.{most_of_all}
+use Rattle.net_numbers.specs.Numbers.{Net}
+use Rattle.scaled_arrivals.specs.Scaling.{scaled_whole}
+use Rattle.commands.specs.Controllers.{BringTooMuch, IsScaleLine}
+use Rattle.commands.specs.declared.refusals.Named.TheVariants.{Factor}
+use Rattle.commands.specs.declared.refusals.Refusal.{Refusal}
+use Rattle.commands.specs.declared.refusals.Refusal.TheVariants as refusal
+
+-- a text gained the line of a factor
+pub record GainsScaleLine (net : Net) (enters : ℕ → ℕ → ℕ) (factor : ℕ) (old new : List ℕ) : Type 0 where
+  pub line : List ℕ
+  pub is : IsScaleLine net enters factor line
+  pub text : new ≡ old ++ line
+
+-- why a factor has no line: scaled by it, the arrivals bring too much; or memory ran out
+abbrev pub BringsTooMuch : Net → (ℕ → ℕ → ℕ) → ℕ → Refusal → Type 0
+BringsTooMuch net enters factor (refusal.Missing Factor) = most_of_all < scaled_whole net factor enters
+BringsTooMuch net enters factor refusal.NoMemory = Unit {0}
+BringsTooMuch net enters factor _ = ⊥
+
+-- why several have no table: scaled by one of them, the arrivals bring too much; or memory ran out
+abbrev pub RefusesFactors : Net → (ℕ → ℕ → ℕ) → List ℕ → Refusal → Type 0
+RefusesFactors net enters all (refusal.Missing Factor) = BringTooMuch net enters all
+RefusesFactors net enters all refusal.NoMemory = Unit {0}
+RefusesFactors net enters all _ = ⊥
