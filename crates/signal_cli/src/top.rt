@@ -1,6 +1,6 @@
 //! The top call: the arguments of the command line, and what is done.
 ghost use Rattle.std.specs.Prelude.{◌≡◌, ◌≢◌, ◌↔◌};
-ghost use Rattle.commands.specs.Commands.{Call, IsCall, IsWithin, call_of};
+ghost use Rattle.commands.specs.Commands.{Call, IsCall, IsOfControllers, IsWithin, call_of};
 ghost use Rattle.commands.specs.Outcome.{Outcome};
 ghost use Rattle.commands.specs.Refusals.{Says};
 ghost use Rattle.commands.specs.declared.refusals.Refusal.TheVariants as refusal;
@@ -11,7 +11,7 @@ use super::check::check_job;
 use super::plan::plan_job;
 use board_model::Gate;
 use commands::{Command, Refusal, Status, command_of, refuse};
-use controller_jobs::{actuate_job, compare_job};
+use controller_jobs::{actuate_job, compare_fixed_job, compare_job, fixed_job, scale_job};
 use foundation::text::Text;
 use network_jobs::{
     audit_job, grid_job, instance_job, net_job, queues_job, replay_job, turns_job, upgrade_job,
@@ -85,8 +85,11 @@ fn run<R: Threads + Wait + Sync, S: Shelf, O: Sink, E: Sink, G: Gate + Sync>(
             node,
             round,
         } => instance_job(alloc, net, arr, hist, node, round, shelf, out, err),
-        Command::Actuate { net, arr } => actuate_job(alloc, net, arr, shelf, out, err),
-        Command::Compare { net, arr } => compare_job(alloc, net, arr, shelf, out, err),
+        Command::Actuate { .. }
+        | Command::Fixed { .. }
+        | Command::Compare { .. }
+        | Command::CompareFixed { .. }
+        | Command::Scale { .. } => run_controllers(alloc, command, shelf, out, err),
         Command::Audit { net, arr, report } => {
             audit_job(alloc, net, arr, report, shelf, out, err)
         }
@@ -99,5 +102,37 @@ fn run<R: Threads + Wait + Sync, S: Shelf, O: Sink, E: Sink, G: Gate + Sync>(
             rounds,
         } => grid_job(alloc, number, side, rounds, out, err),
         Command::Upgrade { net } => upgrade_job(alloc, net, shelf, out, err),
+    }
+}
+
+/// Does what a command says that runs a network under other controllers than the planners, or under several.
+fn run_controllers<S: Shelf, O: Sink, E: Sink>(
+    alloc: Global,
+    command: Command<'_>,
+    shelf: &mut S,
+    out: &mut O,
+    err: &mut E,
+) -> Status
+    requires within { IsWithin (call_of command) }
+    requires controllers { IsOfControllers (call_of command) }
+    ensures { Outcome (call_of command.entry)
+        (record { shelf = S.state shelf.old; out = O.state out.old; err = E.state err.old })
+        (record { shelf = S.state shelf.new; out = O.state out.new; err = E.state err.new }) result }
+{
+    match command {
+        Command::Actuate { net, arr } => actuate_job(alloc, net, arr, shelf, out, err),
+        Command::Fixed { net, arr, plan } => fixed_job(alloc, net, arr, plan, shelf, out, err),
+        Command::Compare { net, arr } => compare_job(alloc, net, arr, shelf, out, err),
+        Command::CompareFixed { net, arr, plan } => {
+            compare_fixed_job(alloc, net, arr, plan, shelf, out, err)
+        }
+        Command::Scale {
+            net,
+            arr,
+            first,
+            last,
+            step,
+        } => scale_job(alloc, net, arr, first, last, step, shelf, out, err),
+        _ => unreachable!(),
     }
 }
