@@ -2,11 +2,14 @@
 //! run of plans and the run of each other controller come to; and the decision of a round from a state of it.
 //! The commands that run a network under other controllers than the planners, or under several: the report of the run under actuated
 //! control, and that of a fixed plan; and what two or three controllers come to, also for arrivals scaled by several factors.
+//! run of plans and the run of each other controller come to, also where links hold so much and no more; and the decision of a round from
+//! a state of it.
 #![tactic(auto)]
 
 mod actuate;
 mod compare;
 mod decide;
+mod spill;
 
 pub use actuate::actuate_job;
 pub use compare::compare_job;
@@ -20,3 +23,4 @@ pub use compare::compare_job;
 pub use compare_fixed::compare_fixed_job;
 pub use fixed::fixed_job;
 pub use scale::scale_job;
+pub use spill::spill_job;
