@@ -17,7 +17,10 @@ pub use certify::{certify_bound_job, certify_job};
 pub use certify_par::{certify_par_job, law_of_whole_certificates};
 pub use check::check_job;
 pub use commands::Status;
-pub use controller_jobs::{actuate_job, compare_fixed_job, compare_job, fixed_job, scale_job};
+pub use controller_jobs::{
+    actuate_job, compare_fixed_job, compare_job, decide_job, decide_node_job, fixed_job, scale_job,
+    spill_job,
+};
 pub use network_jobs::{
     audit_job, grid_job, instance_job, net_job, queues_job, replay_job, turns_job, upgrade_job,
 };

@@ -11,7 +11,10 @@ use super::check::check_job;
 use super::plan::plan_job;
 use board_model::Gate;
 use commands::{Command, Refusal, Status, command_of, refuse};
-use controller_jobs::{actuate_job, compare_fixed_job, compare_job, fixed_job, scale_job};
+use controller_jobs::{
+    actuate_job, compare_fixed_job, compare_job, decide_job, decide_node_job, fixed_job, scale_job,
+    spill_job,
+};
 use foundation::text::Text;
 use network_jobs::{
     audit_job, grid_job, instance_job, net_job, queues_job, replay_job, turns_job, upgrade_job,
@@ -89,7 +92,10 @@ fn run<R: Threads + Wait + Sync, S: Shelf, O: Sink, E: Sink, G: Gate + Sync>(
         | Command::Fixed { .. }
         | Command::Compare { .. }
         | Command::CompareFixed { .. }
-        | Command::Scale { .. } => run_controllers(alloc, command, shelf, out, err),
+        | Command::Scale { .. }
+        | Command::Spill { .. }
+        | Command::Decide { .. }
+        | Command::DecideNode { .. } => run_controllers(alloc, command, shelf, out, err),
         Command::Audit { net, arr, report } => {
             audit_job(alloc, net, arr, report, shelf, out, err)
         }
@@ -105,7 +111,7 @@ fn run<R: Threads + Wait + Sync, S: Shelf, O: Sink, E: Sink, G: Gate + Sync>(
     }
 }
 
-/// Does what a command says that runs a network under other controllers than the planners, or under several.
+/// Does what a command says that runs a network under other controllers than the planners, or under several, or decides a round.
 fn run_controllers<S: Shelf, O: Sink, E: Sink>(
     alloc: Global,
     command: Command<'_>,
@@ -133,6 +139,11 @@ fn run_controllers<S: Shelf, O: Sink, E: Sink>(
             last,
             step,
         } => scale_job(alloc, net, arr, first, last, step, shelf, out, err),
+        Command::Spill { net, arr, store } => spill_job(alloc, net, arr, store, shelf, out, err),
+        Command::Decide { net, state } => decide_job(alloc, net, state, shelf, out, err),
+        Command::DecideNode { net, state, node } => {
+            decide_node_job(alloc, net, state, node, shelf, out, err)
+        }
         _ => unreachable!(),
     }
 }
