@@ -107,6 +107,21 @@ all a b left right joined past_a past_b so = record {
   all = covers-either a b joined (side-all a joined left past_a so.first) (side-all b joined right past_b so.second);
 }
 
+-- with no entries the join is the other list
+pub none-before : (a b : List Entry) → length a ≡ 0 → AreRising b → IsJoinOf a b b
+none-before a b none rising = record {
+  rising = rising;
+  each = λ k d inside. inr (Contains-get_or b k d inside);
+  all = λ e h. elim h [ inl x ↦ absurd (omega (arith, x.1, none)) | inr x ↦ record { entry = e; among = x; key_is = refl; delay = omega arith } ];
+}
+
+pub none-after : (a b : List Entry) → length b ≡ 0 → AreRising a → IsJoinOf a b a
+none-after a b none rising = record {
+  rising = rising;
+  each = λ k d inside. inl (Contains-get_or a k d inside);
+  all = λ e h. elim h [ inl x ↦ record { entry = e; among = x; key_is = refl; delay = omega arith } | inr x ↦ absurd (omega (arith, x.1, none)) ];
+}
+
 -- ---- the first of what is left of both
 
 entry-here : (entries : List Entry) (place : ℕ) (d : Entry) → place < length entries → entry_at entries place ≡ get_or entries place d

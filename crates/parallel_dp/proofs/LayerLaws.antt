@@ -16,6 +16,7 @@ use Rattle.dp_certificate.proofs.Stages.{some-same, stage-alike, stage-push}
 use Rattle.forward_dp.proofs.Bounds.{stage-bounds, stage-few}
 use Rattle.forward_dp.proofs.RowLaws.{ends-by, entry-stage}
 use Rattle.forward_dp.proofs.Wholes.{entry-bounds}
+use Rattle.parallel_dp.specs.Ways.{AreEach, AreLayers}
 use Rattle.parallel_dp.specs.Pieces.{AreNextOfPieces, IsJoinOf, IsJoinOfAll, IsLayer, IsLed, IsNextOf, IsOf, IsOfEither, IsReachedFrom, piece_of}
 
 -- ---- several lists as one
@@ -194,22 +195,21 @@ module _ (p : Problem) (lawful : IsInstance p) where
         record { entry = there.entry; among = there.among; key_is = there.key_is; delay = omega (arith, there.delay, has.delay, one.1) };
   }
 
--- the layers of fewer servings than these, one after the other
-pub record AreLayers (p : Problem) (n : ℕ) (lists : List (List Entry)) : Type 0 where
-  pub long : length lists ≡ n
-  pub each : (k : ℕ) → k < n → IsLayer p k (get_or lists k [])
+pub no-lists : (Holds : ℕ → List Entry → Type 0) → AreEach Holds 0 []
+no-lists Holds = record { long = refl; each = λ k less. absurd (omega arith) }
 
-pub no-layers : (p : Problem) → AreLayers p 0 []
-no-layers p = record { long = refl; each = λ k less. absurd (omega arith) }
-
-pub more-layers : (p : Problem) (n : ℕ) (lists : List (List Entry)) (layer : List Entry) → AreLayers p n lists → IsLayer p n layer → AreLayers p (n + 1) (lists ++ layer ∷ [])
-more-layers p n lists layer are is = record {
-  long = omega (arith, length-append lists (layer ∷ []), are.long);
+pub more-lists : (Holds : ℕ → List Entry → Type 0) (n : ℕ) (lists : List (List Entry)) (list : List Entry) → AreEach Holds n lists → Holds n list → AreEach Holds (n + 1) (lists ++ list ∷ [])
+more-lists Holds n lists list are is = record {
+  long = omega (arith, length-append lists (list ∷ []), are.long);
   each = λ k less. elim (cases_eq k n) [
-    | inl last ↦ subst (IsLayer p k) (sym (get_or-append_right lists (layer ∷ []) n k [] are.long (omega arith) ∙ ap (λ m. get_or (layer ∷ []) m []) (let z : k - n ≡ 0 = omega arith in z))) (subst (λ m. IsLayer p m layer) (sym last) is)
-    | inr other ↦ subst (IsLayer p k) (sym (get_or_append_left lists (layer ∷ []) [] k (omega (arith, are.long)))) (are.each k (omega arith))
+    | inl last ↦ subst (Holds k) (sym (get_or-append_right lists (list ∷ []) n k [] are.long (omega arith) ∙ ap (λ m. get_or (list ∷ []) m []) (let z : k - n ≡ 0 = omega arith in z))) (subst (λ m. Holds m list) (sym last) is)
+    | inr other ↦ subst (Holds k) (sym (get_or_append_left lists (list ∷ []) [] k (omega (arith, are.long)))) (are.each k (omega arith))
   ];
 }
+
+-- a list at its place
+pub list-at : (Holds : ℕ → List Entry → Type 0) (n : ℕ) (lists : List (List Entry)) (k : ℕ) (d list : List Entry) → AreEach Holds n lists → k < n → list ≡ get_or lists k d → Holds k list
+list-at Holds n lists k d list are inside is = subst (Holds k) (sym (is ∙ get_or_default lists k d [] (omega (arith, are.long)))) (are.each k inside)
 
 pub layers-rise : (p : Problem) (n : ℕ) (lists : List (List Entry)) → AreLayers p n lists → All AreRising lists
 layers-rise p n lists are k d inside = subst AreRising (get_or_default lists k [] d inside) (are.each k (omega (arith, inside, are.long))).rising

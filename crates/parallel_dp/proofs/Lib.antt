@@ -4,3 +4,4 @@ mod NextLaws
 pub mod PieceLaws
 mod Rising
 mod TableSize
+mod WayLaws

@@ -73,7 +73,7 @@ precedes-not : (a b : Entry) → Precedes a b → key_of_entry a ≡ key_of_entr
 precedes-not a b less same = before-itself (digits_of b) (subst (λ ds. IsBefore ds (digits_of b)) (same-digits a b same) less)
 
 -- of entries that rise two with one key are one
-one-of-key : (xs : List Entry) → AreRising xs → (a b : Entry) → Contains xs a → Contains xs b → key_of_entry a ≡ key_of_entry b → a ≡ b
+pub one-of-key : (xs : List Entry) → AreRising xs → (a b : Entry) → Contains xs a → Contains xs b → key_of_entry a ≡ key_of_entry b → a ≡ b
 one-of-key xs rising a b ha hb same =
     let pairs = rising-pairs xs rising in
     let at_a : get_or xs ha.0 b ≡ a = get_or_default xs ha.0 b a ha.1 ∙ ha.2 in
@@ -88,7 +88,7 @@ one-of-key xs rising a b ha hb same =
       ]
     ]
 
-same-entry : (a b : Entry) → key_of_entry a ≡ key_of_entry b → a.delay ≡ b.delay → a ≡ b
+pub same-entry : (a b : Entry) → key_of_entry a ≡ key_of_entry b → a.delay ≡ b.delay → a ≡ b
 same-entry a b key delay =
     ap (λ (k : Key). let x : Entry = record { counts = k.counts; phase = k.phase; since = k.since; at = k.at; delay = a.delay } in x) key
     ∙ ap (λ d. let x : Entry = record { counts = b.counts; phase = b.phase; since = b.since; at = b.at; delay = d } in x) delay

@@ -34,6 +34,12 @@ pub fn join_pieces(alloc: Global, a: Vec<Entry>, b: Vec<Entry>) -> Result<Vec<En
     requires second { AreRising b.items }
     ensures { IfOk result (λ v. IsJoinOf a.items b.items v.items) }
 {
+    if a.is_empty() {
+        return Ok(b);
+    }
+    if b.is_empty() {
+        return Ok(a);
+    }
     join(alloc, a.as_slice(), b.as_slice())
 }
 
@@ -44,7 +50,7 @@ pub(crate) fn join(alloc: Global, a: &[Entry], b: &[Entry]) -> Result<Vec<Entry>
     ensures { IfOk result (λ v. IsJoinOf a.now b.now v.items) }
 {
     let mut joined = Vec::new(alloc);
-    joined.reserve(a.len().max(b.len()))?;
+    joined.reserve(a.len() + b.len())?;
     let mut left = 0;
     let mut right = 0;
     while left < a.len() && right < b.len() {

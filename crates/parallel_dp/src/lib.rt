@@ -4,6 +4,7 @@
 mod joins;
 mod layers;
 mod next;
+mod ways;
 mod whole_certificates;
 
 pub use joins::{join_pieces, law_of_pieces};

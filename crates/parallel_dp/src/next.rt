@@ -53,8 +53,8 @@ fn next_by<L: Ledger>(
     ensures next { IfOk result (λ v. AreReachedBy i.now piece.now (length piece.now) phase v.items) }
     ensures servings { steps.new ≤ steps.old + length piece.now }
 {
-    let mut kept = Vec::new(alloc);
-    let mut anew = Vec::new(alloc);
+    let mut kept = Vec::with_capacity(alloc, piece.len())?;
+    let mut anew = Vec::with_capacity(alloc, piece.len())?;
     let mut near = 0;
     for entry in piece {
         if let Some(after) = next_after(i, entry, phase, steps) {
@@ -103,7 +103,7 @@ fn put_in(entries: &mut Vec<Entry>, entry: Entry, near: usize) -> Result<usize, 
 }
 
 /// Whether an entry with this key stands at its place.
-fn has_key_at(entries: &[Entry], key: &Entry, place: usize) -> bool
+pub(crate) fn has_key_at(entries: &[Entry], key: &Entry, place: usize) -> bool
     requires { IsPlace entries.now key.now place }
     ensures some { result ≡ true → HasKeyAt entries.now key.now place }
     ensures none { result ≡ false → HasNoKeyAt entries.now key.now place }

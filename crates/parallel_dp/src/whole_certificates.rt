@@ -1,6 +1,6 @@
 //! The whole table by its layers, as a certificate.
 
-ghost use Rattle.std.specs.Prelude.{◌≡◌, ◌<◌, ◌≤◌, IfOk, length};
+ghost use Rattle.std.specs.Prelude.{◌≡◌, ◌+◌, ◌<◌, ◌≤◌, IfOk, length};
 ghost use Rattle.switch_rules.specs.Bounds.{most_clusters, most_entries};
 ghost use Rattle.schedule_meaning.specs.Best.{IsBest};
 ghost use Rattle.dp_certificate.specs.Numbers.{sequence_of};
@@ -8,10 +8,12 @@ ghost use Rattle.dp_certificate.specs.Proves.{Proves};
 ghost use Rattle.dp_certificate.specs.Whole.{IsWhole};
 ghost use Rattle.schedule_meaning.specs.Instances.{IsInstance};
 ghost use Rattle.parallel_dp.specs.Pieces.{IsLayer};
+ghost use Rattle.parallel_dp.specs.Ways.{AreLayers, servings_of};
 
 use crate::layers::{join_all, next_layer};
+use crate::ways::answer_of_layers;
 use dp_certificate::{Certificate, Entry};
-use forward_dp::{answer_of, places};
+use forward_dp::places;
 use foundation::items::Items;
 use foundation::steps::Steps;
 use schedule_meaning::{Answer, Instance};
@@ -41,38 +43,40 @@ pub fn certify_par(
     ensures few { IfOk result (λ c. (length c.entries ≤ most_entries)
         × (length (sequence_of c.answer) ≤ most_clusters)) }
 {
-    let entries = whole_table(rt, alloc, i, width as usize)?;
-    let answer = answer_in_ledger::<Brand>(alloc, i, entries.as_slice(), Blank::new(1))?;
+    let layers = all_layers(rt, alloc, i, width as usize)?;
+    let answer = answer_in_ledger::<Brand>(alloc, i, layers.as_slice(), Blank::new(1))?;
+    let entries = join_all(alloc, layers.as_slice())?;
     let instance = i.copy(alloc)?;
     Ok(Certificate::of_lawful(instance, entries, answer))
 }
 
-/// The answer out of the whole table, its servings counted in the ledger of this blank.
+/// The answer out of the layers, its servings counted in the ledger of this blank.
 fn answer_in_ledger<L: Ledger>(
     alloc: Global,
     i: &Instance,
-    entries: &[Entry],
+    layers: &[Items<Entry>],
     blank: Blank,
 ) -> Result<Answer, AllocError>
     requires name { blank.name ≡ L.name }
     requires parts { blank.parts ≡ L.parts }
     requires some { 0 < L.parts }
-    requires whole { IsWhole i.now entries.now }
+    requires lawful { IsInstance i.now }
+    requires layers { AreLayers i.now (servings_of i.now + 1) layers.now }
     ensures { IfOk result (IsBest i.now) }
 {
     let mut steps = Steps::<L>::new(blank);
-    answer_of(alloc, i, entries, &mut steps)
+    answer_of_layers(alloc, i, layers, &mut steps)
 }
 
-/// The whole table: its layers, one after the other, joined at the end.
-fn whole_table(
+/// The layers, from that of no servings to that of all.
+fn all_layers(
     rt: &(impl Threads + Sync),
     alloc: Global,
     i: &Instance,
     width: usize,
-) -> Result<Vec<Entry>, AllocError>
+) -> Result<Vec<Items<Entry>>, AllocError>
     requires { (0 < width) × (width ≤ 4096) }
-    ensures whole { IfOk result (λ v. IsWhole i.now v.items) }
+    ensures layers { IfOk result (λ v. AreLayers i.now (servings_of i.now + 1) v.items) }
     ensures instance { IsInstance i.now }
 {
     let count = places(i);
@@ -84,7 +88,7 @@ fn whole_table(
         layer = next;
     }
     layers.push(Items::from_vec(layer))?;
-    join_all(alloc, layers.as_slice())
+    Ok(layers)
 }
 
 /// The layer of no servings: the entry of the start.

@@ -1,6 +1,6 @@
 use Rattle.parallel_dp.specs.Pieces.{IsLayer}
-use Rattle.parallel_dp.proofs.LayerLaws.{AreLayers}
-use Rattle.parallel_dp.proofs.whole_certificates.whole_table.Given as goal
+use Rattle.parallel_dp.specs.Ways.{AreLayers}
+use Rattle.parallel_dp.proofs.whole_certificates.all_layers.Given as goal
 
 -- the layers before the one of this many servings, and that one
 abbrev pub invariant-loop : goal.invariant-loop
