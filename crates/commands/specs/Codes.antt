@@ -141,7 +141,8 @@ fixed_code (fixed.Green n) = codes "green " ++ decimal n
 fixed_code (fixed.Offset n) = codes "offset " ++ decimal n
 fixed_code fixed.Short = codes "short"
 
--- the code of a fault of a state: the header, the first row at fault, or a link or node by its number, all from 1; `NoMemory` has none
+-- the code of a fault of a state: the header, the first row at fault, or a link or node by its number, all from 1; `NoMemory` has
+-- none
 abbrev pub state_code : StateFault → List ℕ
 state_code state.NoMemory = []
 state_code state.Header = codes "header"

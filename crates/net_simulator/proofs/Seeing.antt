@@ -127,24 +127,24 @@ near-few net past n sound gap l most inside =
 
 -- what is near on a link, by the row of the link: the sum of its first seconds
 module _ (net : Net) (qs rs ss : List ℕ) (x l gap : ℕ) where
-  abbrev row : ℕ → ℕ
-  row i = cell rs l (x + 128 - (link_at net l).travel + i)
+  abbrev reaching : ℕ → ℕ
+  reaching i = cell rs l (x + 128 - (link_at net l).travel + i)
 
-  pub near-row : near_of (seen_by net qs rs ss x l) gap ≡ slice_index qs l + sum (map row (range_with_len 0 (min (link_at net l).travel (gap + 1))))
+  pub near-row : near_of (seen_by net qs rs ss x l) gap ≡ slice_index qs l + sum (map reaching (range_with_len 0 (min (link_at net l).travel (gap + 1))))
   near-row =
       let t : ℕ = (link_at net l).travel in
-      let all : List ℕ = map row (range_with_len 0 t) in
-      let long : length all ≡ t = length-map-range_with_len row 0 t in
+      let all : List ℕ = map reaching (range_with_len 0 t) in
+      let long : length all ≡ t = length-map-range_with_len reaching 0 t in
       let short : min (gap + 1) (length all) ≡ min t (gap + 1) = omega (arith, long) in
       let most : min t (gap + 1) ≤ t = omega arith in
-      let first : take (gap + 1) all ≡ map row (range_with_len 0 (min t (gap + 1))) = sym (take_min (gap + 1) all) ∙ ap (λ k. take k all) short ∙ take-map-range_with_len row 0 t (min t (gap + 1)) most in
+      let first : take (gap + 1) all ≡ map reaching (range_with_len 0 (min t (gap + 1))) = sym (take_min (gap + 1) all) ∙ ap (λ k. take k all) short ∙ take-map-range_with_len reaching 0 t (min t (gap + 1)) most in
       ap (λ (xs : List ℕ). slice_index qs l + sum xs) first
 
-  pub row-part : (i : ℕ) → i ≤ min (link_at net l).travel (gap + 1) → slice_index qs l + sum (map row (range_with_len 0 i)) ≤ near_of (seen_by net qs rs ss x l) gap
+  pub row-part : (i : ℕ) → i ≤ min (link_at net l).travel (gap + 1) → slice_index qs l + sum (map reaching (range_with_len 0 i)) ≤ near_of (seen_by net qs rs ss x l) gap
   row-part i most =
       let m : ℕ = min (link_at net l).travel (gap + 1) in
-      let part = take-map-range_with_len row 0 m i most in
-      omega (arith, near-row, ap sum part, sum_by-take-le (λ a. a) (map row (range_with_len 0 m)) i)
+      let part = take-map-range_with_len reaching 0 m i most in
+      omega (arith, near-row, ap sum part, sum_by-take-le (λ a. a) (map reaching (range_with_len 0 m)) i)
 
 -- the same, where the time of travel was read
 module _ (net : Net) (qs rs ss : List ℕ) (x l gap t : ℕ) (read : t ≡ (link_at net l).travel) where

@@ -76,7 +76,8 @@ fn play_rounds(
 ) -> Result<(), AllocError>
     requires arrivals { AreArrivals net.now arrivals.now }
     requires store { length store.now ≡ length net.now.link_names }
-    requires first { HaveSpilled net.now (arriving_of arrivals.now) (slice_index store.now) 0 lines.old.items world.old }
+    requires first { HaveSpilled net.now (arriving_of arrivals.now) (slice_index store.now) 0
+        lines.old.items world.old }
     ensures { OnOk result (HaveSpilled net.now (arriving_of arrivals.now) (slice_index store.now) net.now.run.rounds
         lines.new.items world.new) }
 {
