@@ -14,7 +14,7 @@ use Rattle.net_simulator.specs.declared.totals.LinkTotals.{LinkTotals}
 use Rattle.net_numbers.specs.Numbers.{Net}
 use Rattle.runs.specs.Complete.{IsComplete, rounds_and_nodes}
 use Rattle.runs.specs.declared.records.RunRecord.{RunRecord}
-use Rattle.world_records.specs.Records.{green_records, header, link_record_of, records_text, total_record}
+use Rattle.world_records.specs.Records.{header, records_text, shown_records}
 use Rattle.delay_report.specs.Reports.{outcome_records, plan_record, report_records, report_text, step_record_at, steps_records}
 use Rattle.world_records.specs.Written.{Adds, HasWritten}
 use Rattle.world_records.proofs.WrittenLaws.{adds-then}
@@ -27,18 +27,14 @@ front-parts net h nodes o0 o1 o2 is_history start first steps =
     (adds-then o0 o1 o2 _ _ first b).adds [] start
 
 -- what comes after it
-pub outcome-parts : {Z : Type 0} (net : Net) (run : RunRecord) (text : List ℕ) (plans : List PlanRecord) (lines : List (List Green)) (links : List LinkTotals) (end : ℕ) (o2 o3 o4 o5 o6 : Writer (Vec ℕ Z))
-    → plans ≡ run.plans → lines ≡ run.timelines → links ≡ run.links → end ≡ end_of_run net → HasWritten o2 text
-    → Adds o2 o3 (map (plan_record net) plans)
-    → Adds o3 o4 (flat_map (green_records net lines end) (range_with_len 0 (length net.node_names)))
-    → Adds o4 o5 (map (link_record_of net links) (range_with_len 0 (length net.link_names)))
-    → Adds o5 o6 (total_record run.totals ∷ []) → HasWritten o6 (text ++ records_text (outcome_records net run))
-outcome-parts net run text plans lines links end o2 o3 o4 o5 o6 are_plans are_lines are_links ends start planned shown counted last =
+pub outcome-parts : {Z : Type 0} (net : Net) (run : RunRecord) (text : List ℕ) (plans : List PlanRecord) (lines : List (List Green)) (links : List LinkTotals) (o2 o3 o4 : Writer (Vec ℕ Z))
+    → plans ≡ run.plans → lines ≡ run.timelines → links ≡ run.links → HasWritten o2 text
+    → Adds o2 o3 (map (plan_record net) plans) → Adds o3 o4 (shown_records net lines links run.totals (end_of_run net)) → HasWritten o4 (text ++ records_text (outcome_records net run))
+outcome-parts net run text plans lines links o2 o3 o4 are_plans are_lines are_links start planned shown =
     let c = subst (λ l. Adds o2 o3 (map (plan_record net) l)) are_plans planned in
-    let at = subst (λ l. Adds o3 o4 (flat_map (green_records net l end) (range_with_len 0 (length net.node_names)))) are_lines shown in
-    let d = subst (λ n. Adds o3 o4 (flat_map (green_records net run.timelines n) (range_with_len 0 (length net.node_names)))) ends at in
-    let e = subst (λ l. Adds o4 o5 (map (link_record_of net l) (range_with_len 0 (length net.link_names)))) are_links counted in
-    (adds-then o2 o3 o6 _ _ c (adds-then o3 o4 o6 _ _ d (adds-then o4 o5 o6 _ _ e last))).adds text start
+    let d = subst (λ l. Adds o3 o4 (shown_records net l links run.totals (end_of_run net))) are_lines shown in
+    let e = subst (λ l. Adds o3 o4 (shown_records net run.timelines l run.totals (end_of_run net))) are_links d in
+    (adds-then o2 o3 o4 _ _ c e).adds text start
 
 -- both are the report
 pub both-parts : (net : Net) (run : RunRecord) (h : List ℕ) → records_text (steps_records net h) ++ records_text (outcome_records net run) ≡ report_text net run h

@@ -15,11 +15,11 @@ ghost use Rattle.delay_report.specs.Texts.{IsHistoryText};
 use crate::plans::write_plans;
 use crate::steps::write_steps;
 use histories::History;
-use net_simulator::end_of_run;
+use line_reports::write_shown;
 use road_net::Network;
 use runs::RunRecord;
 use std::alloc::{AllocError, Global};
-use world_records::{finish, start, write_greens, write_header, write_links, write_totals};
+use world_records::{finish, start, write_header};
 
 // The capacity for a step of a report, in bytes, so that the text seldom has to move as it grows: the record takes some 28, and what
 // follows the steps a third as much again.
@@ -76,9 +76,9 @@ pub fn render_outcome(
     text.reserve(run.plans.len().saturating_mul(CAPACITY_OF_A_PLAN))?;
     let mut out = start(text);
     write_plans(alloc, net, run.plans.as_slice(), &mut out)?;
-    write_greens(net, run.timelines.as_slice(), end_of_run(net), &mut out)?;
-    write_links(net, run.links.as_slice(), &mut out)?;
-    write_totals(run.totals, &mut out)?;
+    let lines = run.timelines.as_slice();
+    let links = run.links.as_slice();
+    write_shown(net, lines, links, run.totals, &mut out)?;
     finish(out)
 }
 

@@ -12,7 +12,7 @@ pub returns : goal.returns
 returns c =
     IfOk-weaker c.finish.result _ (λ (all : Vec ℕ Global). all.items ≡ c.args.text.items ++ records_text (outcome_records c.args.net.now c.args.run.now))
     (λ all says. says (c.args.text.items ++ records_text (outcome_records c.args.net.now c.args.run.now))
-    (outcome-parts c.args.net.now c.args.run.now c.args.text.items c.as_slice.result.now c.as_slice-2.result.now c.as_slice-3.result.now c.end_of_run.result
-    c.start-out.result c.write_plans.new.out c.write_greens.new.out c.write_links.new.out c.write_totals.new.out
-    c.as_slice.ensures c.as_slice-2.ensures c.as_slice-3.ensures c.end_of_run.ensures.value (subst (HasWritten c.start-out.result) c.in_ok-reserve.ensures.items c.start-out.ensures) c.in_ok-write_plans.ensures c.in_ok-write_greens.ensures c.in_ok-write_links.ensures c.in_ok-write_totals.ensures))
+    (outcome-parts c.args.net.now c.args.run.now c.args.text.items c.as_slice.result.now c.as_slice-lines.result.now c.as_slice-links.result.now
+    c.start-out.result c.write_plans.new.out c.write_shown.new.out c.as_slice.ensures c.as_slice-lines.ensures c.as_slice-links.ensures
+    (subst (HasWritten c.start-out.result) c.in_ok-reserve.ensures.items c.start-out.ensures) c.in_ok-write_plans.ensures c.in_ok-write_shown.ensures))
     c.finish.ensures
