@@ -1,11 +1,10 @@
 //! The run of a network under actuated control.
 
-ghost use Rattle.std.specs.Prelude.{◌≡◌, ℕ, IfOk, OnOk, length, map};
-ghost use Rattle.std.specs.List.{range_with_len};
+ghost use Rattle.std.specs.Prelude.{◌≡◌, ℕ, IfOk, OnOk};
 ghost use Rattle.arrivals.specs.Amounts.{AreArrivals};
 ghost use Rattle.audit.specs.Audits.{AreLawful, IsClean};
 ghost use Rattle.net_simulator.specs.Arriving.{arriving_of};
-ghost use Rattle.net_simulator.specs.Counts.{IsBalanced, counts_at};
+ghost use Rattle.net_simulator.specs.Counts.{IsBalanced};
 ghost use Rattle.net_simulator.specs.Worlds.{line_in};
 ghost use Rattle.signal_safety.specs.Safe.{IsSafe};
 ghost use Rattle.sheets.specs.Texts.{HasShape};
@@ -19,8 +18,9 @@ use super::sensing::sense_near;
 use arrivals::Arrivals;
 use control_flow::greens::Timeline;
 use foundation::items::Items;
+use line_reports::list_totals;
 use net_simulator::starts::zeros;
-use net_simulator::{Lines, LinkTotals, World};
+use net_simulator::{Lines, World};
 use road_net::Network;
 use std::alloc::{AllocError, Global};
 
@@ -102,17 +102,4 @@ fn play_rounds(
         );
     }
     Ok(())
-}
-
-/// What the world has counted of each link.
-fn list_totals(alloc: Global, net: &Network, world: &World) -> Result<Vec<LinkTotals>, AllocError>
-    requires { length world.now.counts ≡ length net.now.link_names }
-    ensures { IfOk result (λ links. links.items
-        ≡ map (counts_at world.now.counts) (range_with_len 0 (length net.now.link_names))) }
-{
-    let mut links = Vec::with_capacity(alloc, net.links() as usize)?;
-    for link in 0..net.links() {
-        links.push(world.link_totals(link))?;
-    }
-    Ok(links)
 }
