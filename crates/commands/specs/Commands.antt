@@ -158,8 +158,8 @@ IsWholeCertificate p bytes =
     (c : Claim) × (c.problem ≡ p) × IsWhole c.problem c.entries × IsBest c.problem c.answer × (bytes ≡ certificate_text c)
     × IsAcceptedText bytes c
 
--- what is written where the work is done; of the texts of a network `said.0` is the network, `said.1.0` what enters it or a state of
--- it, and `said.1.1.0` the history, the sheet, the rows of the fixed plan or the store
+-- what is written where the work is done; of the texts of a network `said.0` is the network, `said.1.0` what enters it or a
+-- state of it, and `said.1.1.0` the history, the sheet, the rows of the fixed plan or the store
 abbrev pub IsTextOf : (call : Call) → AllSaid (texts_of call) → List ℕ → Type 0
 IsTextOf (Plan file) said bytes = (answer : Answer) × IsBest said.0 answer × IsLeast said.0 answer × (bytes ≡ answer_text answer)
 IsTextOf (Certify file) said bytes = IsWholeCertificate said.0 bytes

@@ -208,7 +208,8 @@ fn network_command<'a>(word: &str, rest: &'a [Text]) -> Option<Command<'a>>
     }
 }
 
-// The command of this word that runs a network under several controllers or decides a round of it, with these words after it.
+// The command of this word that runs a network under several controllers or decides a round of it, with these words
+// after it.
 fn controllers_command<'a>(word: &str, rest: &'a [Text]) -> Option<Command<'a>>
     ensures some { IfSome result (λ command. IsCall (word.now ∷ rest.now) (call_of command)) }
     ensures none { IfNone result ((call : Call) → IsOfControllers call → ¬ IsCall (word.now ∷ rest.now) call) }
