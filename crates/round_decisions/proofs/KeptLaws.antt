@@ -7,6 +7,7 @@ use Rattle.std.proofs.lemmas.List.{ext_get_or}
 use Rattle.std.proofs.lemmas.List.FromFn.{get_or-map-range_with_len, length-map-range_with_len}
 use Rattle.board_model.specs.declared.boards.Heard.{Heard}
 use Rattle.board_model.specs.declared.forecasts.Row.{Row}
+use Rattle.board_model.specs.Forecasts.{IsForecast}
 use Rattle.control_flow.specs.Greens.{end_of, row_at, rows_before, spliced}
 use Rattle.control_flow.specs.declared.greens.Green.{Green}
 use Rattle.histories.specs.Steps.{publisher}
@@ -15,7 +16,7 @@ use Rattle.intersection_actor.specs.declared.records.PlanRecord.{PlanRecord}
 use Rattle.intersection_actor.specs.declared.records.Used.{Used}
 use Rattle.net_numbers.specs.Numbers.{Net}
 use Rattle.road_net.specs.Network.{IsNetwork, heard_links}
-use Rattle.round_states.specs.States.{IsStateOf, begin_of}
+use Rattle.round_states.specs.States.{IsBoard, IsStateOf, begin_of}
 use Rattle.road_net.specs.declared.senses.Sensed.{Sensed}
 use Rattle.round_states.specs.declared.states.LinkBoard.{LinkBoard}
 use Rattle.round_states.specs.declared.states.RoundState.{RoundState}
@@ -35,6 +36,11 @@ use Rattle.round_decisions.specs.declared.decisions.Decision.{Decision}
 use Rattle.round_decisions.specs.declared.decisions.NodeDecision.{NodeDecision}
 use Rattle.round_decisions.specs.declared.rounds.Decided.{Decided}
 use Rattle.round_decisions.specs.declared.rounds.Waiting.{Waiting}
+
+-- a board for this round is one for the next, and so is its next version, where this is a forecast
+board-next : (b : Bool) (round : ℕ) (old : LinkBoard) (told : List Row) → IsBoard round old → IsForecast (if b then next_board old told else old).forecast → IsBoard (round + 1) (if b then next_board old told else old)
+board-next true round old told is forecast = record { version = (let most = is.version in omega arith); forecast = forecast; none = λ none. absurd (omega arith) }
+board-next false round old told is forecast = record { version = (let most = is.version in omega arith); forecast = is.forecast; none = is.none }
 
 -- the links of what is heard
 pub links-on : (boards : ℕ → LinkBoard) (xs : List ℕ) → map (λ (h : Heard). h.link) (map (hearing_on boards) xs) ≡ xs
@@ -128,13 +134,24 @@ module _ (net : Net) (network : IsNetwork net) (state : RoundState) (is : IsStat
     goes n below = goes-on net network state is n below (heard_in net state h.made n) (h.made n) (h.commits n below) (decided_line d n) (line-is n below)
         (subst (λ (l : List Green). begin_of net (state.round + 1) < end_of l) (sym (line-is n below)) (h.later n below))
 
-    kept-decision : IsKeptDecision net state d
-    kept-decision = record {
+    -- each board is one for the next round
+    boards-next : All (λ (b : LinkBoard). IsForecast b.forecast) decided.boards.items → All (IsBoard (state.round + 1)) d.boards
+    boards-next forecasts = subst (All (IsBoard (state.round + 1))) (sym (boards ∙ boards-are)) (λ k x inside.
+        let links : ℕ = length net.link_names in
+        let after : ℕ → LinkBoard = board_after net state h.made (length net.node_names) in
+        let below : k < links = omega (arith, inside, length-map-range_with_len after 0 links) in
+        let at : get_or (map after (range_with_len 0 links)) k x ≡ after k = get_or-map-range_with_len after 0 links k k x below (let e : 0 + k ≡ k = omega arith in e) in
+        let told : IsForecast (after k).forecast = subst (λ (b : LinkBoard). IsForecast b.forecast) (ap (λ (l : List LinkBoard). get_or l k x) boards-are ∙ at) (forecasts k x (omega (arith, below, h.count, is.board_count))) in
+        subst (IsBoard (state.round + 1)) (sym at) (board-next (has_told net (length net.node_names) k) state.round (board_of state.boards k) (told_in net state.round k (h.made (publisher net k))) (is.boards k no_board (omega (arith, below, is.board_count))) told))
+
+    kept-decision : All (λ (b : LinkBoard). IsForecast b.forecast) decided.boards.items → IsKeptDecision net state d
+    kept-decision forecasts = record {
       is = record { made = h.made; commits = h.commits; plans = plans ∙ h.plans_are; lines = lines ∙ h.lines_are; boards = boards ∙ boards-are };
       kept = record {
         planned = all-plans (IsPlannedFrom net state h.made) planned;
         least = all-plans (λ (p : PlanRecord). IsLeast p.instance p.answer) (λ n below. best-least (h.made n).problem (h.made n).answer (h.commits n below).answer);
         lines = goes;
+        boards = boards-next forecasts;
         safe = safe net network (decided_line d) (λ n below. (goes n below).next.lawful);
       };
     }
@@ -159,6 +176,7 @@ module _ (net : Net) (network : IsNetwork net) (state : RoundState) (is : IsStat
 
 -- the state from which the turns began
 pub kept-from : (net : Net) → IsNetwork net → (state begun : RoundState) → begun ≡ state → IsStateOf net state → (waiting : Waiting) (decided : Decided) → HaveTurned net begun (length net.node_names) waiting decided
-    → (d : Decision) → d.plans ≡ decided.plans.items → d.lines ≡ decided.lines.items → d.boards ≡ decided.boards.items → IsKeptDecision net state d
-kept-from net network state begun same is waiting decided turned d plans lines boards =
-    kept-decision net network state is waiting decided (subst (λ (s : RoundState). HaveTurned net s (length net.node_names) waiting decided) same turned) d plans lines boards
+    → (d : Decision) → d.plans ≡ decided.plans.items → d.lines ≡ decided.lines.items → d.boards ≡ decided.boards.items → All (λ (b : LinkBoard). IsForecast b.forecast) decided.boards.items
+    → IsKeptDecision net state d
+kept-from net network state begun same is waiting decided turned d plans lines boards forecasts =
+    kept-decision net network state is waiting decided (subst (λ (s : RoundState). HaveTurned net s (length net.node_names) waiting decided) same turned) d plans lines boards forecasts

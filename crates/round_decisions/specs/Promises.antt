@@ -13,7 +13,7 @@ use Rattle.intersection_actor.specs.declared.records.Used.{Used}
 use Rattle.net_numbers.specs.Numbers.{Net}
 use Rattle.net_numbers.specs.Outline.{plan_at}
 use Rattle.road_net.specs.Network.{heard_links}
-use Rattle.round_states.specs.States.{IsLineAt, begin_of}
+use Rattle.round_states.specs.States.{IsBoard, IsLineAt, begin_of}
 use Rattle.round_states.specs.declared.states.RoundState.{RoundState}
 use Rattle.runs.specs.Runs.{told_in}
 use Rattle.schedule_meaning.specs.Best.{IsLeast}
@@ -54,12 +54,13 @@ abbrev pub decided_line : Decision → ℕ → List Green
 decided_line d node = slice_index_or d.lines node []
 
 -- What a decision keeps: each plan names just the links on which its node hears another one, its instance is made from the
--- versions that it names, and no sequence of it has less delay; each line goes on; and no two links in conflict are ever green
--- together.
+-- versions that it names, and no sequence of it has less delay; each line goes on, and each board is one for the next round; and no
+-- two links in conflict are ever green together.
 pub record KeepsPromises (net : Net) (state : RoundState) (made : ℕ → Commitment) (d : Decision) : Type 0 where
   pub planned : All (IsPlannedFrom net state made) d.plans
   pub least : All (λ plan. IsLeast plan.instance plan.answer) d.plans
   pub lines : (node : ℕ) → node < length net.node_names → GoesOnAt net state.round node (line_of state node) (decided_line d node)
+  pub boards : All (IsBoard (state.round + 1)) d.boards
   pub safe : IsSafe net (decided_line d)
 
 -- a decision of a round from a state, with all that it keeps

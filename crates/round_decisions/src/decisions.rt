@@ -1,5 +1,6 @@
 //! Decisions of a round.
-ghost use Rattle.std.specs.Prelude.{◌<◌, IfOk, length};
+ghost use Rattle.std.specs.Prelude.{◌<◌, All, IfOk, length};
+ghost use Rattle.board_model.specs.Forecasts.{IsForecast};
 ghost use Rattle.round_states.specs.States.{IsStateOf};
 ghost use Rattle.round_decisions.specs.Promises.{IsKeptDecision, IsKeptTurn};
 
@@ -83,11 +84,22 @@ pub fn decide<P: Planner>(
         lines,
         boards,
     } = decided;
+    law_of_boards(boards.as_slice());
     Ok(Decision {
         plans: Items::from_vec(plans),
         lines: Items::from_vec(lines),
         boards: Items::from_vec(boards),
     })
+}
+
+/// What stands on each of these boards is a forecast.
+fn law_of_boards(boards: &[LinkBoard])
+    ensures { All (λ board. IsForecast board.forecast) boards.now }
+{
+    for board in boards {
+        // `rows` is called for its clause `forecast`.
+        let _ = board.forecast.rows();
+    }
 }
 
 /// One node's turn in a round from a state: it reads the boards of the state as they are.
