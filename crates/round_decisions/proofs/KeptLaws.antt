@@ -3,7 +3,7 @@ use Rattle.std.proofs.Common.{◌≡◌, ℕ, ◌+◌, ◌*◌, ◌<◌, ◌≤�
 use Rattle.std.specs.Prelude.{◌==◌, if◌then◌else◌, nat_lt}
 use Rattle.std.specs.List.{range_with_len}
 use Rattle.std.proofs.lemmas.Bool.{cond_both, eq-eqb, ltb-false, ne_eqb}
-use Rattle.std.proofs.lemmas.List.{ext_get_or}
+use Rattle.std.proofs.lemmas.List.{ext_get_or, get_or_default}
 use Rattle.std.proofs.lemmas.List.FromFn.{get_or-map-range_with_len, length-map-range_with_len}
 use Rattle.board_model.specs.declared.boards.Heard.{Heard}
 use Rattle.board_model.specs.declared.forecasts.Row.{Row}
@@ -31,13 +31,13 @@ use Rattle.net_numbers.specs.Outline.{plan_at}
 use Rattle.round_decisions.specs.Decisions.{board_after, has_told, heard_in, line_of, plan_in, sensed_of}
 use Rattle.round_decisions.specs.Promises.{GoesOnAt, IsKeptDecision, IsKeptTurn, IsPlannedFrom, decided_line, forecast_of}
 use Rattle.round_decisions.specs.Steps.{HaveTurned}
-use Rattle.round_decisions.specs.Turns.{IsTurn, board_of, heard_on, hearing_on, next_board, no_board}
+use Rattle.round_decisions.specs.Turns.{IsTurn, board_of, heard_on, hearing_on, next_board, no_board, tells}
 use Rattle.round_decisions.specs.declared.decisions.Decision.{Decision}
 use Rattle.round_decisions.specs.declared.decisions.NodeDecision.{NodeDecision}
 use Rattle.round_decisions.specs.declared.rounds.Decided.{Decided}
 use Rattle.round_decisions.specs.declared.rounds.Waiting.{Waiting}
 
--- a board for this round is one for the next, and so is its next version, where this is a forecast
+-- a board of this round is one of the next, and so is its next version, where this is a forecast
 board-next : (b : Bool) (round : ℕ) (old : LinkBoard) (told : List Row) → IsBoard round old → IsForecast (if b then next_board old told else old).forecast → IsBoard (round + 1) (if b then next_board old told else old)
 board-next true round old told is forecast = record { version = (let most = is.version in omega arith); forecast = forecast; none = λ none. absurd (omega arith) }
 board-next false round old told is forecast = record { version = (let most = is.version in omega arith); forecast = is.forecast; none = is.none }
@@ -157,22 +157,31 @@ module _ (net : Net) (network : IsNetwork net) (state : RoundState) (is : IsStat
     }
 
   -- the turn of one node
-  kept-turn : (n : ℕ) → n < length net.node_names → (d : NodeDecision) → IsTurn net state.round n (line_of state n) (sensed_of state n) state.boards d.boards d.plan d.line → begin_of net (state.round + 1) < end_of d.line → IsKeptTurn net state n d
-  kept-turn n below d turn later = record {
+  turned-boards : (n : ℕ) (d : NodeDecision) → IsTurn net state.round n (line_of state n) (sensed_of state n) state.boards d.boards d.plan d.line → All (λ (b : LinkBoard). IsForecast b.forecast) d.boards → All (IsBoard (state.round + 1)) d.boards
+  turned-boards n d turn forecasts k x inside =
+      let below : k < length state.boards = omega (arith, turn.boards.count, inside) in
+      let old : LinkBoard = board_of state.boards k in
+      let told : List Row = told_in net state.round k turn.made in
+      let same : get_or d.boards k x ≡ (if tells net n k then next_board old told else old) = get_or_default d.boards k x no_board inside ∙ turn.boards.each k below in
+      subst (IsBoard (state.round + 1)) (sym same) (board-next (tells net n k) state.round old told (is.boards k no_board below) (subst (λ (b : LinkBoard). IsForecast b.forecast) same (forecasts k x inside)))
+
+  kept-turn : (n : ℕ) → n < length net.node_names → (d : NodeDecision) → IsTurn net state.round n (line_of state n) (sensed_of state n) state.boards d.boards d.plan d.line → begin_of net (state.round + 1) < end_of d.line → All (λ (b : LinkBoard). IsForecast b.forecast) d.boards → IsKeptTurn net state n d
+  kept-turn n below d turn later forecasts = record {
     is = turn;
     links = ap (λ (p : PlanRecord). map (λ (u : Used). u.link) p.used) turn.plan_is ∙ used-links (heard_on net (board_of state.boards) n) ∙ links-on (board_of state.boards) (heard_links net n);
     least = subst (λ (p : PlanRecord). IsLeast p.instance p.answer) (sym turn.plan_is) (best-least turn.made.problem turn.made.answer turn.commit.answer);
     line = goes-on net network state is n below (heard_on net (board_of state.boards) n) turn.made turn.commit d.line turn.line_is later;
+    boards = turned-boards n d turn forecasts;
   }
 
   pub kept-turn-at : (n : ℕ) → n < length net.node_names → (line : List Green) (sensed : Sensed) (old new : List LinkBoard) → line ≡ line_of state n → sensed ≡ sensed_of state n → old ≡ state.boards
-      → (d : NodeDecision) → d.boards ≡ new → IsTurn net state.round n line sensed old new d.plan d.line → begin_of net (state.round + 1) < end_of d.line → IsKeptTurn net state n d
-  kept-turn-at n below line sensed old new lines senses boards d after turn later =
+      → (d : NodeDecision) → d.boards ≡ new → IsTurn net state.round n line sensed old new d.plan d.line → begin_of net (state.round + 1) < end_of d.line → All (λ (b : LinkBoard). IsForecast b.forecast) d.boards → IsKeptTurn net state n d
+  kept-turn-at n below line sensed old new lines senses boards d after turn later forecasts =
       kept-turn n below d
       (subst (λ (l : List Green). IsTurn net state.round n l (sensed_of state n) state.boards d.boards d.plan d.line) lines
       (subst (λ (s : Sensed). IsTurn net state.round n line s state.boards d.boards d.plan d.line) senses
       (subst (λ (b : List LinkBoard). IsTurn net state.round n line sensed b d.boards d.plan d.line) boards
-      (subst (λ (b : List LinkBoard). IsTurn net state.round n line sensed old b d.plan d.line) (sym after) turn)))) later
+      (subst (λ (b : List LinkBoard). IsTurn net state.round n line sensed old b d.plan d.line) (sym after) turn)))) later forecasts
 
 -- the state from which the turns began
 pub kept-from : (net : Net) → IsNetwork net → (state begun : RoundState) → begun ≡ state → IsStateOf net state → (waiting : Waiting) (decided : Decided) → HaveTurned net begun (length net.node_names) waiting decided

@@ -74,3 +74,4 @@ pub record IsKeptTurn (net : Net) (state : RoundState) (node : ℕ) (d : NodeDec
   pub links : map (λ (u : Used). u.link) d.plan.used ≡ heard_links net node
   pub least : IsLeast d.plan.instance d.plan.answer
   pub line : GoesOnAt net state.round node (line_of state node) d.line
+  pub boards : All (IsBoard (state.round + 1)) d.boards

@@ -135,6 +135,7 @@ pub fn decide_node<P: Planner>(
         line: lines.remove(node as usize),
     };
     let NodePlan { plan, line } = turn(alloc, net, round, own, &mut boards, planner)?;
+    law_of_boards(boards.as_slice());
     Ok(NodeDecision {
         plan,
         line,

@@ -1,5 +1,5 @@
 -- The state in which a round begins.
-use Rattle.std.specs.Prelude.{◌≡◌, ℕ, ◌*◌, ◌<◌, ◌≤◌, List, [], All, length, slice_index_or}
+use Rattle.std.specs.Prelude.{◌≡◌, ℕ, ◌+◌, ◌*◌, ◌<◌, ◌≤◌, List, [], All, length, slice_index_or}
 use Rattle.board_model.specs.Forecasts.{IsForecast}
 use Rattle.control_flow.specs.declared.greens.Green.{Green}
 use Rattle.control_flow.specs.Greens.{BeginBy, IsLawful, end_of, row_at}
@@ -36,14 +36,14 @@ pub record IsLineAt (plan : List Phase) (now : ℕ) (rows : List Green) : Type 0
   pub begun : (row_at rows 0).from ≤ now
   pub ends : now < end_of rows
 
--- the board of a link as a round begins: a forecast with its version, at most one for each round before, and none at version 0
+-- the board of a link in a round: a forecast with its version, at most one for each round up to this one, and none at version 0
 pub record IsBoard (round : ℕ) (board : LinkBoard) : Type 0 where
-  pub version : board.version ≤ round
+  pub version : board.version ≤ round + 1
   pub forecast : IsForecast board.forecast
   pub none : board.version ≡ 0 → board.forecast ≡ []
 
--- The state in which a round of the network begins: each node senses its entry links in the first second of the round, and its
--- timeline goes on there, and each link has a board.
+-- The state in which a round of the network begins, or in which some of its nodes have had their turns: each node senses its entry
+-- links in the first second of the round, and its timeline goes on there, and each link has a board.
 pub record IsStateOf (net : Net) (state : RoundState) : Type 0 where
   pub round : state.round < net.run.rounds
   pub sensed_count : length state.sensed ≡ length net.node_names

@@ -77,11 +77,11 @@ fn board(
     Ok(Some(LinkBoard { version, forecast }))
 }
 
-/// Whether a version and rows are a board as this round begins.
+/// Whether a version and rows are a board in this round.
 fn is_board(round: u32, version: u32, rows: &[Row]) -> bool
     ensures { IsTrue result ↔ IsBoard round (record { version = version; forecast = rows.now }) }
 {
-    version <= round && (version > 0 || rows.is_empty()) && is_forecast(rows)
+    version.saturating_sub(1) <= round && (version > 0 || rows.is_empty()) && is_forecast(rows)
 }
 
 /// Whether rows are a forecast.
