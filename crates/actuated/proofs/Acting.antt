@@ -14,7 +14,8 @@ use Rattle.road_net.specs.Network.{IsNetwork}
 use Rattle.signal_safety.specs.Rounds.{line_before, shown_by}
 use Rattle.actuated.specs.ActRuns.{AllAct, IsNextBy, IsNextLine, first_line}
 use Rattle.actuated.specs.Calls.{calls_by}
-use Rattle.actuated.specs.Rounds.{AreFirstLines, AreNear, AreRenewed, CountsBefore, HaveActed, IsReady, IsRenewed}
+use Rattle.actuated.specs.Rounds.{AreFirstLines, AreRenewed, IsReady, IsRenewed}
+use Rattle.actuated.specs.RunsSoFar.{AreNear, CountsBefore, HaveActed}
 use Rattle.actuated.proofs.NearLaws.{calls-are}
 
 -- ---- first lines, one after another

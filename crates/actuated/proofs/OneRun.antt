@@ -19,7 +19,7 @@ use Rattle.signal_safety.specs.Rounds.{line_before, shown_by}
 use Rattle.switch_rules.specs.declared.Head.{Head}
 use Rattle.actuated.specs.ActRuns.{AllAct, IsActRun, IsNextLine, calls_at, first_line}
 use Rattle.actuated.specs.Calls.{act_line}
-use Rattle.actuated.specs.Rounds.{CountsAtNodes}
+use Rattle.actuated.specs.RunsSoFar.{CountsAtNodes}
 use Rattle.actuated.specs.declared.records.ActRecord.{ActRecord}
 
 -- a line has one next line

@@ -23,7 +23,8 @@ use Rattle.signal_safety.proofs.Lines.{safe}
 use Rattle.signal_safety.proofs.Rounds.{AllKeep, shows, all-keep as lines-keep}
 use Rattle.sheets.specs.Texts.{HasShape}
 use Rattle.actuated.specs.ActRuns.{IsActRun, ShowsGreens, first_line, past_by, sheet_of}
-use Rattle.actuated.specs.Rounds.{AreFirstLines, AreNear, AreRenewed, HavePlayed}
+use Rattle.actuated.specs.Rounds.{AreFirstLines, AreRenewed}
+use Rattle.actuated.specs.RunsSoFar.{AreNear, HavePlayed}
 use Rattle.actuated.specs.declared.records.ActRecord.{ActRecord}
 use Rattle.actuated.proofs.Acting.{more-acted, none-acted, one-round, same-before, time-for}
 use Rattle.actuated.proofs.LineLaws.{first-is-line, next-keeps}

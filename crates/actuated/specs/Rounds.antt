@@ -1,16 +1,13 @@
 -- How the lines of a run go on round by round, whatever the world is that the nodes sense.
-use Rattle.std.specs.Prelude.{◌≡◌, ℕ, ◌+◌, ◌*◌, ◌<◌, ◌≤◌, List, Option, length, slice_index}
+use Rattle.std.specs.Prelude.{◌≡◌, ℕ, ◌+◌, ◌<◌, ◌≤◌, List, length, slice_index}
 use Rattle.control_flow.specs.Greens.{BeginBy, IsLawful, end_of, standing}
 use Rattle.control_flow.specs.declared.greens.Green.{Green}
 use Rattle.net_numbers.specs.Numbers.{Net}
 use Rattle.net_numbers.specs.Outline.{plan_at}
-use Rattle.net_simulator.specs.Flow.{Passed, past_of}
-use Rattle.net_simulator.specs.Senses.{near_on}
-use Rattle.net_simulator.specs.Worlds.{Stands, WorldState, line_in, standing_by}
+use Rattle.net_simulator.specs.Worlds.{line_in}
 use Rattle.phase_plan.specs.declared.Phase.{Phase}
 use Rattle.road_net.specs.Totals.{total}
-use Rattle.signal_safety.specs.Rounds.{line_before, shown_by}
-use Rattle.actuated.specs.ActRuns.{AllAct, IsNextBy, first_line}
+use Rattle.actuated.specs.ActRuns.{IsNextBy, first_line}
 use Rattle.actuated.specs.Calls.{calls_by}
 
 -- a line is ready for a second: it is lawful, its rows begin by 100,000, and it ends after the second
@@ -42,31 +39,3 @@ pub record AreRenewed (net : Net) (near : List ℕ) (second nodes : ℕ) (old ne
 pub record AreAmounts (net : Net) (near : List ℕ) : Type 0 where
   pub count : length near ≡ length net.link_names
   pub few : total (slice_index near) (length net.link_names) ≤ 2000000000
-
--- what is near on each link in a second
-abbrev pub AreNear : Net → (ℕ → ℕ → Passed) → ℕ → List ℕ → Type 0
-AreNear net past second near = (l : ℕ) → l < length net.link_names → slice_index near l ≡ near_on net past second net.run.gap l
-
--- only what the signals show in the seconds below n counts for what passed the links in the first n seconds
-abbrev pub CountsBefore : ((ℕ → ℕ → Option (ℕ × ℕ)) → ℕ → ℕ → ℕ → Passed) → Type 0
-CountsBefore under = (shown seen : ℕ → ℕ → Option (ℕ × ℕ)) (n : ℕ) → ((x node : ℕ) → x < n → shown x node ≡ seen x node) → under shown n ≡ under seen n
-
--- and of these only what the nodes of the network show
-abbrev pub CountsAtNodes : Net → ((ℕ → ℕ → Option (ℕ × ℕ)) → ℕ → ℕ → ℕ → Passed) → Type 0
-CountsAtNodes net under = (shown seen : ℕ → ℕ → Option (ℕ × ℕ)) (n : ℕ) → ((x node : ℕ) → x < n → node < length net.node_names → shown x node ≡ seen x node) → under shown n ≡ under seen n
-
--- after so many rounds: these are the lines that the nodes made, by what they sensed of a world in which `under shown n` is what
--- passed the links in the first n seconds
-pub record HaveActed (net : Net) (under : (ℕ → ℕ → Option (ℕ × ℕ)) → ℕ → ℕ → ℕ → Passed) (rounds : ℕ) (lines : List (List Green)) : Type 0 where
-  pub made : ℕ → ℕ → List Green
-  pub acts : AllAct net under made rounds
-  pub count : length lines ≡ length net.node_names
-  pub are : (node : ℕ) → node < length net.node_names → line_in lines node ≡ line_before (first_line net) made rounds node
-  pub ready : (node : ℕ) → node < length net.node_names → IsReady (plan_at net node) (rounds * net.run.step) (line_in lines node)
-  pub shown : (x node : ℕ) → x < rounds * net.run.step → standing (line_in lines node) x ≡ shown_by net made x node
-
--- and the world without a store is the one that moved by them
-pub record HavePlayed (net : Net) (arriving : ℕ → ℕ → ℕ) (rounds : ℕ) (lines : List (List Green)) (w : WorldState) : Type 0 where
-  pub acted : HaveActed net (past_of net arriving) rounds lines
-  pub second : w.second ≡ rounds * net.run.step
-  pub stands : Stands net arriving (standing_by (line_in lines)) w

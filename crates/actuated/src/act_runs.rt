@@ -9,7 +9,7 @@ ghost use Rattle.net_simulator.specs.Worlds.{line_in};
 ghost use Rattle.signal_safety.specs.Safe.{IsSafe};
 ghost use Rattle.sheets.specs.Texts.{HasShape};
 ghost use Rattle.actuated.specs.ActRuns.{IsActRun, ShowsGreens, sheet_of};
-ghost use Rattle.actuated.specs.Rounds.{HavePlayed};
+ghost use Rattle.actuated.specs.RunsSoFar.{HavePlayed};
 ghost use Rattle.actuated.specs.declared.records.ActRecord as spec;
 
 use super::records::ActRecord;

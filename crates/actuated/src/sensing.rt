@@ -4,7 +4,8 @@ ghost use Rattle.std.specs.Prelude.{◌≡◌, ℕ, List, length};
 ghost use Rattle.control_flow.specs.declared.greens.Green.{Green};
 ghost use Rattle.net_simulator.specs.Flow.{past_of};
 ghost use Rattle.net_simulator.specs.Worlds.{IsWorldOf, Stands, standing_by};
-ghost use Rattle.actuated.specs.Rounds.{AreAmounts, AreNear};
+ghost use Rattle.actuated.specs.Rounds.{AreAmounts};
+ghost use Rattle.actuated.specs.RunsSoFar.{AreNear};
 
 use net_simulator::World;
 use road_net::Network;

@@ -16,7 +16,8 @@ use Rattle.signal_safety.specs.Safe.{IsSafe}
 use Rattle.signal_safety.proofs.Lines.{safe}
 use Rattle.signal_safety.proofs.Rounds.{AllKeep, IsLine, all-keep as lines-keep}
 use Rattle.actuated.specs.ActRuns.{first_line}
-use Rattle.actuated.specs.Rounds.{AreFirstLines, AreNear, AreRenewed}
+use Rattle.actuated.specs.Rounds.{AreFirstLines, AreRenewed}
+use Rattle.actuated.specs.RunsSoFar.{AreNear}
 use Rattle.actuated.proofs.Acting.{more-acted, none-acted, one-round, same-before, time-for}
 use Rattle.actuated.proofs.LineLaws.{first-is-line, next-keeps}
 use Rattle.spillback_world.specs.Spilled.{spilled}

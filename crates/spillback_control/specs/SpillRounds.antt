@@ -1,6 +1,6 @@
 -- How far a run has come. No public clause names this definition.
 use Rattle.std.specs.Prelude.{◌≡◌, ℕ, ◌*◌, List}
-use Rattle.actuated.specs.Rounds.{HaveActed}
+use Rattle.actuated.specs.RunsSoFar.{HaveActed}
 use Rattle.control_flow.specs.declared.greens.Green.{Green}
 use Rattle.net_numbers.specs.Numbers.{Net}
 use Rattle.net_simulator.specs.Worlds.{line_in, standing_by}

@@ -1,7 +1,8 @@
 //! What is near on the links of a world with a store.
 
 ghost use Rattle.std.specs.Prelude.{◌≡◌, ℕ, Option, length};
-ghost use Rattle.actuated.specs.Rounds.{AreAmounts, AreNear};
+ghost use Rattle.actuated.specs.Rounds.{AreAmounts};
+ghost use Rattle.actuated.specs.RunsSoFar.{AreNear};
 ghost use Rattle.spillback_world.specs.Storage.{past_in};
 ghost use Rattle.spillback_world.specs.Worlds.{IsWorldOf, Stands};
 

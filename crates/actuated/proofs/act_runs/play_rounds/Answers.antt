@@ -5,7 +5,8 @@ use Rattle.net_draft.specs.declared.drafts.Run.{Run}
 use Rattle.net_simulator.specs.Arriving.{arriving_of}
 use Rattle.net_simulator.specs.Flow.{past_of}
 use Rattle.net_simulator.specs.Worlds.{Stands, line_in, standing_by}
-use Rattle.actuated.specs.Rounds.{AreNear, AreRenewed}
+use Rattle.actuated.specs.Rounds.{AreRenewed}
+use Rattle.actuated.specs.RunsSoFar.{AreNear}
 use Rattle.actuated.proofs.RunLaws.{more-played, renewed-stands}
 use Rattle.actuated.proofs.act_runs.play_rounds.Goals as goal
 

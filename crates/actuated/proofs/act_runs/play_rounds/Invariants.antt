@@ -1,6 +1,6 @@
 use Rattle.std.proofs.Common.{◌≡◌, length}
 use Rattle.net_simulator.specs.Arriving.{arriving_of}
-use Rattle.actuated.specs.Rounds.{HavePlayed}
+use Rattle.actuated.specs.RunsSoFar.{HavePlayed}
 use Rattle.actuated.proofs.act_runs.play_rounds.Given as goal
 
 abbrev pub invariant-loop-round : goal.invariant-loop-round

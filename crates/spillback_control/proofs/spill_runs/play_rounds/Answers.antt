@@ -4,7 +4,8 @@ use Rattle.clusters.proofs.SeenLaws.{written}
 use Rattle.net_draft.specs.declared.drafts.Run.{Run}
 use Rattle.net_simulator.specs.Arriving.{arriving_of}
 use Rattle.net_simulator.specs.Worlds.{line_in, standing_by}
-use Rattle.actuated.specs.Rounds.{AreNear, AreRenewed}
+use Rattle.actuated.specs.Rounds.{AreRenewed}
+use Rattle.actuated.specs.RunsSoFar.{AreNear}
 use Rattle.spillback_world.specs.Storage.{past_in}
 use Rattle.spillback_world.specs.Worlds.{Stands}
 use Rattle.spillback_control.proofs.RunLaws.{more-spilled, renewed-stands}
