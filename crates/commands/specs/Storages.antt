@@ -8,7 +8,7 @@ use Rattle.net_simulator.specs.Worlds.{line_in, standing_by}
 use Rattle.runs.specs.Runs.{arriving_by}
 use Rattle.runs.specs.declared.records.RunRecord.{RunRecord}
 use Rattle.signal_safety.specs.Safe.{IsSafe}
-use Rattle.spillback_control.specs.SpillRuns.{IsActuatedIn, last_lines}
+use Rattle.spillback_control.specs.SpillRuns.{IsActuatedIn, LastLinesShow, last_lines}
 use Rattle.spillback_world.specs.Spilled.{spilled}
 use Rattle.spillback_world.specs.Storage.{past_in}
 use Rattle.spillback_world.specs.declared.totals.SpillTotals.{SpillTotals}
@@ -21,7 +21,7 @@ spilled_under net enters store shown =
     spilled net (arriving_by enters) (past_in net (arriving_by enters) (slice_index store) shown (end_of_run net)) (end_of_run net)
 
 -- The bytes are two lines: what is counted under the last lines of the run of the turn order, and under actuated control that
--- senses the links as they then are, whose last lines are lawful and safe.
+-- senses the links as they then are: its last lines are lawful and safe, and show the greens by which that world moved.
 pub record IsSpillTable (net : Net) (enters : ℕ → ℕ → ℕ) (store : List ℕ) (bytes : List ℕ) : Type 0 where
   pub run : RunRecord
   pub runs : IsRunOf net enters (turn_order net) run
@@ -29,4 +29,5 @@ pub record IsSpillTable (net : Net) (enters : ℕ → ℕ → ℕ) (store : List
   pub are_of_calls : IsActuatedIn net (arriving_by enters) (slice_index store) of_calls
   pub lawful : AreLawful net (last_lines net are_of_calls.made)
   pub safe : IsSafe net (line_in (last_lines net are_of_calls.made))
+  pub greens : LastLinesShow net are_of_calls.made
   pub lines : bytes ≡ spilled_line (codes "planned") (spilled_under net enters store (standing_by (line_in run.timelines))) ++ spilled_line (codes "actuated") of_calls

@@ -1,5 +1,5 @@
 -- Decisions as texts, and a node that a network has, or has not.
-use Rattle.std.proofs.Common.{◌≡◌, ℕ, ◌<◌, List, Option, Some, None, IsSome, Result, Ok, Err, IfOk}
+use Rattle.std.proofs.Common.{◌≡◌, ℕ, List, Option, Some, None, IsSome}
 use Rattle.outside_world.specs.Shelf.{ShelfState}
 use Rattle.net_numbers.specs.Numbers.{Net, number_of}
 use Rattle.round_states.specs.declared.states.RoundState.{RoundState}

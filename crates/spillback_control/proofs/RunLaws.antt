@@ -1,9 +1,10 @@
 -- How the rounds of a run in a world with a store go on, and what every such run keeps.
 use Rattle.std.proofs.Common.{◌≡◌, ℕ, zero, suc, ◌+◌, ◌*◌, ◌<◌, ◌≤◌, List, Option, length, [], sym, ap, subst, ◌∙◌, arith}
 use Rattle.std.proofs.lemmas.List.FromFn.{get_or-map-range_with_len}
+use Rattle.std.proofs.lemmas.Nat.{div_below}
 use Rattle.arrivals.specs.Amounts.{Amounts, AreArrivals}
 use Rattle.audit.specs.Audits.{AreLawful}
-use Rattle.control_flow.specs.Greens.{IsLawful}
+use Rattle.control_flow.specs.Greens.{IsLawful, standing}
 use Rattle.control_flow.specs.declared.greens.Green.{Green}
 use Rattle.net_numbers.specs.Numbers.{Net}
 use Rattle.net_numbers.specs.Outline.{plan_at}
@@ -14,7 +15,7 @@ use Rattle.road_net.specs.Network.{IsNetwork}
 use Rattle.signal_safety.specs.Rounds.{line_before, shown_by}
 use Rattle.signal_safety.specs.Safe.{IsSafe}
 use Rattle.signal_safety.proofs.Lines.{safe}
-use Rattle.signal_safety.proofs.Rounds.{AllKeep, IsLine, all-keep as lines-keep}
+use Rattle.signal_safety.proofs.Rounds.{AllKeep, IsLine, shows, all-keep as lines-keep}
 use Rattle.actuated.specs.ActRuns.{first_line}
 use Rattle.actuated.specs.Rounds.{AreFirstLines, AreRenewed}
 use Rattle.actuated.specs.RunsSoFar.{AreNear}
@@ -26,7 +27,7 @@ use Rattle.spillback_world.specs.Worlds.{IsWorldOf, SpillState, Stands}
 use Rattle.spillback_world.specs.declared.totals.SpillTotals.{SpillTotals}
 use Rattle.spillback_world.proofs.Shown.{past-same, stands-under}
 use Rattle.spillback_control.specs.SpillRounds.{HaveSpilled}
-use Rattle.spillback_control.specs.SpillRuns.{IsActuatedIn, last_lines}
+use Rattle.spillback_control.specs.SpillRuns.{IsActuatedIn, LastLinesShow, last_lines}
 
 -- before the first round
 pub none-spilled : (net : Net) (arriving : ℕ → ℕ → ℕ) (store : ℕ → ℕ) (lines : List (List Green)) (w : SpillState) → AreFirstLines net (length net.node_names) lines → w.second ≡ 0
@@ -91,3 +92,8 @@ module _ (net : Net) (network : IsNetwork net) (arriving : ℕ → ℕ → ℕ) 
 
   pub last-safe : IsSafe net (line_in (last_lines net is.made))
   last-safe = safe net network (line_in (last_lines net is.made)) last-lawful
+
+  pub last-show : LastLinesShow net is.made
+  last-show second n before below =
+      ap (λ (l : List Green). standing l second) (last-is n below)
+      ∙ shows net network (line_before (first_line net) is.made) net.run.rounds keep net.run.rounds (omega arith) second n below (div_below second net.run.step net.run.rounds network.outline.run.step.0 before)

@@ -1,10 +1,12 @@
 -- A run of actuated control in a world in which a full link holds back those who want to enter it: the nodes sense that world.
-use Rattle.std.specs.Prelude.{◌≡◌, ℕ, List, length, map}
+use Rattle.std.specs.Prelude.{◌≡◌, ℕ, ◌<◌, List, length, map}
 use Rattle.std.specs.List.{range_with_len}
 use Rattle.actuated.specs.ActRuns.{AllAct, first_line}
+use Rattle.control_flow.specs.Greens.{standing}
 use Rattle.control_flow.specs.declared.greens.Green.{Green}
 use Rattle.net_numbers.specs.Numbers.{Net}
 use Rattle.net_simulator.specs.Sums.{end_of_run}
+use Rattle.net_simulator.specs.Worlds.{line_in}
 use Rattle.signal_safety.specs.Rounds.{line_before, shown_by}
 use Rattle.spillback_world.specs.Spilled.{spilled}
 use Rattle.spillback_world.specs.Storage.{past_in}
@@ -21,3 +23,9 @@ pub record IsActuatedIn (net : Net) (arriving : ℕ → ℕ → ℕ) (store : �
 -- the line of each node after the last round
 abbrev pub last_lines : Net → (ℕ → ℕ → List Green) → List (List Green)
 last_lines net made = map (line_before (first_line net) made net.run.rounds) (range_with_len 0 (length net.node_names))
+
+-- in each second of the run the last lines show the greens, with the same begin, by which the world moved
+abbrev pub LastLinesShow : Net → (ℕ → ℕ → List Green) → Type 0
+LastLinesShow net made =
+    (second node : ℕ) → second < end_of_run net → node < length net.node_names
+    → standing (line_in (last_lines net made) node) second ≡ shown_by net made second node

@@ -7,7 +7,7 @@ ghost use Rattle.net_simulator.specs.Arriving.{arriving_of};
 ghost use Rattle.net_simulator.specs.Worlds.{line_in};
 ghost use Rattle.signal_safety.specs.Safe.{IsSafe};
 ghost use Rattle.spillback_control.specs.SpillRounds.{HaveSpilled};
-ghost use Rattle.spillback_control.specs.SpillRuns.{IsActuatedIn, last_lines};
+ghost use Rattle.spillback_control.specs.SpillRuns.{IsActuatedIn, LastLinesShow, last_lines};
 ghost use Rattle.spillback_world.specs.Spilled.{IsBalanced};
 ghost use Rattle.spillback_world.specs.declared.totals.SpillTotals as spec;
 
@@ -26,7 +26,8 @@ use stores::Store;
 /// to the end of the last round: when a round begins, the timeline of each node goes on by what the node senses then of the
 /// world with that store; and then this world moves by the timelines up to the next round.
 ///
-/// All timelines are lawful, and the network is safe. What entered has left or is on the links.
+/// The last timelines are lawful, and the network is safe under them. They show the greens, with the same begin, by
+/// which that world moved. What entered has left or is on the links.
 ///
 /// `Err`: out of memory.
 ///
@@ -44,6 +45,8 @@ pub fn spill_actuated(
         → AreLawful net.now (last_lines net.now is.made)) }
     ensures safe { IfOk result (λ t. (is : IsActuatedIn net.now (arriving_of arrivals.now) (slice_index store.now) t)
         → IsSafe net.now (line_in (last_lines net.now is.made))) }
+    ensures greens { IfOk result (λ t. (is : IsActuatedIn net.now (arriving_of arrivals.now) (slice_index store.now) t)
+        → LastLinesShow net.now is.made) }
     ensures whole { IfOk result IsBalanced }
 {
     // Called for its clause `network`.

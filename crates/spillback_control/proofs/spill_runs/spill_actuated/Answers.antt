@@ -1,6 +1,6 @@
 use Rattle.std.proofs.Common.{slice_index}
 use Rattle.net_simulator.specs.Arriving.{arriving_of}
-use Rattle.spillback_control.proofs.RunLaws.{ended, last-lawful, last-safe, none-spilled}
+use Rattle.spillback_control.proofs.RunLaws.{ended, last-lawful, last-safe, last-show, none-spilled}
 use Rattle.spillback_control.proofs.spill_runs.spill_actuated.Goals as goal
 
 pub play_rounds-requires-clause-first : goal.play_rounds-requires-clause-first
@@ -16,3 +16,6 @@ returns-clause-lawful c is = last-lawful c.args.net.now c.nodes.ensures.network 
 
 pub returns-clause-safe : goal.returns-clause-safe
 returns-clause-safe c is = last-safe c.args.net.now c.nodes.ensures.network (arriving_of c.args.arrivals.now) (slice_index c.args.store.now) c.totals.result is
+
+pub returns-clause-greens : goal.returns-clause-greens
+returns-clause-greens c is = last-show c.args.net.now c.nodes.ensures.network (arriving_of c.args.arrivals.now) (slice_index c.args.store.now) c.totals.result is
