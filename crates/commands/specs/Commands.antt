@@ -204,8 +204,8 @@ IsRejectionOf (Queues net arr report) said bytes =
     × (bytes ≡ unclean_line said.0 why)
 IsRejectionOf _ said bytes = ⊥
 
--- what a word of the command names is not in its texts: the network has no such node, or it has, and fewer rounds; or scaled by
--- a factor, the arrivals are none
+-- what a word of the command names is not in its texts: the network has no such node, or it has, and fewer rounds; or, scaled by
+-- one of the factors, the arrivals bring more than arrivals may
 abbrev pub IsMissing : (call : Call) → AllSaid (texts_of call) → Named → Type 0
 IsMissing (Instance net arr hist node round) said Node = number_of said.0.node_names node ≡ None
 IsMissing (Instance net arr hist node round) said Round = IsSome (number_of said.0.node_names node) × (said.0.run.rounds ≤ round)

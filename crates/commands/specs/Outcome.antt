@@ -27,7 +27,7 @@ abbrev pub IsUnread : Call → ShelfState → ShelfState → TextPlace → Type 
 IsUnread call old new place = At (λ kind name. GainsLast old.failed new.failed name) old.files (texts_of call) place
 
 -- the input is bad: the text at this place is refused for this fault, and all texts before it are read; or all texts are
--- read, and a word names what is not in them
+-- read, and a word names what is not in them, or the arrivals cannot be scaled by a factor
 abbrev pub IsBadInput : Call → Files → Refusal → Type 0
 IsBadInput call files (refusal.Bad place why) = At (IsBad files why) files (texts_of call) place
 IsBadInput call files (refusal.Missing what) = Read call files (λ said. IsMissing call said what)

@@ -21,7 +21,7 @@ pub enum TextPlace {
     Third,
 }
 
-/// What a word can name in the texts.
+/// What a word can name in the texts, or the factor by which the arrivals cannot be scaled.
 #[derive(Debug, Clone, Copy, PartialEq, Eq)]
 pub enum Named {
     /// A node of the network, by its name.
@@ -41,7 +41,7 @@ pub enum Refusal {
     Usage,
     /// The text at this place is refused.
     Bad { text: TextPlace, why: BadText },
-    /// All texts are read, and a word names what is not in them.
+    /// All texts are read, and a word names what is not in them, or the arrivals cannot be scaled by a factor.
     Missing { what: Named },
     /// The text at this place can't be read.
     Unread { text: TextPlace },
