@@ -1,9 +1,10 @@
--- The report of a run: the text of its last lines and totals.
+-- The report of a run under actuated control.
 use Rattle.std.specs.Prelude.{ℕ, List}
 use Rattle.net_numbers.specs.Numbers.{Net}
 use Rattle.line_reports.specs.Reports.{line_text}
 use Rattle.actuated.specs.ActRuns.{sheet_of}
 use Rattle.actuated.specs.declared.records.ActRecord.{ActRecord}
 
+-- its text, that of its last lines and totals
 abbrev pub act_text : Net → ActRecord → List ℕ
 act_text net run = line_text net (sheet_of run)
