@@ -16,7 +16,7 @@ use Rattle.commands.specs.Texts.{ArrivalsText, IsIn, NetworkText}
 use Rattle.commands.specs.declared.refusals.Named.TheVariants.{Factor, Node, Round}
 use Rattle.commands.specs.declared.refusals.Refusal.{Refusal}
 use Rattle.commands.specs.declared.refusals.Refusal.TheVariants as refusal
-use Rattle.controller_jobs.specs.Factors.{BringsTooMuch, GainsScaleLine, RefusesFactors}
+use Rattle.controller_jobs.specs.Factors.{GainsScaleLine, RefusesFactor, RefusesFactors}
 
 zip-push : {X Y : Type 0} (R : X → Y → Type 0) (xs : List X) (ys : List Y) (x : X) (y : Y) → AllZip R xs ys → R x y → AllZip R (xs ++ x ∷ []) (ys ++ y ∷ [])
 zip-push R [] [] x y all is = (is, tt)
@@ -73,7 +73,7 @@ module _ (net : Net) (enters : ℕ → ℕ → ℕ) (first step : ℕ) where
       (place, omega (arith, within, long), get_or-map-range_with_len factor 0 ((last - first) / step + 1) place place (factor place) (omega (arith, within)) (omega arith))
 
   -- what refuses one refuses all
-  pub refuses-all : (last place f : ℕ) → place ≤ (last - first) / step → f ≡ factor place → (why : Refusal) → BringsTooMuch net enters f why → RefusesFactors net enters (factors first last step) why
+  pub refuses-all : (last place f : ℕ) → place ≤ (last - first) / step → f ≡ factor place → (why : Refusal) → RefusesFactor net enters f why → RefusesFactors net enters (factors first last step) why
   refuses-all last place f within is (refusal.Missing Factor) over = (factor place, is-among last place within, subst (λ n. most_of_all < scaled_whole net n enters) is over)
   refuses-all last place f within is (refusal.Missing Node) over = over
   refuses-all last place f within is (refusal.Missing Round) over = over

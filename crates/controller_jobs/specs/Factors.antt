@@ -15,10 +15,10 @@ pub record GainsScaleLine (net : Net) (enters : ℕ → ℕ → ℕ) (factor : �
   pub text : new ≡ old ++ line
 
 -- why a factor has no line: scaled by it, the arrivals bring too much; or memory ran out
-abbrev pub BringsTooMuch : Net → (ℕ → ℕ → ℕ) → ℕ → Refusal → Type 0
-BringsTooMuch net enters factor (refusal.Missing Factor) = most_of_all < scaled_whole net factor enters
-BringsTooMuch net enters factor refusal.NoMemory = Unit {0}
-BringsTooMuch net enters factor _ = ⊥
+abbrev pub RefusesFactor : Net → (ℕ → ℕ → ℕ) → ℕ → Refusal → Type 0
+RefusesFactor net enters factor (refusal.Missing Factor) = most_of_all < scaled_whole net factor enters
+RefusesFactor net enters factor refusal.NoMemory = Unit {0}
+RefusesFactor net enters factor _ = ⊥
 
 -- why several have no table: scaled by one of them, the arrivals bring too much; or memory ran out
 abbrev pub RefusesFactors : Net → (ℕ → ℕ → ℕ) → List ℕ → Refusal → Type 0

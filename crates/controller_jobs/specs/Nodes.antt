@@ -1,4 +1,4 @@
--- What a node names in a network. No public clause names anything here.
+-- Why a word that names a node decides nothing. No public clause names anything here.
 use Rattle.std.specs.Prelude.{◌≡◌, ℕ, List, None}
 use Rattle.net_numbers.specs.Numbers.{Net, number_of}
 use Rattle.commands.specs.declared.refusals.Named.TheVariants.{Node}

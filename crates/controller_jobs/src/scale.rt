@@ -9,7 +9,7 @@ ghost use Rattle.commands.specs.Ending.{Makes};
 ghost use Rattle.commands.specs.Outcome.{Outcome};
 ghost use Rattle.commands.specs.Summary.{scale_line, totals_words};
 ghost use Rattle.scaled_arrivals.specs.Scaling.{IsScaled, greatest_factor, scaled_whole};
-ghost use Rattle.controller_jobs.specs.Factors.{BringsTooMuch, GainsScaleLine, RefusesFactors};
+ghost use Rattle.controller_jobs.specs.Factors.{GainsScaleLine, RefusesFactor, RefusesFactors};
 
 use super::compare::{actuated_totals, planned_totals};
 use arrivals::Arrivals;
@@ -73,7 +73,7 @@ fn scaled_by(
     ensures ok { IfOk result (λ scaled. IsScaled factor (entering arrivals.now) (entering scaled)) }
     ensures arrivals { IfOk result (AreArrivals net.now) }
     ensures few { OnOk result (scaled_whole net.now factor (entering arrivals.now) ≤ most_of_all) }
-    ensures refused { IfErr result (BringsTooMuch net.now (entering arrivals.now) factor) }
+    ensures refused { IfErr result (RefusesFactor net.now (entering arrivals.now) factor) }
 {
     match scale(alloc, net, arrivals, factor) {
         Ok(scaled) => Ok(scaled),
@@ -96,7 +96,7 @@ fn push_factor(
     requires factor { factor ≤ greatest_factor }
     ensures ok { OnOk result (GainsScaleLine net.now (entering arrivals.now) factor text.old.items text.new.items) }
     ensures few { OnOk result (scaled_whole net.now factor (entering arrivals.now) ≤ most_of_all) }
-    ensures refused { IfErr result (BringsTooMuch net.now (entering arrivals.now) factor) }
+    ensures refused { IfErr result (RefusesFactor net.now (entering arrivals.now) factor) }
 {
     let scaled = scaled_by(alloc, net, arrivals, factor)?;
     let of_plans = planned_totals(alloc, net, &scaled)?;
