@@ -27,6 +27,9 @@ fn give(amounts: &mut [u32], net: &Network, l: u32, amount: u32)
         → slice_index amounts.old k + split_of (turns_at net.now l) amount k < 2 ^ 32 }
     ensures { (k : ℕ) → slice_index amounts.new k ≡ slice_index amounts.old k + split_of (turns_at net.now l) amount k }
 {
+    if amount == 0 {
+        return;
+    }
     let mut before = 0;
     for turn in net.turns(l) {
         let part = part_of_turn(amount, before, turn.share);
