@@ -1,24 +1,25 @@
 -- What the commands write that run a network under other controllers than the planners, or under several.
-use Rattle.std.specs.Prelude.{◌≡◌, ℕ, ◌+◌, ◌-◌, ◌*◌, ◌/◌, ◌^◌, ◌<◌, ◌≤◌, List, ◌∷◌, ◌++◌, Contains, codes, length, map}
+use Rattle.std.specs.Prelude.{◌≡◌, ℕ, ◌+◌, ◌-◌, ◌*◌, ◌/◌, ◌^◌, ◌<◌, ◌≤◌, List, ◌++◌, Contains, codes, length, map}
 use Rattle.std.specs.List.{AllZip, concat, range_with_len}
 use Rattle.actuated.specs.ActRuns.{IsActRun, ShowsGreens}
 use Rattle.actuated.specs.Reports.{act_text}
 use Rattle.actuated.specs.declared.records.ActRecord.{ActRecord}
 use Rattle.arrivals.specs.Rows.{most_of_all}
-use Rattle.audit.specs.Audits.{AreLawful, IsCleanText, all_shown, link_shown}
+use Rattle.audit.specs.Audits.{AreLawful, IsClean, IsCleanText, all_shown}
 use Rattle.control_flow.specs.declared.greens.Green.{Green}
 use Rattle.fixed_plans.specs.Lines.{fixed_line}
 use Rattle.fixed_plans.specs.declared.rows.FixedRow.{FixedRow}
 use Rattle.histories.specs.Histories.{turn_order}
+use Rattle.line_reports.specs.Reports.{line_text}
 use Rattle.net_numbers.specs.Numbers.{Net}
-use Rattle.net_simulator.specs.Sums.{end_of_run}
 use Rattle.net_simulator.specs.Worlds.{line_in}
 use Rattle.net_simulator.specs.declared.totals.Totals.{Totals}
 use Rattle.runs.specs.Runs.{arriving_by}
 use Rattle.runs.specs.declared.records.RunRecord.{RunRecord}
 use Rattle.scaled_arrivals.specs.Scaling.{IsScaled, greatest_factor, scaled_whole}
+use Rattle.sheets.specs.Texts.{HasShape}
+use Rattle.sheets.specs.declared.sheet.Sheet.{Sheet}
 use Rattle.signal_safety.specs.Safe.{IsSafe}
-use Rattle.world_records.specs.Records.{header, records_text, shown_records}
 use Rattle.commands.specs.Headline.{IsRunOf}
 use Rattle.commands.specs.Summary.{scale_line, totals_line}
 
@@ -63,17 +64,15 @@ pub record IsComparison (net : Net) (enters : ℕ → ℕ → ℕ) (bytes : List
 abbrev pub fixed_timelines : Net → List FixedRow → List (List Green)
 fixed_timelines net rows = map (fixed_line net rows) (range_with_len 0 (length net.node_names))
 
--- the report of timelines: the greens that begin before the end of the run, and what the world shows under them until then
-abbrev pub shown_text : Net → (ℕ → ℕ → ℕ) → List (List Green) → List ℕ
-shown_text net arriving lines =
-    records_text (header ∷ shown_records net lines (map (link_shown net arriving lines) (range_with_len 0 (length net.link_names))) (all_shown net arriving lines) (end_of_run net))
-
--- The bytes are the report of the timelines of a fixed plan: they are lawful, the network is safe under them, and an audit finds
--- nothing in the report.
+-- The bytes are the report of the timelines of a fixed plan and of what the world shows under them: they are lawful, the network is
+-- safe under them, and an audit finds nothing in the report.
 pub record IsFixedReport (net : Net) (enters : ℕ → ℕ → ℕ) (rows : List FixedRow) (bytes : List ℕ) : Type 0 where
-  pub lawful : AreLawful net (fixed_timelines net rows)
-  pub safe : IsSafe net (line_in (fixed_timelines net rows))
-  pub report : bytes ≡ shown_text net (arriving_by enters) (fixed_timelines net rows)
+  pub sheet : Sheet
+  pub lines : sheet.lines ≡ fixed_timelines net rows
+  pub shape : HasShape net sheet
+  pub shows : IsClean net (arriving_by enters) sheet
+  pub safe : IsSafe net (line_in sheet.lines)
+  pub report : bytes ≡ line_text net sheet
   pub clean : IsCleanText net (arriving_by enters) bytes
 
 -- the bytes are the lines of both runs, and a third: what the world has counted in all under the fixed plan

@@ -1,26 +1,20 @@
-//! The commands that run a network under other controllers than plans: the report of the run under actuated control; and what the
-//! run of plans and the run of each other controller come to; and the decision of a round from a state of it.
 //! The commands that run a network under other controllers than the planners, or under several: the report of the run under actuated
-//! control, and that of a fixed plan; and what two or three controllers come to, also for arrivals scaled by several factors.
-//! run of plans and the run of each other controller come to, also where links hold so much and no more; and the decision of a round from
-//! a state of it.
+//! control, and that of a fixed plan; what two or three controllers come to, also for arrivals scaled by several factors, and where
+//! links hold so much and no more; and the decision of a round from a state of it.
 #![tactic(auto)]
 
 mod actuate;
 mod compare;
+mod compare_fixed;
 mod decide;
+mod fixed;
+mod scale;
 mod spill;
 
 pub use actuate::actuate_job;
 pub use compare::compare_job;
-pub use decide::{decide_job, decide_node_job};
-mod compare_fixed;
-mod fixed;
-mod scale;
-
-pub use actuate::actuate_job;
-pub use compare::compare_job;
 pub use compare_fixed::compare_fixed_job;
+pub use decide::{decide_job, decide_node_job};
 pub use fixed::fixed_job;
 pub use scale::scale_job;
 pub use spill::spill_job;
