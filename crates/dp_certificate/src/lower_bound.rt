@@ -11,7 +11,7 @@ use super::Entry;
 use schedule_meaning::Instance;
 use switch_rules::{Cluster, LATEST_TIME};
 
-/// From one second up to another, what each second costs: a steepness for each second, less a offset.
+/// From one second up to another, what each second costs: a steepness for each second, less an offset.
 #[derive(Clone, Copy)]
 struct LinearCost {
     from: u32,

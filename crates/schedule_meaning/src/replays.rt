@@ -19,7 +19,7 @@ use switch_rules::{Cluster, Head, serve};
 /// docs/RULES.md, "Sequence, feasibility, delay".
 #[derive(Debug, Clone, Copy, PartialEq, Eq)]
 pub struct Timed {
-    /// Thousandths of a vehicle times seconds.
+    /// Thousandths of a vehicle times weight times seconds.
     pub delay: u64,
     /// The head after the last serving; the instance's where the sequence is empty.
     pub head: Head,
