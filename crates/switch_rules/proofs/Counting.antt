@@ -25,11 +25,26 @@ pub choose-all : (n : ℕ) → choose n n ≡ 1
 choose-all zero = refl
 choose-all (suc n) = omega (arith, choose-all n, choose-above n (suc n) (omega arith))
 
-choose-same : (n k m l : ℕ) → n ≡ m → k ≡ l → choose n k ≡ choose m l
+pub choose-same : (n k m l : ℕ) → n ≡ m → k ≡ l → choose n k ≡ choose m l
 choose-same n k m l e f = ap (λ x. choose x k) e ∙ ap (λ x. choose m x) f
 
 choose-whole : (n k : ℕ) → n ≡ k → choose n k ≡ 1
 choose-whole n k e = ap (λ x. choose x k) e ∙ choose-all k
+
+-- to choose some is to leave the others
+pub choose-others : (few others : ℕ) → choose (few + others) few ≡ choose (few + others) others
+choose-others zero others = sym (choose-whole (0 + others) others (omega arith))
+choose-others (suc few) zero = choose-whole (suc few + 0) (suc few) (omega arith)
+choose-others (suc few) (suc others) =
+    omega (
+      arith,
+      choose-same (suc few + suc others) (suc few) (suc (few + suc others)) (suc few) (omega arith) refl,
+      choose-same (suc few + suc others) (suc others) (suc (few + suc others)) (suc others) (omega arith) refl,
+      choose-others few (suc others),
+      choose-others (suc few) others,
+      choose-same (few + suc others) (suc few) (suc few + others) (suc few) (omega arith) refl,
+      choose-same (few + suc others) others (suc few + others) others (omega arith) refl,
+    )
 
 -- to choose k + 1 and name one of them, name one and choose k of the others
 pub choose-step : (n k : ℕ) → suc k * choose (suc n) (suc k) ≡ suc n * choose n k

@@ -231,15 +231,17 @@ fn mixtures(counts: &[u32]) -> (u64, u32)
     (ways.min(u64::from(MOST_ORDERS) + 1), first + total)
 }
 
-/// The number of ways to choose `few` things and leave `others`.
+/// The number of ways to choose `few` things and leave `others`, which is that of leaving `few`.
 fn choices(few: u32, others: u32) -> u64
     requires { few + others ≤ 41 }
     ensures value { result ≡ choose (few + others) few }
     ensures bounds { result ≤ 2 ^ 41 }
 {
+    let fewer = few.min(others);
+    let more = few.max(others);
     let mut value = 1;
-    for i in 0..few {
-        value = value * u64::from(others + i + 1) / u64::from(i + 1);
+    for i in 0..fewer {
+        value = value * u64::from(more + i + 1) / u64::from(i + 1);
     }
     value
 }
