@@ -47,10 +47,10 @@ impl Model for Arrivals {
 impl CrossesThreads for Arrivals {}
 
 impl Arrivals {
-    ghost use Rattle.std.specs.Prelude.{◌≡◌, ◌≤◌, ℕ, IfOk, IfErr, length};
+    ghost use Rattle.std.specs.Prelude.{◌≡◌, ◌<◌, ◌≤◌, ℕ, IfOk, IfErr, length, slice_index_or};
     ghost use Rattle.road_net.specs.Network.{IsNetwork};
     ghost use Rattle.road_net.specs.Totals.{total};
-    ghost use Rattle.arrivals.specs.Rows.{most_of_all};
+    ghost use Rattle.arrivals.specs.Rows.{most_of_all, seconds};
     ghost use Rattle.arrivals.specs.Amounts.{Amounts, entering, AreArrivals, AreArrivalsOf, nothing};
     ghost use Rattle.arrivals.specs.Faults.{IsRowFault, Refuses};
     ghost use Rattle.arrivals.specs.Stored.{Adds};
@@ -95,6 +95,21 @@ impl Arrivals {
         }
         let place = second as usize * self.links as usize + link as usize;
         self.amounts.get(place).copied().unwrap_or(0)
+    }
+
+    /// What enters the links in a second, by their numbers, in thousandths of a vehicle: what `entering` answers of each, where
+    /// a link without a number has 0.
+    ///
+    /// docs/RULES.md, "Arrivals".
+    pub fn in_second(&self, second: u32) -> &[u32]
+        requires { second < seconds }
+        ensures value { (link : ℕ) → slice_index_or result.now link 0 ≡ entering self.now link second }
+    {
+        let links = self.links as usize;
+        let amounts = self.amounts.as_slice();
+        let from = (second as usize * links).min(amounts.len());
+        let to = (from + links).min(amounts.len());
+        &amounts[from..to]
     }
 
     /// No arrivals.
