@@ -121,7 +121,7 @@ pub fn rotation_by_calls(
 {
     // Called for its clause: the phases are a plan.
     law_of_plans(plan);
-    let mut rows = Vec::new(alloc);
+    let mut rows = Vec::with_capacity(alloc, 8)?;
     turn(plan, calls, head, to, until, &mut rows)?;
     Ok(Timeline::from_rows(rows))
 }

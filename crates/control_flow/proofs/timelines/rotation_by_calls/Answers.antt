@@ -8,7 +8,7 @@ use Rattle.control_flow.proofs.TurningLaws.{IsLineFrom, passes-called, turned-by
 use Rattle.control_flow.proofs.timelines.rotation_by_calls.Goals as goal
 
 made : (c : goal.In_ok-turn) → c.turn.new.rows.items ≡ turned c.args.plan.now (stops_at c.args.plan.now c.args.calls.now) c.args.head.now c.args.to c.args.until
-made c = c.in_ok-turn.ensures ∙ ap (λ (rows : List Green). rows ++ turned c.args.plan.now (stops_at c.args.plan.now c.args.calls.now) c.args.head.now c.args.to c.args.until) c.new-rows.ensures.items
+made c = c.in_ok-turn.ensures ∙ ap (λ (rows : List Green). rows ++ turned c.args.plan.now (stops_at c.args.plan.now c.args.calls.now) c.args.head.now c.args.to c.args.until) c.in_ok-rows.ensures.items
 
 line : (c : goal.In_ok-turn) → IsLineFrom c.args.plan.now c.args.head.now c.args.until c.turn.new.rows.items
 line c =
@@ -24,7 +24,7 @@ from_rows-requires c = order-lawful c.args.plan.now _ c.law_of_plans.ensures (li
 value : (c : goal.After-from_rows) → c.from_rows.result ≡ turned c.args.plan.now (stops_at c.args.plan.now c.args.calls.now) c.args.head.now c.args.to c.args.until
 value c =
     c.from_rows.ensures ∙ c.in_ok-turn.ensures
-    ∙ ap (λ (rows : List Green). rows ++ turned c.args.plan.now (stops_at c.args.plan.now c.args.calls.now) c.args.head.now c.args.to c.args.until) c.new-rows.ensures.items
+    ∙ ap (λ (rows : List Green). rows ++ turned c.args.plan.now (stops_at c.args.plan.now c.args.calls.now) c.args.head.now c.args.to c.args.until) c.in_ok-rows.ensures.items
 
 of-head : (c : goal.After-from_rows) → IsLineFrom c.args.plan.now c.args.head.now c.args.until c.from_rows.result
 of-head c =
