@@ -15,18 +15,20 @@ use super::rows;
 use super::totals::LinkTotals;
 use arrivals::Arrivals;
 use control_flow::greens::Green;
-use road_net::{Network, part_of_turn};
+use road_net::Network;
 
 /// Begins a second: what comes from outside enters. Tells how much that is.
 pub(crate) fn arrive(recent: &mut [u32], links: u32, arrivals: &Arrivals, second: u32) -> u64
-    requires { length recent.old ≡ links * 128 }
+    requires recent { length recent.old ≡ links * 128 }
+    requires second { second < 18000 }
     ensures here { (l : ℕ) → l < links → cell recent.new l second ≡ arriving_of arrivals.now second l }
     ensures others { (l y : ℕ) → y % 128 ≢ second % 128 → cell recent.new l y ≡ cell recent.old l y }
     ensures all { result ≡ total (λ l. arriving_of arrivals.now second l) links }
 {
+    let row = arrivals.in_second(second);
     let mut all = 0;
     for l in 0..links {
-        let amount = arrivals.entering(l, second);
+        let amount = row.get(l as usize).copied().unwrap_or(0);
         rows::put(recent, l, second, amount);
         all += u64::from(amount);
     }
@@ -50,11 +52,15 @@ fn goes(
     ensures value { result ≡ goes net.now greens.now waits.now second l waiting (link_at net.now l).to }
     ensures most { result ≤ waiting }
 {
-    let Some(node) = net.link(l).to else {
+    if waiting == 0 {
+        return 0;
+    }
+    let link = net.link(l);
+    let Some(node) = link.to else {
         return waiting;
     };
     if is_open(net, waits, second, l, node, greens[node as usize]) {
-        waiting.min(net.link(l).sat)
+        waiting.min(link.sat)
     } else {
         0
     }
@@ -97,6 +103,15 @@ pub(crate) fn leave(
     out
 }
 
+/// The part of an amount that makes turns with these shares together.
+#[inline]
+fn part_to(amount: u32, shares: u32) -> u32
+    requires { shares ≤ 1000 }
+    ensures { result ≡ amount * shares / 1000 }
+{
+    (u64::from(amount) * u64::from(shares) / 1000) as u32
+}
+
 /// What link `l` discharges enters the links into which it turns.
 fn turn(recent: &mut [u32], net: &Network, l: u32, amount: u32, second: u32)
     requires link { l < length net.now.link_names }
@@ -110,12 +125,15 @@ fn turn(recent: &mut [u32], net: &Network, l: u32, amount: u32, second: u32)
     if amount == 0 {
         return;
     }
-    let mut before = 0;
+    let mut shares = 0;
+    let mut given = 0;
     for turn in net.turns(l) {
-        let part = part_of_turn(amount, before, turn.share);
+        shares += turn.share;
+        let all = part_to(amount, shares);
+        let part = all - given;
         let entered = rows::at(recent, turn.exit, second);
         rows::put(recent, turn.exit, second, entered + part);
-        before += turn.share;
+        given = all;
     }
 }
 

@@ -1,4 +1,4 @@
-use Rattle.std.proofs.Common.{◌≡◌, ◌≢◌, ℕ, ◌%◌}
+use Rattle.std.proofs.Common.{◌≡◌, ◌≢◌, ℕ, ◌*◌, ◌/◌, ◌%◌}
 use Rattle.net_numbers.specs.Outline.{turns_at}
 use Rattle.road_net.specs.Joins.{shares_to}
 use Rattle.net_simulator.specs.Rows.{cell}
@@ -9,5 +9,6 @@ abbrev pub invariant-loop-turn : goal.invariant-loop-turn
 invariant-loop-turn l = record {
   here : AreTurned (turns_at l.net l.l) l.amount l.turn-index (λ k. cell l.initial.recent k l.second) (λ k. cell l.recent k l.second);
   others : (k y : ℕ) → y % 128 ≢ l.second % 128 → cell l.recent k y ≡ cell l.initial.recent k y;
-  before : l.before ≡ shares_to (turns_at l.net l.l) l.turn-index;
+  shares : l.shares ≡ shares_to (turns_at l.net l.l) l.turn-index;
+  given : l.given ≡ l.amount * l.shares / 1000;
 }
