@@ -7,6 +7,7 @@ ghost use Rattle.net_simulator.specs.Counts.{counts_at};
 ghost use Rattle.net_simulator.specs.LinkSeconds.{waits_at};
 ghost use Rattle.net_simulator.specs.Rows.{cell};
 ghost use Rattle.net_simulator.specs.Steps.{goes, goes_out, all_of, counted, FitsSeconds};
+ghost use Rattle.net_simulator.specs.Sums as sums;
 ghost use Rattle.road_net.specs.Joins.{split_of};
 ghost use Rattle.road_net.specs.Totals.{total};
 
@@ -66,7 +67,7 @@ fn goes(
     }
 }
 
-/// Each link discharges what it may of what waits at its end. Tells how much leaves the network.
+/// Each link discharges what it may of what waits at its end.
 pub(crate) fn leave(
     leaving: &mut [u32],
     queues: &mut [u32],
@@ -75,7 +76,7 @@ pub(crate) fn leave(
     waits: &[u32],
     greens: &[Option<Green>],
     second: u32,
-) -> u64
+)
     requires leaving { length leaving.old ≡ length net.now.link_names }
     requires queues { length queues.old ≡ length net.now.link_names }
     requires recent { length recent.now ≡ length net.now.link_names * 128 }
@@ -90,17 +91,13 @@ pub(crate) fn leave(
         (link_at net.now l).to }
     ensures queues { (l : ℕ) → l < length net.now.link_names → slice_index queues.new l ≡
         waits_at net.now queues.old recent.now second l - slice_index leaving.new l }
-    ensures out { result ≡ goes_out net.now leaving.new }
 {
-    let mut out = 0;
     for l in 0..net.links() {
         let waiting = waiting_amount(net, queues, recent, second, l);
         let amount = goes(net, waits, second, l, waiting, greens);
         leaving[l as usize] = amount;
         queues[l as usize] = waiting - amount;
-        out += u64::from(outward(net.link(l).to, amount));
     }
-    out
 }
 
 /// The part of an amount that makes turns with these shares together.
@@ -112,8 +109,8 @@ fn part_to(amount: u32, shares: u32) -> u32
     (u64::from(amount) * u64::from(shares) / 1000) as u32
 }
 
-/// What link `l` discharges enters the links into which it turns.
-fn turn(recent: &mut [u32], net: &Network, l: u32, amount: u32, second: u32)
+/// What link `l` discharges enters the links into which it turns. Tells how much leaves the network.
+fn turn(recent: &mut [u32], net: &Network, l: u32, amount: u32, second: u32) -> u32
     requires link { l < length net.now.link_names }
     requires recent { length recent.old ≡ length net.now.link_names * 128 }
     requires fits { (k : ℕ) → k < length net.now.link_names
@@ -121,9 +118,10 @@ fn turn(recent: &mut [u32], net: &Network, l: u32, amount: u32, second: u32)
     ensures here { (k : ℕ) → k < length net.now.link_names
         → cell recent.new k second ≡ cell recent.old k second + split_of (turns_at net.now l) amount k }
     ensures others { (k y : ℕ) → y % 128 ≢ second % 128 → cell recent.new k y ≡ cell recent.old k y }
+    ensures out { result ≡ sums.outward (link_at net.now l).to amount }
 {
     if amount == 0 {
-        return;
+        return 0;
     }
     let mut shares = 0;
     let mut given = 0;
@@ -135,10 +133,11 @@ fn turn(recent: &mut [u32], net: &Network, l: u32, amount: u32, second: u32)
         rows::put(recent, turn.exit, second, entered + part);
         given = all;
     }
+    outward(net.link(l).to, amount)
 }
 
-/// What all links discharge enters the links into which it turns.
-pub(crate) fn enter(recent: &mut [u32], net: &Network, leaving: &[u32], second: u32)
+/// What all links discharge enters the links into which it turns. Tells how much leaves the network.
+pub(crate) fn enter(recent: &mut [u32], net: &Network, leaving: &[u32], second: u32) -> u64
     requires recent { length recent.old ≡ length net.now.link_names * 128 }
     requires leaving { length leaving.now ≡ length net.now.link_names }
     requires fits { (k : ℕ) → k < length net.now.link_names → cell recent.old k second
@@ -147,10 +146,13 @@ pub(crate) fn enter(recent: &mut [u32], net: &Network, leaving: &[u32], second: 
     ensures here { (k : ℕ) → k < length net.now.link_names → cell recent.new k second ≡ cell recent.old k second
         + total (λ l. split_of (turns_at net.now l) (slice_index leaving.now l) k) (length net.now.link_names) }
     ensures others { (k y : ℕ) → y % 128 ≢ second % 128 → cell recent.new k y ≡ cell recent.old k y }
+    ensures out { result ≡ goes_out net.now leaving.now }
 {
+    let mut out = 0;
     for l in 0..net.links() {
-        turn(recent, net, l, leaving[l as usize], second);
+        out += u64::from(turn(recent, net, l, leaving[l as usize], second));
     }
+    out
 }
 
 /// Counts what passed each link in this second. Tells how much waits after it.

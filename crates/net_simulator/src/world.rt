@@ -318,8 +318,8 @@ fn pass_second<T: Lights>(
     let totals = &moment.totals;
     let links = net.links();
     let arriving = seconds::arrive(recent, links, moment.arrivals, x);
-    let out = seconds::leave(leaving, queues, net, recent, waits, moment.greens, x);
-    seconds::enter(recent, net, leaving, x);
+    seconds::leave(leaving, queues, net, recent, waits, moment.greens, x);
+    let out = seconds::enter(recent, net, leaving, x);
     remember(waits, stood, queues, links, x + 1);
     let waiting = seconds::count(counts, recent, leaving, queues, links, x);
     let entered = totals.entered + arriving;

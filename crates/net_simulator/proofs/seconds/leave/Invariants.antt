@@ -1,7 +1,5 @@
-use Rattle.std.proofs.Common.{◌≡◌, ℕ, ◌-◌, ◌*◌, ◌<◌, ◌≤◌, slice_index}
+use Rattle.std.proofs.Common.{◌≡◌, ℕ, ◌-◌, ◌<◌, ◌≤◌, slice_index}
 use Rattle.net_numbers.specs.Outline.{link_at}
-use Rattle.road_net.specs.Totals.{total}
-use Rattle.net_simulator.specs.Sums.{outward}
 use Rattle.net_simulator.specs.LinkSeconds.{waits_at}
 use Rattle.net_simulator.specs.Steps.{goes}
 use Rattle.net_simulator.proofs.seconds.leave.Given as goal
@@ -11,6 +9,4 @@ invariant-loop-l l = record {
   leaving : (k : ℕ) → k < l.l → slice_index l.leaving k ≡ goes l.net l.greens l.waits l.second k (waits_at l.net l.initial.queues l.recent l.second k) (link_at l.net k).to;
   queues : (k : ℕ) → k < l.l → slice_index l.queues k ≡ waits_at l.net l.initial.queues l.recent l.second k - slice_index l.leaving k;
   rest : (k : ℕ) → l.l ≤ k → slice_index l.queues k ≡ slice_index l.initial.queues k;
-  out : l.out ≡ total (λ k. outward (link_at l.net k).to (goes l.net l.greens l.waits l.second k (waits_at l.net l.initial.queues l.recent l.second k) (link_at l.net k).to)) l.l;
-  most : l.out ≤ l.l * 4294967295;
 }

@@ -3,17 +3,17 @@ use Rattle.net_simulator.specs.Arriving.{arriving_of}
 use Rattle.net_simulator.proofs.Passing.{few-of, begun-by, room-leave, room-enter, leaves-now, counts-small, standing-small, stands-next, room-entered, room-left, delay-most}
 use Rattle.net_simulator.proofs.world.pass_second.Goals as goal
 
-pub leave-out-requires-clause-begun : goal.leave-out-requires-clause-begun
-leave-out-requires-clause-begun g c = begun-by c.args.moment.now.greens.now (length c.args.moment.now.net.now.node_names) (g.T.Lights.lines c.args.moment.now.lights.now) c.args.moment.now.second c.requires.greens
+pub leave-requires-clause-begun : goal.leave-requires-clause-begun
+leave-requires-clause-begun g c = begun-by c.args.moment.now.greens.now (length c.args.moment.now.net.now.node_names) (g.T.Lights.lines c.args.moment.now.lights.now) c.args.moment.now.second c.requires.greens
 
-pub leave-out-requires-clause-fits : goal.leave-out-requires-clause-fits
-leave-out-requires-clause-fits g c =
+pub leave-requires-clause-fits : goal.leave-requires-clause-fits
+leave-requires-clause-fits g c =
     room-leave c.args.moment.now.net.now c.links-links.ensures.network (arriving_of c.args.moment.now.arrivals.now) (g.T.Lights.lines c.args.moment.now.lights.now) (few-of c.args.moment.now.net.now c.links-links.ensures.network c.args.moment.now.arrivals.now c.requires.arrivals) _ c.requires.stands c.arrive-arriving.new.recent c.arrive-arriving.ensures.others
 
-pub enter-requires-clause-fits : goal.enter-requires-clause-fits
-enter-requires-clause-fits g c =
-    let leaves = leaves-now c.args.moment.now.net.now c.links-links.ensures.network (arriving_of c.args.moment.now.arrivals.now) (g.T.Lights.lines c.args.moment.now.lights.now) (few-of c.args.moment.now.net.now c.links-links.ensures.network c.args.moment.now.arrivals.now c.requires.arrivals) _ c.requires.stands c.args.moment.now.greens.now c.arrive-arriving.new.recent c.leave-out.new.leaving c.requires.greens c.arrive-arriving.ensures.others c.leave-out.ensures.leaving in
-    room-enter c.args.moment.now.net.now c.links-links.ensures.network (arriving_of c.args.moment.now.arrivals.now) (g.T.Lights.lines c.args.moment.now.lights.now) (few-of c.args.moment.now.net.now c.links-links.ensures.network c.args.moment.now.arrivals.now c.requires.arrivals) _ c.requires.stands c.arrive-arriving.new.recent c.leave-out.new.leaving leaves
+pub enter-out-requires-clause-fits : goal.enter-out-requires-clause-fits
+enter-out-requires-clause-fits g c =
+    let leaves = leaves-now c.args.moment.now.net.now c.links-links.ensures.network (arriving_of c.args.moment.now.arrivals.now) (g.T.Lights.lines c.args.moment.now.lights.now) (few-of c.args.moment.now.net.now c.links-links.ensures.network c.args.moment.now.arrivals.now c.requires.arrivals) _ c.requires.stands c.args.moment.now.greens.now c.arrive-arriving.new.recent c.leave.new.leaving c.requires.greens c.arrive-arriving.ensures.others c.leave.ensures.leaving in
+    room-enter c.args.moment.now.net.now c.links-links.ensures.network (arriving_of c.args.moment.now.arrivals.now) (g.T.Lights.lines c.args.moment.now.lights.now) (few-of c.args.moment.now.net.now c.links-links.ensures.network c.args.moment.now.arrivals.now c.requires.arrivals) _ c.requires.stands c.arrive-arriving.new.recent c.leave.new.leaving leaves
     (rw c.links-links.ensures.value at c.arrive-arriving.ensures.here)
 
 pub remember-requires-clause-fits : goal.remember-requires-clause-fits
@@ -30,18 +30,18 @@ overflow_add-entered g c =
 
 pub overflow_sub-result : goal.overflow_sub-result
 overflow_sub-result g c =
-    let leaves = leaves-now c.args.moment.now.net.now c.links-links.ensures.network (arriving_of c.args.moment.now.arrivals.now) (g.T.Lights.lines c.args.moment.now.lights.now) (few-of c.args.moment.now.net.now c.links-links.ensures.network c.args.moment.now.arrivals.now c.requires.arrivals) _ c.requires.stands c.args.moment.now.greens.now c.arrive-arriving.new.recent c.leave-out.new.leaving c.requires.greens c.arrive-arriving.ensures.others c.leave-out.ensures.leaving in
-    let room = room-left c.args.moment.now.net.now c.links-links.ensures.network (arriving_of c.args.moment.now.arrivals.now) (g.T.Lights.lines c.args.moment.now.lights.now) (few-of c.args.moment.now.net.now c.links-links.ensures.network c.args.moment.now.arrivals.now c.requires.arrivals) _ c.requires.stands c.leave-out.new.leaving leaves in
+    let leaves = leaves-now c.args.moment.now.net.now c.links-links.ensures.network (arriving_of c.args.moment.now.arrivals.now) (g.T.Lights.lines c.args.moment.now.lights.now) (few-of c.args.moment.now.net.now c.links-links.ensures.network c.args.moment.now.arrivals.now c.requires.arrivals) _ c.requires.stands c.args.moment.now.greens.now c.arrive-arriving.new.recent c.leave.new.leaving c.requires.greens c.arrive-arriving.ensures.others c.leave.ensures.leaving in
+    let room = room-left c.args.moment.now.net.now c.links-links.ensures.network (arriving_of c.args.moment.now.arrivals.now) (g.T.Lights.lines c.args.moment.now.lights.now) (few-of c.args.moment.now.net.now c.links-links.ensures.network c.args.moment.now.arrivals.now c.requires.arrivals) _ c.requires.stands c.leave.new.leaving leaves in
     let all = rw c.links-links.ensures.value at c.arrive-arriving.ensures.all in
-    omega (arith, room, all, c.leave-out.ensures.out)
+    omega (arith, room, all, c.enter-out.ensures.out)
 
 pub overflow_add-left : goal.overflow_add-left
 overflow_add-left g c =
     let room = room-entered c.args.moment.now.net.now c.links-links.ensures.network (arriving_of c.args.moment.now.arrivals.now) (g.T.Lights.lines c.args.moment.now.lights.now) (few-of c.args.moment.now.net.now c.links-links.ensures.network c.args.moment.now.arrivals.now c.requires.arrivals) _ c.requires.stands in
     let all = rw c.links-links.ensures.value at c.arrive-arriving.ensures.all in
-    let leaves = leaves-now c.args.moment.now.net.now c.links-links.ensures.network (arriving_of c.args.moment.now.arrivals.now) (g.T.Lights.lines c.args.moment.now.lights.now) (few-of c.args.moment.now.net.now c.links-links.ensures.network c.args.moment.now.arrivals.now c.requires.arrivals) _ c.requires.stands c.args.moment.now.greens.now c.arrive-arriving.new.recent c.leave-out.new.leaving c.requires.greens c.arrive-arriving.ensures.others c.leave-out.ensures.leaving in
-    let less = room-left c.args.moment.now.net.now c.links-links.ensures.network (arriving_of c.args.moment.now.arrivals.now) (g.T.Lights.lines c.args.moment.now.lights.now) (few-of c.args.moment.now.net.now c.links-links.ensures.network c.args.moment.now.arrivals.now c.requires.arrivals) _ c.requires.stands c.leave-out.new.leaving leaves in
-    omega (arith, room, all, less, c.leave-out.ensures.out)
+    let leaves = leaves-now c.args.moment.now.net.now c.links-links.ensures.network (arriving_of c.args.moment.now.arrivals.now) (g.T.Lights.lines c.args.moment.now.lights.now) (few-of c.args.moment.now.net.now c.links-links.ensures.network c.args.moment.now.arrivals.now c.requires.arrivals) _ c.requires.stands c.args.moment.now.greens.now c.arrive-arriving.new.recent c.leave.new.leaving c.requires.greens c.arrive-arriving.ensures.others c.leave.ensures.leaving in
+    let less = room-left c.args.moment.now.net.now c.links-links.ensures.network (arriving_of c.args.moment.now.arrivals.now) (g.T.Lights.lines c.args.moment.now.lights.now) (few-of c.args.moment.now.net.now c.links-links.ensures.network c.args.moment.now.arrivals.now c.requires.arrivals) _ c.requires.stands c.leave.new.leaving leaves in
+    omega (arith, room, all, less, c.enter-out.ensures.out)
 
 pub overflow_add-result : goal.overflow_add-result
 overflow_add-result g c =
@@ -51,26 +51,26 @@ overflow_add-result g c =
 
 pub returns-clause-whole : goal.returns-clause-whole
 returns-clause-whole g c =
-    let leaves = leaves-now c.args.moment.now.net.now c.links-links.ensures.network (arriving_of c.args.moment.now.arrivals.now) (g.T.Lights.lines c.args.moment.now.lights.now) (few-of c.args.moment.now.net.now c.links-links.ensures.network c.args.moment.now.arrivals.now c.requires.arrivals) _ c.requires.stands c.args.moment.now.greens.now c.arrive-arriving.new.recent c.leave-out.new.leaving c.requires.greens c.arrive-arriving.ensures.others c.leave-out.ensures.leaving in
-    let room = room-left c.args.moment.now.net.now c.links-links.ensures.network (arriving_of c.args.moment.now.arrivals.now) (g.T.Lights.lines c.args.moment.now.lights.now) (few-of c.args.moment.now.net.now c.links-links.ensures.network c.args.moment.now.arrivals.now c.requires.arrivals) _ c.requires.stands c.leave-out.new.leaving leaves in
+    let leaves = leaves-now c.args.moment.now.net.now c.links-links.ensures.network (arriving_of c.args.moment.now.arrivals.now) (g.T.Lights.lines c.args.moment.now.lights.now) (few-of c.args.moment.now.net.now c.links-links.ensures.network c.args.moment.now.arrivals.now c.requires.arrivals) _ c.requires.stands c.args.moment.now.greens.now c.arrive-arriving.new.recent c.leave.new.leaving c.requires.greens c.arrive-arriving.ensures.others c.leave.ensures.leaving in
+    let room = room-left c.args.moment.now.net.now c.links-links.ensures.network (arriving_of c.args.moment.now.arrivals.now) (g.T.Lights.lines c.args.moment.now.lights.now) (few-of c.args.moment.now.net.now c.links-links.ensures.network c.args.moment.now.arrivals.now c.requires.arrivals) _ c.requires.stands c.leave.new.leaving leaves in
     let all = rw c.links-links.ensures.value at c.arrive-arriving.ensures.all in
-    omega (arith, room, all, c.leave-out.ensures.out)
+    omega (arith, room, all, c.enter-out.ensures.out)
 
 pub returns-clause-stands : goal.returns-clause-stands
 returns-clause-stands g c =
-    stands-next c.args.moment.now.net.now c.links-links.ensures.network (arriving_of c.args.moment.now.arrivals.now) (g.T.Lights.lines c.args.moment.now.lights.now) (few-of c.args.moment.now.net.now c.links-links.ensures.network c.args.moment.now.arrivals.now c.requires.arrivals) _ c.requires.stands c.args.moment.now.greens.now c.arrive-arriving.new.recent c.leave-out.new.leaving
+    stands-next c.args.moment.now.net.now c.links-links.ensures.network (arriving_of c.args.moment.now.arrivals.now) (g.T.Lights.lines c.args.moment.now.lights.now) (few-of c.args.moment.now.net.now c.links-links.ensures.network c.args.moment.now.arrivals.now c.requires.arrivals) _ c.requires.stands c.args.moment.now.greens.now c.arrive-arriving.new.recent c.leave.new.leaving
     (record {
       second = c.args.moment.now.second + 1;
       nodes = length c.args.moment.now.greens.now;
-      queues = c.leave-out.new.queues;
-      recent = c.enter.new.recent;
+      queues = c.leave.new.queues;
+      recent = c.enter-out.new.recent;
       waits = c.remember.new.waits;
       stood = c.remember.new.stood;
       counts = c.count-waiting.new.counts;
       totals = record {
         entered = c.args.moment.now.totals.entered + c.arrive-arriving.result;
-        left = c.args.moment.now.totals.left + c.leave-out.result;
-        on = (c.args.moment.now.totals.entered + c.arrive-arriving.result) - (c.args.moment.now.totals.left + c.leave-out.result);
+        left = c.args.moment.now.totals.left + c.enter-out.result;
+        on = (c.args.moment.now.totals.entered + c.arrive-arriving.result) - (c.args.moment.now.totals.left + c.enter-out.result);
         delay = c.args.moment.now.totals.delay + c.count-waiting.result;
       };
     })
@@ -80,16 +80,16 @@ returns-clause-stands g c =
     (record {
       arrives = rw c.links-links.ensures.value at c.arrive-arriving.ensures.here;
       arrives-others = c.arrive-arriving.ensures.others;
-      leaves = c.leave-out.ensures.leaving;
-      queues = c.leave-out.ensures.queues;
-      enters = c.enter.ensures.here;
-      enters-others = c.enter.ensures.others;
+      leaves = c.leave.ensures.leaving;
+      queues = c.leave.ensures.queues;
+      enters = c.enter-out.ensures.here;
+      enters-others = c.enter-out.ensures.others;
       remembers = rw c.links-links.ensures.value at c.remember.ensures.here;
       remembers-others = c.remember.ensures.others;
       stands = rw c.links-links.ensures.value at c.remember.ensures.stood;
       counts = rw c.links-links.ensures.value at c.count-waiting.ensures.counts;
       entered = let all = rw c.links-links.ensures.value at c.arrive-arriving.ensures.all in omega (arith, all);
-      left = omega (arith, c.leave-out.ensures.out);
+      left = omega (arith, c.enter-out.ensures.out);
       delay = let all = rw c.links-links.ensures.value at c.count-waiting.ensures.waits in omega (arith, all);
       on = refl;
     })
