@@ -119,6 +119,11 @@ find-place test (r ∷ rs) (suc i) before here =
     ap (λ (b : Bool). cond b (Some r) (find test rs)) (before 0 (omega arith))
     ∙ find-place test rs i (λ k h. before (suc k) (omega arith)) (λ h. here (omega arith))
 
+-- a row that covers a second is the first that ends after it
+pub covering-after : (rows : List Green) (second i : ℕ) → IsInOrder rows → i < length rows → (row_at rows i).from ≤ second → second < (row_at rows i).to → row_after rows second ≡ slice_get rows i
+covering-after rows second i o inside begun ends =
+    find-place (λ row. ltb second row.to) rows i (λ k h. le-ltb second _ (omega (arith, order-between rows o k i h inside, begun))) (λ h. lt-ltb second _ ends)
+
 -- the rows before a second are those before this place
 pub rows_before-place : (rows : List Green) (second i : ℕ) → ((k : ℕ) → k < i → (row_at rows k).from < second) → (i < length rows → second ≤ (row_at rows i).from) → rows_before rows second ≡ take i rows
 rows_before-place [] second zero before here = refl

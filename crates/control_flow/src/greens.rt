@@ -38,6 +38,8 @@ pub enum Colour {
 #[derive(Drop)]
 pub struct Timeline {
     rows: Vec<Green>,
+    /// A guess at the row that is asked for next: where the last splice began.
+    guess: usize,
 }
 
 impl Model for Timeline {
@@ -67,7 +69,7 @@ impl Timeline {
         requires { IsInOrder rows.items }
         ensures { result ≡ rows.items }
     {
-        Timeline { rows }
+        Timeline { rows, guess: 0 }
     }
 
     /// The rows, one after another.
@@ -78,6 +80,11 @@ impl Timeline {
         ensures order { IsInOrder self.now }
     {
         self.rows.as_slice()
+    }
+
+    /// A place, which may be that of no row, for the row that is asked for next.
+    pub(crate) fn guess(&self) -> usize {
+        self.guess
     }
 
     /// Replaces the rows from the begin of the first row of `next` on by `next`; an empty one replaces nothing. Some row
@@ -97,13 +104,13 @@ impl Timeline {
             → GoesOn head next
             → OnOk result (IsContinued plan self.old now next self.new) }
     {
-        replace(&mut self.rows, &next.rows)
+        replace(&mut self.rows, &next.rows, &mut self.guess)
     }
 }
 
-/// Replaces the rows from the begin of the first new one on by the new ones; at an `Err`, out of memory, all is as it
-/// was.
-fn replace(rows: &mut Vec<Green>, next: &[Green]) -> Result<(), AllocError>
+/// Replaces the rows from the begin of the first new one on by the new ones, and writes where that is; at an `Err`, out of
+/// memory, the rows are as they were.
+fn replace(rows: &mut Vec<Green>, next: &[Green], guess: &mut usize) -> Result<(), AllocError>
     requires { IsInOrder rows.old.items }
     ensures ok { OnOk result (rows.new.items ≡ spliced rows.old.items next.now) }
     ensures refused { OnErr result (rows.new.items ≡ rows.old.items) }
@@ -113,6 +120,7 @@ fn replace(rows: &mut Vec<Green>, next: &[Green]) -> Result<(), AllocError>
     };
     let kept = count_before(rows, first.from);
     let freed = rows.len() - kept;
+    *guess = kept;
     rows.reserve(next.len().saturating_sub(freed))?;
     rows.truncate(kept);
     rows.extend_from_slice(next)

@@ -1,6 +1,6 @@
 //! What a timeline shows at a second.
 
-ghost use Rattle.std.specs.Prelude.{◌≡◌, ℕ, ◌<◌, ◌≤◌, List, length, slice_get, Some};
+ghost use Rattle.std.specs.Prelude.{◌≡◌, ℕ, ◌<◌, ◌≤◌, List, length, slice_get, Some, IfSome};
 ghost use Rattle.switch_rules.specs.Serving.{IsHead};
 ghost use Rattle.control_flow.specs.declared.greens.Green.{Green};
 ghost use Rattle.control_flow.specs.Greens as spec;
@@ -36,13 +36,32 @@ pub fn head_at(plan: &PhasePlan, line: &Timeline, now: u32) -> Head
     head_in(plan, now, &row)
 }
 
-/// The first row that ends after a second. It searches by halves.
+/// The first row that ends after a second. Where it is not the line's guess, it searches by halves.
 fn row_after(line: &Timeline, now: u32) -> Option<Green>
     ensures value { result ≡ row_after line.now now }
     ensures order { IsInOrder line.now }
 {
     let rows = line.rows();
-    rows.get(rows_by(rows, now)).copied()
+    match covering_at(rows, line.guess(), now) {
+        Some(row) => Some(row),
+        None => rows.get(rows_by(rows, now)).copied(),
+    }
+}
+
+/// The row at a place, if it covers a second: it is then the first that ends after it.
+fn covering_at(rows: &[Green], place: usize, second: u32) -> Option<Green>
+    requires { IsInOrder rows.now }
+    ensures { IfSome result (λ row. row_after rows.now second ≡ Some row) }
+{
+    if place >= rows.len() {
+        return None;
+    }
+    let row = rows[place];
+    if row.from <= second && second < row.to {
+        Some(row)
+    } else {
+        None
+    }
 }
 
 /// How many rows end by a second.
