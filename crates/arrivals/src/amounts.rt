@@ -124,6 +124,15 @@ impl Arrivals {
         }
     }
 
+    /// Reserves capacity for what enters in the seconds of the network's run. `Err`: out of memory.
+    pub(crate) fn reserve(&mut self, net: &Network) -> Result<(), AllocError>
+        ensures { self.new ≡ self.old }
+    {
+        let run = net.run();
+        let seconds = run.rounds * run.step;
+        self.amounts.reserve(seconds as usize * self.links as usize)
+    }
+
     /// Adds the row with this number.
     pub(crate) fn add(
         &mut self,

@@ -25,6 +25,7 @@ pub fn read_arrivals(alloc: Global, bytes: &[u8], net: &Network) -> Result<Arriv
     ensures first { IfErr result (IsTextFault net.now bytes.now) }
 {
     let mut arrivals = Arrivals::none(alloc, net);
+    arrivals.reserve(net)?;
     match take_records(alloc, bytes, net, &mut arrivals) {
         Ok(true) => Ok(arrivals),
         Ok(false) => Err(RowFault::Header),
