@@ -72,8 +72,17 @@ pub fn certify_within<L: Ledger>(
     let Lists {
         mut reached,
         mut rows,
+        mut cells,
     } = Lists::new(alloc).for_table(i)?;
-    table(i, limit, &mut past, &mut reached, &mut rows, steps)?;
+    table(
+        i,
+        limit,
+        &mut past,
+        &mut reached,
+        &mut rows,
+        &mut cells,
+        steps,
+    )?;
     let answer = best_answer(alloc, i, &rows)?;
     past.take(rows.earlier.as_slice())?;
     past.take(rows.latest.as_slice())?;

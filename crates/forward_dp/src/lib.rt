@@ -14,6 +14,7 @@ ghost use Rattle.forward_dp.specs.Rows.{IsNoWorse};
 ghost use Rattle.forward_dp.specs.Tables.{HasAnswers};
 
 mod answers;
+mod cell_ends;
 mod certifying;
 mod completions;
 mod greens;
@@ -109,10 +110,23 @@ pub fn layered_in<L: Ledger>(
     let Lists {
         mut reached,
         mut rows,
+        mut cells,
     } = replace(lists, Lists::new(alloc)).for_table(i)?;
-    table(i, limit, &mut past, &mut reached, &mut rows, steps)?;
+    table(
+        i,
+        limit,
+        &mut past,
+        &mut reached,
+        &mut rows,
+        &mut cells,
+        steps,
+    )?;
     let answer = best_answer(alloc, i, &rows)?;
-    *lists = Lists { reached, rows };
+    *lists = Lists {
+        reached,
+        rows,
+        cells,
+    };
     Ok(answer)
 }
 
@@ -125,7 +139,7 @@ fn best_answer(alloc: Global, i: &Instance, rows: &Rows) -> Result<Answer, Alloc
     let last = list_lengths(i);
     let places = places(i);
     let latest = rows.latest.as_slice();
-    let (start, end) = cell(latest, 0, &last);
+    let (start, end) = cell(latest, 0, &last, (0, latest.len()));
     let Some(best) = best_of(&latest[start..end]) else {
         return Ok(Answer::NoPlan);
     };

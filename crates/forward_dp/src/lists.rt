@@ -2,6 +2,7 @@
 ghost use Rattle.forward_dp.specs.Groups.{IsEmpty};
 
 use crate::Reached;
+use crate::cell_ends::CellEnds;
 use crate::live_rows::Rows;
 use crate::table::row_capacity;
 use foundation::threads::CrossesThreads;
@@ -15,6 +16,7 @@ use std::alloc::{AllocError, Global};
 pub struct Lists {
     pub(crate) reached: Reached,
     pub(crate) rows: Rows,
+    pub(crate) cells: CellEnds,
     ghost empty: { IsEmpty reached },
 }
 
@@ -31,6 +33,7 @@ impl Lists {
         Lists {
             reached: Reached::none(alloc),
             rows: Rows::none(alloc),
+            cells: CellEnds::none(alloc),
         }
     }
 
@@ -41,10 +44,15 @@ impl Lists {
         let Lists {
             mut reached,
             mut rows,
+            cells,
         } = self;
         let capacity = row_capacity(i);
         reached.reserve_rows(capacity / 8)?;
         rows.clear(capacity)?;
-        Ok(Lists { reached, rows })
+        Ok(Lists {
+            reached,
+            rows,
+            cells,
+        })
     }
 }

@@ -84,6 +84,13 @@ impl Rows {
         Ok(())
     }
 
+    /// How many rows there are, with those that are dropped.
+    pub(crate) fn count(&self) -> usize {
+        self.gone
+            .saturating_add(self.earlier.len())
+            .saturating_add(self.latest.len())
+    }
+
     /// The rows from which a phase can be served.
     pub(crate) fn source(&self, phase: u8) -> &[Row]
         ensures { result.now ≡ source_of self.now phase }

@@ -1,6 +1,6 @@
 //! The table, cell by cell: a cell holds the rows with the same counts, and follows from the cells with one less.
 
-ghost use Rattle.std.specs.Prelude.{◌≡◌, ◌↔◌, ℕ, ◌+◌, ◌*◌, ◌<◌, ◌≤◌, [], ◌∷◌, List, length, slice_index, sum, IfNone, IfOk, IfSome, IsTrue, OnOk};
+ghost use Rattle.std.specs.Prelude.{◌≡◌, ◌↔◌, ℕ, ◌+◌, ◌*◌, ◌<◌, ◌≤◌, [], ◌∷◌, List, length, slice_index, sum, IfNone, IfOk, IfSome, IsTrue, OnOk, true};
 ghost use Rattle.schedule_meaning.specs.Instances.{IsInstance};
 ghost use Rattle.dp_certificate.specs.Limits.{HasKeysWithin, IsSomeDelay};
 ghost use Rattle.dp_certificate.specs.Prefixes.{Key};
@@ -9,6 +9,7 @@ ghost use Rattle.forward_dp.specs.Numbers.{counts_number};
 ghost use Rattle.forward_dp.specs.Tables.{HasEntries, IsCellMade, IsCellReady, IsFrom, IsGroupFilled, IsGroupReady, IsLastCounts, IsNextCounts, HasNone, IsTableMade, all_rows};
 ghost use Rattle.forward_dp.specs.declared.rows.Row.{Row};
 
+use crate::cell_ends::CellEnds;
 use crate::live_rows::{DroppedRows, Rows};
 use crate::{Order, Reached, Row};
 use dp_certificate::{Entry, list_lengths};
@@ -32,6 +33,7 @@ pub(crate) fn table<L: Ledger>(
     past: &mut DroppedRows,
     reached: &mut Reached,
     rows: &mut Rows,
+    cells: &mut CellEnds,
     steps: &mut Steps<L>,
 ) -> Result<(), AllocError>
     requires delay { IsSomeDelay i.now limit }
@@ -44,14 +46,16 @@ pub(crate) fn table<L: Ledger>(
     ensures servings { (keys : List Key) → HasKeysWithin i.now limit keys
         → steps.new ≤ steps.old + length i.now.plan * length keys }
 {
-    let task = Task { i, limit };
     let last = list_lengths(i);
+    cells.begin(&last)?;
     rows.latest.push(first_row(i))?;
     let mut counts = [0; 4];
     let mut ends = [0; 4];
     while let Some(next) = next_counts(&counts, &last) {
         rows.enter(&counts, &next, past)?;
+        let task = Task { i, limit, cells };
         fill_cell(&task, &next, &mut ends, reached, rows, past, steps)?;
+        cells.push(rows.count())?;
         counts = next;
     }
     Ok(())
@@ -126,6 +130,8 @@ struct Task<'a> {
     i: &'a Instance,
     /// What a row, with what is left at the least, may cost, where there is a limit.
     limit: Option<u64>,
+    /// Where the cells end that are filled.
+    cells: &'a CellEnds,
 }
 
 /// The rows with the same counts and the same green phase.
@@ -201,7 +207,8 @@ fn fill_group<L: Ledger>(
     let cluster = &task.i.list(phase)[before[phase as usize] as usize];
     let base = rows.base(phase);
     let source = rows.source(phase);
-    let (start, end) = cell(source, group.from.saturating_sub(base), &before);
+    let guess = task.cells.before_next(phase, base);
+    let (start, end) = cell(source, group.from.saturating_sub(base), &before, guess);
     reached.reach(
         task.i,
         &source[start..end],
@@ -226,20 +233,50 @@ fn is_last(i: &Instance, counts: &[u8; 4], phase: u8) -> bool
     number(counts) >= number(&list_lengths(i))
 }
 
-/// Where the rows with these counts begin and end; they stand from a place on.
-pub(crate) fn cell(rows: &[Row], from: usize, counts: &[u8; 4]) -> (usize, usize)
+/// Where the rows with these counts begin and end; they stand from a place on, and are guessed to begin and end here.
+pub(crate) fn cell(
+    rows: &[Row],
+    from: usize,
+    counts: &[u8; 4],
+    guess: (usize, usize),
+) -> (usize, usize)
     requires from { from ≤ length rows.now }
     ensures start { IsFrom rows.now from (counts_number counts.now) result.0 }
     ensures end { IsFrom rows.now result.0 (counts_number counts.now + 1) result.1 }
 {
     let number = number(counts);
-    let start = first_from(rows, from, number);
-    (start, first_from(rows, start, number + 1))
+    let start = first_from(rows, from, number, guess.0);
+    (start, first_from(rows, start, number + 1, guess.1))
 }
 
-/// The first place, from one on, of a row whose counts have at least this number. It is mostly near, and so looked for in
-/// steps that double, and then by halves.
-fn first_from(rows: &[Row], from: usize, least: u32) -> usize
+/// The first place, from one on, of a row whose counts have at least this number: the one that is guessed, if it is that
+/// place.
+#[inline]
+fn first_from(rows: &[Row], from: usize, least: u32, guess: usize) -> usize
+    requires { from ≤ length rows.now }
+    ensures { IsFrom rows.now from least result }
+{
+    if is_first_from(rows, from, least, guess) {
+        guess
+    } else {
+        search_from(rows, from, least)
+    }
+}
+
+/// Whether a place is the first, from one on, of a row whose counts have at least this number.
+#[inline]
+fn is_first_from(rows: &[Row], from: usize, least: u32, place: usize) -> bool
+    ensures { result ≡ true → IsFrom rows.now from least place }
+{
+    from <= place
+        && place <= rows.len()
+        && (place == from || number(&rows[place - 1].entry.counts) < least)
+        && (place == rows.len() || least <= number(&rows[place].entry.counts))
+}
+
+/// The first place, from one on, of a row whose counts have at least this number. It is looked for in steps that double, and
+/// then by halves.
+fn search_from(rows: &[Row], from: usize, least: u32) -> usize
     requires { from ≤ length rows.now }
     ensures { IsFrom rows.now from least result }
 {

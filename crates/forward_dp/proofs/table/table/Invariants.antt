@@ -12,7 +12,7 @@ invariant-loop-next g l = record {
   gone : List Row;
   held : HasEntries l.past gone;
   keeps_entries : l.past.keeps_entries ≡ l.initial.past.keeps_entries;
-  way : IsUnderWay l.i l.task.limit l.counts 4 gone l.rows l.ends;
+  way : IsUnderWay l.i l.limit l.counts 4 gone l.rows l.ends;
   within : (k : ℕ) → get_or l.counts k 0 ≤ get_or l.last k 0;
   empty : IsEmpty l.reached;
   cost : l.steps ≤ l.initial.steps + sum l.ends;

@@ -1,6 +1,6 @@
 use Rattle.std.proofs.Common.{◌-◌, ◌<◌, ◌≤◌, length}
 use Rattle.forward_dp.specs.Tables.{counts_number_at}
-use Rattle.forward_dp.proofs.table.first_from.Given as goal
+use Rattle.forward_dp.proofs.table.search_from.Given as goal
 
 -- the place is still in the span
 abbrev pub invariant-loop-low : goal.invariant-loop-low
