@@ -150,23 +150,6 @@ put-back counts p more back lt e f =
       | inr other ↦ let ne : k ≢ p = other.1 in rw get_or-set_other (rw get_or-set_other refl)
     ])
 
--- what the code adds and takes back, by what it reads
-pub one-more : (counts xs : List ℕ) (p x : ℕ) → x ≡ get_or counts p x → p < length counts → xs ≡ set counts p (x + 1) → xs ≡ more_of counts p
-one-more counts xs p x read lt e = e ∙ ap (λ n. set counts p (n + 1)) (read ∙ get_or_default_zero counts p x lt)
-
-pub one-back : (counts : List ℕ) (p x y : ℕ) → x ≡ get_or counts p x → p < length counts → y ≡ get_or (set counts p (x + 1)) p y → set (set counts p (x + 1)) p (y - 1) ≡ counts
-one-back counts p x y read lt again =
-    let same : y ≡ x + 1 = again ∙ get_or-set_same counts p (x + 1) y lt in
-    put-back counts p (x + 1) (y - 1) lt (omega (arith, read ∙ get_or_default_zero counts p x lt)) (omega arith)
-
-pub many-orders : (counts xs : List ℕ) (p x found : ℕ) → x ≡ get_or counts p x → p < length counts → xs ≡ set counts p (x + 1) → found ≡ min 50001 (length (orders xs))
-    → 50000 < found → 50000 < length (orders (more_of counts p))
-many-orders counts xs p x found read lt e is many = omega (arith, is, ap (λ ys. length (orders ys)) (one-more counts xs p x read lt e))
-
-pub few-orders : (counts xs : List ℕ) (p x found : ℕ) → x ≡ get_or counts p x → p < length counts → xs ≡ set counts p (x + 1) → found ≡ min 50001 (length (orders xs))
-    → found ≤ 50000 → length (orders (more_of counts p)) ≤ 50000
-few-orders counts xs p x found read lt e is few = omega (arith, is, ap (λ ys. length (orders ys)) (one-more counts xs p x read lt e))
-
 -- How many wait, phase by phase.
 pub record IsCounting (lists : List (List Platoon)) (counts : List ℕ) (waiting i : ℕ) : Type 0 where
   pub total : waiting + sum (take i counts) ≡ sum (take i (counts_of lists))

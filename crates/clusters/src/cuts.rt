@@ -1,5 +1,5 @@
 //! How what comes is cut into platoons.
-ghost use Rattle.std.specs.Prelude.{◌≡◌, ◌+◌, ◌<◌, ◌≤◌, ◌^◌, ℕ, All, IfOk, IfNone, IfSome, length, slice_index, sum, vec_len};
+ghost use Rattle.std.specs.Prelude.{◌≡◌, ◌+◌, ◌<◌, ◌≤◌, ◌^◌, ℕ, All, IfOk, IfNone, IfSome, length, replicate, slice_index, sum};
 ghost use Rattle.clusters.specs.Cuts.{filled, first_of};
 ghost use Rattle.clusters.specs.Platoons.{ArePlatoonsBy, platoon_within, together};
 ghost use Rattle.clusters.specs.Steps.{AreOfLinks, AreSpans, AreStreams, IsAge, IsEmpty, IsNext, IsRunUpTo, IsClosed, span_at};
@@ -12,17 +12,18 @@ use road_net::{Network, Sensed};
 use std::alloc::{AllocError, Global};
 use switch_rules::Cluster;
 
-/// What the streams bring together, in each of the first `look` seconds.
-pub(crate) fn together(alloc: Global, streams: &[Part], look: u32) -> Result<Vec<u32>, AllocError>
-    requires { AreStreams look streams.now }
-    ensures value { IfOk result (λ series. series.items ≡ together streams.now look) }
-    ensures count { IfOk result (λ series. vec_len series ≡ look) }
+/// The capacity for the platoons of a phase, which are seldom more.
+const CAPACITY: usize = 8;
+
+/// Puts what the streams bring together in the seconds of a series, in which nothing comes yet.
+pub(crate) fn together(series: &mut [u32], streams: &[Part])
+    requires none { series.old ≡ replicate (length series.old) 0 }
+    requires streams { AreStreams (length series.old) streams.now }
+    ensures { series.new ≡ together streams.now (length series.old) }
 {
-    let mut series = vec![in alloc; 0; look as usize]?;
     for stream in streams {
-        add_to(series.as_mut_slice(), stream.amounts.as_slice());
+        add_to(series, stream.amounts.as_slice());
     }
-    Ok(series)
 }
 
 /// Adds each amount to that of its second.
@@ -121,7 +122,7 @@ pub(crate) fn gather_platoons(
     ensures { IfOk result (λ platoons. ArePlatoonsBy (aged_load_of age net.now sensed.entry.now) cutting.gap
         (span_at cutting.first cutting.most) sensed.entry.now.now (length series.now) streams.now platoons.items) }
 {
-    let mut platoons = Vec::new(alloc);
+    let mut platoons = Vec::with_capacity(alloc, CAPACITY)?;
     let mut from = 0;
     while let Some(first) = next_filled(series, from) {
         let end = run_end(series, first, cutting.gap, span_at(cutting, first));

@@ -188,19 +188,13 @@ fn platoons_of(
     let times = net.plan(node).phase(phase);
     let run = net.run();
     let streams = streams(alloc, net, net.phase_links(node, phase), sensed, heard)?;
-    let series = together(alloc, streams.as_slice(), run.look)?;
+    let mut places = [0; 180];
+    let series = &mut places[..run.look as usize];
+    together(series, streams.as_slice());
     let cutting = Cutting {
         gap: run.gap,
         most: times.greatest - times.loss,
-        first: first_in_green(times, asked.split, sensed.now, series.as_slice()),
+        first: first_in_green(times, asked.split, sensed.now, series),
     };
-    gather_platoons(
-        alloc,
-        net,
-        sensed,
-        asked.age,
-        cutting,
-        series.as_slice(),
-        &streams,
-    )
+    gather_platoons(alloc, net, sensed, asked.age, cutting, series, &streams)
 }

@@ -1,5 +1,5 @@
 //! The window: the platoons that one planning takes up.
-ghost use Rattle.std.specs.Prelude.{◌≡◌, ◌+◌, ◌<◌, ◌≤◌, ℕ, All, IfOk, length, take, slice_index, sum, map, vec_len};
+ghost use Rattle.std.specs.Prelude.{◌≡◌, ◌+◌, ◌<◌, ◌≤◌, ℕ, All, IfOk, length, replicate, take, slice_index, sum, map, vec_len};
 ghost use Rattle.net_numbers.specs.Numbers.{Net};
 ghost use Rattle.clusters.specs.Platoons.{platoons_at};
 ghost use Rattle.clusters.specs.Sound.{AreOfNode, ArePlannable, AreSpacedClusters, cluster_lists};
@@ -31,34 +31,35 @@ pub fn window(alloc: Global, lists: Vec<Items<Platoon>>) -> Result<Window, Alloc
     ensures node { (net : Net) (node now : ℕ) → AreOfNode net node now lists.items
         → IfOk result (λ window. AreOfNode net node now window.lists) }
 {
-    let counts = longest_front(alloc, lists.as_slice())?;
-    let waiting = count_waiting(lists.as_slice(), counts.as_slice());
-    let lists = fronts(alloc, lists, counts.as_slice());
+    let mut counts = [0; 4];
+    let counts = &mut counts[..lists.len()];
+    longest_front(lists.as_slice(), counts);
+    let waiting = count_waiting(lists.as_slice(), counts);
+    let lists = fronts(alloc, lists, counts);
     Ok(Window {
         lists: Items::from_vec(lists),
         waiting,
     })
 }
 
-/// How many platoons of each phase are in the window.
-fn longest_front(alloc: Global, lists: &[Items<Platoon>]) -> Result<Vec<u32>, AllocError>
+/// Counts how many platoons of each phase are in the window, from none on.
+fn longest_front(lists: &[Items<Platoon>], counts: &mut [u32])
     requires phases { length lists.now ≤ 4 }
     requires rising { All IsRising lists.now }
-    ensures { IfOk result (λ counts. IsLongest lists.now counts.items) }
+    requires none { counts.old ≡ replicate (length lists.now) 0 }
+    ensures { IsLongest lists.now counts.new }
 {
-    let mut counts = vec![in alloc; 0; lists.len()]?;
     for _taken in 0..MOST_CLUSTERS {
-        let Some(first) = first_waiting(lists, counts.as_slice()) else {
-            return Ok(counts);
+        let Some(first) = first_waiting(lists, counts) else {
+            return;
         };
         let phase = first.1;
         counts[phase] += 1;
-        if ways(counts.as_slice()) > MOST_ORDERS {
+        if ways(counts) > MOST_ORDERS {
             counts[phase] -= 1;
-            return Ok(counts);
+            return;
         }
     }
-    Ok(counts)
 }
 
 /// When the platoon arrives that comes first, of those after the ones taken, and its phase.

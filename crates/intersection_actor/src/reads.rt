@@ -14,8 +14,9 @@ pub(crate) fn heard_links(alloc: Global, net: &Network, node: u32) -> Result<Vec
     requires { node < length net.now.node_names }
     ensures { IfOk result (λ links. links.items ≡ heard_links net.now node) }
 {
-    let mut heard = Vec::new(alloc);
-    for link in net.entry_links(node) {
+    let entries = net.entry_links(node);
+    let mut heard = Vec::with_capacity(alloc, entries.len())?;
+    for link in entries {
         if net.link(*link).from.is_some() {
             heard.push(*link)?;
         }

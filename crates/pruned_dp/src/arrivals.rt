@@ -9,7 +9,7 @@ use foundation::steps::Steps;
 use schedule_meaning::{Instance, replay};
 use std::alloc::{AllocError, Global};
 use std::sync::ledger::Ledger;
-use switch_rules::Cluster;
+use switch_rules::{Cluster, MOST_CLUSTERS};
 
 /// The delay of the sequence in order of arrival, in one step at most for each cluster; none where it is not
 /// feasible. `Err`: out of memory.
@@ -34,7 +34,9 @@ fn by_arrival(alloc: Global, i: &Instance) -> Result<Vec<u8>, AllocError>
     ensures places { IfOk result (λ v. length v.items ≡ sum (counts_of i.now.lists)) }
     ensures instance { IsInstance i.now }
 {
-    let mut sequence = Vec::new(alloc);
+    // Called for its clause `instance`, and not for the head.
+    let _ = i.head();
+    let mut sequence = Vec::with_capacity(alloc, MOST_CLUSTERS as usize)?;
     let mut counts = [0; 4];
     while let Some(phase) = next_phase(i, &counts) {
         counts[phase as usize] += 1;

@@ -6,7 +6,7 @@ use Rattle.clusters.proofs.cuts.gather_platoons.Goals as goal
 
 pub loop-first-init : goal.loop-first-init
 loop-first-init c =
-    rw c.new-platoons.ensures.items
+    rw c.in_ok-platoons.ensures.items
     (gathering-none (aged_load_of c.args.age c.args.net.now c.args.sensed.now) c.args.cutting.gap (span_at c.args.cutting.first c.args.cutting.most) c.args.sensed.now.now c.args.series.now c.args.streams.now)
 
 pub loop-first-preserved : goal.loop-first-preserved

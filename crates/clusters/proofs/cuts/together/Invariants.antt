@@ -3,4 +3,4 @@ use Rattle.clusters.proofs.TogetherLaws.{IsTogether}
 use Rattle.clusters.proofs.cuts.together.Given as goal
 
 abbrev pub invariant-loop-stream : goal.invariant-loop-stream
-invariant-loop-stream l = (length l.series.items ≡ l.look) × IsTogether l.streams l.series.items l.stream-index
+invariant-loop-stream l = (length l.series ≡ length l.initial.series) × IsTogether l.streams l.series l.stream-index

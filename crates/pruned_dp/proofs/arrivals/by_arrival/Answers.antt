@@ -9,7 +9,7 @@ pub loop-phase-init : goal.loop-phase-init
 loop-phase-init c = record {
   places = refl;
   within = λ k. omega (arith, none-counted k);
-  order = subst (GoesOn c.args.i.now (0 ∷ 0 ∷ 0 ∷ 0 ∷ [])) (sym c.new-sequence.ensures.items) (goes-start c.args.i.now);
+  order = subst (GoesOn c.args.i.now (0 ∷ 0 ∷ 0 ∷ 0 ∷ [])) (sym c.in_ok-sequence.ensures.items) (goes-start c.args.i.now);
 }
 
 pub overflow_add-counts : goal.overflow_add-counts
