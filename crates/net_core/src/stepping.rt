@@ -98,11 +98,16 @@ pub(crate) fn go_on<P: Planner>(
     Ok(())
 }
 
-/// Whether each node is done.
+/// Whether each node is done. The last one, which in turn order is done last, is asked first.
 fn are_all_done(actors: &[Actor]) -> bool
     ensures done { IsTrue result → AllDone actors.now }
     ensures more { result ≡ false → IsOpen actors.now }
 {
+    if let Some(last) = actors.last()
+        && !is_done(last.want())
+    {
+        return false;
+    }
     for actor in actors {
         if !is_done(actor.want()) {
             return false;
