@@ -11,10 +11,12 @@ use Rattle.arrivals.specs.Amounts.{Amounts, entering}
 use Rattle.board_model.specs.declared.boards.Heard.{Heard}
 use Rattle.control_flow.specs.Greens.{end_of}
 use Rattle.control_flow.specs.declared.greens.Green.{Green}
-use Rattle.intersection_actor.specs.Acting.{Acting, reading, telling, tells_from, wanting, with_heard}
+use Rattle.intersection_actor.specs.Acting.{Acting, reading, resting, telling, tells_from, wanting, with_heard}
 use Rattle.intersection_actor.specs.Commits.{Commitment, IsCommit, phases_of, record_of}
 use Rattle.intersection_actor.specs.Rounds.{IsCommitted, IsOf, KeepsPast}
 use Rattle.intersection_actor.specs.declared.records.PlanRecord.{PlanRecord}
+use Rattle.intersection_actor.specs.declared.records.Want.{Want}
+use Rattle.intersection_actor.specs.declared.records.Want.TheVariants.{Publish, Done}
 use Rattle.net_numbers.specs.Numbers.{Net}
 use Rattle.net_numbers.specs.Outline.{link_at}
 use Rattle.road_net.specs.Network.{IsNetwork, exit_links, heard_links, told_links}
@@ -25,7 +27,8 @@ use Rattle.runs.proofs.Heard.{have-at, rise-at}
 use Rattle.runs.proofs.PlanLaws.{used-links}
 use Rattle.runs.specs.Resting.{Rests, records_of}
 use Rattle.runs.proofs.Resting.{records-same}
-use Rattle.net_core.specs.States.{Listens, Plays, Tells, telling_first}
+use Rattle.net_core.specs.Acts.{HasTold}
+use Rattle.net_core.specs.States.{Listens, Plays, Tells, TellsOf, telling_first}
 use Rattle.net_core.proofs.Put.{put, put-here, put-round}
 
 -- the first of some links from a number on
@@ -60,10 +63,12 @@ module _ (net : Net) (network : IsNetwork net) (arrivals : Amounts) (heard seen 
       | inr x ↦ inr (record {
         enough = x.enough;
         commits = commits-moved net network (entering arrivals) made other heard seen round n before below (h round (omega arith)) (m round (omega arith)) x.commits;
-        now = x.now;
-        window = x.window ∙ ap (λ (c : Commitment). c.window) (m round (omega arith));
-        phases = x.phases ∙ ap (λ (c : Commitment). phases_of c.answer) (m round (omega arith));
-        served = x.served ∙ ap (λ (c : Commitment). c.served) (m round (omega arith));
+        tells_of = λ link w. (let t = x.tells_of link w in record {
+          now = t.now;
+          window = t.window ∙ ap (λ (c : Commitment). c.window) (m round (omega arith));
+          phases = t.phases ∙ ap (λ (c : Commitment). phases_of c.answer) (m round (omega arith));
+          served = t.served ∙ ap (λ (c : Commitment). c.served) (m round (omega arith));
+        });
         want = x.want;
         line = x.line ∙ ap (λ (c : Commitment). c.line) (m round (omega arith));
         ahead = x.ahead;
@@ -139,10 +144,12 @@ module _ (net : Net) (network : IsNetwork net) (arrivals : Amounts) (heard : ℕ
       stage = inr (record {
         enough = omega arith;
         commits = commits;
-        now = ap (λ (a : Acting). a.sensed.now) c.all ∙ ap (λ (s : Sensed). s.now) x.sensed;
-        window = ap (λ (a : Acting). a.window) c.all ∙ ap (λ (c : Commitment). c.window) (sym own);
-        phases = ap (λ (a : Acting). a.phases) c.all ∙ ap (λ (c : Commitment). phases_of c.answer) (sym own);
-        served = ap (λ (a : Acting). a.served) c.all ∙ ap (λ (c : Commitment). c.served) (sym own);
+        tells_of = λ link w. record {
+          now = ap (λ (a : Acting). a.sensed.now) c.all ∙ ap (λ (s : Sensed). s.now) x.sensed;
+          window = ap (λ (a : Acting). a.window) c.all ∙ ap (λ (c : Commitment). c.window) (sym own);
+          phases = ap (λ (a : Acting). a.phases) c.all ∙ ap (λ (c : Commitment). phases_of c.answer) (sym own);
+          served = ap (λ (a : Acting). a.served) c.all ∙ ap (λ (c : Commitment). c.served) (sym own);
+        };
         want = ap (λ (a : Acting). a.want) c.all ∙ ap (λ k. tells_from net k 0) x.node_is ∙ first-told (told_links net n) ∙ ap (λ k. telling_first (drop k (told_links net n))) (let e : 0 ≡ length (heard_links net n) - length (heard_links net n) = omega arith in e);
         line = ap (λ (a : Acting). a.line) c.all ∙ ap (λ (c : Commitment). c.line) (sym own);
         ahead = subst (λ k. (k + 1) * net.run.step < end_of new.line) x.round_is kept.later;
@@ -191,25 +198,38 @@ next-told net n k inside =
 
 module _ (net : Net) (arrivals : Amounts) (heard : ℕ → ℕ → List Heard) (made : ℕ → ℕ → Commitment) (round n : ℕ) where
   -- one publishing more
-  pub tells-on : (c : ℕ) (a : Acting) → a.node ≡ n → Tells net arrivals heard made round c n a → c - length (heard_links net n) < length (told_links net n)
-      → Tells net arrivals heard made round (c + 1) n (wanting (tells_from net a.node (get_or (told_links net n) (c - length (heard_links net n)) 0 + 1)) a)
-  tells-on c a node x inside =
-      let enough : length (heard_links net n) ≤ c = x.enough in
-      record {
-        enough = omega arith;
-        commits = x.commits;
-        now = x.now;
-        window = x.window;
-        phases = x.phases;
-        served = x.served;
-        want =
-            ap (λ k. tells_from net k (get_or (told_links net n) (c - length (heard_links net n)) 0 + 1)) node
-            ∙ next-told net n (c - length (heard_links net n)) inside
-            ∙ ap (λ k. telling_first (drop k (told_links net n))) (let e : c - length (heard_links net n) + 1 ≡ c + 1 - length (heard_links net n) = omega arith in e);
-        line = x.line;
-        ahead = x.ahead;
-        records = x.records;
-      }
+  pub tells-on : (c : ℕ) (a new : Acting) → a.node ≡ n → Tells net arrivals heard made round c n a → c - length (heard_links net n) < length (told_links net n)
+      → HasTold (tells_from net a.node (get_or (told_links net n) (c - length (heard_links net n)) 0 + 1)) a new
+      → TellsOf net round (made round n) a → Tells net arrivals heard made round (c + 1) n new
+  tells-on c a new node x inside told of = elim told [
+    | inl e ↦ subst (Tells net arrivals heard made round (c + 1) n) (sym e) (on (wanting next a) refl refl refl (λ link w. record { now = of.now; window = of.window; phases = of.phases; served = of.served }))
+    | inr r ↦ subst (Tells net arrivals heard made round (c + 1) n) (sym r.1) (on (resting (wanting next a)) refl refl refl (λ link w. absurd (let e : Done ≡ Publish link = sym r.0 ∙ w in cc)))
+  ]
+    where
+      next : Want
+      next = tells_from net a.node (get_or (told_links net n) (c - length (heard_links net n)) 0 + 1)
+
+      on : (b : Acting) → b.want ≡ next → b.line ≡ a.line → b.records ≡ a.records → ((link : ℕ) → b.want ≡ Publish link → TellsOf net round (made round n) b) → Tells net arrivals heard made round (c + 1) n b
+      on b want line records still =
+          let enough : length (heard_links net n) ≤ c = x.enough in
+          record {
+            enough = omega arith;
+            commits = x.commits;
+            tells_of = still;
+            want =
+                want
+                ∙ ap (λ k. tells_from net k (get_or (told_links net n) (c - length (heard_links net n)) 0 + 1)) node
+                ∙ next-told net n (c - length (heard_links net n)) inside
+                ∙ ap (λ k. telling_first (drop k (told_links net n))) (let e : c - length (heard_links net n) + 1 ≡ c + 1 - length (heard_links net n) = omega arith in e);
+            line = line ∙ x.line;
+            ahead = subst (λ l. (round + 1) * net.run.step < end_of l) (sym line) x.ahead;
+            records = records ∙ x.records;
+          }
+
+-- a node that has told is the same node
+pub told-node : (want : Want) (old new : Acting) → HasTold want old new → new.node ≡ old.node
+told-node want old new (inl e) = ap (λ (a : Acting). a.node) e
+told-node want old new (inr r) = ap (λ (a : Acting). a.node) r.1
 
 -- a node that rests while others commit in the round
 pub rests-moved : (net : Net) (network : IsNetwork net) (arrivals : Amounts) (heard : ℕ → ℕ → List Heard) (made other : ℕ → ℕ → Commitment) (round n : ℕ) (a : Acting) → n < length net.node_names → SameBefore net network (entering arrivals) made other round

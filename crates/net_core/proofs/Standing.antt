@@ -10,7 +10,7 @@ use Rattle.control_flow.specs.declared.greens.Green.{Green}
 use Rattle.histories.specs.Histories.{count, step_at}
 use Rattle.histories.specs.Steps.{board_steps, is_publish_of}
 use Rattle.histories.proofs.StepLaws.{step-count}
-use Rattle.intersection_actor.specs.Acting.{Acting, begun, reading, tells_from, wanting, with_heard}
+use Rattle.intersection_actor.specs.Acting.{Acting, begun, reading, tells_from, with_heard}
 use Rattle.intersection_actor.specs.Rounds.{IsOf}
 use Rattle.intersection_actor.specs.declared.records.Want.{Want}
 use Rattle.intersection_actor.specs.declared.records.Want.TheVariants.{Read, Commit, Publish, Done}
@@ -25,7 +25,7 @@ use Rattle.runs.specs.Runs.{line_before}
 use Rattle.runs.proofs.Heard.{heard-ends}
 use Rattle.runs.specs.Resting.{Rests, lines_of}
 use Rattle.runs.proofs.Resting.{no_acting}
-use Rattle.net_core.specs.Acts.{Settles}
+use Rattle.net_core.specs.Acts.{HasTold, Settles}
 use Rattle.net_core.specs.States.{AllDone, AreBeginning, AreInRound, Begins, Between, InRound, Plays, Wants, telling_first}
 use Rattle.net_core.specs.declared.parts.Board.{Board}
 use Rattle.net_core.specs.declared.parts.Parts.{Parts}
@@ -159,7 +159,7 @@ module _ (net : Net) (network : IsNetwork net) (arrivals : Amounts) (p : Parts) 
       ]
 
       pub on-told : {E : Type 0} (r : Result (Unit {0}) E) (link : ℕ) (b nb : Board) (old new : Acting) → Wants p n (Publish link) → b ≡ get_or p.boards.items link b → old ≡ get_or p.actors.all.items n old → IsOf net new
-          → OnOk r (new ≡ wanting (tells_from net old.node (link + 1)) old) → OnOk r (nb.version ≡ b.version + 1)
+          → OnOk r (HasTold (tells_from net old.node (link + 1)) old new) → OnOk r (nb.version ≡ b.version + 1)
           → OnOk r (nb.forecast ≡ told_forecast net link old.sensed.now (departures old.window.lists (counts_of old.window.lists) old.phases old.served))
           → OnOk r (InRound net arrivals (p.history.items ++ n ∷ []) p.round (set p.actors.all.items n new) (set p.boards.items link nb) p.world)
       on-told r link b nb old new wants board is of_new told version forecast =

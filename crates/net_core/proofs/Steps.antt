@@ -31,10 +31,10 @@ use Rattle.runs.proofs.Heard.{heard-ends}
 use Rattle.runs.proofs.Places.{first-small}
 use Rattle.runs.specs.Resting.{lines_of}
 use Rattle.runs.proofs.Resting.{before-shows, stands-same}
-use Rattle.net_core.specs.Acts.{Settles}
+use Rattle.net_core.specs.Acts.{HasTold, Settles}
 use Rattle.net_core.specs.States.{AllDone, Between, Hears, InRound, IsRunning, Listens, Plays, Tells, telling_first}
 use Rattle.net_core.specs.declared.parts.Board.{Board}
-use Rattle.net_core.proofs.Playing.{commits-on, listens-on, plays-moved, tells-on, told-ends, took}
+use Rattle.net_core.proofs.Playing.{commits-on, listens-on, plays-moved, tells-on, told-node, told-ends, took}
 use Rattle.net_core.proofs.Prefixes.{Begun}
 use Rattle.net_core.proofs.Put.{put, put-node, put-round}
 use Rattle.net_core.proofs.Running.{commit-on, read-on, tell-on}
@@ -219,11 +219,11 @@ module _ (net : Net) (network : IsNetwork net) (arrivals : Amounts) (history : L
 
     -- it publishes
     pub tell-next : (l : ℕ) (b nb : Board) (new : Acting) → old.want ≡ Publish l → ((d : Board) → get_or boards l d ≡ b) → IsOf net new
-        → new ≡ wanting (tells_from net old.node (l + 1)) old → nb.version ≡ b.version + 1
+        → HasTold (tells_from net old.node (l + 1)) old new → nb.version ≡ b.version + 1
         → nb.forecast ≡ told_forecast net l old.sensed.now (departures old.window.lists (counts_of old.window.lists) old.phases old.served)
         → InRound net arrivals (history ++ n ∷ []) round (set actors n new) (set boards l nb) world
     unfolding is_publish link_in
-    tell-next l b nb new want board of_new new_is version forecast = elim plays.stage [
+    tell-next l b nb new want board of_new has version forecast = elim plays.stage [
       | inl x ↦ absurd (apart (ap is_publish (sym want ∙ x.listens.want ∙ reading-next (heard_links net n) c x.more)))
       | inr x ↦ elim (cases_lt (c - length (heard_links net n)) (length (told_links net n))) [
         | inr past ↦ absurd (apart (ap is_publish (sym want ∙ x.want ∙ telling-none (told_links net n) (c - length (heard_links net n)) past)))
@@ -233,21 +233,24 @@ module _ (net : Net) (network : IsNetwork net) (arrivals : Amounts) (history : L
             let ends = told-ends net n k inside in
             let L : ℕ = get_or (told_links net n) k 0 in
             let enough : length (heard_links net n) ≤ c = x.enough in
+            let of = x.tells_of l want in
             let small : c < length (board_steps net n) = omega (arith, step-count net n) in
             let there : get_or boards L b ≡ b = ap (λ k. get_or boards k b) same ∙ board b in
             let old_version : b.version ≡ version_at (board_steps net) history L (length history) = ap (λ (y : Board). y.version) (sym there) ∙ i.running.boards_are.versions L n ends.hearer b ends.from ends.to in
             let told : nb.forecast ≡ told_in net round L (i.made round n) =
             forecast
             ∙ ap (λ z. told_forecast net z old.sensed.now (departures old.window.lists (counts_of old.window.lists) old.phases old.served)) (sym same)
-            ∙ ap (λ z. told_forecast net L z (departures old.window.lists (counts_of old.window.lists) old.phases old.served)) x.now
-            ∙ ap (λ (w : Window). told_forecast net L (round * net.run.step) (departures w.lists (counts_of w.lists) old.phases old.served)) x.window
-            ∙ ap (λ (z : List ℕ). told_forecast net L (round * net.run.step) (departures (i.made round n).window.lists (counts_of (i.made round n).window.lists) z old.served)) x.phases
-            ∙ ap (λ (z : List Served). told_forecast net L (round * net.run.step) (departures (i.made round n).window.lists (counts_of (i.made round n).window.lists) (phases_of (i.made round n).answer) z)) x.served in
+            ∙ ap (λ z. told_forecast net L z (departures old.window.lists (counts_of old.window.lists) old.phases old.served)) of.now
+            ∙ ap (λ (w : Window). told_forecast net L (round * net.run.step) (departures w.lists (counts_of w.lists) old.phases old.served)) of.window
+            ∙ ap (λ (z : List ℕ). told_forecast net L (round * net.run.step) (departures (i.made round n).window.lists (counts_of (i.made round n).window.lists) z old.served)) of.phases
+            ∙ ap (λ (z : List Served). told_forecast net L (round * net.run.step) (departures (i.made round n).window.lists (counts_of (i.made round n).window.lists) (phases_of (i.made round n).answer) z)) of.served in
             let runs : IsRunning net arrivals i.heard i.made (history ++ n ∷ []) round (set boards L nb) world =
             tell-on net network arrivals i.heard i.made history round boards world way i.running n c L ends.hearer refl small ends.from ends.to (let e = network.outline.road_count in let z = ends.exists in omega arith) (told-step net n c enough inside) nb (version ∙ ap (λ z. z + 1) old_version) told in
-            let next : Plays net arrivals i.heard i.made round (c + 1) n new =
-            subst (Plays net arrivals i.heard i.made round (c + 1) n) (ap (λ z. wanting (tells_from net old.node (z + 1)) old) same ∙ sym new_is)
-            (record { node_is = plays.node_is; of = subst (IsOf net) (new_is ∙ ap (λ z. wanting (tells_from net old.node (z + 1)) old) (sym same)) of_new; stage = inr (tells-on net arrivals i.heard i.made round n c old plays.node_is x inside) }) in
+            let next : Plays net arrivals i.heard i.made round (c + 1) n new = record {
+              node_is = told-node (tells_from net old.node (l + 1)) old new has ∙ plays.node_is;
+              of = of_new;
+              stage = inr (tells-on net arrivals i.heard i.made round n c old new plays.node_is x inside (subst (λ z. HasTold (tells_from net old.node (z + 1)) old new) (sym same) has) of);
+            } in
             record {
               heard = i.heard;
               made = i.made;

@@ -1,7 +1,7 @@
 -- What one node does: it begins a round, reads, and publishes; and it commits as soon as it has read all. No public clause names
 -- this.
-use Rattle.std.specs.Prelude.{◌≡◌}
-use Rattle.intersection_actor.specs.Acting.{Acting}
+use Rattle.std.specs.Prelude.{◌≡◌, ◌⊎◌}
+use Rattle.intersection_actor.specs.Acting.{Acting, resting, wanting}
 use Rattle.intersection_actor.specs.Rounds.{IsCommitted, KeepsPast}
 use Rattle.intersection_actor.specs.declared.records.Want.{Want}
 use Rattle.intersection_actor.specs.declared.records.Want.TheVariants.{Read, Commit, Publish, Done}
@@ -13,3 +13,7 @@ Settles net (Read link) old new = new ≡ old
 Settles net Commit old new = IsCommitted net old new × KeepsPast net old new
 Settles net (Publish link) old new = new ≡ old
 Settles net Done old new = new ≡ old
+
+-- a node has published, and wants this next; where that is nothing, it rests
+abbrev pub HasTold : Want → Acting → Acting → Type 0
+HasTold want old new = (new ≡ wanting want old) ⊎ ((want ≡ Done) × (new ≡ resting (wanting want old)))

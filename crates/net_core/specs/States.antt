@@ -44,14 +44,18 @@ pub record Hears (net : Net) (arrivals : Amounts) (heard : ℕ → ℕ → List 
   pub more : done < length (heard_links net node)
   pub listens : Listens net arrivals heard made round done node a
 
--- It tells: it has committed.
+-- what it tells of: what it planned in the round
+pub record TellsOf (net : Net) (round : ℕ) (c : Commitment) (a : Acting) : Type 0 where
+  pub now : a.sensed.now ≡ round * net.run.step
+  pub window : a.window ≡ c.window
+  pub phases : a.phases ≡ phases_of c.answer
+  pub served : a.served ≡ c.served
+
+-- It tells: it has committed, and has what it planned as long as it wants to publish.
 pub record Tells (net : Net) (arrivals : Amounts) (heard : ℕ → ℕ → List Heard) (made : ℕ → ℕ → Commitment) (round done node : ℕ) (a : Acting) : Type 0 where
   pub enough : length (heard_links net node) ≤ done
   pub commits : Commits net (entering arrivals) heard made round node
-  pub now : a.sensed.now ≡ round * net.run.step
-  pub window : a.window ≡ (made round node).window
-  pub phases : a.phases ≡ phases_of (made round node).answer
-  pub served : a.served ≡ (made round node).served
+  pub tells_of : (link : ℕ) → a.want ≡ Publish link → TellsOf net round (made round node) a
   pub want : a.want ≡ telling_first (drop (done - length (heard_links net node)) (told_links net node))
   pub line : a.line ≡ (made round node).line
   pub ahead : (round + 1) * net.run.step < end_of a.line

@@ -3,9 +3,9 @@ ghost use Rattle.std.specs.Prelude.{◌≡◌, ℕ, ◌+◌, ◌*◌, ◌<◌, L
 ghost use Rattle.clusters.specs.Windows.{counts_of};
 ghost use Rattle.control_flow.specs.Greens.{end_of};
 ghost use Rattle.control_flow.specs.declared.greens.Green.{Green};
-ghost use Rattle.intersection_actor.specs.Acting.{begun, reading, tells_from, wanting, with_heard};
+ghost use Rattle.intersection_actor.specs.Acting.{begun, reading, tells_from, with_heard};
 ghost use Rattle.intersection_actor.specs.Rounds.{IsOf};
-ghost use Rattle.net_core.specs.Acts.{Settles};
+ghost use Rattle.net_core.specs.Acts.{HasTold, Settles};
 ghost use Rattle.net_simulator.specs.Flow.{past_of};
 ghost use Rattle.net_simulator.specs.Senses.{sense};
 ghost use Rattle.net_simulator.specs.Worlds.{IsWorldOf, Stands, standing_by};
@@ -13,6 +13,7 @@ ghost use Rattle.outflow.specs.Outflow.{departures, told_forecast};
 ghost use Rattle.road_net.specs.Network.{heard_links};
 
 use crate::parts::Board;
+use crate::stepping::is_done;
 use board_model::Heard;
 use intersection_actor::{Actor, Want};
 use net_simulator::World;
@@ -93,7 +94,8 @@ pub(crate) fn read<P: Planner>(
     settle(alloc, net, actor, planner)
 }
 
-/// The node publishes on the board of the link on which it wants to.
+/// The node publishes on the board of the link on which it wants to. After its last link it rests, so that the next node's plan
+/// takes the memory of its own.
 pub(crate) fn tell(
     alloc: Global,
     net: &Network,
@@ -104,7 +106,7 @@ pub(crate) fn tell(
     requires of { IsOf net.now actor.old }
     requires want { actor.old.want ≡ Want.Publish link }
     requires below { board.old.version < 1000 }
-    ensures told { OnOk result (actor.new ≡ wanting (tells_from net.now actor.old.node (link + 1)) actor.old) }
+    ensures told { OnOk result (HasTold (tells_from net.now actor.old.node (link + 1)) actor.old actor.new) }
     ensures version { OnOk result (board.new.version ≡ board.old.version + 1) }
     ensures forecast { OnOk result (board.new.forecast
         ≡ told_forecast net.now link actor.old.sensed.now
@@ -113,6 +115,9 @@ pub(crate) fn tell(
 {
     let forecast = actor.outgoing(alloc, net)?;
     actor.sent(net);
+    if is_done(actor.want()) {
+        actor.rest(alloc);
+    }
     board.version += 1;
     board.forecast = forecast;
     Ok(())
