@@ -10,24 +10,21 @@ use Rattle.std.proofs.lemmas.List.Folds.{sum_by-replicate}
 use Rattle.std.proofs.lemmas.List.Sums.{sum_by-append, sum_by-cons, sum_by-set}
 use Rattle.net_numbers.specs.Numbers.{Net}
 use Rattle.arrivals.specs.declared.rows.ArrivalRow.{ArrivalRow}
-use Rattle.arrivals.specs.Amounts.{Amounts, place, entering, nothing, AreArrivals}
+use Rattle.arrivals.specs.Amounts.{Amounts, place, entering, KeepsSources, AreArrivals}
 use Rattle.arrivals.specs.Rows.{seconds, most_of_all, IsSource, IsRow, amount_of, is_at, entering_by}
 use Rattle.arrivals.specs.Stored.{IsTally, added, amounts_to, reaching}
 use Rattle.arrivals.proofs.SumLaws.{entering-within, entering-beyond, entering-most, few}
 
-nothing-enters : (links l x : ℕ) → entering (nothing links) l x ≡ 0
-nothing-enters links l x = omega (arith, entering-most (nothing links) l x)
-
 -- no rows
-pub tally-none : (net : Net) (a : Amounts) → a ≡ nothing (length net.link_names) → IsTally net [] a
-tally-none net a is = rw is (record {
+pub tally-none : (net : Net) (a : Amounts) → a.amounts ≡ [] → KeepsSources net a.first a.width → IsTally net [] a
+tally-none net a none kept = record {
   of_rows = record {
     lawful = record { each = All-nil (IsRow net); few = omega arith };
-    links = refl;
-    sums = nothing-enters (length net.link_names);
+    kept = kept;
+    sums = λ l x. omega (arith, entering-most a l x, ap (λ amounts. get_or amounts (place a l x) 0) none);
   };
-  whole = refl;
-})
+  whole = ap sum none;
+}
 
 -- what one row brings to a link in a second
 abbrev brings : ArrivalRow → ℕ → ℕ → ℕ
@@ -72,29 +69,39 @@ length-reaching xs count = omega (arith, length-append xs (replicate (count - le
 sum-reaching : (xs : List ℕ) (count : ℕ) → sum (reaching xs count) ≡ sum xs
 sum-reaching xs count = omega (arith, sum_by-append (λ n. n) xs (replicate (count - length xs) 0), sum_by-replicate (λ n. n) (count - length xs) 0)
 
-module _ (a : Amounts) (r : ArrivalRow) (link : r.link < a.links) (second : r.second < seconds) where
-  inside : place a.links r.link r.second < length (amounts_to a r.second)
-  inside = omega (arith, mul-add-lt r.second a.links r.link (r.second + 1) (omega arith) link, length-reaching a.amounts ((r.second + 1) * a.links))
+module _ (a : Amounts) (r : ArrivalRow) (low : a.first ≤ r.link) (high : r.link < a.first + a.width) (second : r.second < seconds) where
+  inside : place a r.link r.second < length (amounts_to a r.second)
+  inside = omega (arith, mul-add-lt r.second a.width (r.link - a.first) (r.second + 1) (omega arith) (omega arith), length-reaching a.amounts ((r.second + 1) * a.width))
 
   entering-here : entering (added a r) r.link r.second ≡ entering a r.link r.second + r.amount
   entering-here =
-      let new = entering-within (added a r) r.link r.second link second in
-      let old = entering-within a r.link r.second link second in
-      new ∙ get_or-set_same (amounts_to a r.second) (place a.links r.link r.second) (get_or a.amounts (place a.links r.link r.second) 0 + r.amount) 0 inside ∙ ap (λ n. n + r.amount) (sym old)
+      let new = entering-within (added a r) r.link r.second low high second in
+      let old = entering-within a r.link r.second low high second in
+      new ∙ get_or-set_same (amounts_to a r.second) (place a r.link r.second) (get_or a.amounts (place a r.link r.second) 0 + r.amount) 0 inside ∙ ap (λ n. n + r.amount) (sym old)
+
+  apart : (l x : ℕ) → a.first ≤ l → l < a.first + a.width → (r.link ≡ l → r.second ≡ x → ⊥) → place a l x ≢ place a r.link r.second
+  apart l x first below other same =
+      let both = same_from_place x (l - a.first) r.second (r.link - a.first) a.width (omega arith) (omega arith) same in
+      other (omega (arith, both.1)) (sym both.0)
 
   entering-other : (l x : ℕ) → (r.link ≡ l → r.second ≡ x → ⊥) → entering (added a r) l x ≡ entering a l x
-  entering-other l x other = elim (cases_lt l a.links) [
-    | inl here ↦ elim (cases_lt x seconds) [
-      | inl now ↦
-          let apart : place a.links l x ≢ place a.links r.link r.second = (λ same. let both = same_from_place x l r.second r.link a.links here link same in other (sym both.1) (sym both.0)) in
-          entering-within (added a r) l x here now
-          ∙ get_or-set_other (amounts_to a r.second) (place a.links r.link r.second) (place a.links l x) (get_or a.amounts (place a.links r.link r.second) 0 + r.amount) 0 apart
-          ∙ get_or-reaching a.amounts ((r.second + 1) * a.links) (place a.links l x)
-          ∙ sym (entering-within a l x here now)
-      | inr later ↦ entering-beyond (added a r) l x (λ h g. omega arith) ∙ sym (entering-beyond a l x (λ h g. omega arith))
+  entering-other l x other = elim (cases_lt l a.first) [
+    | inl less ↦ none (λ first below late. omega (arith, first, less))
+    | inr first ↦ elim (cases_lt l (a.first + a.width)) [
+      | inl below ↦ elim (cases_lt x seconds) [
+        | inl now ↦
+            entering-within (added a r) l x first below now
+            ∙ get_or-set_other (amounts_to a r.second) (place a r.link r.second) (place a l x) (get_or a.amounts (place a r.link r.second) 0 + r.amount) 0 (apart l x first below other)
+            ∙ get_or-reaching a.amounts ((r.second + 1) * a.width) (place a l x)
+            ∙ sym (entering-within a l x first below now)
+        | inr later ↦ none (λ first below early. omega (arith, early, later))
+      ]
+      | inr past ↦ none (λ first below late. omega (arith, below, past))
     ]
-    | inr none ↦ entering-beyond (added a r) l x (λ h g. omega arith) ∙ sym (entering-beyond a l x (λ h g. omega arith))
   ]
+    where
+      none : (a.first ≤ l → l < a.first + a.width → x < seconds → ⊥) → entering (added a r) l x ≡ entering a l x
+      none out = entering-beyond (added a r) l x out ∙ sym (entering-beyond a l x out)
 
   entering-added : (l x : ℕ) → entering (added a r) l x ≡ entering a l x + brings r l x
   entering-added l x = elim (eqb_tells r.link l) [
@@ -109,9 +116,9 @@ module _ (a : Amounts) (r : ArrivalRow) (link : r.link < a.links) (second : r.se
   sum-added =
       omega (
         arith,
-        sum_by-set (λ n. n) (amounts_to a r.second) (place a.links r.link r.second) (get_or a.amounts (place a.links r.link r.second) 0 + r.amount) 0 inside,
-        sum-reaching a.amounts ((r.second + 1) * a.links),
-        get_or-reaching a.amounts ((r.second + 1) * a.links) (place a.links r.link r.second),
+        sum_by-set (λ n. n) (amounts_to a r.second) (place a r.link r.second) (get_or a.amounts (place a r.link r.second) 0 + r.amount) 0 inside,
+        sum-reaching a.amounts ((r.second + 1) * a.width),
+        get_or-reaching a.amounts ((r.second + 1) * a.width) (place a r.link r.second),
       )
 
 one-row : (P : ArrivalRow → Type 0) (r : ArrivalRow) → P r → All P (r ∷ [])
@@ -120,16 +127,16 @@ one-row P r holds = All-cons P r [] holds (All-nil P)
 -- one row more
 pub tally-more : (net : Net) (rows : List ArrivalRow) (a b : Amounts) (r : ArrivalRow) → IsTally net rows a → IsRow net r → b ≡ added a r → sum a.amounts + r.amount ≤ most_of_all → IsTally net (rows ++ r ∷ []) b
 tally-more net rows a b r tally is same few =
-    let link : r.link < a.links = omega (arith, tally.of_rows.links, is.source.exists) in
+    let (low, high) = tally.of_rows.kept.all r.link is.source in
     let second = is.bounds.second in
     let rows_more = sum_by-append amount_of rows (r ∷ []) in
     rw same (record {
       of_rows = record {
         lawful = record { each = All-append (IsRow net) rows (r ∷ []) tally.of_rows.lawful.each (one-row (IsRow net) r is); few = omega (arith, rows_more, tally.whole, few) };
-        links = tally.of_rows.links;
-        sums = λ l x. omega (arith, entering-added a r link second l x, entering_by-more rows r l x, tally.of_rows.sums l x);
+        kept = tally.of_rows.kept;
+        sums = λ l x. omega (arith, entering-added a r low high second l x, entering_by-more rows r l x, tally.of_rows.sums l x);
       };
-      whole = omega (arith, sum-added a r link second, rows_more, tally.whole);
+      whole = omega (arith, sum-added a r low high second, rows_more, tally.whole);
     })
 
 -- where something enters, there is a row
@@ -144,7 +151,7 @@ source-there net (r ∷ rs) l x are some =
 -- what the amounts of rows are for a network
 pub tally-arrivals : (net : Net) (rows : List ArrivalRow) (a : Amounts) → IsTally net rows a → AreArrivals net a
 tally-arrivals net rows a tally = record {
-  links = tally.of_rows.links;
+  links = tally.of_rows.kept.links;
   sources = λ l x some. source-there net rows l x tally.of_rows.lawful.each (rw (tally.of_rows.sums l x) at some);
   few = λ n. few a (omega (arith, tally.whole, tally.of_rows.lawful.few)) n (length net.links);
 }

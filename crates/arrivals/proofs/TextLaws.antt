@@ -1,5 +1,5 @@
 -- The first record at fault.
-use Rattle.std.proofs.Common.{◌≡◌, ℕ, List, [], ◌∷◌, ◌++◌, length, Some, None, IsSomeAnd, IfErr, OnOk, Ok, Err, Result, refl, sym, ap, ◌∙◌, inl, inr, arith}
+use Rattle.std.proofs.Common.{◌≡◌, ℕ, List, [], ◌∷◌, ◌++◌, Some, None, IsSomeAnd, IfErr, OnOk, Ok, Err, Result, refl, sym, ap, ◌∙◌, inl, inr, arith}
 use Rattle.std.proofs.lemmas.Option.{same_Some, none-some}
 use Rattle.foundation.specs.Options.{◌>>=◌}
 use Rattle.foundation.proofs.EachLaws.{each-push, each-length}
@@ -8,7 +8,7 @@ use Rattle.net_numbers.specs.Numbers.{Net, number_of}
 use Rattle.arrivals.specs.declared.rows.ArrivalRow.{ArrivalRow}
 use Rattle.arrivals.specs.declared.rows.RowFault.{RowFault}
 use Rattle.arrivals.specs.declared.rows.RowFault.TheVariants.{NoMemory, Header, Row, Link, Bound, Sum}
-use Rattle.arrivals.specs.Amounts.{Amounts, nothing}
+use Rattle.arrivals.specs.Amounts.{Amounts, KeepsSources}
 use Rattle.arrivals.specs.Faults.{IsFirst, AreReadAs, IsAtLink, IsAtBound, IsAtSum, Refuses}
 use Rattle.arrivals.specs.Records.{Told, told_of, row_of, header}
 use Rattle.arrivals.specs.Rows.{IsSource}
@@ -45,8 +45,8 @@ no-source-name net fields r e none =
     and-some (λ t. IsSourceName net t.name → ⊥) (told_of fields) by.told by.is (λ source. none (and-at (IsSource net) (number_of net.link_names by.told.name) r.link by.named source))
 
 -- nothing was taken
-pub taken-none : (net : Net) (a : Amounts) → a ≡ nothing (length net.link_names) → HasTaken net [] a
-taken-none net a none = record { rows = []; reads = refl; tally = tally-none net a none }
+pub taken-none : (net : Net) (a : Amounts) → a.amounts ≡ [] → KeepsSources net a.first a.width → HasTaken net [] a
+taken-none net a none kept = record { rows = []; reads = refl; tally = tally-none net a none kept }
 
 -- a row was added, or not
 module _ (net : Net) (fields : List (List ℕ)) (number : ℕ) (a new : Amounts) (r : ArrivalRow) (is : row_of net fields ≡ Some r) where

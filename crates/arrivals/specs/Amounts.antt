@@ -1,35 +1,44 @@
 -- What arrivals are: an amount for each link and second.
-use Rattle.std.specs.Prelude.{◌≡◌, ℕ, ◌+◌, ◌*◌, ◌≤◌, ◌<◌, nat_lt, ◌&&◌, if◌then◌else◌, List, [], length, slice_index_or}
+use Rattle.std.specs.Prelude.{◌≡◌, ℕ, ◌+◌, ◌-◌, ◌*◌, ◌≤◌, ◌<◌, nat_le, nat_lt, ◌&&◌, if◌then◌else◌, Bool, List, length, slice_index_or}
 use Rattle.net_numbers.specs.Numbers.{Net}
 use Rattle.road_net.specs.Totals.{total}
 use Rattle.arrivals.specs.declared.rows.ArrivalRow.{ArrivalRow}
 use Rattle.arrivals.specs.Rows.{seconds, most_of_all, IsSource, AreRows, entering_by}
 
--- for a number of links the amounts of the first seconds, second by second; nothing enters after them
+-- The links that are kept, `width` ones from the first on, and their amounts in the first seconds, second by second. Nothing
+-- enters after these seconds, and no other link is entered.
 pub record Amounts : Type 0 where
-  pub links : ℕ
+  pub first : ℕ
+  pub width : ℕ
   pub amounts : List ℕ
 
--- among this number of links, the place of a link and a second
-abbrev pub place : ℕ → ℕ → ℕ → ℕ
-place links link second = second * links + link
+-- whether a link is kept
+abbrev pub is_kept : Amounts → ℕ → Bool
+is_kept a link = nat_le a.first link && nat_lt link (a.first + a.width)
 
--- what enters a link in a second; nothing where there is no such link, and nothing after the amounts or the last second
+-- the place of a kept link and a second
+abbrev pub place : Amounts → ℕ → ℕ → ℕ
+place a link second = second * a.width + (link - a.first)
+
+-- what enters a link in a second; nothing where the link is not kept, and nothing after the amounts or the last second
 abbrev pub entering : Amounts → ℕ → ℕ → ℕ
-entering a link second = if nat_lt link a.links && nat_lt second seconds then slice_index_or a.amounts (place a.links link second) 0 else 0
+entering a link second = if is_kept a link && nat_lt second seconds then slice_index_or a.amounts (place a link second) 0 else 0
 
--- this number of links, which nothing enters
-abbrev pub nothing : ℕ → Amounts
-nothing links = record { links = links; amounts = [] }
+-- Each source of the network is one of these links, and the first and the last of them are sources.
+pub record KeepsSources (net : Net) (first width : ℕ) : Type 0 where
+  pub links : first + width ≤ length net.link_names
+  pub all : (link : ℕ) → IsSource net link → (first ≤ link) × (link < first + width)
+  pub ends : 0 < width → IsSource net first × IsSource net (first + width - 1)
 
--- The arrivals of rows: the rows are lawful, and what enters a link in a second is their sum.
+-- The arrivals of rows: the rows are lawful, what enters a link in a second is their sum, and no more links are kept than are
+-- from the first source to the last.
 pub record AreArrivalsOf (net : Net) (rows : List ArrivalRow) (a : Amounts) : Type 0 where
   pub lawful : AreRows net rows
-  pub links : a.links ≡ length net.link_names
+  pub kept : KeepsSources net a.first a.width
   pub sums : (link second : ℕ) → entering a link second ≡ entering_by rows link second
 
 -- Arrivals at a network: they enter links that come from no node alone, and all together are no more than they may be.
 pub record AreArrivals (net : Net) (a : Amounts) : Type 0 where
-  pub links : a.links ≡ length net.link_names
+  pub links : a.first + a.width ≤ length net.link_names
   pub sources : (link second : ℕ) → 0 < entering a link second → IsSource net link
   pub few : (n : ℕ) → total (λ x. total (λ l. entering a l x) (length net.links)) n ≤ most_of_all

@@ -21,11 +21,11 @@ reaching amounts count = amounts ++ replicate (count - length amounts) 0
 
 -- the amounts up to the end of a second, at the least
 abbrev pub amounts_to : Amounts → ℕ → List ℕ
-amounts_to a second = reaching a.amounts ((second + 1) * a.links)
+amounts_to a second = reaching a.amounts ((second + 1) * a.width)
 
 -- with one row more
 abbrev pub added : Amounts → ArrivalRow → Amounts
-added a r = record { links = a.links; amounts = slice_set (amounts_to a r.second) (place a.links r.link r.second) (slice_index_or a.amounts (place a.links r.link r.second) 0 + r.amount) }
+added a r = record { first = a.first; width = a.width; amounts = slice_set (amounts_to a r.second) (place a r.link r.second) (slice_index_or a.amounts (place a r.link r.second) 0 + r.amount) }
 
 -- the row was added, where it is lawful and all bring no more than they may; else its first fault, or out of memory
 abbrev pub Adds : Net → ArrivalRow → ℕ → Amounts → Amounts → Result (Unit {0}) RowFault → Type 0

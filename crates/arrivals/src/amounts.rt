@@ -1,5 +1,7 @@
 //! What enters the links of a network, by link and second.
 ghost use Rattle.std.specs.Prelude.{◌≡◌, ◌↔◌, ◌<◌, IsTrue, OnOk, OnErr, length};
+ghost use Rattle.road_net.specs.Network.{IsNetwork};
+ghost use Rattle.arrivals.specs.Amounts.{KeepsSources};
 ghost use Rattle.arrivals.specs.Rows.{IsSource, HasBounds};
 ghost use Rattle.arrivals.specs.Stored.{reaching};
 
@@ -19,14 +21,17 @@ const MOST_OF_ROW: u32 = 1_000_000;
 const MOST_OF_ALL: u32 = 2_000_000_000;
 
 /// What enters the links of a network from outside: the sums of its rows by link and second, all together at most
-/// 2,000,000,000 thousandths of a vehicle. It keeps one number for each link and each second up to the last one in which
-/// something enters, however many rows there were.
+/// 2,000,000,000 thousandths of a vehicle. For each second up to the last one in which something enters it keeps one number
+/// for each link from the first that comes from no node to the last, however many rows there were.
 ///
 /// docs/RULES.md, "Arrivals".
 #[derive(Drop)]
 pub struct Arrivals {
-    links: u32,
-    /// The links of the first second, then those of the next one, and so on.
+    /// The first link that is kept.
+    first: u32,
+    /// How many links are kept.
+    width: u32,
+    /// The kept links of the first second, then those of the next one, and so on.
     amounts: Vec<u32>,
     /// The sum of all amounts.
     whole: u32,
@@ -39,7 +44,11 @@ impl Model for Arrivals {
 
     ghost use Rattle.arrivals.specs.Stored.{IsStored};
 
-    ghost view = { λ arrivals. record { links = arrivals.links; amounts = arrivals.amounts.items } };
+    ghost view = { λ arrivals. record {
+      first = arrivals.first;
+      width = arrivals.width;
+      amounts = arrivals.amounts.items;
+    } };
 
     ghost invariant = { λ arrivals. IsStored arrivals.amounts.items arrivals.whole };
 }
@@ -47,11 +56,11 @@ impl Model for Arrivals {
 impl CrossesThreads for Arrivals {}
 
 impl Arrivals {
-    ghost use Rattle.std.specs.Prelude.{◌≡◌, ◌<◌, ◌≤◌, ℕ, IfOk, IfErr, length, slice_index_or};
+    ghost use Rattle.std.specs.Prelude.{◌≡◌, ◌-◌, ◌<◌, ◌≤◌, ℕ, [], IfOk, IfErr, length, slice_index_or};
     ghost use Rattle.road_net.specs.Network.{IsNetwork};
     ghost use Rattle.road_net.specs.Totals.{total};
     ghost use Rattle.arrivals.specs.Rows.{most_of_all, seconds};
-    ghost use Rattle.arrivals.specs.Amounts.{Amounts, entering, AreArrivals, AreArrivalsOf, nothing};
+    ghost use Rattle.arrivals.specs.Amounts.{Amounts, entering, place, AreArrivals, AreArrivalsOf};
     ghost use Rattle.arrivals.specs.Faults.{IsRowFault, Refuses};
     ghost use Rattle.arrivals.specs.Stored.{Adds};
 
@@ -90,35 +99,57 @@ impl Arrivals {
         ensures value { result ≡ entering self.now link second }
         ensures few { (n m : ℕ) → total (λ x. total (λ l. entering self.now l x) m) n ≤ most_of_all }
     {
-        if link >= self.links || second >= SECONDS {
+        if link < self.first || link - self.first >= self.width || second >= SECONDS {
             return 0;
         }
-        let place = second as usize * self.links as usize + link as usize;
+        let place = self.place(link, second);
         self.amounts.get(place).copied().unwrap_or(0)
     }
 
-    /// What enters the links in a second, by their numbers, in thousandths of a vehicle: what `entering` answers of each, where
+    /// The first of the links that `in_second` has numbers of. No link before it is entered.
+    ///
+    /// docs/RULES.md, "Arrivals".
+    pub fn first_link(&self) -> u32
+        ensures { result ≡ self.now.first }
+    {
+        self.first
+    }
+
+    /// What enters the links from `first_link` on in a second, in thousandths of a vehicle: what `entering` answers of each, where
     /// a link without a number has 0.
     ///
     /// docs/RULES.md, "Arrivals".
     pub fn in_second(&self, second: u32) -> &[u32]
         requires { second < seconds }
-        ensures value { (link : ℕ) → slice_index_or result.now link 0 ≡ entering self.now link second }
+        ensures value { (link : ℕ) → self.now.first ≤ link
+            → slice_index_or result.now (link - self.now.first) 0 ≡ entering self.now link second }
+        ensures others { (link : ℕ) → link < self.now.first → entering self.now link second ≡ 0 }
     {
-        let links = self.links as usize;
+        let width = self.width as usize;
         let amounts = self.amounts.as_slice();
-        let from = (second as usize * links).min(amounts.len());
-        let to = (from + links).min(amounts.len());
+        let from = (second as usize * width).min(amounts.len());
+        let to = (from + width).min(amounts.len());
         &amounts[from..to]
+    }
+
+    /// The place of a kept link and a second.
+    fn place(&self, link: u32, second: u32) -> usize
+        requires { self.now.first ≤ link }
+        ensures { result ≡ place self.now link second }
+    {
+        second as usize * self.width as usize + (link - self.first) as usize
     }
 
     /// No arrivals.
     pub(crate) fn none(alloc: Global, net: &Network) -> Arrivals
-        ensures none { result ≡ nothing (length net.now.link_names) }
+        ensures none { result.amounts ≡ [] }
+        ensures kept { KeepsSources net.now result.first result.width }
         ensures network { IsNetwork net.now }
     {
+        let (first, width) = sources(net);
         Arrivals {
-            links: net.links(),
+            first,
+            width,
             amounts: Vec::new(alloc),
             whole: 0,
         }
@@ -130,7 +161,7 @@ impl Arrivals {
     {
         let run = net.run();
         let seconds = run.rounds * run.step;
-        self.amounts.reserve(seconds as usize * self.links as usize)
+        self.amounts.reserve(seconds as usize * self.width as usize)
     }
 
     /// Adds the row with this number.
@@ -140,7 +171,7 @@ impl Arrivals {
         row: ArrivalRow,
         number: u32,
     ) -> Result<(), RowFault>
-        requires { self.old.links ≡ length net.now.link_names }
+        requires { KeepsSources net.now self.old.first self.old.width }
         ensures { Adds net.now row number self.old self.new result }
     {
         if !is_source(net, row.link) {
@@ -152,12 +183,31 @@ impl Arrivals {
         if row.amount > MOST_OF_ALL - self.whole {
             return Err(RowFault::Sum(number));
         }
-        let links = self.links as usize;
-        reach(&mut self.amounts, (row.second as usize + 1) * links)?;
-        self.amounts[row.second as usize * links + row.link as usize] += row.amount;
+        let place = self.place(row.link, row.second);
+        let count = (row.second as usize + 1) * self.width as usize;
+        reach(&mut self.amounts, count)?;
+        self.amounts[place] += row.amount;
         self.whole += row.amount;
         Ok(())
     }
+}
+
+/// The links from the first that comes from no node to the last: the first of them, and how many they are.
+fn sources(net: &Network) -> (u32, u32)
+    ensures kept { KeepsSources net.now result.0 result.1 }
+    ensures network { IsNetwork net.now }
+{
+    let mut first = 0;
+    let mut width = 0;
+    for l in 0..net.links() {
+        if is_source(net, l) {
+            if width == 0 {
+                first = l;
+            }
+            width = l + 1 - first;
+        }
+    }
+    (first, width)
 }
 
 /// Fills the amounts up with zeros to `count`; more amounts than that stay as they are.

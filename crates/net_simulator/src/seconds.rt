@@ -18,6 +18,18 @@ use arrivals::Arrivals;
 use control_flow::greens::Green;
 use road_net::Network;
 
+/// What amounts that begin with that of link `first` have of link `l`; 0 where they have none.
+#[inline]
+fn amount_from(amounts: &[u32], first: u32, l: u32) -> u32
+    ensures before { l < first → result ≡ 0 }
+    ensures here { first ≤ l → result ≡ slice_index_or amounts.now (l - first) 0 }
+{
+    if l < first {
+        return 0;
+    }
+    amounts.get((l - first) as usize).copied().unwrap_or(0)
+}
+
 /// Begins a second: what comes from outside enters. Tells how much that is.
 pub(crate) fn arrive(recent: &mut [u32], links: u32, arrivals: &Arrivals, second: u32) -> u64
     requires recent { length recent.old ≡ links * 128 }
@@ -26,10 +38,11 @@ pub(crate) fn arrive(recent: &mut [u32], links: u32, arrivals: &Arrivals, second
     ensures others { (l y : ℕ) → y % 128 ≢ second % 128 → cell recent.new l y ≡ cell recent.old l y }
     ensures all { result ≡ total (λ l. arriving_of arrivals.now second l) links }
 {
+    let first = arrivals.first_link();
     let row = arrivals.in_second(second);
     let mut all = 0;
     for l in 0..links {
-        let amount = row.get(l as usize).copied().unwrap_or(0);
+        let amount = amount_from(row, first, l);
         rows::put(recent, l, second, amount);
         all += u64::from(amount);
     }

@@ -93,12 +93,12 @@ share-none factor = let e : 0 * factor ≡ 0 = omega arith in ap (λ n. n / 1000
 whole-next : (sum before here all next : ℕ) → sum ≡ before + here → all ≡ before + here → next ≡ 0 → sum ≡ all + next
 whole-next sum before here all next is adds none = omega (arith, is, adds, none)
 
--- nothing enters after the last second, nor a link that is none
+-- nothing enters after the last second, nor a link after those that are kept
 entering-late : (a : Amounts) (link x : ℕ) → seconds ≤ x → entering a link x ≡ 0
-entering-late a link x late = entering-beyond a link x (λ _ below. omega (arith, below, late))
+entering-late a link x late = entering-beyond a link x (λ _ _ below. omega (arith, below, late))
 
-entering-other : (a : Amounts) (link x : ℕ) → a.links ≤ link → entering a link x ≡ 0
-entering-other a link x past = entering-beyond a link x (λ below _. omega (arith, below, past))
+entering-other : (a : Amounts) (link x : ℕ) → a.first + a.width ≤ link → entering a link x ≡ 0
+entering-other a link x past = entering-beyond a link x (λ _ below _. omega (arith, below, past))
 
 module _ (net : Net) (factor : ℕ) (a : Amounts) where
   -- no rows

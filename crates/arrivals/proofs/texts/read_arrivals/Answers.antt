@@ -1,4 +1,4 @@
-use Rattle.std.proofs.Common.{◌∙◌}
+use Rattle.std.proofs.Common.{[], sym, subst}
 use Rattle.record_text.specs.Records.{records_of}
 use Rattle.record_text.proofs.WalkLaws.{taken-after}
 use Rattle.arrivals.specs.Records.{header}
@@ -11,7 +11,7 @@ pub take_records-requires-clause-few : goal.take_records-requires-clause-few
 take_records-requires-clause-few c = taken-few c.args.net.now (records_of c.args.bytes.now)
 
 pub take_records-requires-clause-none : goal.take_records-requires-clause-none
-take_records-requires-clause-none c = taken-none c.args.net.now _ (c.reserve.ensures ∙ c.none-arrivals.ensures.none)
+take_records-requires-clause-none c = subst (HasTaken c.args.net.now []) (sym c.reserve.ensures) (taken-none c.args.net.now _ c.none-arrivals.ensures.none c.none-arrivals.ensures.kept)
 
 pub returns-in-Err-clause-first : goal.returns-in-Err-clause-first
 returns-in-Err-clause-first c = first-fault c.args.net.now (records_of c.args.bytes.now) _ c.in-Err.ensures.first
