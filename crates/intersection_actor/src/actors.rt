@@ -75,7 +75,8 @@ impl Actor {
     ghost use Rattle.clusters.specs.Windows.{counts_of};
     ghost use Rattle.outflow.specs.Outflow.{departures, told_forecast};
 
-    /// The actor of a node before its first round: its signal's ring turns from second 0, and nothing is planned.
+    /// The actor of a node before its first round: its signal's ring turns from second 0, and nothing is planned. It has capacity for
+    /// the plan records of all rounds.
     ///
     /// `Err`: out of memory.
     ///
@@ -92,7 +93,9 @@ impl Actor {
             fresh: true,
         };
         let line = rotation(alloc, net.plan(node), &head, 0)?;
-        Ok(Actor::standing(alloc, node, line))
+        let mut actor = Actor::standing(alloc, node, line);
+        actor.records.reserve(net.run().rounds as usize)?;
+        Ok(actor)
     }
 
     /// The actor of a node between two rounds whose signal has this timeline: nothing is planned. It takes no memory.

@@ -14,7 +14,7 @@ use Rattle.histories.specs.Steps.{board_steps}
 use Rattle.histories.specs.declared.steps.BoardStep.TheVariants as steps
 use Rattle.histories.proofs.Counts.{count-append, count-else, count-one}
 use Rattle.histories.proofs.StepLaws.{step-count, steps-beyond}
-use Rattle.intersection_actor.specs.Acting.{Acting, reading, tells_from, wanting, with_heard}
+use Rattle.intersection_actor.specs.Acting.{Acting, reading, tells_from, with_heard}
 use Rattle.intersection_actor.specs.Commits.{Commitment, phases_of}
 use Rattle.intersection_actor.specs.Rounds.{IsCommitted, IsOf}
 use Rattle.intersection_actor.specs.declared.records.Want.{Want}

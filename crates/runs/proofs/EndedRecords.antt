@@ -13,8 +13,9 @@ use Rattle.net_simulator.specs.Worlds.{WorldState, Stands}
 use Rattle.runs.specs.Runs.{AllCommit, IsRunBy, arriving_by, line_before, shown_by}
 use Rattle.runs.specs.declared.records.RunRecord.{RunRecord}
 use Rattle.runs.proofs.SameParts.{map-range-same}
-use Rattle.runs.specs.Ending.{IsRecordOf, records_in, round_by_round}
-use Rattle.runs.proofs.Queues.{columns, map-by}
+use Rattle.runs.specs.Ending.{IsRecordOf, records_in}
+use Rattle.runs.specs.RoundOrder.{round_by_round}
+use Rattle.runs.proofs.Columns.{columns, map-by}
 
 module _ (net : Net) (enters : ℕ → ℕ → ℕ) (heard : ℕ → ℕ → List Heard) (made : ℕ → ℕ → Commitment) (actors : List Acting) (world : WorldState) where
   abbrev rounds : ℕ

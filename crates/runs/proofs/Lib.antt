@@ -10,6 +10,6 @@ pub mod Places
 pub mod PlanLaws
 pub mod Plannable
 pub mod PromiseLaws
-pub mod Queues
+pub mod Columns
 pub mod EndedRecords
 pub mod Resting

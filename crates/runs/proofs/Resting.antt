@@ -2,6 +2,7 @@
 use Rattle.std.proofs.Common.{◌≡◌, ℕ, ◌+◌, ◌*◌, ◌<◌, ◌≤◌, false, List, [], ◌∷◌, ◌++◌, Option, length, get_or, sym, ap, subst, ◌∙◌, inl, inr, arith}
 use Rattle.std.proofs.lemmas.Bool.{cases_lt}
 use Rattle.std.proofs.lemmas.List.{get_or_append_left, get_or_push, length_push}
+use Rattle.std.proofs.lemmas.List.FromFn.{length-map-range_with_len}
 use Rattle.std.proofs.lemmas.Nat.{div_below}
 use Rattle.board_model.specs.declared.boards.Heard.{Heard}
 use Rattle.control_flow.specs.Greens.{end_of, standing}
@@ -21,6 +22,7 @@ use Rattle.runs.proofs.Keep.{all-keep}
 use Rattle.net_simulator.proofs.AtNodes.{past-at-nodes}
 use Rattle.runs.proofs.SameParts.{map-range-same}
 use Rattle.schedule_meaning.specs.declared.planners.Answer.TheVariants.{NoPlan}
+use Rattle.runs.specs.Ending.{HaveAllPlanned}
 use Rattle.runs.specs.Resting.{AreNew, Rests, records_of}
 
 -- some actor, and some commit, where there is none
@@ -56,6 +58,11 @@ stands-same net network arriving shown seen w same s =
 -- what was heard and made before a round stays in its plan records
 pub records-same : (heard seen : ℕ → ℕ → List Heard) (made other : ℕ → ℕ → Commitment) (n r : ℕ) → ((s : ℕ) → s < r → heard s n ≡ seen s n) → ((s : ℕ) → s < r → made s n ≡ other s n) → records_of heard made n r ≡ records_of seen other n r
 records-same heard seen made other n r h m = map-range-same (λ s. record_of n s (heard s n) (made s n)) (λ s. record_of n s (seen s n) (other s n)) 0 r (λ s least less. ap (λ (x : List Heard). record_of n s x (made s n)) (h s (omega arith)) ∙ ap (record_of n s (seen s n)) (m s (omega arith)))
+
+-- actors that rest have planned in each round before
+pub planned : (net : Net) (heard : ℕ → ℕ → List Heard) (made : ℕ → ℕ → Commitment) (round : ℕ) (actors : List Acting) → length actors ≡ length net.node_names
+    → ((node : ℕ) (a : Acting) → node < length net.node_names → Rests net heard made round node (get_or actors node a)) → HaveAllPlanned round actors
+planned net heard made round actors all rests node a below = ap length (rests node a (omega (arith, all))).records ∙ length-map-range_with_len (λ r. record_of node r (heard r node) (made r node)) 0 round
 
 -- the lines before a round show what the world moved by
 module _ (net : Net) (network : IsNetwork net) (enters : ℕ → ℕ → ℕ) (round : ℕ) (heard : ℕ → ℕ → List Heard) (made : ℕ → ℕ → Commitment) (most : round ≤ net.run.rounds) (commits : AllCommit net enters heard made round) where

@@ -4,10 +4,12 @@
 
 mod laws;
 mod new_actors;
+mod plans;
 mod records;
 mod run_records;
 
 pub use laws::{law_of_one_run, law_of_runs};
 pub use new_actors::{Actors, actors_of};
+pub use plans::Plans;
 pub use records::RunRecord;
 pub use run_records::{EmptyRecord, empty_record, record_of};

@@ -1,11 +1,11 @@
 //! The record of a run that is over: what its actors have planned and shown, and what its world has counted.
-ghost use Rattle.std.specs.Prelude.{◌≡◌, ℕ, ◌+◌, ◌*◌, ◌<◌, ◌≤◌, ◌++◌, [], drop, take, IfOk, length, map, vec_capacity, vec_len};
+ghost use Rattle.std.specs.Prelude.{◌≡◌, ◌+◌, ◌≤◌, ◌++◌, [], IfOk, length, map, vec_capacity, vec_len};
 ghost use Rattle.std.specs.List.{range_with_len};
-ghost use Rattle.std.specs.VecDeque.{deque_items};
 ghost use Rattle.net_simulator.specs.Counts.{counts_at};
-ghost use Rattle.runs.specs.Ending.{HasCapacity, IsRecordOf, lines_in, first_of_each, records_in, round_by_round, without_first};
+ghost use Rattle.runs.specs.Ending.{HasCapacity, HaveAllPlanned, IsRecordOf, lines_in, records_in};
 
-use crate::RunRecord;
+use crate::plans::Plans;
+use crate::records::RunRecord;
 use control_flow::greens::Timeline;
 use foundation::items::Items;
 use foundation::threads::CrossesThreads;
@@ -13,7 +13,6 @@ use intersection_actor::{Actor, PlanRecord};
 use net_simulator::{LinkTotals, World};
 use road_net::Network;
 use std::alloc::{AllocError, Global};
-use std::collections::VecDeque;
 
 /// Empty lists with capacity for the record of a run: they are made before the first round, so that the record itself takes no
 /// memory.
@@ -21,10 +20,8 @@ use std::collections::VecDeque;
 /// docs/RULES.md, "Run".
 #[derive(Drop)]
 pub struct EmptyRecord {
-    /// The plans of all rounds.
-    plans: Vec<PlanRecord>,
-    /// The plans of each node that are still to be moved there.
-    queues: Vec<VecDeque<PlanRecord>>,
+    /// The plans of each node.
+    plans: Vec<Items<PlanRecord>>,
     timelines: Vec<Timeline>,
     links: Vec<LinkTotals>,
 }
@@ -40,94 +37,53 @@ pub fn empty_record(alloc: Global, net: &Network) -> Result<EmptyRecord, AllocEr
     ensures { IfOk result (HasCapacity net.now) }
 {
     let nodes = net.nodes() as usize;
-    let plans = Vec::with_capacity(alloc, net.run().rounds as usize * nodes)?;
-    let queues = Vec::with_capacity(alloc, nodes)?;
+    let plans = Vec::with_capacity(alloc, nodes)?;
     let timelines = Vec::with_capacity(alloc, nodes)?;
     let links = Vec::with_capacity(alloc, net.links() as usize)?;
     Ok(EmptyRecord {
         plans,
-        queues,
         timelines,
         links,
     })
 }
 
-/// The record of actors and a world after the last round, moved into the lists that were made for it: the plans of all nodes, round
-/// by round, the line of each, and what was counted. It takes no memory.
+/// The record of actors and a world after the last round, in which each actor has planned in each round, moved into the lists that were
+/// made for it: the plans of all nodes, the line of each, and what was counted. It takes no memory.
 ///
 /// docs/RULES.md, "Run".
 pub fn record_of(net: &Network, actors: Vec<Actor>, world: &World, empty: EmptyRecord) -> RunRecord
     requires actors { length actors.items ≡ length net.now.node_names }
+    requires planned { HaveAllPlanned net.now.run.rounds actors.items }
     requires counts { length world.now.counts ≡ length net.now.link_names }
     requires capacity { HasCapacity net.now empty }
     ensures { IsRecordOf net.now actors.items world.now result }
 {
     let EmptyRecord {
         mut plans,
-        mut queues,
         mut timelines,
         mut links,
     } = empty;
-    push_parts(actors, &mut queues, &mut timelines);
-    push_plans(net.run().rounds, &mut queues, &mut plans);
+    push_parts(actors, &mut plans, &mut timelines);
     push_totals(net, world, &mut links);
     RunRecord {
-        plans: Items::from_vec(plans),
+        plans: Plans::of_lists(net.run().rounds, plans),
         timelines: Items::from_vec(timelines),
         links: Items::from_vec(links),
         totals: world.totals(),
     }
 }
 
-/// Takes actors apart: the plans of each go to the queues, and its line to the timelines.
-fn push_parts(
-    actors: Vec<Actor>,
-    queues: &mut Vec<VecDeque<PlanRecord>>,
-    timelines: &mut Vec<Timeline>,
-)
-    requires queues { vec_len queues.old + length actors.items ≤ vec_capacity queues.old }
+/// Takes actors apart: the plans of each go to the plans, and its line to the timelines.
+fn push_parts(actors: Vec<Actor>, plans: &mut Vec<Items<PlanRecord>>, timelines: &mut Vec<Timeline>)
+    requires plans { vec_len plans.old + length actors.items ≤ vec_capacity plans.old }
     requires timelines { vec_len timelines.old + length actors.items ≤ vec_capacity timelines.old }
-    ensures queues { map deque_items queues.new.items ≡ map deque_items queues.old.items ++ records_in actors.items }
+    ensures plans { plans.new.items ≡ plans.old.items ++ records_in actors.items }
     ensures timelines { timelines.new.items ≡ timelines.old.items ++ lines_in actors.items }
 {
     for actor in actors {
         let (line, records) = actor.into_parts();
-        queues.push_reserved(VecDeque::from(records));
+        plans.push_reserved(Items::from_vec(records));
         timelines.push_reserved(line);
-    }
-}
-
-/// Appends the plans of the first `rounds` rounds from the queues to the plans, round by round.
-fn push_plans(rounds: u32, queues: &mut Vec<VecDeque<PlanRecord>>, plans: &mut Vec<PlanRecord>)
-    requires { vec_len plans.old + rounds * length queues.old.items ≤ vec_capacity plans.old }
-    ensures { plans.new.items ≡ plans.old.items ++ round_by_round rounds (map deque_items queues.old.items) }
-{
-    for round in 0..rounds {
-        push_round(queues.as_mut_slice(), plans);
-    }
-}
-
-/// Appends the next plan of each queue to the plans.
-fn push_round(queues: &mut [VecDeque<PlanRecord>], plans: &mut Vec<PlanRecord>)
-    requires { vec_len plans.old + length queues.old ≤ vec_capacity plans.old }
-    ensures queues { map deque_items queues.new ≡ without_first (map deque_items queues.old) }
-    ensures plans { plans.new.items ≡ plans.old.items ++ first_of_each (map deque_items queues.old) }
-    ensures capacity { vec_capacity plans.new ≡ vec_capacity plans.old }
-{
-    for queue in queues.iter_mut() {
-        push_next(queue, plans);
-    }
-}
-
-/// Appends the next plan of a queue, where it has one, to the plans.
-fn push_next(queue: &mut VecDeque<PlanRecord>, plans: &mut Vec<PlanRecord>)
-    requires { vec_len plans.old < vec_capacity plans.old }
-    ensures queue { queue.new.items ≡ drop 1 queue.old.items }
-    ensures plans { plans.new.items ≡ plans.old.items ++ take 1 queue.old.items }
-    ensures capacity { vec_capacity plans.new ≡ vec_capacity plans.old }
-{
-    if let Some(plan) = queue.pop_front() {
-        plans.push_reserved(plan);
     }
 }
 

@@ -5,12 +5,14 @@ use Rattle.board_rule.specs.Passes.{AreAllPasses, BoardsView, PassView}
 use Rattle.intersection_actor.specs.Acting.{Acting}
 use Rattle.net_numbers.specs.Numbers.{Net}
 use Rattle.node_rounds.specs.Rounds.{AreSamePasses, Between}
+use Rattle.runs.proofs.Resting.{planned}
 use Rattle.node_rounds.proofs.FreshPasses.{left-at}
 use Rattle.node_rounds.proofs.Passes.{own-same, same-length}
 use Rattle.node_rounds.proofs.Starting.{at-first}
 use Rattle.node_rounds.proofs.ThreadRuns.{are-steps, is-run-of, merge-lawful}
 use Rattle.net_threads.specs.Rounds.{AreAt}
 use Rattle.net_threads.specs.Tasks.{actor_of, actors_in, pass_of, passes_in}
+use Rattle.net_threads.proofs.Rounding.{last-between}
 use Rattle.net_threads.proofs.TaskLists.{same-count}
 use Rattle.net_threads.proofs.network_runs.run_in_threads.Goals as goal
 
@@ -61,15 +63,16 @@ over g c =
     let same = c.run-rounds.ensures.same in
     let refs = c.in_ok-rounds.ensures.refs in
     let at : AreAt c.in_ok-rounds.rounds.net.now.run.rounds o = subst (λ r. OnOk r (AreAt c.in_ok-rounds.rounds.net.now.run.rounds o)) c.in_ok-ended.was c.run-rounds.ensures.at in
-    subst (λ (z : Net × Amounts × BoardsView × Net × List PassView × List Acting). Between z.0 z.1 z.2 z.3.run.rounds z.4 z.5 o.world)
-    (λ i. (
-      (ap (λ x. x.now) same.net ∙ refs.0) i,
-      (ap (λ x. x.now) same.arrivals ∙ refs.1) i,
-      (ap (λ x. x.now) same.boards ∙ refs.2) i,
-      refs.0 i,
-      sym c.trade-2.ensures.passes.1 i,
-      sym (c.into_actors-actors.ensures ∙ c.trade-2.ensures.actors) i,
-    )) at.between
+    last-between o.world (ap (λ x. x.now) same.net ∙ refs.0) refs.0 (ap (λ x. x.now) same.arrivals ∙ refs.1) (ap (λ x. x.now) same.boards ∙ refs.2) (sym c.trade-2.ensures.passes.1) (sym (c.into_actors-actors.ensures ∙ c.trade-2.ensures.actors)) at.between
+
+pub record_of-requires-clause-planned : goal.record_of-requires-clause-planned
+record_of-requires-clause-planned g c =
+    let o = c.run-rounds.result.0 in
+    let same = c.run-rounds.ensures.same in
+    let refs = c.in_ok-rounds.ensures.refs in
+    let at : AreAt c.in_ok-rounds.rounds.net.now.run.rounds o = subst (λ r. OnOk r (AreAt c.in_ok-rounds.rounds.net.now.run.rounds o)) c.in_ok-ended.was c.run-rounds.ensures.at in
+    let b = last-between o.world (ap (λ x. x.now) same.net ∙ refs.0) refs.0 (ap (λ x. x.now) same.arrivals ∙ refs.1) (ap (λ x. x.now) same.boards ∙ refs.2) (sym c.trade-2.ensures.passes.1) (sym (c.into_actors-actors.ensures ∙ c.trade-2.ensures.actors)) at.between in
+    planned c.args.net.now b.heard b.made c.args.net.now.run.rounds c.into_actors-actors.result.items b.all b.rests
 
 pub returns-clause-steps : goal.returns-clause-steps
 returns-clause-steps g c = λ node. are-steps c.args.net.now c.nodes-nodes.ensures.network c.args.arrivals.now c.args.boards.now c.trade-2.new.passes c.into_actors-actors.result.items c.run-rounds.result.0.world (over g c) c.record_of.result c.record_of.ensures node
