@@ -36,10 +36,11 @@ def at_or_below(name, below):
     found = []
 
     def visit(crate):
+        if crate in found:
+            return
         for low in below[crate]:
             visit(low)
-        if crate not in found:
-            found.append(crate)
+        found.append(crate)
 
     visit(name)
     return found
