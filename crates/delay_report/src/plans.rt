@@ -10,7 +10,6 @@ ghost use Rattle.world_records.specs.Written.{Adds};
 use csv::Writer;
 use intersection_actor::{PlanRecord, Used};
 use road_net::Network;
-use runs::Plans;
 use schedule_meaning::Answer;
 use std::alloc::{AllocError, Global};
 use text_lines::push_number;
@@ -23,15 +22,15 @@ const CAPACITY_OF_A_VERSION: usize = 16;
 pub(crate) fn write_plans(
     alloc: Global,
     net: &Network,
-    plans: &Plans,
+    plans: &[PlanRecord],
     out: &mut Writer<Vec<u8>>,
 ) -> Result<(), AllocError>
     requires nodes { All (λ p. p.node < length net.now.node_names) plans.now }
     requires used { All (λ p. map (λ u. u.link) p.used ≡ heard_links net.now p.node) plans.now }
     ensures { OnOk result (Adds out.old out.new (map (plan_record net.now) plans.now)) }
 {
-    for place in 0..plans.len() {
-        write_plan(alloc, net, plans.at(place), out)?;
+    for plan in plans {
+        write_plan(alloc, net, plan, out)?;
     }
     Ok(())
 }

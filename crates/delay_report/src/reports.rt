@@ -75,7 +75,7 @@ pub fn render_outcome(
 {
     text.reserve(run.plans.len().saturating_mul(CAPACITY_OF_A_PLAN))?;
     let mut out = start(text);
-    write_plans(alloc, net, &run.plans, &mut out)?;
+    write_plans(alloc, net, run.plans.as_slice(), &mut out)?;
     let lines = run.timelines.as_slice();
     let links = run.links.as_slice();
     write_shown(net, lines, links, run.totals, &mut out)?;

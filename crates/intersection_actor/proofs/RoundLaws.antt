@@ -3,10 +3,10 @@ use Rattle.std.proofs.Common.{◌≡◌, ℕ, length-append, List, [], ◌∷◌
 use Rattle.std.proofs.lemmas.List.{drop-drop, append_assoc, map-append}
 use Rattle.board_model.specs.declared.boards.Heard.{Heard}
 use Rattle.net_numbers.specs.Numbers.{Net}
-use Rattle.intersection_actor.specs.Acting.{Acting, reading, with_heard}
+use Rattle.intersection_actor.specs.Acting.{Acting, reading, with_heard, without_records}
 use Rattle.intersection_actor.specs.Rounds.{IsHearing, IsInRound, IsOf}
 use Rattle.intersection_actor.specs.declared.records.Want.{Want}
-use Rattle.intersection_actor.specs.declared.records.Want.TheVariants.{Read}
+use Rattle.intersection_actor.specs.declared.records.Want.TheVariants.{Read, Commit, Publish, Done}
 
 -- what is left to read begins with the link that is wanted
 left-is : (left : List ℕ) (link : ℕ) → reading left ≡ Read link → left ≡ link ∷ drop 1 left
@@ -50,3 +50,13 @@ taken a reads h heard want left same wants =
     ap (λ (hs : List Heard). drop (length hs) reads) same ∙ ap (λ n. drop n reads) (length-append a.heard (h ∷ [])) ∙ sym (drop-drop 1 (length a.heard) reads) ∙ ap (drop 1) (sym left) in
     let next : want ≡ reading (drop 1 a.left) = wants ∙ ap reading on in
     λ i. record a { want = next i; left = on i; heard = same i }
+
+in-round-without : (net : Net) (a : Acting) (want : Want) → IsInRound net a want → IsInRound net (without_records a) want
+in-round-without net a (Read link) is = record { round = is.round; now = is.now; sensed = is.sensed; ahead = is.ahead; heard = is.heard; want = is.want }
+in-round-without net a Commit is = record { round = is.round; now = is.now; sensed = is.sensed; ahead = is.ahead; heard = is.heard; want = is.want }
+in-round-without net a (Publish link) is = record { link = is.link; now = is.now; platoons = is.platoons; head = is.head; served = is.served }
+in-round-without net a Done is = is
+
+-- an actor whose records are moved is still of every network that it was of
+pub of-without : (net : Net) (a : Acting) → IsOf net a → IsOf net (without_records a)
+of-without net a is = record { node = is.node; lawful = is.lawful; begins = is.begins; round = in-round-without net a a.want is.round }

@@ -95,3 +95,7 @@ resting a = record a {
   phases = [];
   served = [];
 }
+
+-- the actor whose plan records were moved out of it
+abbrev pub without_records : Acting → Acting
+without_records a = record a { records = [] }

@@ -63,20 +63,19 @@ impl Model for Actor {
 impl CrossesThreads for Actor {}
 
 impl Actor {
-    ghost use Rattle.std.specs.Prelude.{◌≡◌, ℕ, ◌+◌, ◌*◌, ◌<◌, IfOk, OnErr, OnOk, length};
+    ghost use Rattle.std.specs.Prelude.{◌≡◌, ℕ, ◌+◌, ◌*◌, ◌<◌, ◌++◌, IfOk, OnErr, OnOk, length};
     ghost use Rattle.control_flow.specs.Greens.{BeginBy, IsLawful, end_of};
     ghost use Rattle.net_numbers.specs.Numbers.{Net};
     ghost use Rattle.net_numbers.specs.Outline.{plan_at};
     ghost use Rattle.road_net.specs.Senses.{IsSensedOf};
     ghost use Rattle.intersection_actor.specs.Acting.{IsPublish, at_rest, begun, resting};
-    ghost use Rattle.intersection_actor.specs.Acting.{tells_from, told_at, wanting, with_heard};
+    ghost use Rattle.intersection_actor.specs.Acting.{tells_from, told_at, wanting, with_heard, without_records};
     ghost use Rattle.intersection_actor.specs.Rounds.{IsCommitted, IsNew, IsOf, KeepsPast};
     ghost use Rattle.intersection_actor.specs.Steps.{IsPlanned};
     ghost use Rattle.clusters.specs.Windows.{counts_of};
     ghost use Rattle.outflow.specs.Outflow.{departures, told_forecast};
 
-    /// The actor of a node before its first round: its signal's ring turns from second 0, and nothing is planned. It has capacity for
-    /// the plan records of all rounds.
+    /// The actor of a node before its first round: its signal's ring turns from second 0, and nothing is planned.
     ///
     /// `Err`: out of memory.
     ///
@@ -93,9 +92,7 @@ impl Actor {
             fresh: true,
         };
         let line = rotation(alloc, net.plan(node), &head, 0)?;
-        let mut actor = Actor::standing(alloc, node, line);
-        actor.records.reserve(net.run().rounds as usize)?;
-        Ok(actor)
+        Ok(Actor::standing(alloc, node, line))
     }
 
     /// The actor of a node between two rounds whose signal has this timeline: nothing is planned. It takes no memory.
@@ -142,7 +139,7 @@ impl Actor {
         &self.line
     }
 
-    /// What it has planned, round by round.
+    /// What it has planned, round by round, since its records were last moved.
     ///
     /// docs/RULES.md, "Plan record".
     pub fn records(&self) -> &[PlanRecord]
@@ -151,7 +148,21 @@ impl Actor {
         self.records.as_slice()
     }
 
-    /// Its timeline and what it has planned.
+    /// Moves its plan records to the end of these plans, so that one list can have those of all rounds and nodes: it keeps none.
+    ///
+    /// `Err`: out of memory; all stays as it was.
+    ///
+    /// docs/RULES.md, "Plan record".
+    pub fn move_records(&mut self, plans: &mut Vec<PlanRecord>) -> Result<(), AllocError>
+        ensures plans { OnOk result (plans.new.items ≡ plans.old.items ++ self.old.records) }
+        ensures ok { OnOk result (self.new ≡ without_records self.old) }
+        ensures refused { OnErr result ((self.new ≡ self.old) × (plans.new.items ≡ plans.old.items)) }
+        ensures of { (net : Net) → IsOf net self.old → IsOf net self.new }
+    {
+        plans.append(&mut self.records)
+    }
+
+    /// Its timeline, and what it has planned since its records were last moved.
     ///
     /// docs/RULES.md, "A node's round".
     pub fn into_parts(self) -> (Timeline, Vec<PlanRecord>)

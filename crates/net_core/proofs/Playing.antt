@@ -6,7 +6,6 @@ use Rattle.std.proofs.lemmas.Bool.{cases_lt, lt-leb}
 use Rattle.std.proofs.lemmas.List.{drop-drop, length_push}
 use Rattle.std.proofs.lemmas.List.Elements.{All-filter, All-get_or, filter_passes}
 use Rattle.std.proofs.lemmas.List.Kept.{AllPairs-from_increasing, IsStrictlyIncreasing-filter}
-use Rattle.std.proofs.lemmas.List.FromFn.{map-range_with_len_more}
 use Rattle.arrivals.specs.Amounts.{Amounts, entering}
 use Rattle.board_model.specs.declared.boards.Heard.{Heard}
 use Rattle.control_flow.specs.Greens.{end_of}
@@ -25,8 +24,7 @@ use Rattle.runs.specs.Runs.{Commits, line_before, sensed_in}
 use Rattle.runs.proofs.Agree.{SameBefore, commit-moved, commits-moved, lines-same, sensed-same}
 use Rattle.runs.proofs.Heard.{have-at, rise-at}
 use Rattle.runs.proofs.PlanLaws.{used-links}
-use Rattle.runs.specs.Resting.{Rests, records_of}
-use Rattle.runs.proofs.Resting.{records-same}
+use Rattle.runs.specs.Resting.{Rests}
 use Rattle.net_core.specs.Acts.{HasTold}
 use Rattle.net_core.specs.States.{Listens, Plays, Tells, TellsOf, telling_first}
 use Rattle.net_core.proofs.Put.{put, put-here, put-round}
@@ -39,18 +37,18 @@ find-from v (x ∷ xs) zero low high = ap (λ b. telling (cond b (Some x) (find 
 find-from v (x ∷ xs) (suc j) low high = ap (λ b. telling (cond b (Some x) (find (λ k. nat_le v k) xs))) (lt-leb v x (low 0 (omega arith) (omega arith))) ∙ find-from v xs j (λ i less inside. low (suc i) (omega arith) (omega arith)) (λ i more inside. high (suc i) (omega arith) (omega arith))
 
 module _ (net : Net) (network : IsNetwork net) (arrivals : Amounts) (heard seen : ℕ → ℕ → List Heard) (made other : ℕ → ℕ → Commitment) (round n : ℕ) (below : n < length net.node_names)
-    (before : SameBefore net network (entering arrivals) made other round) (h : (s : ℕ) → s ≤ round → heard s n ≡ seen s n) (m : (s : ℕ) → s ≤ round → made s n ≡ other s n) where
+    (before : SameBefore net network (entering arrivals) made other round) (h : heard round n ≡ seen round n) (m : made round n ≡ other round n) where
   listens-moved : {c : ℕ} {a : Acting} → Listens net arrivals heard made round c n a → Listens net arrivals seen other round c n a
   listens-moved x = record {
     node_is = x.node_is;
     round_is = x.round_is;
     sensed = x.sensed ∙ sensed-same net network (entering arrivals) made other round n before;
-    so_far = x.so_far ∙ h round (omega arith);
+    so_far = x.so_far ∙ h;
     count = x.count;
     left = x.left;
     want = x.want;
     line = x.line ∙ lines-same net network (entering arrivals) made other round n before below;
-    records = x.records ∙ records-same heard seen made other n round (λ s less. h s (omega arith)) (λ s less. m s (omega arith));
+    records = x.records;
   }
 
   -- a node that others leave alone
@@ -62,17 +60,17 @@ module _ (net : Net) (network : IsNetwork net) (arrivals : Amounts) (heard seen 
       | inl x ↦ inl (record { more = x.more; listens = listens-moved x.listens })
       | inr x ↦ inr (record {
         enough = x.enough;
-        commits = commits-moved net network (entering arrivals) made other heard seen round n before below (h round (omega arith)) (m round (omega arith)) x.commits;
+        commits = commits-moved net network (entering arrivals) made other heard seen round n before below h m x.commits;
         tells_of = λ link w. (let t = x.tells_of link w in record {
           now = t.now;
-          window = t.window ∙ ap (λ (c : Commitment). c.window) (m round (omega arith));
-          phases = t.phases ∙ ap (λ (c : Commitment). phases_of c.answer) (m round (omega arith));
-          served = t.served ∙ ap (λ (c : Commitment). c.served) (m round (omega arith));
+          window = t.window ∙ ap (λ (c : Commitment). c.window) m;
+          phases = t.phases ∙ ap (λ (c : Commitment). phases_of c.answer) m;
+          served = t.served ∙ ap (λ (c : Commitment). c.served) m;
         });
         want = x.want;
-        line = x.line ∙ ap (λ (c : Commitment). c.line) (m round (omega arith));
+        line = x.line ∙ ap (λ (c : Commitment). c.line) m;
         ahead = x.ahead;
-        records = x.records ∙ records-same heard seen made other n (round + 1) (λ s less. h s (omega arith)) (λ s less. m s (omega arith));
+        records = x.records ∙ ap (λ (l : List Heard). record_of n round l (made round n) ∷ []) h ∙ ap (λ (c : Commitment). record_of n round (seen round n) c ∷ []) m;
       })
     ];
   }
@@ -98,7 +96,7 @@ module _ (net : Net) (network : IsNetwork net) (arrivals : Amounts) (heard : ℕ
         left = left;
         want = ap reading left;
         line = x.line;
-        records = x.records ∙ records-same heard (put heard round n (heard round n ++ h ∷ [])) made made n round (λ s less. sym (put-round heard round n (heard round n ++ h ∷ []) s n (λ e. omega arith))) (λ s less. refl);
+        records = x.records;
       }
 
   -- the commit
@@ -127,12 +125,11 @@ module _ (net : Net) (network : IsNetwork net) (arrivals : Amounts) (heard : ℕ
           (commit-moved net network (entering arrivals) made committed round n (heard round n) (heard round n) c.made before below refl moved);
     }
 
-    records : new.records ≡ records_of heard committed n (round + 1)
+    records : new.records ≡ record_of n round (heard round n) (committed round n) ∷ []
     records =
         ap (λ (a : Acting). a.records) c.all
-        ∙ ap (λ (l : List PlanRecord). l ++ record_of old.node old.round old.heard c.made ∷ []) (x.records ∙ records-same heard heard made committed n round (λ s less. refl) (λ s less. before s n less below))
-        ∙ ap (λ (p : PlanRecord). records_of heard committed n round ++ p ∷ []) (ap (λ k. record_of k old.round old.heard c.made) x.node_is ∙ ap (λ k. record_of n k old.heard c.made) x.round_is ∙ ap (λ (l : List Heard). record_of n round l c.made) x.so_far ∙ ap (record_of n round (heard round n)) (sym own))
-        ∙ sym (map-range_with_len_more (λ s. record_of n s (heard s n) (committed s n)) 0 round round (omega arith))
+        ∙ ap (λ (l : List PlanRecord). l ++ record_of old.node old.round old.heard c.made ∷ []) x.records
+        ∙ ap (λ (p : PlanRecord). p ∷ []) (ap (λ k. record_of k old.round old.heard c.made) x.node_is ∙ ap (λ k. record_of n k old.heard c.made) x.round_is ∙ ap (λ (l : List Heard). record_of n round l c.made) x.so_far ∙ ap (record_of n round (heard round n)) (sym own))
 
     first-told : (l : List ℕ) → telling (find (λ k. nat_le 0 k) l) ≡ telling_first l
     first-told l = find-from 0 l 0 (λ i less inside. absurd (omega arith)) (λ i more inside. omega arith)
@@ -232,13 +229,13 @@ told-node want old new (inl e) = ap (λ (a : Acting). a.node) e
 told-node want old new (inr r) = ap (λ (a : Acting). a.node) r.1
 
 -- a node that rests while others commit in the round
-pub rests-moved : (net : Net) (network : IsNetwork net) (arrivals : Amounts) (heard : ℕ → ℕ → List Heard) (made other : ℕ → ℕ → Commitment) (round n : ℕ) (a : Acting) → n < length net.node_names → SameBefore net network (entering arrivals) made other round
-    → Rests net heard made round n a → Rests net heard other round n a
-rests-moved net network arrivals heard made other round n a below before x = record {
+pub rests-moved : (net : Net) (network : IsNetwork net) (arrivals : Amounts) (made other : ℕ → ℕ → Commitment) (round n : ℕ) (a : Acting) → n < length net.node_names → SameBefore net network (entering arrivals) made other round
+    → Rests net made round n a → Rests net other round n a
+rests-moved net network arrivals made other round n a below before x = record {
   node_is = x.node_is;
   of = x.of;
   want = x.want;
   line = x.line ∙ lines-same net network (entering arrivals) made other round n before below;
   ahead = x.ahead;
-  records = x.records ∙ records-same heard heard made other n round (λ s less. refl) (λ s less. before s n less below);
+  records = x.records;
 }

@@ -15,6 +15,7 @@ use Rattle.histories.specs.declared.steps.BoardStep.{BoardStep}
 use Rattle.histories.specs.declared.steps.BoardStep.TheVariants.{Read, Publish}
 use Rattle.histories.proofs.Versions.{version-rises}
 use Rattle.intersection_actor.specs.Commits.{Commitment}
+use Rattle.intersection_actor.specs.declared.records.PlanRecord.{PlanRecord}
 use Rattle.net_numbers.specs.Numbers.{Net}
 use Rattle.net_numbers.specs.Outline.{link_at}
 use Rattle.net_simulator.specs.Arriving.{arriving_of}
@@ -23,6 +24,7 @@ use Rattle.road_net.specs.Network.{IsNetwork, heard_links}
 use Rattle.runs.specs.Runs.{HearAlong, forecast_at, hearing, shown_by, told_in}
 use Rattle.runs.proofs.Agree.{SameBefore, commits-moved}
 use Rattle.runs.proofs.Places.{first-small, read-step}
+use Rattle.runs.proofs.PlanLists.{plans-same}
 use Rattle.runs.proofs.Resting.{stands-same}
 use Rattle.net_core.specs.States.{IsRunning}
 use Rattle.net_core.specs.declared.parts.Board.{Board}
@@ -32,8 +34,8 @@ use Rattle.net_core.proofs.Put.{put, put-here, put-node, put-round}
 contains-moved : (heard : ℕ → ℕ → List Heard) (r s m n : ℕ) (x y : Heard) → r ≡ s → m ≡ n → x ≡ y → Contains (heard r m) x → Contains (heard s n) y
 contains-moved heard r s m n x y e f g c = subst (Contains (heard s n)) g (subst (λ k. Contains (heard s k) x) f (subst (λ k. Contains (heard k m) x) e c))
 
-module _ (net : Net) (network : IsNetwork net) (arrivals : Amounts) (heard : ℕ → ℕ → List Heard) (made : ℕ → ℕ → Commitment) (p : List ℕ) (round : ℕ) (boards : List Board) (world : WorldState)
-    (way : Begun net network round p) (is : IsRunning net arrivals heard made p round boards world) (n : ℕ) where
+module _ (net : Net) (network : IsNetwork net) (arrivals : Amounts) (heard : ℕ → ℕ → List Heard) (made : ℕ → ℕ → Commitment) (p : List ℕ) (round : ℕ) (boards : List Board) (world : WorldState) (plans : List PlanRecord)
+    (way : Begun net network round p) (is : IsRunning net arrivals heard made p round boards world plans) (n : ℕ) where
   -- what was heard at the places before stays, where each node has heard at least as much
   along-before : (seen : ℕ → ℕ → List Heard) → ((r m : ℕ) (x : Heard) → Contains (heard r m) x → Contains (seen r m) x) → (place link : ℕ) → place < length p
       → step_at (board_steps net) (p ++ n ∷ []) place ≡ Read link
@@ -98,7 +100,7 @@ module _ (net : Net) (network : IsNetwork net) (arrivals : Amounts) (heard : ℕ
     none-more l = last-version (board_steps net) p n l ∙ ap (λ (s : BoardStep). version_at (board_steps net) p l (length p) + cond (is_publish_of l s) 1 0) reads ∙ (let z : version_at (board_steps net) p l (length p) + 0 ≡ version_at (board_steps net) p l (length p) = omega arith in z)
 
     -- a reading
-    pub read-on : IsRunning net arrivals seen made (p ++ n ∷ []) round boards world
+    pub read-on : IsRunning net arrivals seen made (p ++ n ∷ []) round boards world plans
     read-on = record {
       commits = λ r m less below.
           let c = is.commits r m less below in
@@ -111,6 +113,7 @@ module _ (net : Net) (network : IsNetwork net) (arrivals : Amounts) (heard : ℕ
       };
       second = is.second;
       stands = is.stands;
+      planned = is.planned ∙ plans-same net heard seen made made round (λ r m less below. sym (put-round heard round n (heard round n ++ hearing net made link version ∷ []) r m (λ e. omega arith))) (λ r m less below. refl);
     }
 
   -- a publishing
@@ -138,7 +141,7 @@ module _ (net : Net) (network : IsNetwork net) (arrivals : Amounts) (heard : ℕ
         ∙ ap (λ m. told_in net round link (made round m)) (ap (λ (o : Option ℕ). unwrap_or o 0) from)
         ∙ sym forecast
 
-    pub tell-on : IsRunning net arrivals heard made (p ++ n ∷ []) round (set boards link board) world
+    pub tell-on : IsRunning net arrivals heard made (p ++ n ∷ []) round (set boards link board) world plans
     tell-on = record {
       commits = is.commits;
       along = λ place other inside step. elim (cases_lt place (length p)) [
@@ -161,6 +164,7 @@ module _ (net : Net) (network : IsNetwork net) (arrivals : Amounts) (heard : ℕ
       };
       second = is.second;
       stands = is.stands;
+      planned = is.planned;
     }
       where
         is-publish : BoardStep → Bool
@@ -192,7 +196,7 @@ module _ (net : Net) (network : IsNetwork net) (arrivals : Amounts) (heard : ℕ
     shown-same : (x m : ℕ) → x < round * net.run.step → shown_by net made x m ≡ shown_by net committed x m
     shown-same x m less = ap (λ (c : Commitment). standing c.line x) (sym (put-round made round n c (x / net.run.step) m (λ e. let z = div_below x net.run.step round network.outline.run.step.0 less in omega arith)))
 
-    pub commit-on : IsRunning net arrivals heard committed p round boards world
+    pub commit-on : IsRunning net arrivals heard committed p round boards world plans
     commit-on = record {
       commits = λ r m less below. commits-moved net network (entering arrivals) made committed heard heard r m (λ s k before inside. before-same s k (omega arith) inside) below refl (before-same r m less below) (is.commits r m less below);
       along = λ place link inside step.
@@ -207,4 +211,5 @@ module _ (net : Net) (network : IsNetwork net) (arrivals : Amounts) (heard : ℕ
       };
       second = is.second;
       stands = stands-same net network (arriving_of arrivals) (shown_by net made) (shown_by net committed) world (λ x m less below. shown-same x m (omega (arith, is.second))) is.stands;
+      planned = is.planned ∙ plans-same net heard heard made committed round (λ r m less below. refl) before-same;
     }

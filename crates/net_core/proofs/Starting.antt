@@ -6,6 +6,7 @@ use Rattle.arrivals.specs.Amounts.{Amounts}
 use Rattle.histories.specs.Histories.{version_at}
 use Rattle.histories.specs.Steps.{board_steps}
 use Rattle.intersection_actor.specs.Acting.{Acting}
+use Rattle.intersection_actor.specs.declared.records.PlanRecord.{PlanRecord}
 use Rattle.net_numbers.specs.Numbers.{Net, no_link}
 use Rattle.net_numbers.specs.Outline.{link_at}
 use Rattle.net_numbers.specs.declared.roads.Link.{Link}
@@ -25,9 +26,9 @@ link-there net l t to = elim (cases_lt l (length net.links)) [
   | inr past ↦ absurd (let e : None ≡ Some t = sym (ap (λ (k : Link). k.to) (get_or_past net.links l no_link past)) ∙ to in cc)
 ]
 
-pub at-first : (net : Net) → IsNetwork net → (arrivals : Amounts) (history : List ℕ) (actors : List Acting) (boards : List Board) (world : WorldState) → history ≡ [] → AreNew net (length net.node_names) actors → AreBlank (length net.link_names) boards
-    → world.second ≡ 0 → ((arriving : ℕ → ℕ → ℕ) (shown : ℕ → ℕ → Option (ℕ × ℕ)) → Stands net arriving shown world) → Between net arrivals history 0 actors boards world
-at-first net network arrivals history actors boards world none new blank second stands = record {
+pub at-first : (net : Net) → IsNetwork net → (arrivals : Amounts) (history : List ℕ) (actors : List Acting) (boards : List Board) (world : WorldState) (plans : List PlanRecord) → history ≡ [] → AreNew net (length net.node_names) actors → AreBlank (length net.link_names) boards
+    → world.second ≡ 0 → ((arriving : ℕ → ℕ → ℕ) (shown : ℕ → ℕ → Option (ℕ × ℕ)) → Stands net arriving shown world) → plans ≡ [] → Between net arrivals history 0 actors boards world plans
+at-first net network arrivals history actors boards world plans none new blank second stands unplanned = record {
   heard = λ r n. [];
   made = λ r n. no_commitment;
   rounds_done = none;
@@ -42,10 +43,11 @@ at-first net network arrivals history actors boards world none new blank second 
     };
     second = second ∙ zero-times net.run.step;
     stands = stands (arriving_of arrivals) (shown_by net (λ r n. no_commitment));
+    planned = unplanned;
   };
   all = new.all;
   fresh = λ later n most. refl;
-  rests = λ n d below. new-rest net (λ r m. []) (λ r m. no_commitment) actors (length net.node_names) n d new below;
+  rests = λ n d below. new-rest net (λ r m. no_commitment) actors (length net.node_names) n d new below;
 }
   where
     there : (link t : ℕ) → (link_at net link).to ≡ Some t → link < length net.link_names

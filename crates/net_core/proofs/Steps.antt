@@ -14,11 +14,12 @@ use Rattle.histories.specs.Steps.{board_steps}
 use Rattle.histories.specs.declared.steps.BoardStep.TheVariants as steps
 use Rattle.histories.proofs.Counts.{count-append, count-else, count-one}
 use Rattle.histories.proofs.StepLaws.{step-count, steps-beyond}
-use Rattle.intersection_actor.specs.Acting.{Acting, reading, tells_from, with_heard}
+use Rattle.intersection_actor.specs.Acting.{Acting, reading, tells_from, with_heard, without_records}
 use Rattle.intersection_actor.specs.Commits.{Commitment, phases_of}
 use Rattle.intersection_actor.specs.Rounds.{IsCommitted, IsOf}
 use Rattle.intersection_actor.specs.declared.records.Want.{Want}
 use Rattle.intersection_actor.specs.declared.records.Want.TheVariants.{Read, Commit, Publish, Done}
+use Rattle.intersection_actor.specs.declared.records.PlanRecord.{PlanRecord}
 use Rattle.net_numbers.specs.Numbers.{Net}
 use Rattle.net_simulator.specs.Arriving.{arriving_of}
 use Rattle.net_simulator.specs.Worlds.{WorldState, Stands, standing_by}
@@ -29,7 +30,10 @@ use Rattle.runs.specs.Runs.{AllCommit, Commits, forecast_at, hearing, line_befor
 use Rattle.runs.proofs.Agree.{SameBefore}
 use Rattle.runs.proofs.Heard.{heard-ends}
 use Rattle.runs.proofs.Places.{first-small}
-use Rattle.runs.specs.Resting.{lines_of}
+use Rattle.runs.proofs.PlanLists.{plans-more}
+use Rattle.runs.specs.Ending.{records_in}
+use Rattle.runs.specs.Resting.{Rests, lines_of}
+use Rattle.intersection_actor.proofs.RoundLaws.{of-without}
 use Rattle.runs.proofs.Resting.{before-shows, stands-same}
 use Rattle.net_core.specs.Acts.{HasTold, Settles}
 use Rattle.net_core.specs.States.{AllDone, Between, Hears, InRound, IsRunning, Listens, Plays, Tells, telling_first}
@@ -82,7 +86,7 @@ told-step net n c past inside =
     get_or-append_right (map steps.Read (heard_links net n)) (map steps.Publish (told_links net n)) (length (heard_links net n)) c (steps.Read 0) reads past
     ∙ get_or-map steps.Publish (told_links net n) (c - length (heard_links net n)) 0 (steps.Read 0) inside
 
-module _ (net : Net) (network : IsNetwork net) (arrivals : Amounts) (history : List ℕ) (round : ℕ) (actors : List Acting) (boards : List Board) (world : WorldState) (i : InRound net arrivals history round actors boards world) where
+module _ (net : Net) (network : IsNetwork net) (arrivals : Amounts) (history : List ℕ) (round : ℕ) (actors : List Acting) (boards : List Board) (world : WorldState) (plans : List PlanRecord) (i : InRound net arrivals history round actors boards world plans) where
   abbrev pub way : Begun net network round history
   way = record { early = i.early; part = i.part; whole = i.whole; rounds_done = i.rounds_done; within = i.within; most = (let less = i.below in omega arith); over = λ e. absurd (let less = i.below in omega arith) }
 
@@ -134,8 +138,8 @@ module _ (net : Net) (network : IsNetwork net) (arrivals : Amounts) (history : L
       small : c < length (board_steps net n)
       small = first-small net n c x.more
 
-      running : IsRunning net arrivals seen i.made (history ++ n ∷ []) round boards world
-      running = read-on net network arrivals i.heard i.made history round boards world way i.running n c refl x.more
+      running : IsRunning net arrivals seen i.made (history ++ n ∷ []) round boards world plans
+      running = read-on net network arrivals i.heard i.made history round boards world plans way i.running n c refl x.more
 
       fresh-more : (later node : ℕ) → round < later → seen later node ≡ []
       fresh-more later node more = put-round i.heard round n (i.heard round n ++ h ∷ []) later node (λ e. omega arith) ∙ i.fresh later node more
@@ -145,13 +149,13 @@ module _ (net : Net) (network : IsNetwork net) (arrivals : Amounts) (history : L
       others made before same new k d other inside =
           subst (Plays net arrivals seen made round (count k (i.part ++ n ∷ [])) k) (at-other new k d other)
           (subst (λ z. Plays net arrivals seen made round z k (get_or actors k d)) (sym (other-more k other))
-          (plays-moved net network arrivals i.heard seen i.made made round k inside before (λ s most. sym (put-node i.heard round n (i.heard round n ++ h ∷ []) s k other)) (λ s most. same s k other) (count k i.part) (get_or actors k d) (i.plays k d inside)))
+          (plays-moved net network arrivals i.heard seen i.made made round k inside before (sym (put-node i.heard round n (i.heard round n ++ h ∷ []) round k other)) (same round k other) (count k i.part) (get_or actors k d) (i.plays k d inside)))
 
       listens : Listens net arrivals seen i.made round (c + 1) n (with_heard h old)
       listens = took net network arrivals i.heard i.made round n below c old h x.listens
 
-      built : (new : Acting) (made : ℕ → ℕ → Commitment) → SameBefore net network (entering arrivals) i.made made round → ((s k : ℕ) → (k ≡ n → ⊥) → i.made s k ≡ made s k) → IsRunning net arrivals seen made (history ++ n ∷ []) round boards world
-          → Plays net arrivals seen made round (c + 1) n new → InRound net arrivals (history ++ n ∷ []) round (set actors n new) boards world
+      built : (new : Acting) (made : ℕ → ℕ → Commitment) → SameBefore net network (entering arrivals) i.made made round → ((s k : ℕ) → (k ≡ n → ⊥) → i.made s k ≡ made s k) → IsRunning net arrivals seen made (history ++ n ∷ []) round boards world plans
+          → Plays net arrivals seen made round (c + 1) n new → InRound net arrivals (history ++ n ∷ []) round (set actors n new) boards world plans
       built new made before same runs own = record {
         heard = seen;
         made = made;
@@ -171,13 +175,13 @@ module _ (net : Net) (network : IsNetwork net) (arrivals : Amounts) (history : L
         ];
       }
 
-      read-settled : (new : Acting) → IsOf net new → Settles net (with_heard h old).want (with_heard h old) new → InRound net arrivals (history ++ n ∷ []) round (set actors n new) boards world
+      read-settled : (new : Acting) → IsOf net new → Settles net (with_heard h old).want (with_heard h old) new → InRound net arrivals (history ++ n ∷ []) round (set actors n new) boards world plans
       read-settled new of_new settles = by (drop (c + 1) (heard_links net n)) refl
         where
           want : (with_heard h old).want ≡ reading (drop (c + 1) (heard_links net n))
           want = listens.want
 
-          by : (L : List ℕ) → drop (c + 1) (heard_links net n) ≡ L → InRound net arrivals (history ++ n ∷ []) round (set actors n new) boards world
+          by : (L : List ℕ) → drop (c + 1) (heard_links net n) ≡ L → InRound net arrivals (history ++ n ∷ []) round (set actors n new) boards world plans
           by [] e =
               let more = x.more in
               let long : length (heard_links net n) ≡ c + 1 = (let z = length-drop (c + 1) (heard_links net n) in omega (arith, ap length e)) in
@@ -187,7 +191,7 @@ module _ (net : Net) (network : IsNetwork net) (arrivals : Amounts) (history : L
               built new made
               (λ s m less inside. sym (put-round i.made round n k.made s m (λ e. omega arith)))
               (λ s m other. sym (put-node i.made round n k.made s m other))
-              (commit-on net network arrivals seen i.made (history ++ n ∷ []) round boards world (way-more small) running n (omega (arith, own-more)) k.made)
+              (commit-on net network arrivals seen i.made (history ++ n ∷ []) round boards world plans (way-more small) running n (omega (arith, own-more)) k.made)
               (subst (λ z. Plays net arrivals seen made round z n new) long
               (commits-on net network arrivals seen i.made round n below (with_heard h old) new (subst (λ z. Listens net arrivals seen i.made round z n (with_heard h old)) (sym long) listens) k both.1 of_new))
           by (l ∷ L) e =
@@ -198,7 +202,7 @@ module _ (net : Net) (network : IsNetwork net) (arrivals : Amounts) (history : L
 
     pub read-next : (l : ℕ) (b : Board) (new : Acting) → old.want ≡ Read l → ((d : Board) → get_or boards l d ≡ b) → IsOf net new
         → Settles net (with_heard (record { link = l; version = b.version; forecast = b.forecast }) old).want (with_heard (record { link = l; version = b.version; forecast = b.forecast }) old) new
-        → InRound net arrivals (history ++ n ∷ []) round (set actors n new) boards world
+        → InRound net arrivals (history ++ n ∷ []) round (set actors n new) boards world plans
     unfolding is_read link_in
     read-next l b new want board of_new settles = elim plays.stage [
       | inr x ↦ absurd (not-read (drop (c - length (heard_links net n)) (told_links net n)) (sym x.want ∙ want))
@@ -221,7 +225,7 @@ module _ (net : Net) (network : IsNetwork net) (arrivals : Amounts) (history : L
     pub tell-next : (l : ℕ) (b nb : Board) (new : Acting) → old.want ≡ Publish l → ((d : Board) → get_or boards l d ≡ b) → IsOf net new
         → HasTold (tells_from net old.node (l + 1)) old new → nb.version ≡ b.version + 1
         → nb.forecast ≡ told_forecast net l old.sensed.now (departures old.window.lists (counts_of old.window.lists) old.phases old.served)
-        → InRound net arrivals (history ++ n ∷ []) round (set actors n new) (set boards l nb) world
+        → InRound net arrivals (history ++ n ∷ []) round (set actors n new) (set boards l nb) world plans
     unfolding is_publish link_in
     tell-next l b nb new want board of_new has version forecast = elim plays.stage [
       | inl x ↦ absurd (apart (ap is_publish (sym want ∙ x.listens.want ∙ reading-next (heard_links net n) c x.more)))
@@ -244,8 +248,8 @@ module _ (net : Net) (network : IsNetwork net) (arrivals : Amounts) (history : L
             ∙ ap (λ (w : Window). told_forecast net L (round * net.run.step) (departures w.lists (counts_of w.lists) old.phases old.served)) of.window
             ∙ ap (λ (z : List ℕ). told_forecast net L (round * net.run.step) (departures (i.made round n).window.lists (counts_of (i.made round n).window.lists) z old.served)) of.phases
             ∙ ap (λ (z : List Served). told_forecast net L (round * net.run.step) (departures (i.made round n).window.lists (counts_of (i.made round n).window.lists) (phases_of (i.made round n).answer) z)) of.served in
-            let runs : IsRunning net arrivals i.heard i.made (history ++ n ∷ []) round (set boards L nb) world =
-            tell-on net network arrivals i.heard i.made history round boards world way i.running n c L ends.hearer refl small ends.from ends.to (let e = network.outline.road_count in let z = ends.exists in omega arith) (told-step net n c enough inside) nb (version ∙ ap (λ z. z + 1) old_version) told in
+            let runs : IsRunning net arrivals i.heard i.made (history ++ n ∷ []) round (set boards L nb) world plans =
+            tell-on net network arrivals i.heard i.made history round boards world plans way i.running n c L ends.hearer refl small ends.from ends.to (let e = network.outline.road_count in let z = ends.exists in omega arith) (told-step net n c enough inside) nb (version ∙ ap (λ z. z + 1) old_version) told in
             let next : Plays net arrivals i.heard i.made round (c + 1) n new = record {
               node_is = told-node (tells_from net old.node (l + 1)) old new has ∙ plays.node_is;
               of = of_new;
@@ -260,7 +264,7 @@ module _ (net : Net) (network : IsNetwork net) (arrivals : Amounts) (history : L
               rounds_done = i.rounds_done;
               within = within-more small;
               below = i.below;
-              running = subst (λ z. IsRunning net arrivals i.heard i.made (history ++ n ∷ []) round (set boards z nb) world) same runs;
+              running = subst (λ z. IsRunning net arrivals i.heard i.made (history ++ n ∷ []) round (set boards z nb) world plans) same runs;
               all = length-set actors n new ∙ i.all;
               fresh = i.fresh;
               plays = λ k d within. elim (cases_eq k n) [
@@ -324,7 +328,8 @@ module _ (net : Net) (network : IsNetwork net) (arrivals : Amounts) (history : L
         earlier x less = (let e : (round + 1) * net.run.step ≡ round * net.run.step + net.run.step = omega arith in omega (arith, e, i.running.second))
 
     -- so the next round can begin
-    pub round-over : (moved : WorldState) (d : Acting) → moved.second ≡ world.second + net.run.step → Stands net (arriving_of arrivals) (standing_by (lines_of actors)) moved → Between net arrivals history (round + 1) actors boards moved
+    pub round-over : (moved : WorldState) (d : Acting) → moved.second ≡ world.second + net.run.step → Stands net (arriving_of arrivals) (standing_by (lines_of actors)) moved
+        → Between net arrivals history (round + 1) (map without_records actors) boards moved (plans ++ records_in actors)
     round-over moved d second stands =
         let now : moved.second ≡ (round + 1) * net.run.step = (let e : (round + 1) * net.run.step ≡ round * net.run.step + net.run.step = omega arith in omega (arith, e, second, i.running.second)) in
         let one : suc round ≡ round + 1 = omega arith in
@@ -339,17 +344,18 @@ module _ (net : Net) (network : IsNetwork net) (arrivals : Amounts) (history : L
             boards_are = i.running.boards_are;
             second = now;
             stands = stands-same net network (arriving_of arrivals) (standing_by (lines_of actors)) (shown_by net i.made) moved (λ x n less below. lines-show d x n (omega arith) below) stands;
+            planned = ap (λ (l : List PlanRecord). l ++ records_in actors) i.running.planned ∙ plans-more net i.heard i.made round actors i.all (λ n e below. (over-tells n e below).records);
           };
-          all = i.all;
+          all = length-map actors without_records ∙ i.all;
           fresh = λ later node more. i.fresh later node (omega arith);
           rests = λ n d below.
               let x = over-tells n d below in
-              record {
+              subst (Rests net i.made (round + 1) n) (sym (get_or-map without_records actors n d d (omega (arith, i.all)))) (record {
                 node_is = (i.plays n d below).node_is;
-                of = (i.plays n d below).of;
+                of = of-without net (get_or actors n d) (i.plays n d below).of;
                 want = done n d (omega (arith, i.all));
                 line = x.line ∙ ap (λ r. line_before net i.made r n) one;
                 ahead = x.ahead;
-                records = x.records;
-              };
+                records = refl;
+              });
         }

@@ -6,19 +6,20 @@ use Rattle.control_flow.specs.Greens.{end_of}
 use Rattle.histories.specs.Histories.{count, version_at, HasRounds}
 use Rattle.histories.specs.Steps.{board_steps}
 use Rattle.intersection_actor.specs.Acting.{Acting, reading}
-use Rattle.intersection_actor.specs.Commits.{Commitment, phases_of}
+use Rattle.intersection_actor.specs.Commits.{Commitment, phases_of, record_of}
 use Rattle.intersection_actor.specs.Rounds.{IsOf}
 use Rattle.intersection_actor.specs.declared.records.Want.{Want}
 use Rattle.intersection_actor.specs.declared.records.Want.TheVariants.{Publish, Done}
+use Rattle.intersection_actor.specs.declared.records.PlanRecord.{PlanRecord}
 use Rattle.net_numbers.specs.Numbers.{Net}
 use Rattle.net_numbers.specs.Outline.{link_at}
 use Rattle.net_simulator.specs.Arriving.{arriving_of}
 use Rattle.net_simulator.specs.Worlds.{WorldState, Stands}
 use Rattle.road_net.specs.Network.{heard_links, told_links}
-use Rattle.runs.specs.Runs.{AllCommit, Commits, HearAlong, forecast_at, line_before, sensed_in, shown_by}
+use Rattle.runs.specs.Runs.{AllCommit, Commits, HearAlong, forecast_at, line_before, plans_of, sensed_in, shown_by}
 use Rattle.runs.specs.Ending.{HasCapacity}
 use Rattle.runs.specs.declared.run_records.EmptyRecord.{EmptyRecord}
-use Rattle.runs.specs.Resting.{Rests, records_of}
+use Rattle.runs.specs.Resting.{Rests}
 use Rattle.net_core.specs.declared.parts.Board.{Board}
 use Rattle.net_core.specs.declared.parts.Parts.{Parts}
 
@@ -37,7 +38,7 @@ pub record Listens (net : Net) (arrivals : Amounts) (heard : ℕ → ℕ → Lis
   pub left : a.left ≡ drop done (heard_links net node)
   pub want : a.want ≡ reading (drop done (heard_links net node))
   pub line : a.line ≡ line_before net made round node
-  pub records : a.records ≡ records_of heard made node round
+  pub records : a.records ≡ []
 
 -- It hears: readings are left to it.
 pub record Hears (net : Net) (arrivals : Amounts) (heard : ℕ → ℕ → List Heard) (made : ℕ → ℕ → Commitment) (round done node : ℕ) (a : Acting) : Type 0 where
@@ -59,7 +60,7 @@ pub record Tells (net : Net) (arrivals : Amounts) (heard : ℕ → ℕ → List 
   pub want : a.want ≡ telling_first (drop (done - length (heard_links net node)) (told_links net node))
   pub line : a.line ≡ (made round node).line
   pub ahead : (round + 1) * net.run.step < end_of a.line
-  pub records : a.records ≡ records_of heard made node (round + 1)
+  pub records : a.records ≡ record_of node round (heard round node) (made round node) ∷ []
 
 -- how far a node is in a round
 pub record Plays (net : Net) (arrivals : Amounts) (heard : ℕ → ℕ → List Heard) (made : ℕ → ℕ → Commitment) (round done node : ℕ) (a : Acting) : Type 0 where
@@ -74,16 +75,17 @@ pub record HasBoards (net : Net) (made : ℕ → ℕ → Commitment) (history : 
   pub forecasts : (link from to : ℕ) (d : Board) → (link_at net link).from ≡ Some from → (link_at net link).to ≡ Some to → (slice_index_or boards link d).forecast ≡ forecast_at net made link (version_at (board_steps net) history link (length history))
 
 -- What holds of a run whose first rounds are done, whatever its nodes do in the next: their commits, what was heard along the
--- history, the boards, and the world at the begin of the next round.
-pub record IsRunning (net : Net) (arrivals : Amounts) (heard : ℕ → ℕ → List Heard) (made : ℕ → ℕ → Commitment) (history : List ℕ) (done : ℕ) (boards : List Board) (world : WorldState) : Type 0 where
+-- history, the boards, the world at the begin of the next round, and the plans of the rounds that are done.
+pub record IsRunning (net : Net) (arrivals : Amounts) (heard : ℕ → ℕ → List Heard) (made : ℕ → ℕ → Commitment) (history : List ℕ) (done : ℕ) (boards : List Board) (world : WorldState) (plans : List PlanRecord) : Type 0 where
   pub commits : AllCommit net (entering arrivals) heard made done
   pub along : HearAlong net history heard made
   pub boards_are : HasBoards net made history boards
   pub second : world.second ≡ done * net.run.step
   pub stands : Stands net (arriving_of arrivals) (shown_by net made) world
+  pub planned : plans ≡ plans_of net heard made done
 
 -- Within a round: `round` rounds are done, and of the next one a part; each node has played as much of it as it stands in it.
-pub record InRound (net : Net) (arrivals : Amounts) (history : List ℕ) (round : ℕ) (actors : List Acting) (boards : List Board) (world : WorldState) : Type 0 where
+pub record InRound (net : Net) (arrivals : Amounts) (history : List ℕ) (round : ℕ) (actors : List Acting) (boards : List Board) (world : WorldState) (plans : List PlanRecord) : Type 0 where
   pub heard : ℕ → ℕ → List Heard
   pub made : ℕ → ℕ → Commitment
   pub early : List ℕ
@@ -92,33 +94,33 @@ pub record InRound (net : Net) (arrivals : Amounts) (history : List ℕ) (round 
   pub rounds_done : HasRounds (board_steps net) round early
   pub within : (node : ℕ) → count node part ≤ length (board_steps net node)
   pub below : round < net.run.rounds
-  pub running : IsRunning net arrivals heard made history round boards world
+  pub running : IsRunning net arrivals heard made history round boards world plans
   pub all : length actors ≡ length net.node_names
   pub fresh : (later node : ℕ) → round < later → heard later node ≡ []
   pub plays : (node : ℕ) (d : Acting) → node < length net.node_names → Plays net arrivals heard made round (count node part) node (slice_index_or actors node d)
 
 -- Between two rounds: `round` are done, and each node rests.
-pub record Between (net : Net) (arrivals : Amounts) (history : List ℕ) (round : ℕ) (actors : List Acting) (boards : List Board) (world : WorldState) : Type 0 where
+pub record Between (net : Net) (arrivals : Amounts) (history : List ℕ) (round : ℕ) (actors : List Acting) (boards : List Board) (world : WorldState) (plans : List PlanRecord) : Type 0 where
   pub heard : ℕ → ℕ → List Heard
   pub made : ℕ → ℕ → Commitment
   pub rounds_done : HasRounds (board_steps net) round history
   pub most : round ≤ net.run.rounds
-  pub running : IsRunning net arrivals heard made history round boards world
+  pub running : IsRunning net arrivals heard made history round boards world plans
   pub all : length actors ≡ length net.node_names
   pub fresh : (later node : ℕ) → round ≤ later → heard later node ≡ []
-  pub rests : (node : ℕ) (d : Acting) → node < length net.node_names → Rests net heard made round node (slice_index_or actors node d)
+  pub rests : (node : ℕ) (d : Acting) → node < length net.node_names → Rests net made round node (slice_index_or actors node d)
 
 -- A round begins: the nodes before this one have begun it, and the others rest.
-pub record Begins (net : Net) (arrivals : Amounts) (history : List ℕ) (round : ℕ) (actors : List Acting) (boards : List Board) (world : WorldState) (first : ℕ) : Type 0 where
+pub record Begins (net : Net) (arrivals : Amounts) (history : List ℕ) (round : ℕ) (actors : List Acting) (boards : List Board) (world : WorldState) (plans : List PlanRecord) (first : ℕ) : Type 0 where
   pub heard : ℕ → ℕ → List Heard
   pub made : ℕ → ℕ → Commitment
   pub rounds_done : HasRounds (board_steps net) round history
   pub below : round < net.run.rounds
-  pub running : IsRunning net arrivals heard made history round boards world
+  pub running : IsRunning net arrivals heard made history round boards world plans
   pub all : length actors ≡ length net.node_names
   pub fresh : (later node : ℕ) → round ≤ later → heard later node ≡ []
   pub plays : (node : ℕ) (d : Acting) → node < first → node < length net.node_names → Plays net arrivals heard made round 0 node (slice_index_or actors node d)
-  pub rests : (node : ℕ) (d : Acting) → first ≤ node → node < length net.node_names → Rests net heard made round node (slice_index_or actors node d)
+  pub rests : (node : ℕ) (d : Acting) → first ≤ node → node < length net.node_names → Rests net made round node (slice_index_or actors node d)
 
 -- some node wants something
 pub record IsOpen (actors : List Acting) : Type 0 where
@@ -127,9 +129,9 @@ pub record IsOpen (actors : List Acting) : Type 0 where
   pub wants : (d : Acting) → (slice_index_or actors node d).want ≢ Done
 
 -- A core that is not spent is in a round in which some node wants something, or after the last round.
-abbrev pub Goes : Net → Amounts → List ℕ → ℕ → List Acting → List Board → WorldState → Type 0
-Goes net arrivals history round actors boards world =
-    (InRound net arrivals history round actors boards world × IsOpen actors) ⊎ (Between net arrivals history round actors boards world × (round ≡ net.run.rounds))
+abbrev pub Goes : Net → Amounts → List ℕ → ℕ → List Acting → List Board → WorldState → List PlanRecord → Type 0
+Goes net arrivals history round actors boards world plans =
+    (InRound net arrivals history round actors boards world plans × IsOpen actors) ⊎ (Between net arrivals history round actors boards world plans × (round ≡ net.run.rounds))
 
 -- each node is done
 abbrev pub AllDone : List Acting → Type 0
@@ -137,21 +139,21 @@ AllDone actors = (node : ℕ) (d : Acting) → node < length actors → (slice_i
 
 -- what is so of the parts of a core: within a round, between two, and as one begins
 abbrev pub AreInRound : Net → Amounts → Parts → Type 0
-AreInRound net arrivals p = InRound net arrivals p.history.items p.round p.actors.all.items p.boards.items p.world
+AreInRound net arrivals p = InRound net arrivals p.history.items p.round p.actors.all.items p.boards.items p.world p.plans.items
 
 abbrev pub AreBetween : Net → Amounts → Parts → Type 0
-AreBetween net arrivals p = Between net arrivals p.history.items p.round p.actors.all.items p.boards.items p.world
+AreBetween net arrivals p = Between net arrivals p.history.items p.round p.actors.all.items p.boards.items p.world p.plans.items
 
 abbrev pub AreBeginning : Net → Amounts → Parts → ℕ → Type 0
-AreBeginning net arrivals p first = Begins net arrivals p.history.items p.round p.actors.all.items p.boards.items p.world first
+AreBeginning net arrivals p first = Begins net arrivals p.history.items p.round p.actors.all.items p.boards.items p.world p.plans.items first
 
 -- within a round after this history
 abbrev pub AreAfter : Net → Amounts → List ℕ → Parts → Type 0
-AreAfter net arrivals history p = InRound net arrivals history p.round p.actors.all.items p.boards.items p.world
+AreAfter net arrivals history p = InRound net arrivals history p.round p.actors.all.items p.boards.items p.world p.plans.items
 
 -- and between two steps of a core that is not spent
 abbrev pub AreGoing : Net → Amounts → Parts → Type 0
-AreGoing net arrivals p = Goes net arrivals p.history.items p.round p.actors.all.items p.boards.items p.world
+AreGoing net arrivals p = Goes net arrivals p.history.items p.round p.actors.all.items p.boards.items p.world p.plans.items
 
 -- a node wants this, or something
 abbrev pub Wants : Parts → ℕ → Want → Type 0
@@ -177,7 +179,7 @@ pub record IsSound (net : Net) (arrivals : Amounts) (p : Parts) (spent : Bool) :
   pub enter : AreArrivals net arrivals
   pub going : spent ≡ false → AreGoing net arrivals p
 
--- and with the lists for its record
+-- and with the lists for the timelines and totals of its record
 pub record IsReady (net : Net) (arrivals : Amounts) (p : Parts) (spent : Bool) (empty : EmptyRecord) : Type 0 where
   pub sound : IsSound net arrivals p spent
   pub capacity : HasCapacity net empty

@@ -21,7 +21,7 @@ pub struct Core<'a> {
     net: &'a Network,
     arrivals: &'a Arrivals,
     parts: Parts,
-    /// The lists for the record of the run.
+    /// The lists for the timelines and the totals of the run.
     empty: EmptyRecord,
     /// Whether an earlier step ran out of memory.
     spent: bool,
@@ -189,8 +189,13 @@ impl<'a> Core<'a> {
             empty,
             ..
         } = self;
-        let Parts { actors, world, .. } = parts;
+        let Parts {
+            actors,
+            world,
+            plans,
+            ..
+        } = parts;
         let Actors { all } = actors;
-        record_of(net, all, &world, empty)
+        record_of(net, plans, all, &world, empty)
     }
 }

@@ -7,7 +7,7 @@ use crate::parts::{Board, Parts};
 use board_model::Forecast;
 use net_simulator::World;
 use road_net::Network;
-use runs::actors_of;
+use runs::{actors_of, empty_plans};
 use std::alloc::{AllocError, Global};
 
 /// The parts of a core before the first round.
@@ -20,12 +20,14 @@ pub(crate) fn parts_of(alloc: Global, net: &Network) -> Result<Parts, AllocError
     let actors = actors_of(alloc, net)?;
     let boards = boards_of(alloc, net)?;
     let world = World::new(alloc, net)?;
+    let plans = empty_plans(alloc, net)?;
     Ok(Parts {
         history: Vec::new(alloc),
         round: 0,
         actors,
         boards,
         world,
+        plans,
     })
 }
 

@@ -1,5 +1,6 @@
 //! What a core is made of.
 use board_model::Forecast;
+use intersection_actor::PlanRecord;
 use net_simulator::World;
 use runs::Actors;
 
@@ -20,4 +21,6 @@ pub(crate) struct Parts {
     pub(crate) actors: Actors,
     pub(crate) boards: Vec<Board>,
     pub(crate) world: World,
+    /// The plans of the rounds that are done.
+    pub(crate) plans: Vec<PlanRecord>,
 }

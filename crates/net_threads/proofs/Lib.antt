@@ -2,4 +2,3 @@ mod EndLaws
 pub mod Passes
 pub mod Rounding
 pub mod TaskLists
-pub mod Trades

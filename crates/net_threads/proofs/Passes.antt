@@ -8,7 +8,7 @@ use Rattle.node_rounds.proofs.Passes.{at-most-highest}
 use Rattle.net_threads.specs.Tasks.{actors_in, pass_of, passes_in}
 use Rattle.net_threads.specs.declared.node_tasks.NodeTask.{NodeTask}
 use Rattle.net_threads.proofs.TaskLists.{pass-at, pass-set, same-count}
-use Rattle.net_threads.proofs.Trades.{mixed, mixed-get, mixed-step}
+use Rattle.runs.proofs.Mixed.{mixed, mixed-get, mixed-step}
 
 -- d is the task at place k of `now`, and `old` are the tasks before the first change; end is their number
 module _ {P S G Ready : Type 0} (old now : List (NodeTask P S G Ready)) (k end' : ℕ) (d : NodeTask P S G Ready) (at : d ≡ get_or now k d) (actors : actors_in now ≡ actors_in old) (less : k < end') (count : end' ≡ length old) where

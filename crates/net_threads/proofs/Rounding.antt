@@ -2,24 +2,16 @@
 use Rattle.std.proofs.Common.{◌≡◌, ℕ, ◌<◌, List, All, Result, Ok, Err, OnOk, IsOk, length, get_or, refl, sym, subst, ◌∙◌, arith}
 use Rattle.std.proofs.lemmas.Bool.{false≢true}
 use Rattle.std.proofs.lemmas.List.{get_or-map, length-map}
-use Rattle.arrivals.specs.Amounts.{Amounts}
 use Rattle.board_rule.specs.Passes.{BoardsView, PassView}
 use Rattle.intersection_actor.specs.Acting.{Acting}
 use Rattle.net_numbers.specs.Numbers.{Net}
 use Rattle.net_simulator.specs.Worlds.{WorldState}
 use Rattle.node_rounds.specs.Nodes.{CanGoOn, CanPlay, HasPlayed, HasPlayedOn}
-use Rattle.node_rounds.specs.Rounds.{Between, CanAllPlay, HaveAllPlayed}
+use Rattle.node_rounds.specs.Rounds.{CanAllPlay, HaveAllPlayed}
 use Rattle.task_pool.specs.Batch.{AreDone}
 use Rattle.net_threads.specs.Tasks.{AreEach, AreTasksOf, CanBeginTask, CanPlayTask, HasBegunTask, HasEnded, HasPlayedRound, HasPlayedTask, actor_of, actors_in, pass_of, passes_in}
 use Rattle.net_threads.specs.declared.node_tasks.NodeTask.{NodeTask}
 use Rattle.net_threads.proofs.TaskLists.{setting_of, some-of}
-
--- what holds after the last round of one network and the same boards, by other names for them
-pub last-between : {net out first : Net} {arrivals out_arrivals : Amounts} {boards out_boards : BoardsView} {passes out_passes : List PassView} {actors out_actors : List Acting} (world : WorldState)
-    → out ≡ net → first ≡ net → out_arrivals ≡ arrivals → out_boards ≡ boards → out_passes ≡ passes → out_actors ≡ actors
-    → Between out out_arrivals out_boards first.run.rounds out_passes out_actors world → Between net arrivals boards net.run.rounds passes actors world
-last-between world e f a b p n is =
-    subst (λ (z : Net × Amounts × BoardsView × Net × List PassView × List Acting). Between z.0 z.1 z.2 z.3.run.rounds z.4 z.5 world) (λ i. (e i, a i, b i, f i, p i, n i)) is
 
 pub on-ok : {X E : Type 0} (r : Result X E) (A : Type 0) → OnOk r A → IsOk r → A
 on-ok (Ok x) A a ok = a

@@ -3,7 +3,7 @@ ghost use Rattle.std.specs.Prelude.{◌≡◌};
 
 use crate::node_tasks::{Node, NodeTask};
 use board_model::Gate;
-use intersection_actor::Actor;
+use intersection_actor::{Actor, PlanRecord};
 use link_boards::{Boards, LinkSlot, Meeting, Pass};
 use net_simulator::World;
 use schedule_meaning::Planner;
@@ -24,9 +24,11 @@ pub struct NodeTasks<'a, P, S: LinkSlot, G> {
 }
 
 impl<'a, P: Planner + Drop, S: LinkSlot, G: Gate> NodeTasks<'a, P, S, G> {
-    ghost use Rattle.std.specs.Prelude.{◌≡◌, ◌<◌, ◌≤◌, [], All, IsOk, OnOk, length, map, vec_capacity, vec_len};
+    ghost use Rattle.std.specs.Prelude.{◌≡◌, ◌<◌, ◌≤◌, ◌++◌, [], All, IsOk, OnOk, length, map, vec_capacity, vec_len};
     ghost use Rattle.board_rule.specs.Passes.{highest, raised};
+    ghost use Rattle.intersection_actor.specs.Acting.{without_records};
     ghost use Rattle.node_rounds.specs.Rounds.{AreSamePasses};
+    ghost use Rattle.runs.specs.Ending.{records_in};
     ghost use Rattle.net_threads.specs.Tasks.{AreEach, CanBeginTask, CanPlayTask, HasBegunTask, HasEnded, HasPlayedRound, actors_in, pass_of, passes_in, settings_in};
 
     /// All nodes begin a round.
@@ -131,6 +133,21 @@ impl<'a, P: Planner + Drop, S: LinkSlot, G: Gate> NodeTasks<'a, P, S, G> {
         for k in 0..self.all.len() {
             self.all[k].hear(boards, &mut meeting);
         }
+    }
+
+    /// Moves what the nodes have planned to the end of the plans of a run, by node: they keep none.
+    ///
+    /// `Err`: out of memory; which nodes keep their plans is then open.
+    pub(crate) fn move_records(&mut self, plans: &mut Vec<PlanRecord>) -> Result<(), AllocError>
+        ensures passes { passes_in self.new.all.items ≡ passes_in self.old.all.items }
+        ensures settings { settings_in self.new.all.items ≡ settings_in self.old.all.items }
+        ensures actors { OnOk result (actors_in self.new.all.items ≡ map without_records (actors_in self.old.all.items)) }
+        ensures plans { OnOk result (plans.new.items ≡ plans.old.items ++ records_in (actors_in self.old.all.items)) }
+    {
+        for k in 0..self.all.len() {
+            self.all[k].move_records(plans)?;
+        }
+        Ok(())
     }
 
     /// The nodes take these passes for their own, which take the places of these.

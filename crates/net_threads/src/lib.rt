@@ -1,5 +1,5 @@
 //! The rounds of a network in threads: each node's round is a task of its own, which whichever thread is free does, with the node's own
-//! pass at the shared boards; after each round the passes meet, and the world moves.
+//! pass at the shared boards; after each round the passes meet, the world moves, and the plan records go to the plans of the run.
 #![tactic(auto)]
 
 mod all_nodes;

@@ -19,7 +19,7 @@ use link_boards::{LinkSlot, idle_passes};
 use net_simulator::World;
 use plan_boards::{Boards, Pass};
 use road_net::Network;
-use runs::{Actors, RunRecord, actors_of, empty_record, law_of_runs, record_of};
+use runs::{Actors, RunRecord, actors_of, empty_plans, empty_record, law_of_runs, record_of};
 use schedule_meaning::Planner;
 use snap_boards::{SnapBoards, SnapPass};
 use std::alloc::{AllocError, Global};
@@ -55,9 +55,11 @@ fn rounds_of<'a, P: Planner + Drop, S: LinkSlot, G: Gate>(
     ensures stands { (arriving : ℕ → ℕ → ℕ) (shown : ℕ → ℕ → Option (ℕ × ℕ))
         → IfOk result (λ r. Stands net.now arriving shown r.world) }
     ensures of { IfOk result (λ r. AreTasksOf net.now boards.now r.nodes.all.items) }
+    ensures plans { IfOk result (λ r. r.plans.items ≡ []) }
 {
     let Actors { all: actors } = actors_of(alloc, net)?;
     let world = World::new(alloc, net)?;
+    let plans = empty_plans(alloc, net)?;
     let passes = idle_passes(alloc, net.nodes())?;
     let all = node_tasks(alloc, net, boards, gate, actors, planners, passes)?;
     Ok(Rounds {
@@ -67,6 +69,7 @@ fn rounds_of<'a, P: Planner + Drop, S: LinkSlot, G: Gate>(
         boards,
         world,
         nodes: NodeTasks { all, boards, gate },
+        plans,
     })
 }
 
@@ -110,9 +113,14 @@ fn run_in_threads<
     let (mut rounds, ended) = pool.run(rt, rounds);
     rounds.nodes.trade(passes);
     ended?;
-    let Rounds { world, nodes, .. } = rounds;
+    let Rounds {
+        world,
+        nodes,
+        plans,
+        ..
+    } = rounds;
     let actors = nodes.into_actors(list);
-    Ok(record_of(net, actors, &world, record))
+    Ok(record_of(net, plans, actors, &world, record))
 }
 
 /// The run of a network in threads. In each round every node's part is a task of its own: it reads the boards of the links on which it

@@ -1,11 +1,12 @@
 //! A node's round as a task.
-ghost use Rattle.std.specs.Prelude.{◌≡◌, max, OnOk, length};
+ghost use Rattle.std.specs.Prelude.{◌≡◌, ◌++◌, max, OnOk, length};
 ghost use Rattle.board_rule.specs.Passes.{raised};
+ghost use Rattle.intersection_actor.specs.Acting.{without_records};
 ghost use Rattle.node_rounds.specs.Nodes.{CanGoOn, HasPlayedOn, IsSamePass};
 ghost use Rattle.net_threads.specs.Tasks.{CanBeginTask, HasBegunTask, IsSameTask, actor_of, pass_of};
 
 use board_model::Gate;
-use intersection_actor::Actor;
+use intersection_actor::{Actor, PlanRecord};
 use link_boards::{Boards, LinkSlot, Meeting, Pass};
 use net_simulator::World;
 use node_rounds::{RoundSetting, begin, play};
@@ -124,6 +125,18 @@ impl<'a, P: Planner + Drop, S: LinkSlot, G: Gate> NodeTask<'a, P, S, G> {
         ensures meeting { meeting.new ≡ meeting.old }
     {
         boards.inform(meeting, &mut self.node.pass);
+    }
+
+    /// Moves what the node has planned to the end of these plans: it keeps none.
+    ///
+    /// `Err`: out of memory; all stays as it was.
+    pub(crate) fn move_records(&mut self, plans: &mut Vec<PlanRecord>) -> Result<(), AllocError>
+        ensures pass { pass_of self.new ≡ pass_of self.old }
+        ensures setting { self.new.setting ≡ self.old.setting }
+        ensures actor { OnOk result (actor_of self.new ≡ without_records (actor_of self.old)) }
+        ensures plans { OnOk result (plans.new.items ≡ plans.old.items ++ (actor_of self.old).records) }
+    {
+        self.node.actor.move_records(plans)
     }
 
     /// The node takes this pass for its own, which takes its place.

@@ -6,6 +6,7 @@ use crate::lights::move_world;
 use crate::node_tasks::NodeTask;
 use arrivals::Arrivals;
 use board_model::Gate;
+use intersection_actor::PlanRecord;
 use link_boards::{Boards, LinkSlot};
 use net_simulator::World;
 use road_net::Network;
@@ -15,7 +16,7 @@ use std::sync::Wait;
 use std::thread::Threads;
 use task_pool::{PoolJob, TaskRunner};
 
-/// The rounds of a network: its world, and the tasks of its nodes.
+/// The rounds of a network: its world, the tasks of its nodes, and the plans of the rounds that are done.
 #[derive(Drop)]
 pub struct Rounds<'a, P, S: LinkSlot, G> {
     pub(crate) alloc: Global,
@@ -24,13 +25,14 @@ pub struct Rounds<'a, P, S: LinkSlot, G> {
     pub(crate) boards: &'a Boards<S>,
     pub(crate) world: World,
     pub(crate) nodes: NodeTasks<'a, P, S, G>,
+    pub(crate) plans: Vec<PlanRecord>,
 }
 
 impl<'a, P: Planner + Drop, S: LinkSlot, G: Gate> Rounds<'a, P, S, G> {
     ghost use Rattle.std.specs.Prelude.{◌≡◌, ◌+◌, ◌<◌, OnOk, vec_len};
     ghost use Rattle.net_threads.specs.Rounds.{AreAt, AreOf};
 
-    /// One round: all nodes play it, the passes meet, and the world moves.
+    /// One round: all nodes play it, the passes meet, the world moves, and what the nodes have planned goes to the plans of the run.
     ///
     /// `Err`: out of memory.
     fn play_round<R: Threads + Wait + Sync>(
@@ -53,7 +55,7 @@ impl<'a, P: Planner + Drop, S: LinkSlot, G: Gate> Rounds<'a, P, S, G> {
         self.nodes.play(rt, self.alloc, &self.world, round, runner)?;
         self.nodes.meet(boards);
         move_world(&mut self.world, net, &self.nodes, arrivals, step);
-        Ok(())
+        self.nodes.move_records(&mut self.plans)
     }
 
     /// All rounds.

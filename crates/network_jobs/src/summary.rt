@@ -1,5 +1,5 @@
 //! The summary of a run.
-ghost use Rattle.std.specs.Prelude.{◌≡◌, ◌<◌, ◌≤◌, ◌++◌, All, IfOk, OnOk, if◌then◌else◌, length};
+ghost use Rattle.std.specs.Prelude.{◌≡◌, ◌<◌, ◌≤◌, ◌++◌, All, IfOk, OnOk, length};
 ghost use Rattle.commands.specs.Summary as summary;
 ghost use Rattle.commands.specs.Summary.{is_no_plan, planned_delay, none_count, planned_delays, summary_text, totals_line};
 ghost use Rattle.schedule_meaning.specs.Best.{IsLeast};
@@ -7,7 +7,7 @@ ghost use Rattle.switch_rules.specs.Bounds.{greatest_delay};
 
 use intersection_actor::PlanRecord;
 use net_simulator::Totals;
-use runs::{Plans, RunRecord};
+use runs::RunRecord;
 use schedule_meaning::Answer;
 use std::alloc::{AllocError, Global};
 use text_lines::push_line;
@@ -24,7 +24,7 @@ pub fn summary(
     requires least { All (λ plan. IsLeast plan.instance plan.answer) run.now.plans }
     ensures { IfOk result (λ text. text.items ≡ summary_text number side rounds run.now) }
 {
-    let plans = &run.plans;
+    let plans = run.plans.as_slice();
     let mut text = Vec::new(alloc);
     push_line(
         &mut text,
@@ -54,35 +54,31 @@ pub fn push_totals(text: &mut Vec<u8>, word: &[u8], totals: &Totals) -> Result<(
 }
 
 // How many of these plans are none.
-fn none_count(plans: &Plans) -> u64
+fn none_count(plans: &[PlanRecord]) -> u64
     ensures { result ≡ summary.none_count plans.now }
 {
-    let mut count = 0;
-    for place in 0..plans.len() {
-        count += none_of(&plans.at(place).answer);
-    }
-    count
+    plans.iter().filter(|plan| is_no_plan(&plan.answer)).count() as u64
 }
 
-// 1 for an answer that is no plan, else 0.
-fn none_of(answer: &Answer) -> u64
-    ensures { result ≡ (if is_no_plan answer.now then 1 else 0) }
+// Whether an answer is no plan.
+fn is_no_plan(answer: &Answer) -> bool
+    ensures { result ≡ is_no_plan answer.now }
 {
     match answer {
-        Answer::NoPlan => 1,
-        Answer::Plan { .. } => 0,
+        Answer::NoPlan => true,
+        Answer::Plan { .. } => false,
     }
 }
 
 // The delays of these plans together.
-fn planned_delays(plans: &Plans) -> u64
+fn planned_delays(plans: &[PlanRecord]) -> u64
     requires few { length plans.now ≤ 38400 }
     requires least { All (λ plan. IsLeast plan.instance plan.answer) plans.now }
     ensures { result ≡ summary.planned_delays plans.now }
 {
     let mut delays = 0;
-    for place in 0..plans.len() {
-        delays += planned_delay(plans.at(place));
+    for plan in plans {
+        delays += planned_delay(plan);
     }
     delays
 }

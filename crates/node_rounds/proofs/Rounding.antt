@@ -4,7 +4,6 @@ use Rattle.std.specs.Prelude.{◌⊎◌}
 use Rattle.std.proofs.lemmas.Bool.{cases_lt}
 use Rattle.std.proofs.lemmas.List.{get_or_default, get_or-map, length-map}
 use Rattle.std.proofs.lemmas.List.Elements.{All-nil, All-weaker}
-use Rattle.std.proofs.lemmas.List.FromFn.{map-range_with_len_more}
 use Rattle.std.proofs.lemmas.Nat.{div_below}
 use Rattle.std.proofs.Math.Nat.{mul-le-mul_right}
 use Rattle.arrivals.specs.Amounts.{Amounts, AreArrivals, entering}
@@ -17,7 +16,7 @@ use Rattle.control_flow.specs.declared.greens.Green.{Green}
 use Rattle.histories.specs.Steps.{board_steps}
 use Rattle.histories.proofs.Lists.{pairs-nil}
 use Rattle.histories.proofs.StepLaws.{steps-beyond}
-use Rattle.intersection_actor.specs.Acting.{Acting}
+use Rattle.intersection_actor.specs.Acting.{Acting, without_records}
 use Rattle.intersection_actor.specs.Commits.{Commitment, IsCommit, record_of}
 use Rattle.intersection_actor.specs.declared.records.PlanRecord.{PlanRecord}
 use Rattle.histories.specs.Calls.{IsRising, step_of}
@@ -30,12 +29,15 @@ use Rattle.node_rounds.specs.Nodes.{IsRoundOf, NodeRound}
 use Rattle.node_rounds.specs.Told.{AreCallsOf}
 use Rattle.road_net.specs.Network.{IsNetwork}
 use Rattle.road_net.specs.declared.senses.Sensed.{Sensed}
-use Rattle.runs.specs.Runs.{AllCommit, Commits, line_before, sensed_in, shown_by}
+use Rattle.runs.specs.Runs.{AllCommit, Commits, line_before, plans_of, sensed_in, shown_by}
 use Rattle.runs.proofs.Agree.{SameBefore, commit-moved, commits-moved}
-use Rattle.runs.specs.Resting.{Rests, lines_of, records_of}
+use Rattle.runs.specs.Ending.{records_in}
+use Rattle.runs.specs.Resting.{Rests, lines_of}
 use Rattle.node_rounds.specs.Rounds.{AreCallsIn, AreSamePasses, Between, CanAllPlay, HaveAllPlayed, HaveLeft}
 use Rattle.node_rounds.proofs.Passes.{at-most-highest, calls-at, calls-past, no_pass, own-at, own-same, raised-at, raised-calls, raised-names}
-use Rattle.runs.proofs.Resting.{before-shows, before-stands, no_acting, no_commitment, records-same, sense-is, stands-same}
+use Rattle.runs.proofs.Resting.{before-shows, before-stands, no_acting, no_commitment, sense-is, stands-same}
+use Rattle.runs.proofs.PlanLists.{plans-more, plans-same}
+use Rattle.intersection_actor.proofs.RoundLaws.{of-without}
 use Rattle.node_rounds.proofs.Told.{in-moved}
 
 -- a function of rounds and nodes, with another round
@@ -50,7 +52,7 @@ module _ {A : Type 0} (f : ℕ → ℕ → A) (round : ℕ) (g : ℕ → A) wher
   round-else r n other = ap (λ b. cond b (g n) (f r n)) (ne_eqb r round other)
 
 module _ (net : Net) (network : IsNetwork net) (arrivals : Amounts) (round : ℕ) where
-  module _ (boards : BoardsView) (passes : List PassView) (actors : List Acting) (world : WorldState) (b : Between net arrivals boards round passes actors world) (less : round < net.run.rounds) where
+  module _ (boards : BoardsView) (passes : List PassView) (actors : List Acting) (world : WorldState) (plans : List PlanRecord) (b : Between net arrivals boards round passes actors world plans) (less : round < net.run.rounds) where
     -- each node may play the round
     pub can-play : AreArrivals net arrivals → (planners : ℕ) → planners ≡ length net.node_names → CanAllPlay net round world boards planners actors passes
     can-play enter planners count =
@@ -162,26 +164,40 @@ module _ (net : Net) (network : IsNetwork net) (arrivals : Amounts) (round : ℕ
       one : suc round ≡ round + 1
       one = omega arith
 
-      rests-own : (n : ℕ) → n < N → Rests net heard made (round + 1) n (get_or acted n A)
+      -- what each node has planned in the round
+      record-own : (n : ℕ) → n < N → (get_or acted n A).records ≡ record_of n round (heard round n) (made round n) ∷ []
+      record-own n below =
+          let was = b.rests n A below in
+          (did-is n below).rests.records
+          ∙ ap (λ (l : List PlanRecord). l ++ record_of (get_or actors n A).node round (did n).heard (did n).made ∷ []) was.records
+          ∙ ap (λ (p : PlanRecord). p ∷ [])
+          (ap (λ k. record_of k round (did n).heard (did n).made) was.node_is ∙ ap (λ (h : List Heard). record_of n round h (did n).made) (sym (heard-own n)) ∙ ap (record_of n round (heard round n)) (sym (made-own n)))
+
+      -- the actors without their plan records
+      abbrev rested : List Acting
+      rested = map without_records acted
+
+      rests-own : (n : ℕ) → n < N → Rests net made (round + 1) n (without_records (get_or acted n A))
       rests-own n below =
           let is = (did-is n below).rests in
           let was = b.rests n A below in
           record {
             node_is = is.node ∙ was.node_is;
-            of = is.of;
+            of = of-without net (get_or acted n A) is.of;
             want = is.want;
             line = is.line ∙ ap (λ (c : Commitment). c.line) (sym (made-own n)) ∙ ap (λ r. line_before net made r n) one;
             ahead = is.ahead;
-            records =
-                is.records
-                ∙ ap (λ (l : List PlanRecord). l ++ record_of (get_or actors n A).node round (did n).heard (did n).made ∷ []) (was.records ∙ records-same b.heard heard b.made made n round (λ s first. heard-else s n first) (λ s first. made-else s n first))
-                ∙ ap (λ (p : PlanRecord). records_of heard made n round ++ p ∷ [])
-                (ap (λ k. record_of k round (did n).heard (did n).made) was.node_is ∙ ap (λ (h : List Heard). record_of n round h (did n).made) (sym (heard-own n)) ∙ ap (record_of n round (heard round n)) (sym (made-own n)))
-                ∙ sym (map-range_with_len_more (λ s. record_of n s (heard s n) (made s n)) 0 round round (omega arith));
+            records = refl;
           }
 
-      rests : (n : ℕ) (a : Acting) → n < N → Rests net heard made (round + 1) n (get_or acted n a)
-      rests n a below = subst (Rests net heard made (round + 1) n) (get_or_default acted n A a (omega (arith, played.actors, b.all))) (rests-own n below)
+      rests : (n : ℕ) (a : Acting) → n < N → Rests net made (round + 1) n (get_or rested n a)
+      rests n a below = subst (Rests net made (round + 1) n) (sym (get_or-map without_records acted n A a (omega (arith, played.actors, b.all)))) (rests-own n below)
+
+      planned : plans ++ records_in acted ≡ plans_of net heard made (round + 1)
+      planned =
+          ap (λ (l : List PlanRecord). l ++ records_in acted) (b.planned ∙ plans-same net b.heard heard b.made made round (λ r n first below. heard-else r n first) (λ r n first below. made-else r n first))
+          ∙ plans-more net heard made round acted (played.actors ∙ b.all)
+          (λ n d below. ap (λ (a : Acting). a.records) (sym (get_or_default acted n A d (omega (arith, played.actors, b.all)))) ∙ record-own n below)
 
       -- the calls
       many : length called ≡ N
@@ -293,7 +309,7 @@ module _ (net : Net) (network : IsNetwork net) (arrivals : Amounts) (round : ℕ
 
       -- so the next round can begin
       pub round-over : AreSamePasses passes called → (moved : WorldState) → moved.second ≡ world.second + net.run.step → Stands net (arriving_of arrivals) (standing_by (lines_of acted)) moved
-          → Between net arrivals boards (round + 1) met acted moved
+          → Between net arrivals boards (round + 1) met rested moved (plans ++ records_in acted)
       round-over same moved second stands =
           let now : moved.second ≡ (round + 1) * net.run.step = omega (arith, next-second, second, b.second) in
           record {
@@ -304,8 +320,9 @@ module _ (net : Net) (network : IsNetwork net) (arrivals : Amounts) (round : ℕ
             commits = commits;
             second = now;
             stands = stands-same net network (arriving_of arrivals) (standing_by (lines_of acted)) (shown_by net made) moved (λ x n less below. lines-show x n (omega arith) below) stands;
-            all = played.actors ∙ b.all;
+            all = length-map acted without_records ∙ played.actors ∙ b.all;
             rests = rests;
+            planned = planned;
             own = left same;
             calls = subst (λ r. AreCallsIn net heard made r (calls_in met)) one calls;
             rising = rising;

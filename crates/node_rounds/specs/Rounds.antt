@@ -8,11 +8,12 @@ use Rattle.board_rule.specs.Passes.{AreAllPasses, BoardsView, PassView, calls_in
 use Rattle.histories.specs.Steps.{board_steps}
 use Rattle.intersection_actor.specs.Acting.{Acting}
 use Rattle.intersection_actor.specs.Commits.{Commitment}
+use Rattle.intersection_actor.specs.declared.records.PlanRecord.{PlanRecord}
 use Rattle.histories.specs.Calls.{IsRising}
 use Rattle.net_numbers.specs.Numbers.{Net}
 use Rattle.net_simulator.specs.Arriving.{arriving_of}
 use Rattle.net_simulator.specs.Worlds.{WorldState, Stands}
-use Rattle.runs.specs.Runs.{AllCommit, shown_by}
+use Rattle.runs.specs.Runs.{AllCommit, plans_of, shown_by}
 use Rattle.node_rounds.specs.Nodes.{CanPlay, HasPlayed}
 use Rattle.runs.specs.Resting.{Rests}
 use Rattle.node_rounds.specs.Told.{AreCallsOf}
@@ -62,8 +63,8 @@ pub record HaveLeft (net : Net) (boards : BoardsView) (round mark : ℕ) (passes
   pub known : (node : ℕ) (p : PassView) → node < length net.node_names → mark ≤ (slice_index_or passes node p).known
 
 -- Between two rounds: `round` are done, each node rests, the world is at the begin of the next round, and the calls of the passes
--- are those of the rounds that are done.
-pub record Between (net : Net) (arrivals : Amounts) (boards : BoardsView) (round : ℕ) (passes : List PassView) (actors : List Acting) (world : WorldState) : Type 0 where
+-- and the plans are those of the rounds that are done.
+pub record Between (net : Net) (arrivals : Amounts) (boards : BoardsView) (round : ℕ) (passes : List PassView) (actors : List Acting) (world : WorldState) (plans : List PlanRecord) : Type 0 where
   pub heard : ℕ → ℕ → List Heard
   pub made : ℕ → ℕ → Commitment
   pub mark : ℕ
@@ -72,7 +73,8 @@ pub record Between (net : Net) (arrivals : Amounts) (boards : BoardsView) (round
   pub second : world.second ≡ round * net.run.step
   pub stands : Stands net (arriving_of arrivals) (shown_by net made) world
   pub all : length actors ≡ length net.node_names
-  pub rests : (node : ℕ) (a : Acting) → node < length net.node_names → Rests net heard made round node (slice_index_or actors node a)
+  pub rests : (node : ℕ) (a : Acting) → node < length net.node_names → Rests net made round node (slice_index_or actors node a)
+  pub planned : plans ≡ plans_of net heard made round
   pub own : HaveLeft net boards round mark passes
   pub calls : AreCallsIn net heard made round (calls_in passes)
   pub rising : (node : ℕ) → IsRising (calls_in passes node)

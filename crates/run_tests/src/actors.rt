@@ -9,7 +9,7 @@ use arrivals::Arrivals;
 use board_model::{Forecast, Heard, Row};
 use control_flow::greens::Green;
 use forward_dp::LayerPlanner;
-use intersection_actor::{Actor, Want};
+use intersection_actor::{Actor, PlanRecord, Used, Want};
 use net_simulator::World;
 use road_net::{Network, Sensed};
 use std::alloc::{AllocError, Global};
@@ -132,12 +132,22 @@ fn rest(alloc: Global, actor: &mut Actor) -> Result<&[Green], AllocError> {
     Ok(actor.timeline().rows())
 }
 
-/// What the node wants in its round, call by call, what it tells, and its timeline.
+/// Moves what the node has planned into a list.
+fn planned(alloc: Global, actor: &mut Actor) -> Result<Vec<PlanRecord>, AllocError> {
+    let mut plans = Vec::new(alloc);
+    if actor.move_records(&mut plans).is_err() {
+        actor.move_records(&mut plans)?;
+    }
+    Ok(plans)
+}
+
+/// What the node wants in its round, call by call, what it tells, its timeline, and what it has planned.
 #[derive(Drop)]
 struct Played {
     wants: [Want; 4],
     told: Forecast,
     line: Vec<Green>,
+    plans: Vec<PlanRecord>,
 }
 
 /// The round, once it has begun.
@@ -152,10 +162,12 @@ fn play(alloc: Global, net: &Network, actor: &mut Actor) -> Result<Played, Alloc
     let told = tell(alloc, net, actor)?;
     let last = actor.want();
     let line = rest(alloc, actor)?.to_vec(alloc)?;
+    let plans = planned(alloc, actor)?;
     Ok(Played {
         wants: [first, second, third, last],
         told,
         line,
+        plans,
     })
 }
 
@@ -208,13 +220,24 @@ fn add_greens(text: &mut String, rows: &[Green]) -> Result<(), AllocError> {
     Ok(())
 }
 
-/// The wants up to what it tells, the seconds of that, the last want, and the timeline.
+/// Adds the link and the number of each version that a plan names.
+fn add_versions(text: &mut String, versions: &[Used]) -> Result<(), AllocError> {
+    for &Used { link, version } in versions {
+        write!(text, "{link} {version} ")?;
+    }
+    Ok(())
+}
+
+/// The wants up to what it tells, the seconds of that, the last want, the timeline, and the versions that its plan names.
 fn shown(alloc: Global, played: &Played) -> Result<String, AllocError> {
     let mut text = String::new(alloc);
     add_wants(&mut text, &played.wants[..3])?;
     add_seconds(&mut text, played.told.rows())?;
     add_wants(&mut text, &played.wants[3..])?;
     add_greens(&mut text, played.line.as_slice())?;
+    if let Some(plan) = played.plans.first() {
+        add_versions(&mut text, plan.used.as_slice())?;
+    }
     Ok(text)
 }
 
@@ -224,7 +247,7 @@ fn text_of_round(alloc: Global) -> Result<String, AllocError> {
 }
 
 /// What the round shows.
-const ROUND: &str = "Read(2) Commit Publish(1) 20 21 Done 0 0 30 1 35 40 ";
+const ROUND: &str = "Read(2) Commit Publish(1) 20 21 Done 0 0 30 1 35 40 2 1 ";
 
 /// The calls of one round. It holds whichever allocation is refused, once: a call is tried again where it is its own, and its refusal
 /// leaves the actor as it was.

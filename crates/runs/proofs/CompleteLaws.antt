@@ -80,17 +80,18 @@ at-place net run round node whole less below =
           (sym (ap (λ (x : ℕ × ℕ). x.0) e) ∙ (let z : 0 + round ≡ round = omega arith in z), sym (ap (λ (x : ℕ × ℕ). x.1) e));
     }
 
-pub place-inside : (net : Net) (run : RunRecord) (round node nodes : ℕ) → IsComplete net run → round < net.run.rounds → node < length net.node_names → nodes ≡ length net.node_names → round * nodes + node < length run.plans
-place-inside net run round node nodes whole less below count =
+pub place-inside : (net : Net) (run : RunRecord) (round node nodes : ℕ) (xs : List PlanRecord) → IsComplete net run → round < net.run.rounds → node < length net.node_names → nodes ≡ length net.node_names → xs ≡ run.plans
+    → round * nodes + node < length xs
+place-inside net run round node nodes xs whole less below count same =
     let place : round * nodes + node ≡ round * length net.node_names + node = ap (λ k. round * k + node) count in
-    omega (arith, (at-place net run round node whole less below).inside, place)
+    omega (arith, (at-place net run round node whole less below).inside, place, ap length same)
 
 -- what is found there
-pub found : (net : Net) (run : RunRecord) (round node nodes : ℕ) (x : PlanRecord) → IsComplete net run → round < net.run.rounds → node < length net.node_names → nodes ≡ length net.node_names
-    → x ≡ get_or run.plans (round * nodes + node) x → Contains run.plans x × (x.round ≡ round) × (x.node ≡ node)
-found net run round node nodes x whole less below count is =
+pub found : (net : Net) (run : RunRecord) (round node nodes : ℕ) (xs : List PlanRecord) (x : PlanRecord) → IsComplete net run → round < net.run.rounds → node < length net.node_names → nodes ≡ length net.node_names → xs ≡ run.plans
+    → x ≡ get_or xs (round * nodes + node) x → Contains run.plans x × (x.round ≡ round) × (x.node ≡ node)
+found net run round node nodes xs x whole less below count same is =
     let at = at-place net run round node whole less below in
-    let e : x ≡ get_or run.plans (round * length net.node_names + node) x = is ∙ ap (λ k. get_or run.plans (round * k + node) x) count in
+    let e : x ≡ get_or run.plans (round * length net.node_names + node) x = is ∙ ap (λ k. get_or xs (round * k + node) x) count ∙ ap (λ l. get_or l (round * length net.node_names + node) x) same in
     ((round * length net.node_names + node, at.inside, sym e), ap (λ (p : PlanRecord). p.round) e ∙ (at.is x).0, ap (λ (p : PlanRecord). p.node) e ∙ (at.is x).1)
 
 -- every run's record is whole

@@ -3,36 +3,28 @@ use Rattle.std.proofs.Common.{◌≡◌, ℕ, ◌+◌, ◌*◌, ◌<◌, List, l
 use Rattle.std.specs.List.{range_with_len}
 use Rattle.board_model.specs.declared.boards.Heard.{Heard}
 use Rattle.intersection_actor.specs.Acting.{Acting}
-use Rattle.intersection_actor.specs.Commits.{Commitment, record_of}
+use Rattle.intersection_actor.specs.Commits.{Commitment}
 use Rattle.intersection_actor.specs.declared.records.PlanRecord.{PlanRecord}
 use Rattle.net_numbers.specs.Numbers.{Net}
 use Rattle.net_simulator.specs.Counts.{counts_at}
 use Rattle.net_simulator.specs.Flow.{past_of}
 use Rattle.net_simulator.specs.Sums.{link_totals, totals}
 use Rattle.net_simulator.specs.Worlds.{WorldState, Stands}
-use Rattle.runs.specs.Runs.{AllCommit, IsRunBy, arriving_by, line_before, shown_by}
+use Rattle.runs.specs.Runs.{AllCommit, IsRunBy, arriving_by, line_before, plans_of, shown_by}
 use Rattle.runs.specs.declared.records.RunRecord.{RunRecord}
-use Rattle.runs.proofs.SameParts.{map-range-same}
-use Rattle.runs.specs.Ending.{IsRecordOf, records_in}
-use Rattle.runs.specs.RoundOrder.{round_by_round}
-use Rattle.runs.proofs.Columns.{columns, map-by}
+use Rattle.runs.proofs.SameParts.{map-by, map-range-same}
+use Rattle.runs.specs.Ending.{IsRecordOf}
 
 module _ (net : Net) (enters : ℕ → ℕ → ℕ) (heard : ℕ → ℕ → List Heard) (made : ℕ → ℕ → Commitment) (actors : List Acting) (world : WorldState) where
   abbrev rounds : ℕ
   rounds = net.run.rounds
 
-  abbrev table : ℕ → ℕ → PlanRecord
-  table node round = record_of node round (heard round node) (made round node)
-
-  abbrev row : ℕ → List PlanRecord
-  row node = map (table node) (range_with_len 0 rounds)
-
-  pub run-by : length actors ≡ length net.node_names → ((node : ℕ) (a : Acting) → node < length net.node_names → (get_or actors node a).records ≡ row node)
-      → ((node : ℕ) (a : Acting) → node < length net.node_names → (get_or actors node a).line ≡ line_before net made rounds node) → AllCommit net enters heard made rounds
-      → world.second ≡ rounds * net.run.step → Stands net (arriving_by enters) (shown_by net made) world → (run : RunRecord) → IsRecordOf net actors world run → IsRunBy net enters heard made run
-  run-by all records lines commits second stands run left = record {
+  pub run-by : length actors ≡ length net.node_names → ((node : ℕ) (a : Acting) → node < length net.node_names → (get_or actors node a).line ≡ line_before net made rounds node) → AllCommit net enters heard made rounds
+      → world.second ≡ rounds * net.run.step → Stands net (arriving_by enters) (shown_by net made) world → (plans : List PlanRecord) → plans ≡ plans_of net heard made rounds → (run : RunRecord) → IsRecordOf net plans actors world run
+      → IsRunBy net enters heard made run
+  run-by all lines commits second stands plans are run left = record {
     commits = commits;
-    plans = left.plans ∙ ap (round_by_round rounds) all-records ∙ columns table rounds (range_with_len 0 (length net.node_names));
+    plans = left.plans ∙ are;
     timelines =
         left.timelines
         ∙ map-by (λ (a : Acting). a.line) (line_before net made rounds) actors 0 (λ k d less. lines k d (omega (arith, all)) ∙ ap (line_before net made rounds) (let e : k ≡ 0 + k = omega arith in e))
@@ -43,8 +35,3 @@ module _ (net : Net) (enters : ℕ → ℕ → ℕ) (heard : ℕ → ℕ → Lis
         (λ k least most. stands.counts k (omega arith) ∙ ap (λ s. link_totals net (past_of net (arriving_by enters) (shown_by net made) s) s k) second);
     all = left.totals ∙ stands.totals ∙ ap (λ s. totals net (arriving_by enters) (past_of net (arriving_by enters) (shown_by net made) s) s) second;
   }
-    where
-      all-records : records_in actors ≡ map row (range_with_len 0 (length net.node_names))
-      all-records =
-          map-by (λ (a : Acting). a.records) row actors 0 (λ k d less. records k d (omega (arith, all)) ∙ ap row (let e : k ≡ 0 + k = omega arith in e))
-          ∙ ap (λ n. map row (range_with_len 0 n)) all

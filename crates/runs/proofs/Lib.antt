@@ -4,12 +4,13 @@ pub mod CompleteLaws
 pub mod Expected
 pub mod Heard
 pub mod Keep
+pub mod Mixed
 pub mod One
 pub mod SameParts
 pub mod Places
 pub mod PlanLaws
 pub mod Plannable
 pub mod PromiseLaws
-pub mod Columns
+pub mod PlanLists
 pub mod EndedRecords
 pub mod Resting

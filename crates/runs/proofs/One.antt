@@ -9,17 +9,17 @@ use Rattle.board_model.specs.declared.forecasts.Row.{Row}
 use Rattle.histories.specs.Histories.{IsLawful, version_at}
 use Rattle.histories.specs.Steps.{board_steps}
 use Rattle.histories.proofs.Versions.{version-law}
-use Rattle.intersection_actor.specs.Commits.{record_of}
 use Rattle.net_numbers.specs.Numbers.{Net}
 use Rattle.net_simulator.specs.Flow.{Passed}
 use Rattle.net_simulator.specs.Sums.{end_of_run, link_totals, totals}
 use Rattle.road_net.specs.Network.{IsNetwork, heard_links}
-use Rattle.runs.specs.Runs.{IsRun, arriving_by, forecast_at, hearing, line_before, past_by, plans_in, plans_of, sensed_in, told_in}
+use Rattle.runs.specs.Runs.{IsRun, arriving_by, forecast_at, hearing, line_before, past_by, sensed_in, told_in}
 use Rattle.runs.specs.declared.records.RunRecord.{RunRecord}
 use Rattle.runs.proofs.Agree.{SameBefore, commit-moved, lines-same, past-same}
 use Rattle.runs.proofs.Committed.{one-commit}
 use Rattle.runs.proofs.Heard.{Ends, heard-at, heard-count, heard-ends}
-use Rattle.runs.proofs.SameParts.{flat-range-same, map-range-same}
+use Rattle.runs.proofs.PlanLists.{plans-same}
+use Rattle.runs.proofs.SameParts.{map-range-same}
 use Rattle.runs.proofs.Places.{StandsAt, comes-first, first-small, place-of, published}
 
 module _ (net : Net) (network : IsNetwork net) (enters : ℕ → ℕ → ℕ) (h : List ℕ) (lawful : IsLawful net h) (one other : RunRecord) (a : IsRun net enters h one) (b : IsRun net enters h other) where
@@ -100,17 +100,11 @@ module _ (net : Net) (network : IsNetwork net) (enters : ℕ → ℕ → ℕ) (h
   hears-same : (r n : ℕ) → r < net.run.rounds → n < length net.node_names → HearsSame r n
   hears-same r n less below = told-same r n less below (λ s m before. every s m (omega arith)) (length h) (λ f inside reads. every r f less inside) (λ q place first at. let z = at.inside in omega arith)
 
-  plans-same : plans_of net a.heard a.made net.run.rounds ≡ plans_of net b.heard b.made net.run.rounds
-  plans-same = flat-range-same (plans_in net a.heard a.made) (plans_in net b.heard b.made) 0 net.run.rounds (λ r least less.
-      map-range-same (λ n. record_of n r (a.heard r n) (a.made r n)) (λ n. record_of n r (b.heard r n) (b.made r n)) 0 (length net.node_names) (λ n least below.
-      ap (λ (x : List Heard). record_of n r x (a.made r n)) (heard-same r n (omega arith) (omega arith) (hears-same r n (omega arith) (omega arith)))
-      ∙ ap (record_of n r (b.heard r n)) (every r n (omega arith) (omega arith))))
-
   -- the records are the same
   pub one-run : one ≡ other
   one-run =
       let past : past_by net enters a.made (end_of_run net) ≡ past_by net enters b.made (end_of_run net) = past-same net network enters a.made b.made net.run.rounds every in
-      let plans = a.by.plans ∙ plans-same ∙ sym b.by.plans in
+      let plans = a.by.plans ∙ plans-same net a.heard b.heard a.made b.made net.run.rounds (λ r n less below. heard-same r n less below (hears-same r n less below)) every ∙ sym b.by.plans in
       let timelines = a.by.timelines ∙ map-range-same (line_before net a.made net.run.rounds) (line_before net b.made net.run.rounds) 0 (length net.node_names) (λ n least below. lines-same net network enters a.made b.made net.run.rounds n every (omega arith)) ∙ sym b.by.timelines in
       let links = a.by.links ∙ ap (λ (p : ℕ → ℕ → Passed). map (link_totals net p (end_of_run net)) (range_with_len 0 (length net.link_names))) past ∙ sym b.by.links in
       let all = a.by.all ∙ ap (λ (p : ℕ → ℕ → Passed). totals net (arriving_by enters) p (end_of_run net)) past ∙ sym b.by.all in

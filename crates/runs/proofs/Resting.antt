@@ -2,12 +2,11 @@
 use Rattle.std.proofs.Common.{◌≡◌, ℕ, ◌+◌, ◌*◌, ◌<◌, ◌≤◌, false, List, [], ◌∷◌, ◌++◌, Option, length, get_or, sym, ap, subst, ◌∙◌, inl, inr, arith}
 use Rattle.std.proofs.lemmas.Bool.{cases_lt}
 use Rattle.std.proofs.lemmas.List.{get_or_append_left, get_or_push, length_push}
-use Rattle.std.proofs.lemmas.List.FromFn.{length-map-range_with_len}
 use Rattle.std.proofs.lemmas.Nat.{div_below}
 use Rattle.board_model.specs.declared.boards.Heard.{Heard}
 use Rattle.control_flow.specs.Greens.{end_of, standing}
 use Rattle.intersection_actor.specs.Acting.{Acting}
-use Rattle.intersection_actor.specs.Commits.{Commitment, record_of}
+use Rattle.intersection_actor.specs.Commits.{Commitment}
 use Rattle.intersection_actor.specs.Rounds.{IsNew, IsOf}
 use Rattle.intersection_actor.specs.declared.records.Want.TheVariants.{Done}
 use Rattle.net_numbers.specs.Numbers.{Net}
@@ -20,10 +19,8 @@ use Rattle.signal_safety.proofs.Rounds.{shows}
 use Rattle.runs.specs.Runs.{AllCommit, arriving_by, line_before, sensed_in, shown_by}
 use Rattle.runs.proofs.Keep.{all-keep}
 use Rattle.net_simulator.proofs.AtNodes.{past-at-nodes}
-use Rattle.runs.proofs.SameParts.{map-range-same}
 use Rattle.schedule_meaning.specs.declared.planners.Answer.TheVariants.{NoPlan}
-use Rattle.runs.specs.Ending.{HaveAllPlanned}
-use Rattle.runs.specs.Resting.{AreNew, Rests, records_of}
+use Rattle.runs.specs.Resting.{AreNew, Rests}
 
 -- some actor, and some commit, where there is none
 abbrev pub no_acting : Acting
@@ -55,15 +52,6 @@ stands-same net network arriving shown seen w same s =
       stood = λ l below. s.stood l below ∙ ap (λ (p : ℕ → ℕ → Passed). stood net p w.second l) e;
     }
 
--- what was heard and made before a round stays in its plan records
-pub records-same : (heard seen : ℕ → ℕ → List Heard) (made other : ℕ → ℕ → Commitment) (n r : ℕ) → ((s : ℕ) → s < r → heard s n ≡ seen s n) → ((s : ℕ) → s < r → made s n ≡ other s n) → records_of heard made n r ≡ records_of seen other n r
-records-same heard seen made other n r h m = map-range-same (λ s. record_of n s (heard s n) (made s n)) (λ s. record_of n s (seen s n) (other s n)) 0 r (λ s least less. ap (λ (x : List Heard). record_of n s x (made s n)) (h s (omega arith)) ∙ ap (record_of n s (seen s n)) (m s (omega arith)))
-
--- actors that rest have planned in each round before
-pub planned : (net : Net) (heard : ℕ → ℕ → List Heard) (made : ℕ → ℕ → Commitment) (round : ℕ) (actors : List Acting) → length actors ≡ length net.node_names
-    → ((node : ℕ) (a : Acting) → node < length net.node_names → Rests net heard made round node (get_or actors node a)) → HaveAllPlanned round actors
-planned net heard made round actors all rests node a below = ap length (rests node a (omega (arith, all))).records ∙ length-map-range_with_len (λ r. record_of node r (heard r node) (made r node)) 0 round
-
 -- the lines before a round show what the world moved by
 module _ (net : Net) (network : IsNetwork net) (enters : ℕ → ℕ → ℕ) (round : ℕ) (heard : ℕ → ℕ → List Heard) (made : ℕ → ℕ → Commitment) (most : round ≤ net.run.rounds) (commits : AllCommit net enters heard made round) where
   pub before-shows : (x node : ℕ) → x < round * net.run.step → node < length net.node_names → standing (line_before net made round node) x ≡ shown_by net made x node
@@ -84,8 +72,8 @@ pub zero-times : (s : ℕ) → 0 ≡ 0 * s
 zero-times s = omega arith
 
 -- new actors rest before the first round
-pub new-rest : (net : Net) (heard : ℕ → ℕ → List Heard) (made : ℕ → ℕ → Commitment) (actors : List Acting) (nodes n : ℕ) (a : Acting) → AreNew net nodes actors → n < nodes → Rests net heard made 0 n (get_or actors n a)
-new-rest net heard made actors nodes n a new below =
+pub new-rest : (net : Net) (made : ℕ → ℕ → Commitment) (actors : List Acting) (nodes n : ℕ) (a : Acting) → AreNew net nodes actors → n < nodes → Rests net made 0 n (get_or actors n a)
+new-rest net made actors nodes n a new below =
     let is = new.new n a below in
     record {
       node_is = is.node;

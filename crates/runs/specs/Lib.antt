@@ -3,5 +3,4 @@ pub mod Ending
 pub mod Plans
 pub mod Promises
 pub mod Resting
-pub mod RoundOrder
 pub mod Runs

@@ -1,13 +1,10 @@
 -- Actors between the rounds: new ones, and those that rest.
 use Rattle.std.specs.Prelude.{◌≡◌, ℕ, ◌*◌, ◌<◌, List, [], length, map, slice_index_or}
-use Rattle.std.specs.List.{range_with_len}
-use Rattle.board_model.specs.declared.boards.Heard.{Heard}
 use Rattle.control_flow.specs.Greens.{end_of}
 use Rattle.control_flow.specs.declared.greens.Green.{Green}
 use Rattle.intersection_actor.specs.Acting.{Acting}
-use Rattle.intersection_actor.specs.Commits.{Commitment, record_of}
+use Rattle.intersection_actor.specs.Commits.{Commitment}
 use Rattle.intersection_actor.specs.Rounds.{IsNew, IsOf}
-use Rattle.intersection_actor.specs.declared.records.PlanRecord.{PlanRecord}
 use Rattle.intersection_actor.specs.declared.records.Want.TheVariants.{Done}
 use Rattle.net_numbers.specs.Numbers.{Net}
 use Rattle.runs.specs.Runs.{line_before}
@@ -22,17 +19,12 @@ pub record AreNew (net : Net) (nodes : ℕ) (actors : List Acting) : Type 0 wher
   pub new : (node : ℕ) (a : Acting) → node < nodes → IsNew net node (slice_index_or actors node a)
   pub of : (node : ℕ) (a : Acting) → node < nodes → IsOf net (slice_index_or actors node a)
 
--- Below, `heard round node` is what a node has heard in a round, and `made round node` its commit.
-
--- the plan records of a node in the first `rounds` rounds
-abbrev pub records_of : (ℕ → ℕ → List Heard) → (ℕ → ℕ → Commitment) → ℕ → ℕ → List PlanRecord
-records_of heard made node rounds = map (λ round. record_of node round (heard round node) (made round node)) (range_with_len 0 rounds)
-
--- a node rests before a round
-pub record Rests (net : Net) (heard : ℕ → ℕ → List Heard) (made : ℕ → ℕ → Commitment) (round node : ℕ) (a : Acting) : Type 0 where
+-- A node rests before a round, where `made round node` is the commit of a node in a round. It has no plan record, since those of
+-- earlier rounds are in the plans of the run.
+pub record Rests (net : Net) (made : ℕ → ℕ → Commitment) (round node : ℕ) (a : Acting) : Type 0 where
   pub node_is : a.node ≡ node
   pub of : IsOf net a
   pub want : a.want ≡ Done
   pub line : a.line ≡ line_before net made round node
   pub ahead : round * net.run.step < end_of a.line
-  pub records : a.records ≡ records_of heard made node round
+  pub records : a.records ≡ []

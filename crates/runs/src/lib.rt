@@ -3,13 +3,11 @@
 #![tactic(auto)]
 
 mod laws;
-mod new_actors;
-mod plans;
+mod network_actors;
 mod records;
 mod run_records;
 
 pub use laws::{law_of_one_run, law_of_runs};
-pub use new_actors::{Actors, actors_of};
-pub use plans::Plans;
+pub use network_actors::{Actors, actors_of};
 pub use records::RunRecord;
-pub use run_records::{EmptyRecord, empty_record, record_of};
+pub use run_records::{EmptyRecord, empty_plans, empty_record, record_of};

@@ -2,7 +2,6 @@
 ghost use Rattle.std.specs.Prelude.{◌≡◌, ◌<◌, Contains, length};
 ghost use Rattle.runs.specs.Complete.{IsComplete};
 
-use crate::plans::Plans;
 use control_flow::greens::Timeline;
 use foundation::items::Items;
 use foundation::threads::CrossesThreads;
@@ -16,7 +15,7 @@ use road_net::Network;
 #[derive(Drop)]
 pub struct RunRecord {
     /// The plans, by round and node.
-    pub plans: Plans,
+    pub plans: Items<PlanRecord>,
     /// The timeline of each node after the last round.
     pub timelines: Items<Timeline>,
     /// What was counted of each link.
@@ -38,7 +37,7 @@ impl RunRecord {
         ensures node { result.now.node ≡ node }
     {
         let place = round * net.nodes() + node;
-        self.plans.at(place as usize)
+        &self.plans.as_slice()[place as usize]
     }
 }
 

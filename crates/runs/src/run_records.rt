@@ -1,11 +1,10 @@
-//! The record of a run that is over: what its actors have planned and shown, and what its world has counted.
-ghost use Rattle.std.specs.Prelude.{◌≡◌, ◌+◌, ◌≤◌, ◌++◌, [], IfOk, length, map, vec_capacity, vec_len};
+//! The record of a run that is over: its plans, the timelines of its actors, and what its world has counted.
+ghost use Rattle.std.specs.Prelude.{◌≡◌, ◌+◌, ◌*◌, ◌≤◌, ◌++◌, [], IfOk, length, map, vec_capacity, vec_len};
 ghost use Rattle.std.specs.List.{range_with_len};
 ghost use Rattle.net_simulator.specs.Counts.{counts_at};
-ghost use Rattle.runs.specs.Ending.{HasCapacity, HaveAllPlanned, IsRecordOf, lines_in, records_in};
+ghost use Rattle.runs.specs.Ending.{HasCapacity, IsRecordOf, lines_in};
 
-use crate::plans::Plans;
-use crate::records::RunRecord;
+use crate::RunRecord;
 use control_flow::greens::Timeline;
 use foundation::items::Items;
 use foundation::threads::CrossesThreads;
@@ -14,21 +13,32 @@ use net_simulator::{LinkTotals, World};
 use road_net::Network;
 use std::alloc::{AllocError, Global};
 
-/// Empty lists with capacity for the record of a run: they are made before the first round, so that the record itself takes no
-/// memory.
+/// Empty lists with capacity for the timelines and the totals of a run: they are made before the first round, so that the record
+/// itself takes no memory.
 ///
 /// docs/RULES.md, "Run".
 #[derive(Drop)]
 pub struct EmptyRecord {
-    /// The plans of each node.
-    plans: Vec<Items<PlanRecord>>,
     timelines: Vec<Timeline>,
     links: Vec<LinkTotals>,
 }
 
 impl CrossesThreads for EmptyRecord {}
 
-/// Makes the lists for the record of a run of a network.
+/// An empty list with capacity for the plans of a run of a network, those of all rounds and nodes.
+///
+/// `Err`: out of memory.
+///
+/// docs/RULES.md, "Run".
+pub fn empty_plans(alloc: Global, net: &Network) -> Result<Vec<PlanRecord>, AllocError>
+    ensures none { IfOk result (λ plans. plans.items ≡ []) }
+    ensures capacity { IfOk result (λ plans.
+        net.now.run.rounds * length net.now.node_names ≤ vec_capacity plans) }
+{
+    Vec::with_capacity(alloc, net.run().rounds as usize * net.nodes() as usize)
+}
+
+/// Makes the lists for the timelines and the totals of a run of a network.
 ///
 /// `Err`: out of memory.
 ///
@@ -36,54 +46,48 @@ impl CrossesThreads for EmptyRecord {}
 pub fn empty_record(alloc: Global, net: &Network) -> Result<EmptyRecord, AllocError>
     ensures { IfOk result (HasCapacity net.now) }
 {
-    let nodes = net.nodes() as usize;
-    let plans = Vec::with_capacity(alloc, nodes)?;
-    let timelines = Vec::with_capacity(alloc, nodes)?;
+    let timelines = Vec::with_capacity(alloc, net.nodes() as usize)?;
     let links = Vec::with_capacity(alloc, net.links() as usize)?;
-    Ok(EmptyRecord {
-        plans,
-        timelines,
-        links,
-    })
+    Ok(EmptyRecord { timelines, links })
 }
 
-/// The record of actors and a world after the last round, in which each actor has planned in each round, moved into the lists that were
-/// made for it: the plans of all nodes, the line of each, and what was counted. It takes no memory.
+/// The record of a run after its last round: these plans, the timeline of each actor, and what the world has counted. What an actor
+/// has planned since its records were last moved is dropped. It takes no memory.
 ///
 /// docs/RULES.md, "Run".
-pub fn record_of(net: &Network, actors: Vec<Actor>, world: &World, empty: EmptyRecord) -> RunRecord
+pub fn record_of(
+    net: &Network,
+    plans: Vec<PlanRecord>,
+    actors: Vec<Actor>,
+    world: &World,
+    empty: EmptyRecord,
+) -> RunRecord
     requires actors { length actors.items ≡ length net.now.node_names }
-    requires planned { HaveAllPlanned net.now.run.rounds actors.items }
     requires counts { length world.now.counts ≡ length net.now.link_names }
     requires capacity { HasCapacity net.now empty }
-    ensures { IsRecordOf net.now actors.items world.now result }
+    ensures { IsRecordOf net.now plans.items actors.items world.now result }
 {
     let EmptyRecord {
-        mut plans,
         mut timelines,
         mut links,
     } = empty;
-    push_parts(actors, &mut plans, &mut timelines);
+    push_timelines(actors, &mut timelines);
     push_totals(net, world, &mut links);
     RunRecord {
-        plans: Plans::of_lists(net.run().rounds, plans),
+        plans: Items::from_vec(plans),
         timelines: Items::from_vec(timelines),
         links: Items::from_vec(links),
         totals: world.totals(),
     }
 }
 
-/// Takes actors apart: the plans of each go to the plans, and its line to the timelines.
-fn push_parts(actors: Vec<Actor>, plans: &mut Vec<Items<PlanRecord>>, timelines: &mut Vec<Timeline>)
-    requires plans { vec_len plans.old + length actors.items ≤ vec_capacity plans.old }
-    requires timelines { vec_len timelines.old + length actors.items ≤ vec_capacity timelines.old }
-    ensures plans { plans.new.items ≡ plans.old.items ++ records_in actors.items }
-    ensures timelines { timelines.new.items ≡ timelines.old.items ++ lines_in actors.items }
+/// Appends the timelines of actors.
+fn push_timelines(actors: Vec<Actor>, timelines: &mut Vec<Timeline>)
+    requires { vec_len timelines.old + length actors.items ≤ vec_capacity timelines.old }
+    ensures { timelines.new.items ≡ timelines.old.items ++ lines_in actors.items }
 {
     for actor in actors {
-        let (line, records) = actor.into_parts();
-        plans.push_reserved(Items::from_vec(records));
-        timelines.push_reserved(line);
+        timelines.push_reserved(actor.into_parts().0);
     }
 }
 

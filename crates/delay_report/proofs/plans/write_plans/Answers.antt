@@ -3,5 +3,5 @@ use Rattle.delay_report.specs.Reports.{plan_record}
 use Rattle.world_records.proofs.WrittenLaws.{adds-more}
 use Rattle.delay_report.proofs.plans.write_plans.Goals as goal
 
-pub loop-place-preserved : goal.loop-place-preserved
-loop-place-preserved c = adds-more (plan_record c.args.net.now) c.args.plans.now c.loop-place.place c.at.result.now c.args.out.now c.loop-place.out c.write_plan.new.out (omega arith) (c.at.ensures c.at.result.now) c.loop-place.invariant c.in_ok-write_plan.ensures
+pub loop-plan-preserved : goal.loop-plan-preserved
+loop-plan-preserved c = adds-more (plan_record c.args.net.now) c.args.plans.now c.loop-plan.plan-index c.plan-item.result c.args.out.now c.loop-plan.out c.write_plan.new.out (omega arith) c.plan-item.is c.loop-plan.invariant c.in_ok-write_plan.ensures

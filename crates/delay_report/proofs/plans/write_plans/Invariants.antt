@@ -3,5 +3,5 @@ use Rattle.delay_report.specs.Reports.{plan_record}
 use Rattle.world_records.specs.Written.{Adds}
 use Rattle.delay_report.proofs.plans.write_plans.Given as goal
 
-abbrev pub invariant-loop-place : goal.invariant-loop-place
-invariant-loop-place l = Adds l.fn.out l.out (map (plan_record l.net) (take l.place l.plans))
+abbrev pub invariant-loop-plan : goal.invariant-loop-plan
+invariant-loop-plan l = Adds l.fn.out l.out (map (plan_record l.net) (take l.plan-index l.plans))

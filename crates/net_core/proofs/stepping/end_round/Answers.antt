@@ -11,5 +11,5 @@ advance-requires-clause-stands c = end-stands c.args.net.now c.run-step.ensures.
 
 pub returns-clause-between : goal.returns-clause-between
 returns-clause-between c =
-    end-between c.args.net.now c.run-step.ensures.network c.args.arrivals.now c.args.parts.now c.requires.in_round c.requires.done c.advance.new.self
-    (c.advance.ensures.second ∙ ap (λ (r : Run). c.args.parts.now.world.second + r.step) c.run-step.ensures.value) c.advance.ensures.stands
+    end-between c.args.net.now c.run-step.ensures.network c.args.arrivals.now c.args.parts.now c.requires.in_round c.requires.done c.advance.new.self c.move_records.new.self.all.items c.move_records.new.plans.items
+    (c.advance.ensures.second ∙ ap (λ (r : Run). c.args.parts.now.world.second + r.step) c.run-step.ensures.value) c.advance.ensures.stands c.in_ok-move_records.ensures.actors c.in_ok-move_records.ensures.plans

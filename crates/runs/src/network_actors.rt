@@ -1,11 +1,11 @@
-//! The actors of a network before the first round.
+//! The actors of a network: the new ones, and how what they have planned is moved to the plans of the run.
 ghost use Rattle.std.specs.Prelude.{IfOk, length};
 ghost use Rattle.runs.specs.Resting.{AreNew};
 
 use control_flow::green_at;
 use control_flow::greens::Green;
 use foundation::threads::CrossesThreads;
-use intersection_actor::Actor;
+use intersection_actor::{Actor, PlanRecord};
 use net_simulator::Lights;
 use road_net::Network;
 use std::alloc::{AllocError, Global};
@@ -31,6 +31,27 @@ impl Lights for Actors {
             return None;
         }
         green_at(self.all[node as usize].timeline(), second)
+    }
+}
+
+impl Actors {
+    ghost use Rattle.std.specs.Prelude.{◌≡◌, ◌++◌, OnOk, map};
+    ghost use Rattle.intersection_actor.specs.Acting.{without_records};
+    ghost use Rattle.runs.specs.Ending.{records_in};
+
+    /// Moves what the actors have planned to the end of the plans of a run, by node: they keep none.
+    ///
+    /// `Err`: out of memory; which actors keep their plans is then open.
+    ///
+    /// docs/RULES.md, "Run".
+    pub fn move_records(&mut self, plans: &mut Vec<PlanRecord>) -> Result<(), AllocError>
+        ensures plans { OnOk result (plans.new.items ≡ plans.old.items ++ records_in self.old.all.items) }
+        ensures actors { OnOk result (self.new.all.items ≡ map without_records self.old.all.items) }
+    {
+        for node in 0..self.all.len() {
+            self.all[node].move_records(plans)?;
+        }
+        Ok(())
     }
 }
 

@@ -1,7 +1,7 @@
 use Rattle.std.proofs.Common.{◌+◌, subst, sym}
 use Rattle.runs.specs.Resting.{AreNew}
 use Rattle.runs.proofs.Resting.{new-more, new-none}
-use Rattle.runs.proofs.new_actors.actors_of.Goals as goal
+use Rattle.runs.proofs.network_actors.actors_of.Goals as goal
 
 pub loop-node-init : goal.loop-node-init
 loop-node-init c = new-none c.args.net.now _ c.in_ok-all.ensures.items

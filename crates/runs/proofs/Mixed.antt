@@ -1,5 +1,6 @@
--- Two lists that trade their elements one after another.
-use Rattle.std.proofs.Common.{◌≡◌, ℕ, zero, suc, ◌+◌, ◌<◌, List, [], ◌∷◌, ◌++◌, length, take, drop, get_or, set, refl, ap, ◌∙◌, arith}
+-- Two lists of which one takes the place of the other, element by element.
+use Rattle.std.proofs.Common.{◌≡◌, ℕ, zero, suc, ◌+◌, ◌<◌, ◌≤◌, List, [], ◌∷◌, ◌++◌, length, take, drop, get_or, set, refl, ap, ◌∙◌, arith, append-nil}
+use Rattle.std.proofs.lemmas.List.{drop_all, take_all}
 
 -- the first elements of one list, and the others of another
 abbrev pub mixed : {X : Type 0} → List X → List X → ℕ → List X
@@ -22,3 +23,7 @@ mixed-suc (x ∷ xs) (y ∷ ys) (suc k) z d same inside is = ap (λ l. x ∷ l) 
 
 pub mixed-step : {X : Type 0} (xs ys : List X) (k : ℕ) (x d : X) → length xs ≡ length ys → k < length xs → x ≡ get_or xs k d → set (mixed xs ys k) k x ≡ mixed xs ys (k + 1)
 mixed-step xs ys k x d same inside is = let next : suc k ≡ k + 1 = omega arith in mixed-suc xs ys k x d same inside is ∙ ap (mixed xs ys) next
+
+-- all have taken their places
+pub mixed-all : {X : Type 0} (xs ys : List X) (k : ℕ) → length xs ≡ length ys → length xs ≤ k → mixed xs ys k ≡ xs
+mixed-all xs ys k same past = (λ i. take_all k xs past i ++ drop_all k ys (omega (arith, same, past)) i) ∙ append-nil xs
