@@ -96,6 +96,6 @@ resting a = record a {
   served = [];
 }
 
--- the actor whose plan records were moved out of it
+-- the actor without its plan records
 abbrev pub without_records : Acting → Acting
 without_records a = record a { records = [] }

@@ -63,7 +63,7 @@ impl Model for Actor {
 impl CrossesThreads for Actor {}
 
 impl Actor {
-    ghost use Rattle.std.specs.Prelude.{◌≡◌, ℕ, ◌+◌, ◌*◌, ◌<◌, ◌++◌, IfOk, OnErr, OnOk, length};
+    ghost use Rattle.std.specs.Prelude.{◌≡◌, ℕ, ◌+◌, ◌*◌, ◌<◌, ◌≤◌, ◌++◌, IfOk, OnErr, OnOk, length, vec_capacity, vec_len};
     ghost use Rattle.control_flow.specs.Greens.{BeginBy, IsLawful, end_of};
     ghost use Rattle.net_numbers.specs.Numbers.{Net};
     ghost use Rattle.net_numbers.specs.Outline.{plan_at};
@@ -148,18 +148,22 @@ impl Actor {
         self.records.as_slice()
     }
 
-    /// Moves its plan records to the end of these plans, so that one list can have those of all rounds and nodes: it keeps none.
+    /// Moves its plan records to the end of these plans, so that one list can have those of all rounds and nodes. The actor keeps
+    /// none.
     ///
-    /// `Err`: out of memory; all stays as it was.
+    /// The list has capacity for them, so the call cannot fail.
     ///
-    /// docs/RULES.md, "Plan record".
-    pub fn move_records(&mut self, plans: &mut Vec<PlanRecord>) -> Result<(), AllocError>
-        ensures plans { OnOk result (plans.new.items ≡ plans.old.items ++ self.old.records) }
-        ensures ok { OnOk result (self.new ≡ without_records self.old) }
-        ensures refused { OnErr result ((self.new ≡ self.old) × (plans.new.items ≡ plans.old.items)) }
+    /// docs/RULES.md, "A node's round".
+    pub fn move_records(&mut self, plans: &mut Vec<PlanRecord>)
+        requires { vec_len plans.old + length self.old.records ≤ vec_capacity plans.old }
+        ensures plans { plans.new.items ≡ plans.old.items ++ self.old.records }
+        ensures capacity { vec_capacity plans.old ≤ vec_capacity plans.new }
+        ensures actor { self.new ≡ without_records self.old }
         ensures of { (net : Net) → IsOf net self.old → IsOf net self.new }
     {
-        plans.append(&mut self.records)
+        let Ok(()) = plans.append(&mut self.records) else {
+            unreachable!()
+        };
     }
 
     /// Its timeline, and what it has planned since its records were last moved.

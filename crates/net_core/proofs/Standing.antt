@@ -1,5 +1,6 @@
 -- What the steps of a core need of where it stands.
-use Rattle.std.proofs.Common.{◌≡◌, ℕ, ◌+◌, ◌-◌, ◌*◌, ◌<◌, ◌≤◌, true, List, [], ◌∷◌, ◌++◌, Result, Ok, Err, OnOk, length, map, get_or, set, drop, refl, sym, ap, subst, ◌∙◌, inl, inr, arith, eq-eqb}
+use Rattle.std.proofs.Common.{◌≡◌, ℕ, ◌+◌, ◌-◌, ◌*◌, ◌<◌, ◌≤◌, true, List, [], ◌∷◌, ◌++◌, Result, Ok, Err, OnOk, length, map, get_or, set, drop, vec_capacity, vec_len, refl, sym, ap, subst, ◌∙◌, inl, inr, arith, eq-eqb}
+use Rattle.std.specs.Global.{Vec}
 use Rattle.std.proofs.lemmas.Bool.{cases_lt}
 use Rattle.std.proofs.lemmas.List.{get_or_default}
 use Rattle.std.proofs.lemmas.Result.{on_ok_weaker}
@@ -34,7 +35,7 @@ use Rattle.net_core.specs.declared.parts.Parts.{Parts}
 use Rattle.net_core.proofs.Playing.{told-ends}
 use Rattle.net_core.proofs.Prefixes.{now-published, own-step}
 use Rattle.net_core.proofs.Rounds.{begin-stands, begin-world, begins-more}
-use Rattle.net_core.proofs.Steps.{over-before, read-next, reading-next, round-over, tell-next, telling-next, telling-none, told-step, way}
+use Rattle.net_core.proofs.Steps.{over-before, plans-room, read-next, reading-next, round-over, tell-next, telling-next, telling-none, told-step, way}
 
 -- an element, whatever the default
 pub at-any : {X : Type 0} (xs : List X) (n : ℕ) (x : X) → n < length xs → x ≡ get_or xs n x → (d : X) → get_or xs n d ≡ x
@@ -63,27 +64,30 @@ module _ (net : Net) (network : IsNetwork net) (arrivals : Amounts) (p : Parts) 
     rests-at old is = subst (Rests net b.made p.round node) (sym is) (b.rests node old (omega arith) inside)
 
     pub world-at : AreArrivals net arrivals → IsWorldOf net p.world
-    world-at enter = begin-world net network arrivals p.history.items p.round p.boards.items p.world p.plans.items p.actors.all.items node inside b enter
+    world-at enter = begin-world net network arrivals p.history.items p.round p.boards.items p.world p.plans p.actors.all.items node inside b enter
 
     pub on-begun : {E : Type 0} (r : Result (Unit {0}) E) (old new : Acting) → old ≡ get_or p.actors.all.items node old → IsOf net new
         → ((arriving : ℕ → ℕ → ℕ) (lines : ℕ → List Green) → Stands net arriving (standing_by lines) p.world
         → OnOk r (Settles net (reading (heard_links net old.node)) (begun net p.round (sense net (past_of net arriving (standing_by lines) p.world.second) p.world.second node) old) new))
-        → OnOk r (Begins net arrivals p.history.items p.round (set p.actors.all.items node new) p.boards.items p.world p.plans.items (node + 1))
+        → OnOk r (Begins net arrivals p.history.items p.round (set p.actors.all.items node new) p.boards.items p.world p.plans (node + 1))
     on-begun r old new is of_new settles =
-        on_ok_weaker r (begins-more net network arrivals p.history.items p.round p.boards.items p.world p.plans.items p.actors.all.items node inside b old new (at-any p.actors.all.items node old begin-there is) of_new)
-        (settles (arriving_of arrivals) (line_before net b.made p.round) (begin-stands net network arrivals p.history.items p.round p.boards.items p.world p.plans.items p.actors.all.items node inside b))
+        on_ok_weaker r (begins-more net network arrivals p.history.items p.round p.boards.items p.world p.plans p.actors.all.items node inside b old new (at-any p.actors.all.items node old begin-there is) of_new)
+        (settles (arriving_of arrivals) (line_before net b.made p.round) (begin-stands net network arrivals p.history.items p.round p.boards.items p.world p.plans p.actors.all.items node inside b))
 
   module _ (i : AreInRound net arrivals p) where
     -- the round ends
     module _ (done : AllDone p.actors.all.items) where
       pub end-stands : Stands net (arriving_of arrivals) (standing_by (lines_of p.actors.all.items)) p.world
-      end-stands = over-before net network arrivals p.history.items p.round p.actors.all.items p.boards.items p.world p.plans.items i done no_acting
+      end-stands = over-before net network arrivals p.history.items p.round p.actors.all.items p.boards.items p.world p.plans i done no_acting
 
-      pub end-between : (moved : WorldState) (rested : List Acting) (plans : List PlanRecord) → moved.second ≡ p.world.second + net.run.step → Stands net (arriving_of arrivals) (standing_by (lines_of p.actors.all.items)) moved
-          → rested ≡ map without_records p.actors.all.items → plans ≡ p.plans.items ++ records_in p.actors.all.items → Between net arrivals p.history.items (p.round + 1) rested p.boards.items moved plans
-      end-between moved rested plans second stands rests are =
-          subst (λ (z : List Acting × List PlanRecord). Between net arrivals p.history.items (p.round + 1) z.0 p.boards.items moved z.1) (λ k. (sym rests k, sym are k))
-          (round-over net network arrivals p.history.items p.round p.actors.all.items p.boards.items p.world p.plans.items i done moved no_acting second stands)
+      pub end-capacity : vec_len p.plans + length (records_in p.actors.all.items) ≤ vec_capacity p.plans
+      end-capacity = plans-room net network arrivals p.history.items p.round p.actors.all.items p.boards.items p.world p.plans i done no_acting
+
+      pub end-between : (moved : WorldState) (rested : List Acting) (plans : Vec PlanRecord) → moved.second ≡ p.world.second + net.run.step → Stands net (arriving_of arrivals) (standing_by (lines_of p.actors.all.items)) moved
+          → rested ≡ map without_records p.actors.all.items → plans.items ≡ p.plans.items ++ records_in p.actors.all.items → vec_capacity p.plans ≤ vec_capacity plans → Between net arrivals p.history.items (p.round + 1) rested p.boards.items moved plans
+      end-between moved rested plans second stands rests added grown =
+          subst (λ (z : List Acting). Between net arrivals p.history.items (p.round + 1) z p.boards.items moved plans) (sym rests)
+          (round-over net network arrivals p.history.items p.round p.actors.all.items p.boards.items p.world p.plans i done moved plans no_acting second stands added grown)
 
     pub end-room : p.world.second + net.run.step ≤ 18000
     end-room =
@@ -133,9 +137,9 @@ module _ (net : Net) (network : IsNetwork net) (arrivals : Amounts) (p : Parts) 
 
       pub on-read : {E : Type 0} (r : Result (Unit {0}) E) (link : ℕ) (b : Board) (old new : Acting) → Wants p n (Read link) → b ≡ get_or p.boards.items link b → old ≡ get_or p.actors.all.items n old → IsOf net new
           → OnOk r (Settles net (with_heard (record { link = link; version = b.version; forecast = b.forecast }) old).want (with_heard (record { link = link; version = b.version; forecast = b.forecast }) old) new)
-          → OnOk r (InRound net arrivals (p.history.items ++ n ∷ []) p.round (set p.actors.all.items n new) p.boards.items p.world p.plans.items)
+          → OnOk r (InRound net arrivals (p.history.items ++ n ∷ []) p.round (set p.actors.all.items n new) p.boards.items p.world p.plans)
       on-read r link b old new wants board is of_new settles =
-          on_ok_weaker r (read-next net network arrivals p.history.items p.round p.actors.all.items p.boards.items p.world p.plans.items i n below old (at-any p.actors.all.items n old actor-there is) link b new (want-at (Read link) wants old is)
+          on_ok_weaker r (read-next net network arrivals p.history.items p.round p.actors.all.items p.boards.items p.world p.plans i n below old (at-any p.actors.all.items n old actor-there is) link b new (want-at (Read link) wants old is)
           (at-any p.boards.items link b (read-there link wants) board) of_new) settles
 
       -- it publishes the version of the round
@@ -154,9 +158,9 @@ module _ (net : Net) (network : IsNetwork net) (arrivals : Amounts) (p : Parts) 
               let enough : length (heard_links net n) ≤ c = x.enough in
               let small : c < length (board_steps net n) = omega (arith, step-count net n) in
               let at : (b : Board) → b ≡ get_or p.boards.items L b → b.version < 1000 = λ b is.
-              let told : is_publish_of L (step_at (board_steps net) (p.history.items ++ n ∷ []) (length p.history.items)) ≡ true = ap (is_publish_of L) (own-step net network p.history.items p.round (way net network arrivals p.history.items p.round p.actors.all.items p.boards.items p.world p.plans.items i) n c refl small ∙ told-step net n c enough inside) ∙ eq-eqb L L refl in
+              let told : is_publish_of L (step_at (board_steps net) (p.history.items ++ n ∷ []) (length p.history.items)) ≡ true = ap (is_publish_of L) (own-step net network p.history.items p.round (way net network arrivals p.history.items p.round p.actors.all.items p.boards.items p.world p.plans i) n c refl small ∙ told-step net n c enough inside) ∙ eq-eqb L L refl in
               let version = ap (λ (y : Board). y.version) is ∙ i.running.boards_are.versions L n ends.hearer b ends.from ends.to in
-              let now = now-published net network p.history.items p.round (way net network arrivals p.history.items p.round p.actors.all.items p.boards.items p.world p.plans.items i) L n ends.hearer c ends.from ends.to refl small told in
+              let now = now-published net network p.history.items p.round (way net network arrivals p.history.items p.round p.actors.all.items p.boards.items p.world p.plans i) L n ends.hearer c ends.from ends.to refl small told in
               omega (arith, version, now, few-rounds) in
               (omega (arith, same, there, network.outline.road_count, i.running.boards_are.all), subst (λ l. (b : Board) → b ≡ get_or p.boards.items l b → b.version < 1000) same at)
         ]
@@ -165,7 +169,7 @@ module _ (net : Net) (network : IsNetwork net) (arrivals : Amounts) (p : Parts) 
       pub on-told : {E : Type 0} (r : Result (Unit {0}) E) (link : ℕ) (b nb : Board) (old new : Acting) → Wants p n (Publish link) → b ≡ get_or p.boards.items link b → old ≡ get_or p.actors.all.items n old → IsOf net new
           → OnOk r (HasTold (tells_from net old.node (link + 1)) old new) → OnOk r (nb.version ≡ b.version + 1)
           → OnOk r (nb.forecast ≡ told_forecast net link old.sensed.now (departures old.window.lists (counts_of old.window.lists) old.phases old.served))
-          → OnOk r (InRound net arrivals (p.history.items ++ n ∷ []) p.round (set p.actors.all.items n new) (set p.boards.items link nb) p.world p.plans.items)
+          → OnOk r (InRound net arrivals (p.history.items ++ n ∷ []) p.round (set p.actors.all.items n new) (set p.boards.items link nb) p.world p.plans)
       on-told r link b nb old new wants board is of_new told version forecast =
-          on-three r (tell-next net network arrivals p.history.items p.round p.actors.all.items p.boards.items p.world p.plans.items i n below old (at-any p.actors.all.items n old actor-there is) link b nb new (want-at (Publish link) wants old is)
+          on-three r (tell-next net network arrivals p.history.items p.round p.actors.all.items p.boards.items p.world p.plans i n below old (at-any p.actors.all.items n old actor-there is) link b nb new (want-at (Publish link) wants old is)
           (at-any p.boards.items link b (tell-there link wants).0 board) of_new) told version forecast

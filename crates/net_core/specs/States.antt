@@ -1,5 +1,6 @@
 -- No public clause names these: what a core keeps between two steps.
 use Rattle.std.specs.Prelude.{◌≡◌, ◌≢◌, ℕ, Bool, false, ◌+◌, ◌-◌, ◌*◌, ◌<◌, ◌≤◌, ◌⊎◌, List, [], ◌∷◌, ◌++◌, Some, drop, length, slice_index_or}
+use Rattle.std.specs.Global.{Vec}
 use Rattle.arrivals.specs.Amounts.{Amounts, AreArrivals, entering}
 use Rattle.board_model.specs.declared.boards.Heard.{Heard}
 use Rattle.control_flow.specs.Greens.{end_of}
@@ -16,10 +17,10 @@ use Rattle.net_numbers.specs.Outline.{link_at}
 use Rattle.net_simulator.specs.Arriving.{arriving_of}
 use Rattle.net_simulator.specs.Worlds.{WorldState, Stands}
 use Rattle.road_net.specs.Network.{heard_links, told_links}
-use Rattle.runs.specs.Runs.{AllCommit, Commits, HearAlong, forecast_at, line_before, plans_of, sensed_in, shown_by}
+use Rattle.runs.specs.Runs.{AllCommit, Commits, HearAlong, forecast_at, line_before, sensed_in, shown_by}
 use Rattle.runs.specs.Ending.{HasCapacity}
 use Rattle.runs.specs.declared.run_records.EmptyRecord.{EmptyRecord}
-use Rattle.runs.specs.Resting.{Rests}
+use Rattle.runs.specs.Resting.{HasPlans, Rests}
 use Rattle.net_core.specs.declared.parts.Board.{Board}
 use Rattle.net_core.specs.declared.parts.Parts.{Parts}
 
@@ -75,17 +76,18 @@ pub record HasBoards (net : Net) (made : ℕ → ℕ → Commitment) (history : 
   pub forecasts : (link from to : ℕ) (d : Board) → (link_at net link).from ≡ Some from → (link_at net link).to ≡ Some to → (slice_index_or boards link d).forecast ≡ forecast_at net made link (version_at (board_steps net) history link (length history))
 
 -- What holds of a run whose first rounds are done, whatever its nodes do in the next: their commits, what was heard along the
--- history, the boards, the world at the begin of the next round, and the plans of the rounds that are done.
-pub record IsRunning (net : Net) (arrivals : Amounts) (heard : ℕ → ℕ → List Heard) (made : ℕ → ℕ → Commitment) (history : List ℕ) (done : ℕ) (boards : List Board) (world : WorldState) (plans : List PlanRecord) : Type 0 where
+-- history, the boards, the world at the begin of the next round, and the plans of the rounds that are done, in a list with capacity
+-- for those of all.
+pub record IsRunning (net : Net) (arrivals : Amounts) (heard : ℕ → ℕ → List Heard) (made : ℕ → ℕ → Commitment) (history : List ℕ) (done : ℕ) (boards : List Board) (world : WorldState) (plans : Vec PlanRecord) : Type 0 where
   pub commits : AllCommit net (entering arrivals) heard made done
   pub along : HearAlong net history heard made
   pub boards_are : HasBoards net made history boards
   pub second : world.second ≡ done * net.run.step
   pub stands : Stands net (arriving_of arrivals) (shown_by net made) world
-  pub planned : plans ≡ plans_of net heard made done
+  pub planned : HasPlans net heard made done plans
 
 -- Within a round: `round` rounds are done, and of the next one a part; each node has played as much of it as it stands in it.
-pub record InRound (net : Net) (arrivals : Amounts) (history : List ℕ) (round : ℕ) (actors : List Acting) (boards : List Board) (world : WorldState) (plans : List PlanRecord) : Type 0 where
+pub record InRound (net : Net) (arrivals : Amounts) (history : List ℕ) (round : ℕ) (actors : List Acting) (boards : List Board) (world : WorldState) (plans : Vec PlanRecord) : Type 0 where
   pub heard : ℕ → ℕ → List Heard
   pub made : ℕ → ℕ → Commitment
   pub early : List ℕ
@@ -100,7 +102,7 @@ pub record InRound (net : Net) (arrivals : Amounts) (history : List ℕ) (round 
   pub plays : (node : ℕ) (d : Acting) → node < length net.node_names → Plays net arrivals heard made round (count node part) node (slice_index_or actors node d)
 
 -- Between two rounds: `round` are done, and each node rests.
-pub record Between (net : Net) (arrivals : Amounts) (history : List ℕ) (round : ℕ) (actors : List Acting) (boards : List Board) (world : WorldState) (plans : List PlanRecord) : Type 0 where
+pub record Between (net : Net) (arrivals : Amounts) (history : List ℕ) (round : ℕ) (actors : List Acting) (boards : List Board) (world : WorldState) (plans : Vec PlanRecord) : Type 0 where
   pub heard : ℕ → ℕ → List Heard
   pub made : ℕ → ℕ → Commitment
   pub rounds_done : HasRounds (board_steps net) round history
@@ -111,7 +113,7 @@ pub record Between (net : Net) (arrivals : Amounts) (history : List ℕ) (round 
   pub rests : (node : ℕ) (d : Acting) → node < length net.node_names → Rests net made round node (slice_index_or actors node d)
 
 -- A round begins: the nodes before this one have begun it, and the others rest.
-pub record Begins (net : Net) (arrivals : Amounts) (history : List ℕ) (round : ℕ) (actors : List Acting) (boards : List Board) (world : WorldState) (plans : List PlanRecord) (first : ℕ) : Type 0 where
+pub record Begins (net : Net) (arrivals : Amounts) (history : List ℕ) (round : ℕ) (actors : List Acting) (boards : List Board) (world : WorldState) (plans : Vec PlanRecord) (first : ℕ) : Type 0 where
   pub heard : ℕ → ℕ → List Heard
   pub made : ℕ → ℕ → Commitment
   pub rounds_done : HasRounds (board_steps net) round history
@@ -129,7 +131,7 @@ pub record IsOpen (actors : List Acting) : Type 0 where
   pub wants : (d : Acting) → (slice_index_or actors node d).want ≢ Done
 
 -- A core that is not spent is in a round in which some node wants something, or after the last round.
-abbrev pub Goes : Net → Amounts → List ℕ → ℕ → List Acting → List Board → WorldState → List PlanRecord → Type 0
+abbrev pub Goes : Net → Amounts → List ℕ → ℕ → List Acting → List Board → WorldState → Vec PlanRecord → Type 0
 Goes net arrivals history round actors boards world plans =
     (InRound net arrivals history round actors boards world plans × IsOpen actors) ⊎ (Between net arrivals history round actors boards world plans × (round ≡ net.run.rounds))
 
@@ -139,21 +141,21 @@ AllDone actors = (node : ℕ) (d : Acting) → node < length actors → (slice_i
 
 -- what is so of the parts of a core: within a round, between two, and as one begins
 abbrev pub AreInRound : Net → Amounts → Parts → Type 0
-AreInRound net arrivals p = InRound net arrivals p.history.items p.round p.actors.all.items p.boards.items p.world p.plans.items
+AreInRound net arrivals p = InRound net arrivals p.history.items p.round p.actors.all.items p.boards.items p.world p.plans
 
 abbrev pub AreBetween : Net → Amounts → Parts → Type 0
-AreBetween net arrivals p = Between net arrivals p.history.items p.round p.actors.all.items p.boards.items p.world p.plans.items
+AreBetween net arrivals p = Between net arrivals p.history.items p.round p.actors.all.items p.boards.items p.world p.plans
 
 abbrev pub AreBeginning : Net → Amounts → Parts → ℕ → Type 0
-AreBeginning net arrivals p first = Begins net arrivals p.history.items p.round p.actors.all.items p.boards.items p.world p.plans.items first
+AreBeginning net arrivals p first = Begins net arrivals p.history.items p.round p.actors.all.items p.boards.items p.world p.plans first
 
 -- within a round after this history
 abbrev pub AreAfter : Net → Amounts → List ℕ → Parts → Type 0
-AreAfter net arrivals history p = InRound net arrivals history p.round p.actors.all.items p.boards.items p.world p.plans.items
+AreAfter net arrivals history p = InRound net arrivals history p.round p.actors.all.items p.boards.items p.world p.plans
 
 -- and between two steps of a core that is not spent
 abbrev pub AreGoing : Net → Amounts → Parts → Type 0
-AreGoing net arrivals p = Goes net arrivals p.history.items p.round p.actors.all.items p.boards.items p.world p.plans.items
+AreGoing net arrivals p = Goes net arrivals p.history.items p.round p.actors.all.items p.boards.items p.world p.plans
 
 -- a node wants this, or something
 abbrev pub Wants : Parts → ℕ → Want → Type 0

@@ -7,7 +7,7 @@ use arrivals::Arrivals;
 use foundation::threads::CrossesThreads;
 use intersection_actor::Want;
 use road_net::Network;
-use runs::{Actors, EmptyRecord, RunRecord, empty_record, law_of_runs, record_of};
+use runs::{EmptyRecord, RunRecord, empty_record, law_of_runs, record_of};
 use schedule_meaning::Planner;
 use std::alloc::{AllocError, Global};
 use std::marker::Model;
@@ -195,7 +195,6 @@ impl<'a> Core<'a> {
             plans,
             ..
         } = parts;
-        let Actors { all } = actors;
-        record_of(net, plans, all, &world, empty)
+        record_of(net, plans, actors, &world, empty)
     }
 }

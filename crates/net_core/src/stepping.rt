@@ -62,19 +62,18 @@ pub(crate) fn begin_round<P: Planner>(
 }
 
 /// The round is over: the world moves on, and what the nodes have planned goes to the plans of the run.
-fn end_round(net: &Network, arrivals: &Arrivals, parts: &mut Parts) -> Result<(), AllocError>
+fn end_round(net: &Network, arrivals: &Arrivals, parts: &mut Parts)
     requires arrivals { AreArrivals net.now arrivals.now }
     requires in_round { AreInRound net.now arrivals.now parts.old }
     requires done { AllDone parts.old.actors.all.items }
-    ensures between { OnOk result (AreBetween net.now arrivals.now parts.new) }
+    ensures between { AreBetween net.now arrivals.now parts.new }
     ensures history { parts.new.history ≡ parts.old.history }
-    ensures round { OnOk result (parts.new.round ≡ parts.old.round + 1) }
+    ensures round { parts.new.round ≡ parts.old.round + 1 }
 {
     let step = net.run().step;
     parts.world.advance(net, &parts.actors, arrivals, step);
-    parts.actors.move_records(&mut parts.plans)?;
+    parts.actors.move_records(&mut parts.plans);
     parts.round += 1;
-    Ok(())
 }
 
 /// Ends the rounds that are over and begins the next ones, until a node wants something or all rounds are done.
@@ -91,7 +90,7 @@ pub(crate) fn go_on<P: Planner>(
     ensures history { parts.new.history ≡ parts.old.history }
 {
     'rounds: while are_all_done(parts.actors.all.as_slice()) {
-        end_round(net, arrivals, parts)?;
+        end_round(net, arrivals, parts);
         if parts.round == net.run().rounds {
             return Ok(());
         }

@@ -11,7 +11,7 @@ module _ {P S G Ready : Type 0} where
     pub arrivals : AreArrivals r.net.now r.arrivals.now
     pub links : r.boards.now.links ≡ length r.net.now.link_names
     pub tasks : AreTasksOf r.net.now r.boards.now r.nodes.all.items
-    pub between : Between r.net.now r.arrivals.now r.boards.now round (passes_in r.nodes.all.items) (actors_in r.nodes.all.items) r.world r.plans.items
+    pub between : Between r.net.now r.arrivals.now r.boards.now round (passes_in r.nodes.all.items) (actors_in r.nodes.all.items) r.world r.plans
 
   -- they are still of the same network, arrivals and boards, with passes of the same numbers
   pub record AreOf (old new : Rounds P S G Ready) : Type 0 where

@@ -24,7 +24,7 @@ pub struct NodeTasks<'a, P, S: LinkSlot, G> {
 }
 
 impl<'a, P: Planner + Drop, S: LinkSlot, G: Gate> NodeTasks<'a, P, S, G> {
-    ghost use Rattle.std.specs.Prelude.{◌≡◌, ◌<◌, ◌≤◌, ◌++◌, [], All, IsOk, OnOk, length, map, vec_capacity, vec_len};
+    ghost use Rattle.std.specs.Prelude.{◌≡◌, ◌+◌, ◌<◌, ◌≤◌, ◌++◌, [], All, IsOk, OnOk, length, map, vec_capacity, vec_len};
     ghost use Rattle.board_rule.specs.Passes.{highest, raised};
     ghost use Rattle.intersection_actor.specs.Acting.{without_records};
     ghost use Rattle.node_rounds.specs.Rounds.{AreSamePasses};
@@ -135,19 +135,18 @@ impl<'a, P: Planner + Drop, S: LinkSlot, G: Gate> NodeTasks<'a, P, S, G> {
         }
     }
 
-    /// Moves what the nodes have planned to the end of the plans of a run, by node: they keep none.
-    ///
-    /// `Err`: out of memory; which nodes keep their plans is then open.
-    pub(crate) fn move_records(&mut self, plans: &mut Vec<PlanRecord>) -> Result<(), AllocError>
+    /// Moves what the nodes have planned to the end of the plans of a run, which has capacity for it, by node. The nodes keep none.
+    pub(crate) fn move_records(&mut self, plans: &mut Vec<PlanRecord>)
+        requires { vec_len plans.old + length (records_in (actors_in self.old.all.items)) ≤ vec_capacity plans.old }
         ensures passes { passes_in self.new.all.items ≡ passes_in self.old.all.items }
         ensures settings { settings_in self.new.all.items ≡ settings_in self.old.all.items }
-        ensures actors { OnOk result (actors_in self.new.all.items ≡ map without_records (actors_in self.old.all.items)) }
-        ensures plans { OnOk result (plans.new.items ≡ plans.old.items ++ records_in (actors_in self.old.all.items)) }
+        ensures actors { actors_in self.new.all.items ≡ map without_records (actors_in self.old.all.items) }
+        ensures plans { plans.new.items ≡ plans.old.items ++ records_in (actors_in self.old.all.items) }
+        ensures capacity { vec_capacity plans.old ≤ vec_capacity plans.new }
     {
         for k in 0..self.all.len() {
-            self.all[k].move_records(plans)?;
+            self.all[k].move_records(plans);
         }
-        Ok(())
     }
 
     /// The nodes take these passes for their own, which take the places of these.

@@ -1,5 +1,5 @@
 //! The run of a network in threads.
-ghost use Rattle.std.specs.Prelude.{◌≡◌, ℕ, ◌<◌, ◌≤◌, Option, [], All, IfOk, OnOk, length, vec_capacity, vec_len};
+ghost use Rattle.std.specs.Prelude.{◌≡◌, ℕ, ◌*◌, ◌<◌, ◌≤◌, Option, [], All, IfOk, OnOk, length, vec_capacity, vec_len};
 ghost use Rattle.arrivals.specs.Amounts.{AreArrivals, entering};
 ghost use Rattle.board_rule.specs.Passes.{AreAllPasses, calls_in};
 ghost use Rattle.net_simulator.specs.Worlds.{Stands};
@@ -56,6 +56,8 @@ fn rounds_of<'a, P: Planner + Drop, S: LinkSlot, G: Gate>(
         → IfOk result (λ r. Stands net.now arriving shown r.world) }
     ensures of { IfOk result (λ r. AreTasksOf net.now boards.now r.nodes.all.items) }
     ensures plans { IfOk result (λ r. r.plans.items ≡ []) }
+    ensures capacity { IfOk result (λ r.
+        net.now.run.rounds * length net.now.node_names ≤ vec_capacity r.plans) }
 {
     let Actors { all: actors } = actors_of(alloc, net)?;
     let world = World::new(alloc, net)?;
@@ -119,7 +121,9 @@ fn run_in_threads<
         plans,
         ..
     } = rounds;
-    let actors = nodes.into_actors(list);
+    let actors = Actors {
+        all: nodes.into_actors(list),
+    };
     Ok(record_of(net, plans, actors, &world, record))
 }
 

@@ -1,5 +1,5 @@
 //! A node's round as a task.
-ghost use Rattle.std.specs.Prelude.{◌≡◌, ◌++◌, max, OnOk, length};
+ghost use Rattle.std.specs.Prelude.{◌≡◌, ◌+◌, ◌≤◌, ◌++◌, max, OnOk, length, vec_capacity, vec_len};
 ghost use Rattle.board_rule.specs.Passes.{raised};
 ghost use Rattle.intersection_actor.specs.Acting.{without_records};
 ghost use Rattle.node_rounds.specs.Nodes.{CanGoOn, HasPlayedOn, IsSamePass};
@@ -127,16 +127,16 @@ impl<'a, P: Planner + Drop, S: LinkSlot, G: Gate> NodeTask<'a, P, S, G> {
         boards.inform(meeting, &mut self.node.pass);
     }
 
-    /// Moves what the node has planned to the end of these plans: it keeps none.
-    ///
-    /// `Err`: out of memory; all stays as it was.
-    pub(crate) fn move_records(&mut self, plans: &mut Vec<PlanRecord>) -> Result<(), AllocError>
+    /// Moves what the node has planned to the end of these plans, which have capacity for it. The node keeps none.
+    pub(crate) fn move_records(&mut self, plans: &mut Vec<PlanRecord>)
+        requires { vec_len plans.old + length (actor_of self.old).records ≤ vec_capacity plans.old }
         ensures pass { pass_of self.new ≡ pass_of self.old }
         ensures setting { self.new.setting ≡ self.old.setting }
-        ensures actor { OnOk result (actor_of self.new ≡ without_records (actor_of self.old)) }
-        ensures plans { OnOk result (plans.new.items ≡ plans.old.items ++ (actor_of self.old).records) }
+        ensures actor { actor_of self.new ≡ without_records (actor_of self.old) }
+        ensures plans { plans.new.items ≡ plans.old.items ++ (actor_of self.old).records }
+        ensures capacity { vec_capacity plans.old ≤ vec_capacity plans.new }
     {
-        self.node.actor.move_records(plans)
+        self.node.actor.move_records(plans);
     }
 
     /// The node takes this pass for its own, which takes its place.

@@ -55,7 +55,8 @@ impl<'a, P: Planner + Drop, S: LinkSlot, G: Gate> Rounds<'a, P, S, G> {
         self.nodes.play(rt, self.alloc, &self.world, round, runner)?;
         self.nodes.meet(boards);
         move_world(&mut self.world, net, &self.nodes, arrivals, step);
-        self.nodes.move_records(&mut self.plans)
+        self.nodes.move_records(&mut self.plans);
+        Ok(())
     }
 
     /// All rounds.

@@ -1,5 +1,6 @@
 -- A round of all nodes leads from between two rounds to between the next ones.
-use Rattle.std.proofs.Common.{◌≡◌, ℕ, suc, ◌+◌, ◌-◌, ◌*◌, ◌/◌, ◌<◌, ◌≤◌, max, cond, List, [], ◌∷◌, ◌++◌, All, length, map, get_or, refl, sym, ap, subst, ◌∙◌, inl, inr, arith, eqb, eq-eqb, ne_eqb}
+use Rattle.std.proofs.Common.{◌≡◌, ℕ, suc, ◌+◌, ◌-◌, ◌*◌, ◌/◌, ◌<◌, ◌≤◌, max, cond, List, [], ◌∷◌, ◌++◌, All, length, map, get_or, vec_capacity, vec_len, refl, sym, ap, subst, ◌∙◌, inl, inr, arith, eqb, eq-eqb, ne_eqb}
+use Rattle.std.specs.Global.{Vec}
 use Rattle.std.specs.Prelude.{◌⊎◌}
 use Rattle.std.proofs.lemmas.Bool.{cases_lt}
 use Rattle.std.proofs.lemmas.List.{get_or_default, get_or-map, length-map}
@@ -29,14 +30,14 @@ use Rattle.node_rounds.specs.Nodes.{IsRoundOf, NodeRound}
 use Rattle.node_rounds.specs.Told.{AreCallsOf}
 use Rattle.road_net.specs.Network.{IsNetwork}
 use Rattle.road_net.specs.declared.senses.Sensed.{Sensed}
-use Rattle.runs.specs.Runs.{AllCommit, Commits, line_before, plans_of, sensed_in, shown_by}
+use Rattle.runs.specs.Runs.{AllCommit, Commits, line_before, sensed_in, shown_by}
 use Rattle.runs.proofs.Agree.{SameBefore, commit-moved, commits-moved}
 use Rattle.runs.specs.Ending.{records_in}
-use Rattle.runs.specs.Resting.{Rests, lines_of}
+use Rattle.runs.specs.Resting.{HasPlans, Rests, lines_of}
 use Rattle.node_rounds.specs.Rounds.{AreCallsIn, AreSamePasses, Between, CanAllPlay, HaveAllPlayed, HaveLeft}
 use Rattle.node_rounds.proofs.Passes.{at-most-highest, calls-at, calls-past, no_pass, own-at, own-same, raised-at, raised-calls, raised-names}
 use Rattle.runs.proofs.Resting.{before-shows, before-stands, no_acting, no_commitment, sense-is, stands-same}
-use Rattle.runs.proofs.PlanLists.{plans-more, plans-same}
+use Rattle.runs.proofs.PlanLists.{next-room, plans-next, plans-same}
 use Rattle.intersection_actor.proofs.RoundLaws.{of-without}
 use Rattle.node_rounds.proofs.Told.{in-moved}
 
@@ -52,7 +53,7 @@ module _ {A : Type 0} (f : ℕ → ℕ → A) (round : ℕ) (g : ℕ → A) wher
   round-else r n other = ap (λ b. cond b (g n) (f r n)) (ne_eqb r round other)
 
 module _ (net : Net) (network : IsNetwork net) (arrivals : Amounts) (round : ℕ) where
-  module _ (boards : BoardsView) (passes : List PassView) (actors : List Acting) (world : WorldState) (plans : List PlanRecord) (b : Between net arrivals boards round passes actors world plans) (less : round < net.run.rounds) where
+  module _ (boards : BoardsView) (passes : List PassView) (actors : List Acting) (world : WorldState) (plans : Vec PlanRecord) (b : Between net arrivals boards round passes actors world plans) (less : round < net.run.rounds) where
     -- each node may play the round
     pub can-play : AreArrivals net arrivals → (planners : ℕ) → planners ≡ length net.node_names → CanAllPlay net round world boards planners actors passes
     can-play enter planners count =
@@ -193,11 +194,19 @@ module _ (net : Net) (network : IsNetwork net) (arrivals : Amounts) (round : ℕ
       rests : (n : ℕ) (a : Acting) → n < N → Rests net made (round + 1) n (get_or rested n a)
       rests n a below = subst (Rests net made (round + 1) n) (sym (get_or-map without_records acted n A a (omega (arith, played.actors, b.all)))) (rests-own n below)
 
-      planned : plans ++ records_in acted ≡ plans_of net heard made (round + 1)
-      planned =
-          ap (λ (l : List PlanRecord). l ++ records_in acted) (b.planned ∙ plans-same net b.heard heard b.made made round (λ r n first below. heard-else r n first) (λ r n first below. made-else r n first))
-          ∙ plans-more net heard made round acted (played.actors ∙ b.all)
-          (λ n d below. ap (λ (a : Acting). a.records) (sym (get_or_default acted n A d (omega (arith, played.actors, b.all)))) ∙ record-own n below)
+      -- the plans of the earlier rounds, told by what is heard and made up to this one
+      before-planned : HasPlans net heard made round plans
+      before-planned = record {
+        done = b.planned.done ∙ plans-same net b.heard heard b.made made round (λ r n first below. heard-else r n first) (λ r n first below. made-else r n first);
+        capacity = b.planned.capacity;
+      }
+
+      records-own : (n : ℕ) (d : Acting) → n < N → (get_or acted n d).records ≡ record_of n round (heard round n) (made round n) ∷ []
+      records-own n d below = ap (λ (a : Acting). a.records) (sym (get_or_default acted n A d (omega (arith, played.actors, b.all)))) ∙ record-own n below
+
+      -- there is room for what the nodes have planned
+      pub plans-room : vec_len plans + length (records_in acted) ≤ vec_capacity plans
+      plans-room = next-room net heard made round plans before-planned acted (played.actors ∙ b.all) records-own less
 
       -- the calls
       many : length called ≡ N
@@ -308,9 +317,9 @@ module _ (net : Net) (network : IsNetwork net) (arrivals : Amounts) (round : ℕ
           (λ x n less below. shown-before x n (omega (arith, b.second)) ∙ sym (lines-show x n (omega (arith, next-second, b.second)) below)) b.stands
 
       -- so the next round can begin
-      pub round-over : AreSamePasses passes called → (moved : WorldState) → moved.second ≡ world.second + net.run.step → Stands net (arriving_of arrivals) (standing_by (lines_of acted)) moved
-          → Between net arrivals boards (round + 1) met rested moved (plans ++ records_in acted)
-      round-over same moved second stands =
+      pub round-over : AreSamePasses passes called → (moved : WorldState) (next : Vec PlanRecord) → moved.second ≡ world.second + net.run.step → Stands net (arriving_of arrivals) (standing_by (lines_of acted)) moved
+          → next.items ≡ plans.items ++ records_in acted → vec_capacity plans ≤ vec_capacity next → Between net arrivals boards (round + 1) met rested moved next
+      round-over same moved next second stands added grown =
           let now : moved.second ≡ (round + 1) * net.run.step = omega (arith, next-second, second, b.second) in
           record {
             heard = heard;
@@ -322,7 +331,7 @@ module _ (net : Net) (network : IsNetwork net) (arrivals : Amounts) (round : ℕ
             stands = stands-same net network (arriving_of arrivals) (standing_by (lines_of acted)) (shown_by net made) moved (λ x n less below. lines-show x n (omega arith) below) stands;
             all = length-map acted without_records ∙ played.actors ∙ b.all;
             rests = rests;
-            planned = planned;
+            planned = plans-next net heard made round plans before-planned acted (played.actors ∙ b.all) records-own next added grown;
             own = left same;
             calls = subst (λ r. AreCallsIn net heard made r (calls_in met)) one calls;
             rising = rising;

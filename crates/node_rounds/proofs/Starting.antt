@@ -1,5 +1,6 @@
 -- Before the first round.
-use Rattle.std.proofs.Common.{◌≡◌, ℕ, ◌-◌, ◌*◌, ◌<◌, ◌≤◌, List, [], Option, All, length, get_or, sym, subst, ◌∙◌, inl, inr, arith}
+use Rattle.std.proofs.Common.{◌≡◌, ℕ, ◌-◌, ◌*◌, ◌<◌, ◌≤◌, List, [], Option, All, length, get_or, vec_capacity, sym, subst, ◌∙◌, inl, inr, arith}
+use Rattle.std.specs.Global.{Vec}
 use Rattle.std.proofs.lemmas.Bool.{cases_lt}
 use Rattle.std.proofs.lemmas.List.Elements.{All-nil}
 use Rattle.arrivals.specs.Amounts.{Amounts}
@@ -28,9 +29,9 @@ no-calls boards passes none n = elim (cases_lt n (length passes)) [
 
 pub at-first : (net : Net) (arrivals : Amounts) (boards : BoardsView) (passes : List PassView) (actors : List Acting) (world : WorldState) → AreNew net (length net.node_names) actors → world.second ≡ 0
     → ((arriving : ℕ → ℕ → ℕ) (shown : ℕ → ℕ → Option (ℕ × ℕ)) → Stands net arriving shown world) → length passes ≡ length net.node_names → AreAllPasses boards passes → All (λ (p : PassView). p.calls ≡ []) passes
-    → ((node : ℕ) (p : PassView) → node < length net.node_names → net.run.rounds * length (board_steps net node) ≤ (get_or passes node p).left) → (plans : List PlanRecord) → plans ≡ []
+    → ((node : ℕ) (p : PassView) → node < length net.node_names → net.run.rounds * length (board_steps net node) ≤ (get_or passes node p).left) → (plans : Vec PlanRecord) → plans.items ≡ [] → net.run.rounds * length net.node_names ≤ vec_capacity plans
     → Between net arrivals boards 0 passes actors world plans
-at-first net arrivals boards passes actors world new second stands all own none left plans unplanned = record {
+at-first net arrivals boards passes actors world new second stands all own none left plans unplanned capacity = record {
   heard = λ r n. [];
   made = λ r n. no_commitment;
   mark = 0;
@@ -40,7 +41,7 @@ at-first net arrivals boards passes actors world new second stands all own none 
   stands = stands (arriving_of arrivals) (shown_by net (λ r n. no_commitment));
   all = new.all;
   rests = λ n a below. new-rest net (λ r m. no_commitment) actors (length net.node_names) n a new below;
-  planned = unplanned;
+  planned = record { done = unplanned; capacity = capacity };
   own = record { all = all; own = own; left = λ n p below. (let P : ℕ → Type 0 = λ r. r * length (board_steps net n) ≤ (get_or passes n p).left in subst P (let e : net.run.rounds ≡ net.run.rounds - 0 = omega arith in e) (left n p below)); known = λ n p below. omega arith };
   calls = no-calls boards passes none;
   rising = λ n. subst IsRising (sym (no-calls boards passes none n)) (pairs-nil (λ (early late : Call). early.stamp < late.stamp));

@@ -1,5 +1,6 @@
 -- After the last round: the run that the calls of the passes tell.
 use Rattle.std.proofs.Common.{◌≡◌, ℕ, ◌/◌, ◌<◌, List, All, length, map, sym, ap, subst, ◌∙◌, arith}
+use Rattle.std.specs.Global.{Vec}
 use Rattle.std.specs.Prelude.{Contains}
 use Rattle.std.proofs.lemmas.List.{get_or-map, length-map}
 use Rattle.std.proofs.lemmas.List.Elements.{All-contains}
@@ -38,7 +39,7 @@ contains-map f xs x (k, below, is) = (k, (omega (arith, length-map xs f)), get_o
 used : Heard → Used
 used x = record { link = x.link; version = x.version }
 
-module _ (net : Net) (network : IsNetwork net) (arrivals : Amounts) (boards : BoardsView) (passes : List PassView) (actors : List Acting) (world : WorldState) (plans : List PlanRecord) (b : Between net arrivals boards net.run.rounds passes actors world plans) where
+module _ (net : Net) (network : IsNetwork net) (arrivals : Amounts) (boards : BoardsView) (passes : List PassView) (actors : List Acting) (world : WorldState) (plans : Vec PlanRecord) (b : Between net arrivals boards net.run.rounds passes actors world plans) where
   -- the merge of the logs of the calls is lawful
   pub are-calls : AreCalls (board_steps net) net.run.rounds (calls_in passes)
   are-calls = record { rounds_made = rounds-made net b.heard b.made net.run.rounds (calls_in passes) b.calls; rising = b.rising }
@@ -46,11 +47,11 @@ module _ (net : Net) (network : IsNetwork net) (arrivals : Amounts) (boards : Bo
   pub merge-lawful : ((calls : ℕ → List Call) (logs : List Log) (h : List ℕ) → AreCalls (board_steps net) net.run.rounds calls → AreLogsOf calls (log_at logs) → IsMerge logs h → IsLawful net h) → MergeToLawful net (calls_in passes)
   merge-lawful lawful logs history made merge = lawful (calls_in passes) logs history are-calls made merge
 
-  pub by-commits : (run : RunRecord) → IsRecordOf net plans actors world run → IsRunBy net (entering arrivals) b.heard b.made run
-  by-commits = run-by net (entering arrivals) b.heard b.made actors world b.all (λ n a below. (b.rests n a below).line) b.commits b.second b.stands plans b.planned
+  pub by-commits : (run : RunRecord) → IsRecordOf net plans.items actors world run → IsRunBy net (entering arrivals) b.heard b.made run
+  by-commits = run-by net (entering arrivals) b.heard b.made actors world b.all b.rests b.commits b.second b.stands plans b.planned
 
   -- the calls are the steps, and each reading is named
-  pub are-steps : (run : RunRecord) → IsRecordOf net plans actors world run → (node : ℕ) → AreStepsOf net run node (calls_in passes node)
+  pub are-steps : (run : RunRecord) → IsRecordOf net plans.items actors world run → (node : ℕ) → AreStepsOf net run node (calls_in passes node)
   unfolding used
   are-steps run left node = record {
     steps = steps-made net b.heard b.made net.run.rounds (calls_in passes) b.calls node;
@@ -68,7 +69,7 @@ module _ (net : Net) (network : IsNetwork net) (arrivals : Amounts) (boards : Bo
   pub is-run-of : ((calls : ℕ → List Call) (logs : List Log) (h : List ℕ) → AreCalls (board_steps net) net.run.rounds calls → AreLogsOf calls (log_at logs) → IsMerge logs h → IsLawful net h)
       → ((calls : ℕ → List Call) (logs : List Log) (h : List ℕ) → AreCalls (board_steps net) net.run.rounds calls → AreLogsOf calls (log_at logs) → Agree calls (log_at logs) → IsMerge logs h → AreTold (board_steps net) (publisher net) calls h)
       → ((enters : ℕ → ℕ → ℕ) (history : List ℕ) (record_of_run : RunRecord) → IsLawful net history → (run : IsRun net enters history record_of_run) → KeepsPromises net enters history run.made record_of_run)
-      → (run : RunRecord) → IsRecordOf net plans actors world run → IsRunOfCalls net (entering arrivals) (calls_in passes) run
+      → (run : RunRecord) → IsRecordOf net plans.items actors world run → IsRunOfCalls net (entering arrivals) (calls_in passes) run
   is-run-of lawful told keeps run left logs history made agree merge =
       let is_lawful : IsLawful net history = merge-lawful lawful logs history made merge in
       let is : IsRun net (entering arrivals) history run = record {

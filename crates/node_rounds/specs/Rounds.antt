@@ -1,5 +1,6 @@
 -- How far the nodes are between the rounds, and what a round of all nodes is.
 use Rattle.std.specs.Prelude.{◌≡◌, ℕ, zero, suc, ◌-◌, ◌*◌, ◌<◌, ◌≤◌, List, [], ◌++◌, All, length, map, slice_index_or}
+use Rattle.std.specs.Global.{Vec}
 use Rattle.arrivals.specs.Amounts.{Amounts, entering}
 use Rattle.atomic_table.specs.Seated.{TableId}
 use Rattle.board_model.specs.declared.boards.Heard.{Heard}
@@ -13,9 +14,9 @@ use Rattle.histories.specs.Calls.{IsRising}
 use Rattle.net_numbers.specs.Numbers.{Net}
 use Rattle.net_simulator.specs.Arriving.{arriving_of}
 use Rattle.net_simulator.specs.Worlds.{WorldState, Stands}
-use Rattle.runs.specs.Runs.{AllCommit, plans_of, shown_by}
+use Rattle.runs.specs.Runs.{AllCommit, shown_by}
 use Rattle.node_rounds.specs.Nodes.{CanPlay, HasPlayed}
-use Rattle.runs.specs.Resting.{Rests}
+use Rattle.runs.specs.Resting.{HasPlans, Rests}
 use Rattle.node_rounds.specs.Told.{AreCallsOf}
 
 -- the boards and the number of each pass
@@ -63,8 +64,8 @@ pub record HaveLeft (net : Net) (boards : BoardsView) (round mark : ℕ) (passes
   pub known : (node : ℕ) (p : PassView) → node < length net.node_names → mark ≤ (slice_index_or passes node p).known
 
 -- Between two rounds: `round` are done, each node rests, the world is at the begin of the next round, and the calls of the passes
--- and the plans are those of the rounds that are done.
-pub record Between (net : Net) (arrivals : Amounts) (boards : BoardsView) (round : ℕ) (passes : List PassView) (actors : List Acting) (world : WorldState) (plans : List PlanRecord) : Type 0 where
+-- and the plans are those of the rounds that are done. The list of the plans has capacity for those of all rounds.
+pub record Between (net : Net) (arrivals : Amounts) (boards : BoardsView) (round : ℕ) (passes : List PassView) (actors : List Acting) (world : WorldState) (plans : Vec PlanRecord) : Type 0 where
   pub heard : ℕ → ℕ → List Heard
   pub made : ℕ → ℕ → Commitment
   pub mark : ℕ
@@ -74,7 +75,7 @@ pub record Between (net : Net) (arrivals : Amounts) (boards : BoardsView) (round
   pub stands : Stands net (arriving_of arrivals) (shown_by net made) world
   pub all : length actors ≡ length net.node_names
   pub rests : (node : ℕ) (a : Acting) → node < length net.node_names → Rests net made round node (slice_index_or actors node a)
-  pub planned : plans ≡ plans_of net heard made round
+  pub planned : HasPlans net heard made round plans
   pub own : HaveLeft net boards round mark passes
   pub calls : AreCallsIn net heard made round (calls_in passes)
   pub rising : (node : ℕ) → IsRising (calls_in passes node)

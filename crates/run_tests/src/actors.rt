@@ -134,10 +134,8 @@ fn rest(alloc: Global, actor: &mut Actor) -> Result<&[Green], AllocError> {
 
 /// Moves what the node has planned into a list.
 fn planned(alloc: Global, actor: &mut Actor) -> Result<Vec<PlanRecord>, AllocError> {
-    let mut plans = Vec::new(alloc);
-    if actor.move_records(&mut plans).is_err() {
-        actor.move_records(&mut plans)?;
-    }
+    let mut plans = Vec::with_capacity(alloc, actor.records().len())?;
+    actor.move_records(&mut plans);
     Ok(plans)
 }
 

@@ -1,5 +1,6 @@
--- The record of what actors and a world hold after the last round is that of their commits.
-use Rattle.std.proofs.Common.{◌≡◌, ℕ, ◌+◌, ◌*◌, ◌<◌, List, length, map, get_or, ap, ◌∙◌, arith}
+-- The record of plans, actors and a world after the last round is that of the commits.
+use Rattle.std.proofs.Common.{◌≡◌, ℕ, suc, ◌+◌, ◌*◌, ◌<◌, ◌≤◌, List, [], ◌∷◌, ◌++◌, length, map, get_or, vec_capacity, vec_len, refl, ap, ◌∙◌, arith, append-nil}
+use Rattle.std.specs.Global.{Vec}
 use Rattle.std.specs.List.{range_with_len}
 use Rattle.board_model.specs.declared.boards.Heard.{Heard}
 use Rattle.intersection_actor.specs.Acting.{Acting}
@@ -10,24 +11,40 @@ use Rattle.net_simulator.specs.Counts.{counts_at}
 use Rattle.net_simulator.specs.Flow.{past_of}
 use Rattle.net_simulator.specs.Sums.{link_totals, totals}
 use Rattle.net_simulator.specs.Worlds.{WorldState, Stands}
-use Rattle.runs.specs.Runs.{AllCommit, IsRunBy, arriving_by, line_before, plans_of, shown_by}
+use Rattle.runs.specs.Resting.{HasPlans, Rests}
+use Rattle.runs.specs.Runs.{AllCommit, IsRunBy, arriving_by, line_before, shown_by}
 use Rattle.runs.specs.declared.records.RunRecord.{RunRecord}
 use Rattle.runs.proofs.SameParts.{map-by, map-range-same}
-use Rattle.runs.specs.Ending.{IsRecordOf}
+use Rattle.runs.specs.Ending.{IsRecordOf, records_in}
+
+-- where no actor has a plan record, there is none
+none-each : (actors : List Acting) → ((n : ℕ) (d : Acting) → n < length actors → (get_or actors n d).records ≡ []) → records_in actors ≡ []
+none-each [] none = refl
+none-each (a ∷ actors) none = ap (λ l. l ++ records_in actors) (none 0 a (omega arith)) ∙ none-each actors (λ n d less. none (suc n) d (omega arith))
+
+-- actors that rest have no plan record
+module _ (net : Net) (made : ℕ → ℕ → Commitment) (round : ℕ) (actors : List Acting) (all : length actors ≡ length net.node_names)
+    (rests : (node : ℕ) (a : Acting) → node < length net.node_names → Rests net made round node (get_or actors node a)) where
+  no-records : records_in actors ≡ []
+  no-records = none-each actors (λ n d less. (rests n d (omega (arith, all))).records)
+
+  -- so each list has room for theirs
+  pub last-room : (plans : Vec PlanRecord) → vec_len plans + length (records_in actors) ≤ vec_capacity plans
+  last-room plans = omega (arith, ap length no-records, plans.ok.1)
 
 module _ (net : Net) (enters : ℕ → ℕ → ℕ) (heard : ℕ → ℕ → List Heard) (made : ℕ → ℕ → Commitment) (actors : List Acting) (world : WorldState) where
   abbrev rounds : ℕ
   rounds = net.run.rounds
 
-  pub run-by : length actors ≡ length net.node_names → ((node : ℕ) (a : Acting) → node < length net.node_names → (get_or actors node a).line ≡ line_before net made rounds node) → AllCommit net enters heard made rounds
-      → world.second ≡ rounds * net.run.step → Stands net (arriving_by enters) (shown_by net made) world → (plans : List PlanRecord) → plans ≡ plans_of net heard made rounds → (run : RunRecord) → IsRecordOf net plans actors world run
+  pub run-by : length actors ≡ length net.node_names → ((node : ℕ) (a : Acting) → node < length net.node_names → Rests net made rounds node (get_or actors node a)) → AllCommit net enters heard made rounds
+      → world.second ≡ rounds * net.run.step → Stands net (arriving_by enters) (shown_by net made) world → (plans : Vec PlanRecord) → HasPlans net heard made rounds plans → (run : RunRecord) → IsRecordOf net plans.items actors world run
       → IsRunBy net enters heard made run
-  run-by all lines commits second stands plans are run left = record {
+  run-by all rests commits second stands plans has run left = record {
     commits = commits;
-    plans = left.plans ∙ are;
+    plans = left.plans ∙ ap (λ l. plans.items ++ l) (no-records net made rounds actors all rests) ∙ append-nil plans.items ∙ has.done;
     timelines =
         left.timelines
-        ∙ map-by (λ (a : Acting). a.line) (line_before net made rounds) actors 0 (λ k d less. lines k d (omega (arith, all)) ∙ ap (line_before net made rounds) (let e : k ≡ 0 + k = omega arith in e))
+        ∙ map-by (λ (a : Acting). a.line) (line_before net made rounds) actors 0 (λ k d less. (rests k d (omega (arith, all))).line ∙ ap (line_before net made rounds) (let e : k ≡ 0 + k = omega arith in e))
         ∙ ap (λ n. map (line_before net made rounds) (range_with_len 0 n)) all;
     links =
         left.links

@@ -1,5 +1,5 @@
 -- The record that is made of plans, actors and a world.
-use Rattle.std.specs.Prelude.{◌≡◌, ◌≤◌, List, [], length, map, vec_capacity}
+use Rattle.std.specs.Prelude.{◌≡◌, ◌≤◌, List, [], ◌++◌, length, map, vec_capacity}
 use Rattle.std.specs.List.{flat_map, range_with_len}
 use Rattle.control_flow.specs.declared.greens.Green.{Green}
 use Rattle.intersection_actor.specs.Acting.{Acting}
@@ -24,9 +24,10 @@ records_in actors = flat_map (λ (a : Acting). a.records) actors
 abbrev pub lines_in : List Acting → List (List Green)
 lines_in actors = map (λ (a : Acting). a.line) actors
 
--- The record of these plans, actors and world: the plans, the timelines of the actors, and what the world has counted.
+-- The record of these plans, actors and world: the plans, and after them those that the actors have; the timelines of the actors; and
+-- what the world has counted.
 pub record IsRecordOf (net : Net) (planned : List PlanRecord) (actors : List Acting) (world : WorldState) (run : RunRecord) : Type 0 where
-  pub plans : run.plans ≡ planned
+  pub plans : run.plans ≡ planned ++ records_in actors
   pub timelines : run.timelines ≡ lines_in actors
   pub links : run.links ≡ map (counts_at world.counts) (range_with_len 0 (length net.link_names))
   pub totals : run.totals ≡ world.totals

@@ -35,23 +35,24 @@ impl Lights for Actors {
 }
 
 impl Actors {
-    ghost use Rattle.std.specs.Prelude.{◌≡◌, ◌++◌, OnOk, map};
+    ghost use Rattle.std.specs.Prelude.{◌≡◌, ◌+◌, ◌≤◌, ◌++◌, length, map, vec_capacity, vec_len};
     ghost use Rattle.intersection_actor.specs.Acting.{without_records};
     ghost use Rattle.runs.specs.Ending.{records_in};
 
-    /// Moves what the actors have planned to the end of the plans of a run, by node: they keep none.
+    /// Moves what the actors have planned to the end of the plans of a run, by node. The actors keep none.
     ///
-    /// `Err`: out of memory; which actors keep their plans is then open.
+    /// The list has capacity for it, so the call cannot fail.
     ///
     /// docs/RULES.md, "Run".
-    pub fn move_records(&mut self, plans: &mut Vec<PlanRecord>) -> Result<(), AllocError>
-        ensures plans { OnOk result (plans.new.items ≡ plans.old.items ++ records_in self.old.all.items) }
-        ensures actors { OnOk result (self.new.all.items ≡ map without_records self.old.all.items) }
+    pub fn move_records(&mut self, plans: &mut Vec<PlanRecord>)
+        requires { vec_len plans.old + length (records_in self.old.all.items) ≤ vec_capacity plans.old }
+        ensures plans { plans.new.items ≡ plans.old.items ++ records_in self.old.all.items }
+        ensures capacity { vec_capacity plans.old ≤ vec_capacity plans.new }
+        ensures actors { self.new.all.items ≡ map without_records self.old.all.items }
     {
         for node in 0..self.all.len() {
-            self.all[node].move_records(plans)?;
+            self.all[node].move_records(plans);
         }
-        Ok(())
     }
 }
 

@@ -2,9 +2,10 @@
 ghost use Rattle.std.specs.Prelude.{◌≡◌, ◌+◌, ◌*◌, ◌≤◌, ◌++◌, [], IfOk, length, map, vec_capacity, vec_len};
 ghost use Rattle.std.specs.List.{range_with_len};
 ghost use Rattle.net_simulator.specs.Counts.{counts_at};
-ghost use Rattle.runs.specs.Ending.{HasCapacity, IsRecordOf, lines_in};
+ghost use Rattle.runs.specs.Ending.{HasCapacity, IsRecordOf, lines_in, records_in};
 
-use crate::RunRecord;
+use crate::network_actors::Actors;
+use crate::records::RunRecord;
 use control_flow::greens::Timeline;
 use foundation::items::Items;
 use foundation::threads::CrossesThreads;
@@ -51,27 +52,33 @@ pub fn empty_record(alloc: Global, net: &Network) -> Result<EmptyRecord, AllocEr
     Ok(EmptyRecord { timelines, links })
 }
 
-/// The record of a run after its last round: these plans, the timeline of each actor, and what the world has counted. What an actor
-/// has planned since its records were last moved is dropped. It takes no memory.
+/// The record of a run after its last round: these plans and, after them, those that the actors still have, by node; the timeline of
+/// each actor; and what the world has counted.
+///
+/// The list of the plans has capacity for those of the actors, so the call cannot fail.
 ///
 /// docs/RULES.md, "Run".
 pub fn record_of(
     net: &Network,
     plans: Vec<PlanRecord>,
-    actors: Vec<Actor>,
+    actors: Actors,
     world: &World,
     empty: EmptyRecord,
 ) -> RunRecord
-    requires actors { length actors.items ≡ length net.now.node_names }
+    requires plans { vec_len plans + length (records_in actors.all.items) ≤ vec_capacity plans }
+    requires actors { length actors.all.items ≡ length net.now.node_names }
     requires counts { length world.now.counts ≡ length net.now.link_names }
     requires capacity { HasCapacity net.now empty }
-    ensures { IsRecordOf net.now plans.items actors.items world.now result }
+    ensures { IsRecordOf net.now plans.items actors.all.items world.now result }
 {
+    let mut plans = plans;
+    let mut actors = actors;
     let EmptyRecord {
         mut timelines,
         mut links,
     } = empty;
-    push_timelines(actors, &mut timelines);
+    actors.move_records(&mut plans);
+    push_timelines(actors.all, &mut timelines);
     push_totals(net, world, &mut links);
     RunRecord {
         plans: Items::from_vec(plans),

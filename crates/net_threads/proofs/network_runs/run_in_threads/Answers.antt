@@ -1,4 +1,4 @@
-use Rattle.std.proofs.Common.{◌≡◌, All, List, OnOk, length, sym, ap, subst, ◌∙◌, arith}
+use Rattle.std.proofs.Common.{◌≡◌, ◌+◌, ◌≤◌, All, List, OnOk, length, vec_capacity, vec_len, sym, ap, subst, ◌∙◌, arith}
 use Rattle.std.proofs.lemmas.List.{length-map}
 use Rattle.arrivals.specs.Amounts.{Amounts, AreArrivals}
 use Rattle.board_rule.specs.Passes.{AreAllPasses, BoardsView, PassView}
@@ -9,6 +9,8 @@ use Rattle.node_rounds.proofs.FreshPasses.{left-at}
 use Rattle.node_rounds.proofs.Passes.{own-same, same-length}
 use Rattle.node_rounds.proofs.Starting.{at-first}
 use Rattle.node_rounds.proofs.ThreadRuns.{are-steps, is-run-of, merge-lawful}
+use Rattle.runs.specs.Ending.{records_in}
+use Rattle.runs.proofs.EndedRecords.{last-room}
 use Rattle.net_threads.specs.Rounds.{AreAt}
 use Rattle.net_threads.specs.Tasks.{actor_of, actors_in, pass_of, passes_in}
 use Rattle.net_threads.proofs.TaskLists.{same-count}
@@ -24,10 +26,10 @@ run-rounds-requires-after_bounds g c κs within =
         arrivals = subst (λ (z : Net × Amounts). AreArrivals z.0 z.1) (λ i. (sym refs.0 i, sym refs.1 i)) c.requires.arrivals;
         links = subst (λ (z : Net × BoardsView). z.1.links ≡ length z.0.link_names) (λ i. (sym refs.0 i, sym refs.2 i)) c.requires.links;
         tasks = subst (λ (z : Net × BoardsView × List (Net × BoardsView)). All (λ (s : Net × BoardsView). (s.0 ≡ z.0) × (s.1 ≡ z.1)) z.2) (λ i. (sym refs.0 i, sym refs.2 i, sym c.trade.ensures.settings i)) made.of;
-        between = subst (λ (z : Net × Amounts × BoardsView × List PassView × List Acting). Between z.0 z.1 z.2 0 z.3 z.4 r.world r.plans.items)
+        between = subst (λ (z : Net × Amounts × BoardsView × List PassView × List Acting). Between z.0 z.1 z.2 0 z.3 z.4 r.world r.plans)
             (λ i. (sym refs.0 i, sym refs.1 i, sym refs.2 i, sym c.trade.ensures.passes.0 i, sym c.trade.ensures.actors i))
             (at-first c.args.net.now c.args.arrivals.now c.args.boards.now c.args.passes.now (actors_in r.nodes.all.items) r.world made.new made.second made.stands c.requires.nodes c.requires.passes c.requires.fresh
-            (left-at c.args.net.now c.args.passes.now c.requires.left c.requires.nodes) r.plans.items made.plans);
+            (left-at c.args.net.now c.args.passes.now c.requires.left c.requires.nodes) r.plans made.plans made.capacity);
       };
       count = omega (arith, c.in_ok-pool.ensures, c.nodes-nodes.ensures.value, made.new.all, length-map r.nodes.all.items actor_of, same-count r.nodes.all.items c.trade.new.self.all.items c.trade.ensures.actors);
     }
@@ -55,29 +57,37 @@ returns-in_err-ended-clause-passes g c =
     (own-same c.args.boards.now c.args.passes.now out (subst (λ (l : List PassView). AreSamePasses l out) c.trade.ensures.passes.0 c.run-rounds.ensures.same.passes) c.requires.passes)
 
 -- the rounds are over, for the passes and the actors that are left
-over : (g : _) (c : goal.After-drop-world-inside-7 g) → Between c.args.net.now c.args.arrivals.now c.args.boards.now c.args.net.now.run.rounds c.trade-2.new.passes c.into_actors-actors.result.items c.run-rounds.result.0.world c.run-rounds.result.0.plans.items
+over : (g : _) (c : goal.After-drop-world-inside-7 g) → Between c.args.net.now c.args.arrivals.now c.args.boards.now c.args.net.now.run.rounds c.trade-2.new.passes c.into_actors.result.items c.run-rounds.result.0.world c.run-rounds.result.0.plans
 over g c =
     let o = c.run-rounds.result.0 in
     let same = c.run-rounds.ensures.same in
     let refs = c.in_ok-rounds.ensures.refs in
     let at : AreAt c.in_ok-rounds.rounds.net.now.run.rounds o = subst (λ r. OnOk r (AreAt c.in_ok-rounds.rounds.net.now.run.rounds o)) c.in_ok-ended.was c.run-rounds.ensures.at in
-    subst (λ (z : Net × Amounts × BoardsView × Net × List PassView × List Acting). Between z.0 z.1 z.2 z.3.run.rounds z.4 z.5 o.world o.plans.items)
+    subst (λ (z : Net × Amounts × BoardsView × Net × List PassView × List Acting). Between z.0 z.1 z.2 z.3.run.rounds z.4 z.5 o.world o.plans)
     (λ i. (
       (ap (λ x. x.now) same.net ∙ refs.0) i,
       (ap (λ x. x.now) same.arrivals ∙ refs.1) i,
       (ap (λ x. x.now) same.boards ∙ refs.2) i,
       refs.0 i,
       sym c.trade-2.ensures.passes.1 i,
-      sym (c.into_actors-actors.ensures ∙ c.trade-2.ensures.actors) i,
+      sym (c.into_actors.ensures ∙ c.trade-2.ensures.actors) i,
     )) at.between
 
+pub record_of-requires-clause-plans : goal.record_of-requires-clause-plans
+record_of-requires-clause-plans g c =
+    let o = c.run-rounds.result.0 in
+    let rounds = c.in_ok-rounds.rounds.net.now.run.rounds in
+    let at : AreAt rounds o = subst (λ r. OnOk r (AreAt rounds o)) c.in_ok-ended.was c.run-rounds.ensures.at in
+    subst (λ (l : List Acting). vec_len o.plans + length (records_in l) ≤ vec_capacity o.plans) (sym (c.into_actors.ensures ∙ c.trade-2.ensures.actors))
+    (last-room o.net.now at.between.made rounds (actors_in o.nodes.all.items) at.between.all at.between.rests o.plans)
+
 pub returns-clause-steps : goal.returns-clause-steps
-returns-clause-steps g c = λ node. are-steps c.args.net.now c.nodes-nodes.ensures.network c.args.arrivals.now c.args.boards.now c.trade-2.new.passes c.into_actors-actors.result.items c.run-rounds.result.0.world c.run-rounds.result.0.plans.items (over g c) c.record_of.result c.record_of.ensures node
+returns-clause-steps g c = λ node. are-steps c.args.net.now c.nodes-nodes.ensures.network c.args.arrivals.now c.args.boards.now c.trade-2.new.passes c.into_actors.result.items c.run-rounds.result.0.world c.run-rounds.result.0.plans (over g c) c.record_of.result c.record_of.ensures node
 
 pub returns-clause-lawful : goal.returns-clause-lawful
-returns-clause-lawful g c = merge-lawful c.args.net.now c.nodes-nodes.ensures.network c.args.arrivals.now c.args.boards.now c.trade-2.new.passes c.into_actors-actors.result.items c.run-rounds.result.0.world c.run-rounds.result.0.plans.items (over g c) c.law_of_merged_calls.ensures.lawful
+returns-clause-lawful g c = merge-lawful c.args.net.now c.nodes-nodes.ensures.network c.args.arrivals.now c.args.boards.now c.trade-2.new.passes c.into_actors.result.items c.run-rounds.result.0.world c.run-rounds.result.0.plans (over g c) c.law_of_merged_calls.ensures.lawful
 
 pub returns-clause-run : goal.returns-clause-run
 returns-clause-run g c =
-    is-run-of c.args.net.now c.nodes-nodes.ensures.network c.args.arrivals.now c.args.boards.now c.trade-2.new.passes c.into_actors-actors.result.items c.run-rounds.result.0.world c.run-rounds.result.0.plans.items (over g c)
+    is-run-of c.args.net.now c.nodes-nodes.ensures.network c.args.arrivals.now c.args.boards.now c.trade-2.new.passes c.into_actors.result.items c.run-rounds.result.0.world c.run-rounds.result.0.plans (over g c)
     c.law_of_merged_calls.ensures.lawful c.law_of_merged_calls.ensures.stands c.law_of_runs.ensures.kept c.record_of.result c.record_of.ensures

@@ -3,8 +3,15 @@ use Rattle.arrivals.specs.Amounts.{entering}
 use Rattle.histories.specs.Histories.{IsLawful}
 use Rattle.runs.specs.Promises.{IsKeptRun}
 use Rattle.net_core.specs.Cores.{Course}
-use Rattle.net_core.proofs.Over.{over-run}
+use Rattle.net_core.proofs.Over.{over-room, over-run}
 use Rattle.net_core.proofs.cores.Core.finish.Goals as goal
+
+pub record_of-requires-clause-plans : goal.record_of-requires-clause-plans
+record_of-requires-clause-plans c =
+    let own = c.self.inside in
+    let fresh : own.spent ≡ false = ap (λ (x : Course). x.spent) c.self.view_is ∙ c.requires.fresh in
+    let lawful : IsLawful own.net.now own.parts.history.items = subst (λ (x : Course). IsLawful x.net x.steps) (sym c.self.view_is) c.requires.lawful in
+    over-room own.net.now c.nodes.ensures.network own.arrivals.now own.parts (c.self.invariant.sound.going fresh) lawful
 
 pub returns : goal.returns
 returns c =

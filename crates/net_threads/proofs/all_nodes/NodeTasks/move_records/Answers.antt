@@ -1,17 +1,24 @@
 use Rattle.std.proofs.Common.{◌<◌, ◌≤◌, length, rules, sym, ap, ◌∙◌, arith}
 use Rattle.std.proofs.lemmas.List.{get_or-map, length-map, map-set}
-use Rattle.runs.proofs.PlanLists.{moved-actors, moved-all, moved-plans}
+use Rattle.runs.proofs.PlanLists.{moved-actors, moved-all, moved-plans, moved-room}
 use Rattle.net_threads.specs.Tasks.{actor_of, actors_in, pass_of}
 use Rattle.net_threads.proofs.TaskLists.{kept-passes, kept-settings}
 use Rattle.net_threads.proofs.all_nodes.NodeTasks.move_records.Goals as goal
 
-pub returns-in_err-move_records-clause-passes : goal.returns-in_err-move_records-clause-passes
-returns-in_err-move_records-clause-passes g c =
-    kept-passes c.loop-k.self.all.items c.loop-k.k c.index_mut.result.now c.move_records.new.self c.index_mut.ensures.value c.move_records.ensures.pass ∙ c.loop-k.invariant.passes
-
-pub returns-in_err-move_records-clause-settings : goal.returns-in_err-move_records-clause-settings
-returns-in_err-move_records-clause-settings g c =
-    kept-settings c.loop-k.self.all.items c.loop-k.k c.index_mut.result.now c.move_records.new.self c.index_mut.ensures.value c.move_records.ensures.setting ∙ c.loop-k.invariant.settings
+pub move_records-requires : goal.move_records-requires
+move_records-requires g c =
+    let i = c.loop-k.invariant in
+    let tasks = c.args.self.now.all.items in
+    let old = actors_in tasks in
+    let now = c.loop-k.self.all.items in
+    let k = c.loop-k.k in
+    let d = c.index_mut.result.now in
+    let within : k < length tasks = search rules in
+    let inside : k < length old = omega (arith, within, length-map tasks actor_of) in
+    let there : k < length now = omega (arith, within, ap length i.passes, length-map now pass_of, length-map tasks pass_of) in
+    let at = ap actor_of c.index_mut.ensures.value ∙ sym (get_or-map actor_of now k d (actor_of d) there) in
+    let room = moved-room old (actors_in now) k (actor_of d) i.actors inside at c.args.plans.now.items c.loop-k.plans.items i.plans in
+    omega (arith, room, i.capacity, c.requires, c.args.plans.now.ok.0, c.loop-k.plans.ok.0)
 
 pub loop-k-preserved : goal.loop-k-preserved
 loop-k-preserved g c =
@@ -28,10 +35,11 @@ loop-k-preserved g c =
     let there : k < length now = omega (arith, within, ap length i.passes, length-map now pass_of, length-map tasks pass_of) in
     let at = ap actor_of is ∙ sym (get_or-map actor_of now k d (actor_of d) there) in
     record {
-      actors = map-set actor_of now k t ∙ moved-actors old (actors_in now) k (actor_of d) i.actors inside at (actor_of t) c.in_ok-move_records.ensures.actor;
+      actors = map-set actor_of now k t ∙ moved-actors old (actors_in now) k (actor_of d) i.actors inside at (actor_of t) c.move_records.ensures.actor;
       passes = kept-passes now k d t is c.move_records.ensures.pass ∙ i.passes;
       settings = kept-settings now k d t is c.move_records.ensures.setting ∙ i.settings;
-      plans = moved-plans old (actors_in now) k (actor_of d) i.actors inside at c.args.plans.now.items c.loop-k.plans.items c.move_records.new.plans.items i.plans c.in_ok-move_records.ensures.plans;
+      plans = moved-plans old (actors_in now) k (actor_of d) i.actors inside at c.args.plans.now.items c.loop-k.plans.items c.move_records.new.plans.items i.plans c.move_records.ensures.plans;
+      capacity = omega (arith, i.capacity, c.move_records.ensures.capacity);
     }
 
 pub returns-clause-actors : goal.returns-clause-actors

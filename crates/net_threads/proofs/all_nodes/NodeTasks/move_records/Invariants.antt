@@ -1,4 +1,4 @@
-use Rattle.std.proofs.Common.{◌≡◌, ◌++◌, map, take}
+use Rattle.std.proofs.Common.{◌≡◌, ◌≤◌, ◌++◌, map, take, vec_capacity}
 use Rattle.intersection_actor.specs.Acting.{without_records}
 use Rattle.runs.specs.Ending.{records_in}
 use Rattle.runs.proofs.Mixed.{mixed}
@@ -11,4 +11,5 @@ invariant-loop-k g l = record {
   passes : passes_in l.self.all.items ≡ passes_in l.fn.self.all.items;
   settings : settings_in l.self.all.items ≡ settings_in l.fn.self.all.items;
   plans : l.plans.items ≡ l.fn.plans.items ++ records_in (take l.k (actors_in l.fn.self.all.items));
+  capacity : vec_capacity l.fn.plans ≤ vec_capacity l.plans;
 }
