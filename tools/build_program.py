@@ -1,145 +1,235 @@
 #!/usr/bin/env python3
-"""Proves and builds the program, the crates that it stands on before it and side by side where none needs another.
+"""Makes the program `signal`: tools/build_program.py proved|unproved
 
-Where standard error is a terminal, it tells there what it does and how far it is. Where a crate fails, its report goes to
-standard error. The exit status is 0 where the program is built, 1 where a crate fails, and 2 where the build can't begin.
+`proved` proves and builds it as the gate does: by `rt ci` on a copy of the crates that it is made of, from nothing, side by side where none
+needs another, without wrong bodies. What passes is kept on this machine for each later `rt ci`. Standard error tells of each crate once. The
+program is then crates/signal_program/out/signal_program.
+
+`unproved` compiles it by `rt try`, with checks, and keeps what is linked there: out/unproved/signal. It stops at an index out of bounds, an
+overflow or a broken `prove!`, where the proved program has none, and is some hundred times slower.
+
+A program bears the time at which its making began, so that a file that changes meanwhile is newer. Where another call makes a program in
+the same clone, this one waits for it, and makes none. The exit status is 0 where the program is there, 1 where a crate fails or nothing is
+linked, whose report then goes to standard error, and 2 where the work can't begin.
 """
 
+import fcntl
 import os
+import re
+import shutil
 import signal
+import stat
 import subprocess
 import sys
+import tempfile
 import time
-from concurrent.futures import FIRST_COMPLETED, ThreadPoolExecutor, wait
+from contextlib import contextmanager
 from pathlib import Path
 
 ROOT = Path(__file__).resolve().parent.parent
 PROGRAM = "signal_program"
-TRIED_WITH = ["plan", str(ROOT / "examples/two_phases.txt")]
+PROVED = ROOT / "crates" / PROGRAM / "out" / PROGRAM
+UNPROVED = ROOT / "out/unproved/signal"
 
-# What one check may take of memory, in bytes
-CHECK_MEMORY = 3 << 30
+# What of a crate its proof does not read
+NOT_READ = shutil.ignore_patterns("out", "must-fail", "wrong-bodies")
+
+# What the unproved program does until it is kept: a run of a minute
+LONG_RUN = ["grid", "7", "8", "600"]
+
+# How often it is looked whether the unproved program is linked, in seconds
+LOOKS = 0.02
 
 
-def needs():
-    """The crates of the repository, each with those of them that it stands on."""
-    words = {}
-    for line in (ROOT / "crates.txt").read_text().splitlines():
-        name, colon, rest = line.split("#")[0].partition(":")
+class Failed(Exception):
+    """Why there is no program."""
+
+
+def tell(text):
+    print(f"signal: {text}", file=sys.stderr, flush=True)
+
+
+def crate_lines(text):
+    """The lines of crates.txt that name a crate, each with the name and what the crate depends on."""
+    lines = {}
+    for line in text.splitlines(keepends=True):
+        head, colon, rest = line.split("#")[0].partition(":")
         if colon:
-            words[name.split()[0]] = rest.split()
-    return {name: [word for word in below if word in words] for name, below in words.items()}
+            lines[head.split()[0]] = (line, rest.split())
+    return lines
 
 
-def at_or_below(name, below):
-    """The crate and all that it stands on, lowest first."""
+def at_or_below(name, lines):
+    """The crate and all crates of the repository that it is made of, lowest first."""
     found = []
 
     def visit(crate):
-        if crate in found:
-            return
-        for low in below[crate]:
-            visit(low)
-        found.append(crate)
+        if crate in lines and crate not in found:
+            for low in lines[crate][1]:
+                visit(low)
+            found.append(crate)
 
     visit(name)
     return found
 
 
-def workers():
-    """How many checks may go on at once."""
-    memory = os.sysconf("SC_AVPHYS_PAGES") * os.sysconf("SC_PAGE_SIZE")
-    return max(1, min(os.cpu_count() or 1, memory // CHECK_MEMORY))
+def copy_to(place):
+    """Copies the crates that the program is made of, as a repository of their own. Answers how many there are."""
+    lines = crate_lines((ROOT / "crates.txt").read_text())
+    crates = at_or_below(PROGRAM, lines)
+    for crate in crates:
+        shutil.copytree(ROOT / "crates" / crate, place / "crates" / crate, ignore=NOT_READ)
+    (place / "crates.txt").write_text("".join(lines[crate][0] for crate in crates))
+    shutil.copyfile(ROOT / "HANDLES", place / "HANDLES")
+    return len(crates)
 
 
-class Builder:
-    """The running builds, and what is told of them."""
+class Progress:
+    """What `rt ci` has said so far: how many crates are done, and the reports of those that failed."""
 
     def __init__(self, count):
         self.count = count
-        self.running = {}
-        self.stopped = False
-        self.tells = sys.stderr.isatty()
+        self.done = 0
+        self.report = []
+        self.failed = []
+        self.last = []
 
-    def tell(self, text):
-        if self.tells:
-            print(f"signal: {text}", file=sys.stderr, flush=True)
+    def take(self, line):
+        """Takes a line. Answers what is to be told of it, or None."""
+        self.last = [*self.last[-20:], line]
+        if line.startswith("== "):
+            self.report = []
+        self.report.append(line)
+        ended = re.fullmatch(r"rt: (\w+) (proved|is kept: .*|NOT PROVED.*)\n?", line)
+        if ended is None:
+            return None
+        if ended[2].startswith("NOT PROVED"):
+            self.failed += self.report
+            return None
+        self.done += 1
+        how = "" if ended[2] == "proved" else ", kept from an earlier run"
+        return f"{self.done} of {self.count} crates: {ended[1]}{how}"
 
-    def build(self, crate):
-        """Builds a crate. Answers its exit status, its report and its seconds."""
-        words = ["rt", "run", "--", *TRIED_WITH] if crate == PROGRAM else ["rt", "lib"]
-        began = time.monotonic()
-        with subprocess.Popen(
-            words,
-            cwd=ROOT / "crates" / crate,
-            stdin=subprocess.DEVNULL,
-            stdout=subprocess.PIPE,
-            stderr=subprocess.STDOUT,
-            start_new_session=True,
-        ) as run:
-            self.running[crate] = run
-            if self.stopped:
-                self.end(run)
-            report = run.communicate()[0]
-            del self.running[crate]
-        return run.returncode, report, time.monotonic() - began
+    def why(self):
+        """The reports of the crates that failed, or the last lines where none is named."""
+        return "".join(self.failed or self.last)
 
-    def end(self, run):
+
+@contextmanager
+def started(words, folder, **streams):
+    """A process in a group of its own, which is ended at the end."""
+    with subprocess.Popen(
+        words, cwd=folder, stdin=subprocess.DEVNULL, start_new_session=True, **streams
+    ) as run:
         try:
-            os.killpg(run.pid, signal.SIGTERM)
-        except ProcessLookupError:
-            pass
-
-    def stop(self):
-        """Ends all builds that are running."""
-        self.stopped = True
-        for run in list(self.running.values()):
-            self.end(run)
-
-    def all(self, order, below):
-        """Builds all crates, each behind those that it stands on. Answers the first that failed, with its report."""
-        waiting, built, under_way, told = list(order), set(), {}, ""
-        with ThreadPoolExecutor(workers()) as lanes:
+            yield run
+        finally:
             try:
-                while waiting or under_way:
-                    for crate in [crate for crate in waiting if built.issuperset(below[crate])]:
-                        waiting.remove(crate)
-                        under_way[lanes.submit(self.build, crate)] = crate
-                    self.tell(f"{told}under way: {', '.join(under_way.values())}")
-                    ended = wait(under_way, return_when=FIRST_COMPLETED)[0].pop()
-                    crate = under_way.pop(ended)
-                    status, report, seconds = ended.result()
-                    if status != 0:
-                        return crate, report
-                    built.add(crate)
-                    told = f"{len(built)} of {self.count} crates, {crate} after {seconds:.0f} s; "
-                self.tell(f"{told}built")
-            finally:
-                self.stop()
-        return None
+                os.killpg(run.pid, signal.SIGTERM)
+            except ProcessLookupError:
+                pass
+
+
+def prove():
+    """Proves and builds the program on a copy, and moves it to its place."""
+    with tempfile.TemporaryDirectory(prefix="signal-build-") as folder:
+        place = Path(folder)
+        progress = Progress(copy_to(place))
+        tell(f"proving {progress.count} crates side by side; the first ones take some two minutes")
+        how = {"stdout": subprocess.PIPE, "stderr": subprocess.STDOUT, "text": True}
+        began = time.monotonic()
+        with started(["rt", "ci"], place, errors="replace", **how) as run:
+            for line in run.stdout:
+                told = progress.take(line)
+                if told is not None:
+                    tell(f"{told} ({time.monotonic() - began:.0f} s)")
+            status = run.wait()
+        if status != 0:
+            raise Failed(progress.why())
+        keep(place / "crates" / PROGRAM / "out" / PROGRAM, PROVED)
+
+
+def link_executables(folder, to):
+    """Gives each executable file at any depth of a folder a second name in another, which it keeps when the first is removed."""
+    for at, _, names in os.walk(folder):
+        for file in (Path(at, name) for name in names if ".tmp" not in name):
+            try:
+                seen = file.stat()
+                if stat.S_ISREG(seen.st_mode) and seen.st_mode & stat.S_IXUSR:
+                    os.link(file, to / str(seen.st_ino))
+            except (FileNotFoundError, FileExistsError):
+                continue
+
+
+def compile_unproved():
+    """Compiles the program by `rt try`, which links it in a folder of its own, copies it to another and runs the copy, and keeps what it linked."""
+    with (
+        tempfile.TemporaryDirectory(prefix="signal-try-") as place,
+        tempfile.TemporaryFile() as said,
+    ):
+        folder, links = Path(place, "try"), Path(place, "links")
+        folder.mkdir()
+        links.mkdir()
+        how = {"stdout": subprocess.DEVNULL, "stderr": said}
+        how["env"] = {**os.environ, "TMPDIR": str(folder)}
+        with started(["rt", "try", "--", *LONG_RUN], ROOT / "crates" / PROGRAM, **how) as run:
+            while run.poll() is None and not any(links.iterdir()):
+                time.sleep(LOOKS)
+                link_executables(folder, links)
+        # Of the copy there may be a part alone.
+        linked = max(links.iterdir(), key=lambda file: file.stat().st_size, default=None)
+        if linked is None:
+            said.seek(0)
+            raise Failed(said.read().decode(errors="replace"))
+        keep(linked, UNPROVED)
+
+
+def keep(made, to):
+    """Moves a program to its place, whole or not at all."""
+    to.parent.mkdir(parents=True, exist_ok=True)
+    beside = to.with_name(f"{to.name}.new")
+    shutil.copyfile(made, beside)
+    beside.chmod(0o755)
+    beside.replace(to)
+
+
+@contextmanager
+def alone():
+    """Holds this clone's lock. Gives whether another call held it before."""
+    (ROOT / "out").mkdir(exist_ok=True)
+    with open(ROOT / "out/lock", "w") as lock:
+        waits = False
+        try:
+            fcntl.flock(lock, fcntl.LOCK_EX | fcntl.LOCK_NB)
+        except BlockingIOError:
+            tell("another call makes a program in this clone: waiting for it")
+            fcntl.flock(lock, fcntl.LOCK_EX)
+            waits = True
+        yield waits
 
 
 def main():
-    try:
-        below = needs()
-        order = at_or_below(PROGRAM, below)
-    except (OSError, KeyError) as fault:
-        print(f"signal: crates.txt can't be read: {fault}", file=sys.stderr)
+    ways = {"proved": (prove, PROVED), "unproved": (compile_unproved, UNPROVED)}
+    if len(sys.argv) != 2 or sys.argv[1] not in ways:
+        print(__doc__, file=sys.stderr, end="")
         return 2
-    builder = Builder(len(order))
-    signal.signal(signal.SIGTERM, lambda *_: sys.exit(2))
-    builder.tell(f"proving and building {len(order)} crates, which takes some minutes from nothing")
+    work, program = ways[sys.argv[1]]
+    for number in (signal.SIGTERM, signal.SIGHUP):
+        signal.signal(number, lambda *_: sys.exit(2))
+    began = time.time()
     try:
-        failed = builder.all(order, below)
-    except FileNotFoundError as fault:
-        print(f"signal: {fault.filename} can't be run", file=sys.stderr)
+        with alone() as waited:
+            if not (waited and program.exists()):
+                work()
+                os.utime(program, (began, began))
+    except Failed as fault:
+        sys.stderr.write(str(fault))
+        tell("the program can't be made")
+        return 1
+    except OSError as fault:
+        tell(f"the program can't be made: {fault}")
         return 2
-    if failed is None:
-        return 0
-    crate, report = failed
-    sys.stderr.buffer.write(report)
-    print(f"signal: the crate {crate} can't be built", file=sys.stderr)
-    return 1
+    return 0
 
 
 if __name__ == "__main__":
