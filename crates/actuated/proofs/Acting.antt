@@ -38,9 +38,6 @@ more-first net n lines line were is ready = record {
 
 -- ---- the lines of a round, one after another
 
-pub none-renewed : (net : Net) (near : List ℕ) (s : ℕ) (lines : List (List Green)) → AreRenewed net near s 0 lines lines
-none-renewed net near s lines = record { count = refl; renewed = λ n less. absurd (omega arith); rest = λ n past. refl }
-
 -- the line at a place
 pub at-node : (lines : List (List Green)) (n : ℕ) (line : List Green) → n < length lines → line ≡ get_or lines n line → line ≡ get_or lines n []
 at-node lines n line below is = is ∙ sym (get_or_default lines n [] line below)

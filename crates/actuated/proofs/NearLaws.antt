@@ -1,8 +1,8 @@
 -- What is near on the links of a phase is within what is sensed, and within all that is near.
-use Rattle.std.proofs.Common.{◌≡◌, ◌≢◌, ℕ, zero, suc, ◌+◌, ◌<◌, ◌≤◌, Bool, cond, min, nat_eq, List, [], ◌∷◌, Option, Some, Contains, find, map, set, slice_index, get_or-set_other, get_or-set_same, unwrap_or, length, get_or, take, sum, sum_by, All, AllPairs, ne_eqb, refl, sym, ap, ◌∙◌, inl, inr, arith}
+use Rattle.std.proofs.Common.{◌≡◌, ◌≢◌, ℕ, zero, suc, ◌+◌, ◌<◌, ◌≤◌, Bool, cond, nat_eq, List, [], ◌∷◌, Option, Some, Contains, find, map, set, slice_index, get_or-set_other, get_or-set_same, unwrap_or, length, get_or, take, sum, sum_by, All, AllPairs, ne_eqb, refl, sym, ap, ◌∙◌, inl, inr, arith}
 use Rattle.std.proofs.lemmas.Bool.{cases_eq, cases_lt, eq-eqb}
 use Rattle.std.proofs.lemmas.Option.{none-some}
-use Rattle.std.proofs.lemmas.List.{get_or_default, get_or_past, take_all}
+use Rattle.std.proofs.lemmas.List.{get_or_default, get_or_past}
 use Rattle.std.proofs.lemmas.List.Sums.{sum_by-cons, sum_by-le, sum_by-le-sum_by, sum_by-take-le, sum_by_more_le}
 use Rattle.clusters.specs.Inflow.{no_sense, sense_of}
 use Rattle.clusters.proofs.SeenLaws.{sense-within}
@@ -101,19 +101,6 @@ near-within sensed gap ls differ =
 pub near-more : (sensed : Sensed) (gap : ℕ) (ls : List ℕ) (i d : ℕ) → i < length ls → AllPairs (λ a b. a ≢ b) ls
     → sum_by (amount_near sensed gap) (take i ls) + amount_near sensed gap (get_or ls i d) ≤ sum_by amount sensed.links
 near-more sensed gap ls i d inside differ = omega (arith, sum_by_more_le (amount_near sensed gap) ls i d inside, near-within sensed gap ls differ)
-
-take-min : (xs : List ℕ) (n : ℕ) → take (min (length xs) n) xs ≡ take n xs
-take-min xs n = elim (cases_lt n (length xs)) [
-  | inl less ↦ (let e : min (length xs) n ≡ n = omega arith in ap (λ k. take k xs) e)
-  | inr most ↦ take_all (min (length xs) n) xs (omega arith) ∙ sym (take_all n xs most)
-]
-
--- what is near on a link, by what was found of it
-pub near-is : (sensed : Sensed) (gap link queue seconds : ℕ) (coming front : List ℕ) → queue ≡ (sense_of sensed link).queue → coming ≡ (sense_of sensed link).coming
-    → seconds ≡ min (length coming) (gap + 1) → front ≡ take seconds coming → queue + sum front ≡ amount_near sensed gap link
-near-is sensed gap link queue seconds coming front q c s f =
-    let all : sum front ≡ sum (take (gap + 1) (sense_of sensed link).coming) = ap sum (f ∙ ap (λ n. take n coming) s ∙ take-min coming (gap + 1)) ∙ ap (λ (xs : List ℕ). sum (take (gap + 1) xs)) c in
-    omega (arith, q, all)
 
 pub front-within : (sensed : Sensed) (link queue seconds : ℕ) (coming front : List ℕ) → queue ≡ (sense_of sensed link).queue → coming ≡ (sense_of sensed link).coming → front ≡ take seconds coming
     → queue + sum front ≤ sum_by amount sensed.links

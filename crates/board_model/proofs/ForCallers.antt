@@ -6,17 +6,13 @@ use Rattle.std.proofs.lemmas.List.Concat.{flat_map-append}
 use Rattle.board_model.specs.declared.forecasts.Row.{Row}
 use Rattle.board_model.specs.declared.boards.BoardEvent.{BoardEvent}
 use Rattle.board_model.specs.Forecasts.{IsAboveLast, seconds}
-use Rattle.board_model.specs.Boards.{stamps, published, version_of, forecast_of, newest, after_read, after_publish}
+use Rattle.board_model.specs.Boards.{published, version_of, forecast_of, after_read, after_publish}
 use Rattle.board_model.proofs.LastOf.{IsAboveLast-more}
-use Rattle.board_model.proofs.LogLaws.{published-read, published-publish, newest-same}
+use Rattle.board_model.proofs.LogLaws.{published-read, published-publish}
 
 -- after a row may follow what is above it
 pub above-row : (rows : List Row) (row : Row) (second : ℕ) → row.second < second → IsAboveLast (seconds (rows ++ row ∷ [])) second
 above-row rows row second below = rw map-append (IsAboveLast-more (seconds rows) row.second second below)
-
--- after an event may follow what is above it
-pub above-event : (events : List BoardEvent) (event : BoardEvent) (stamp : ℕ) → event.stamp < stamp → IsAboveLast (stamps (events ++ event ∷ [])) stamp
-above-event events event stamp below = rw map-append (IsAboveLast-more (stamps events) event.stamp stamp below)
 
 -- a Read leaves the newest version
 pub version_of-read : (events : List BoardEvent) (stamp node : ℕ) → version_of (after_read events stamp node) ≡ version_of events
@@ -25,10 +21,6 @@ version_of-read events stamp node = ap length (published-read events stamp node 
 -- a Publish makes the version after
 pub version_of-publish : (events : List BoardEvent) (stamp node : ℕ) (forecast : List Row) → version_of (after_publish events stamp node forecast) ≡ version_of events + 1
 version_of-publish events stamp node forecast = ap length (published-publish events stamp node forecast) ∙ length_push (published events) forecast
-
--- a Read leaves the newest forecast
-pub newest-read : (events : List BoardEvent) (stamp node : ℕ) → newest (after_read events stamp node) ≡ newest events
-newest-read events stamp node = newest-same (after_read events stamp node) events (published-read events stamp node (version_of events))
 
 -- later events leave the forecast of each version that was there
 pub forecast_of-kept : (events later : List BoardEvent) (version : ℕ) → version ≤ version_of events → forecast_of (events ++ later) version ≡ forecast_of events version

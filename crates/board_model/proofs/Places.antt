@@ -1,8 +1,7 @@
 -- What the event at a place of a log tells.
-use Rattle.std.proofs.Common.{◌≡◌, ℕ, zero, suc, ◌+◌, ◌<◌, ◌≤◌, List, [], ◌∷◌, ◌++◌, take, drop, refl, sym, ap, subst, ◌∙◌, inl, arith, le_refl}
-use Rattle.std.specs.Prelude.{Some, IfSome, All, slice_get, unwrap_or}
+use Rattle.std.proofs.Common.{◌≡◌, ℕ, zero, suc, ◌+◌, ◌<◌, ◌≤◌, List, [], ◌∷◌, ◌++◌, take, drop, sym, ap, subst, ◌∙◌, inl, arith, le_refl}
+use Rattle.std.specs.Prelude.{Some, All, slice_get, unwrap_or}
 use Rattle.std.specs.List.{AllPairs}
-use Rattle.std.proofs.lemmas.Bool.{le-leb, lt-leb}
 use Rattle.std.proofs.lemmas.List.{take-append-drop}
 use Rattle.std.proofs.lemmas.List.Elements.{All-tail}
 use Rattle.std.proofs.lemmas.Option.{none-some}
@@ -10,9 +9,8 @@ use Rattle.board_model.specs.declared.forecasts.Row.{Row}
 use Rattle.board_model.specs.declared.boards.BoardEvent.{BoardEvent}
 use Rattle.board_model.specs.declared.boards.BoardKind.{BoardKind}
 use Rattle.board_model.specs.declared.boards.BoardKind.TheVariants.{Read, Publish}
-use Rattle.board_model.specs.Boards.{IsLegal, IsReadOf, version_of, forecast_of, newest, version_at, Tells, up_to}
+use Rattle.board_model.specs.Boards.{IsLegal, IsReadOf, version_of, forecast_of, newest, version_at, Tells}
 use Rattle.board_model.specs.Calls.{IsBefore}
-use Rattle.board_model.proofs.ForBoards.{version_of-more}
 use Rattle.board_model.proofs.ForCallers.{forecast_of-kept, version_of-read}
 use Rattle.board_model.proofs.LastOf.{rising-apart}
 use Rattle.board_model.proofs.LogLaws.{newest-publish}
@@ -25,10 +23,6 @@ take-suc (e ∷ es) (suc place) event there = ap (λ l. e ∷ l) (take-suc es pl
 -- the events up to a place are those before it, and the one there
 pub take-next : (events : List BoardEvent) (place : ℕ) (event : BoardEvent) → slice_get events place ≡ Some event → take (place + 1) events ≡ take place events ++ event ∷ []
 take-next events place event there = let next : place + 1 ≡ suc place = omega arith in rw next (take-suc events place event there)
-
--- no place has a later version than the whole log
-pub version_at-most : (events : List BoardEvent) (place : ℕ) → version_at events place ≤ version_of events
-version_at-most events place = omega (arith, version_of-more (take (place + 1) events) (drop (place + 1) events), ap version_of (take-append-drop (place + 1) events))
 
 module _ (events : List BoardEvent) (place : ℕ) (event : BoardEvent) (there : slice_get events place ≡ Some event) where
   next : version_at events place ≡ version_of (take place events ++ event ∷ [])
@@ -51,33 +45,11 @@ module _ (events : List BoardEvent) (place : ℕ) (event : BoardEvent) (there : 
   tells (Read version) is read = read-tells version is read
   tells (Publish forecast) is read = publish-tells forecast is
 
--- a legal log's event tells the version that stands once it has happened, and that version's forecast
-pub event-tells : (events : List BoardEvent) → IsLegal events → (place : ℕ) (event : BoardEvent) → slice_get events place ≡ Some event → Tells events place event.kind
-event-tells events legal place event there = tells events place event there event.kind refl (subst (λ o. IfSome o (λ e. IsReadOf (version_of (take place events)) e.kind)) there (legal.reads place))
-
 -- what holds of all holds of the one at a place
 all-at : (P : BoardEvent → Type 0) (events : List BoardEvent) (place : ℕ) (event : BoardEvent) → All P events → slice_get events place ≡ Some event → P event
 all-at P [] place event all there = absurd (none-some event there)
 all-at P (e ∷ es) zero event all there = subst P (ap (λ o. unwrap_or o e) there) (all 0 e (omega arith))
 all-at P (e ∷ es) (suc place) event all there = all-at P es place event (All-tail P e es all) there
-
-none-up_to : (stamp : ℕ) (events : List BoardEvent) → All (λ e. stamp < e.stamp) events → up_to stamp events ≡ []
-none-up_to stamp [] above = refl
-none-up_to stamp (e ∷ es) above = rw (lt-leb e.stamp stamp (above 0 e (omega arith))) (none-up_to stamp es (All-tail (λ e. stamp < e.stamp) e es above))
-
-up_to-suc : (events : List BoardEvent) → AllPairs (λ early late. early.stamp < late.stamp) events → (place : ℕ) (event : BoardEvent) → slice_get events place ≡ Some event → up_to event.stamp events ≡ take (suc place) events
-up_to-suc [] rising place event there = absurd (none-some event there)
-up_to-suc (e ∷ es) rising zero event there =
-    let same : e ≡ event = ap (λ o. unwrap_or o e) there in
-    subst (λ (x : BoardEvent). up_to x.stamp (e ∷ es) ≡ e ∷ []) same
-    (rw (le-leb e.stamp e.stamp (le_refl e.stamp)) (ap (λ l. e ∷ l) (none-up_to e.stamp es (λ k d h. rising 0 (suc k) d (omega arith) (omega arith)))))
-up_to-suc (e ∷ es) rising (suc place) event there =
-    let below : e.stamp < event.stamp = all-at (λ x. e.stamp < x.stamp) es place event (λ k d h. rising 0 (suc k) d (omega arith) (omega arith)) there in
-    rw (le-leb e.stamp event.stamp (omega arith)) (ap (λ l. e ∷ l) (up_to-suc es (λ i j d before h. rising (suc i) (suc j) d (omega arith) (omega arith)) place event there))
-
--- the events up to the stamp of one are those up to its place
-pub up_to-place : (events : List BoardEvent) → IsLegal events → (place : ℕ) (event : BoardEvent) → slice_get events place ≡ Some event → up_to event.stamp events ≡ take (place + 1) events
-up_to-place events legal place event there = let e : place + 1 ≡ suc place = omega arith in rw e (up_to-suc events (rising-apart (λ (e : BoardEvent). e.stamp) events legal.rising) place event there)
 
 -- the events of a legal log stand in order of (stamp, node)
 pub legal-ordered : (log : List BoardEvent) → IsLegal log → AllPairs IsBefore log

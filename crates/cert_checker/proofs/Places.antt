@@ -1,5 +1,5 @@
 -- What is read at a place of entries, and what holds of entries so far.
-use Rattle.std.proofs.Common.{All, take, ◌≡◌, ℕ, zero, suc, ◌+◌, ◌-◌, ◌<◌, ◌≤◌, List, [], ◌∷◌, ◌++◌, length, get_or, refl, sym, ap, subst, ◌∙◌, inl, inr, add-one, arith}
+use Rattle.std.proofs.Common.{All, take, ◌≡◌, ℕ, ◌+◌, ◌-◌, ◌<◌, ◌≤◌, List, [], ◌∷◌, ◌++◌, length, get_or, refl, sym, subst, ◌∙◌, arith}
 use Rattle.std.proofs.lemmas.List.{get_or_default, take_all}
 use Rattle.std.proofs.lemmas.List.Elements.{All-more}
 use Rattle.dp_certificate.specs.Certificates.{AreRising, entry_at, no_entry}
@@ -17,17 +17,6 @@ stands-has entries place next at = has-entry entries (key_of_entry next) place n
 -- and one that is one stands at its place
 pub has-stands : (entries : List Entry) (place : ℕ) (next : Entry) → AreRising entries → IsPlace entries next place → HasEntry entries (key_of_entry next) next.delay → StandsAt entries place next
 has-stands entries place next rising at has = let there = entry-there entries next place next.delay rising at has in record { inside = there.0; key = there.1; delay = there.2 }
-
--- what is read at a place stands there
-pub reads-stands : (entries : List Entry) (place : ℕ) (next d : Entry) → place < length entries → (key_of_entry (get_or entries place d) ≡ key_of_entry next) × ((get_or entries place d).delay ≤ next.delay) → StandsAt entries place next
-reads-stands entries place next d inside same =
-    let there : entry_at entries place ≡ get_or entries place d = get_or_default entries place no_entry d inside in
-    record { inside = inside; key = ap key_of_entry there ∙ same.0; delay = omega (arith, same.1, ap (λ (e : Entry). e.delay) there) }
-
-pub stands-reads : (entries : List Entry) (place : ℕ) (next d : Entry) → StandsAt entries place next → (key_of_entry (get_or entries place d) ≡ key_of_entry next) × ((get_or entries place d).delay ≤ next.delay)
-stands-reads entries place next d at =
-    let there : entry_at entries place ≡ get_or entries place d = get_or_default entries place no_entry d at.inside in
-    (ap key_of_entry (sym there) ∙ at.key, omega (arith, at.delay, ap (λ (e : Entry). e.delay) there))
 
 -- what holds of the entries so far, and of the next, and in the end of all; now is the same list by another name
 pub holds-more : (P : Entry → Type 0) (entries now : List Entry) (i : ℕ) (d : Entry) → now ≡ entries → i < length now → All P (take i entries) → P (get_or now i d) → All P (take (i + 1) entries)

@@ -4,9 +4,7 @@ use Rattle.std.proofs.Math.Nat.{le-min, min-le_left}
 use Rattle.std.proofs.lemmas.Nat.{mul-le}
 use Rattle.std.proofs.lemmas.List.Elements.{All-cons, All-head, All-tail}
 use Rattle.board_model.specs.declared.boards.Heard.{Heard}
-use Rattle.net_draft.specs.declared.drafts.Run.{Run}
 use Rattle.phase_plan.specs.Phases.{phase_at}
-use Rattle.phase_plan.specs.declared.Phase.{Phase}
 use Rattle.switch_rules.specs.Bounds.{greatest_weight}
 use Rattle.switch_rules.specs.Sequences.{cluster_at}
 use Rattle.switch_rules.specs.Serving.{IsCluster}
@@ -20,32 +18,11 @@ use Rattle.clusters.specs.declared.vehicle_groups.Platoon.{Platoon}
 use Rattle.clusters.specs.Cuts.{filled, first_of}
 use Rattle.clusters.specs.Platoons.{ArePlatoons, ArePlatoonsBy, ArePlatoonsOf, load_of, most_of, platoons_at, streams_of, together}
 use Rattle.clusters.specs.Sound.{AreOfNode, AreSoundOf, AreSpacedClusters, IsPlatoon, cluster_lists, clusters_of}
-use Rattle.clusters.specs.Steps.{ArePlatoonsAsked, IsAge, IsHold, span_at, span_with}
+use Rattle.clusters.specs.Steps.{ArePlatoonsAsked, IsAge, IsHold, span_with}
 use Rattle.clusters.specs.UnderLoad.{AreExpected, AreExpectedIn, AsksNothing, aged_load_of, with_held_load, held_in, span_in_green, span_of, with_first_held}
 use Rattle.clusters.specs.Windows.{IsRising}
 use Rattle.clusters.proofs.LoadLaws.{aged_load-none}
 use Rattle.clusters.proofs.PlatoonLaws.{ArePhases, aged-sound, phases-clusters, phases-node, phases-rising}
-
--- the platoons of a phase, by what the steps before found
-pub asked-from : (age : Option ℕ) (split : Option Head) (net : Net) (node phase : ℕ) (sensed : Sensed) (heard : List Heard) (run : Run) (times : Phase) (plan : List Phase) (links series : List ℕ) (streams : List Part) (first : Option (ℕ × ℕ)) (list : List Platoon)
-    → run ≡ net.run → plan ≡ plan_at net node → times ≡ phase_at plan phase → links ≡ phase_links_at net node phase → streams ≡ streams_of net sensed heard links
-    → length series ≡ run.look → series ≡ together streams run.look
-    → ((x : ℕ) → span_at first (times.greatest - times.loss) x ≡ span_with split times.greatest (times.greatest - times.loss) sensed.now series x)
-    → ArePlatoonsBy (aged_load_of age net sensed) run.gap (span_at first (times.greatest - times.loss)) sensed.now (length series) streams list
-    → ArePlatoonsAsked age split net node phase sensed heard list
-asked-from age split net node phase sensed heard run times plan links series streams first list r p t l s count brings spans are =
-    let times_are : times ≡ phase_at (plan_at net node) phase = t ∙ ap (λ ps. phase_at ps phase) p in
-    let streams_are : streams ≡ streams_of net sensed heard (phase_links_at net node phase) = s ∙ ap (streams_of net sensed heard) l in
-    let looks : length series ≡ net.run.look = count ∙ ap (λ (q : Run). q.look) r in
-    let series_are : series ≡ together (streams_of net sensed heard (phase_links_at net node phase)) net.run.look =
-    brings ∙ ap (λ ss. together ss run.look) streams_are ∙ ap (λ (q : Run). together (streams_of net sensed heard (phase_links_at net node phase)) q.look) r in
-    let A : (ℕ → ℕ) → Type 0 = λ span. ArePlatoonsBy (aged_load_of age net sensed) run.gap span sensed.now (length series) streams list in
-    let B : Run → Type 0 = λ q. ArePlatoonsBy (aged_load_of age net sensed) q.gap (span_with split times.greatest (times.greatest - times.loss) sensed.now series) sensed.now (length series) streams list in
-    let C : ℕ → Type 0 = λ n. ArePlatoonsBy (aged_load_of age net sensed) net.run.gap (span_with split times.greatest (times.greatest - times.loss) sensed.now series) sensed.now n streams list in
-    let D : Phase → Type 0 = λ q. ArePlatoonsBy (aged_load_of age net sensed) net.run.gap (span_with split q.greatest (q.greatest - q.loss) sensed.now series) sensed.now net.run.look streams list in
-    let E : List ℕ → Type 0 = λ xs. ArePlatoonsBy (aged_load_of age net sensed) net.run.gap (span_with split (phase_at (plan_at net node) phase).greatest (most_of net node phase) sensed.now xs) sensed.now net.run.look streams list in
-    let F : List Part → Type 0 = λ ss. ArePlatoonsBy (aged_load_of age net sensed) net.run.gap (span_with split (phase_at (plan_at net node) phase).greatest (most_of net node phase) sensed.now (together (streams_of net sensed heard (phase_links_at net node phase)) net.run.look)) sensed.now net.run.look ss list in
-    subst F streams_are (subst E series_are (subst D times_are (subst C looks (subst B r (subst A (λ i x. spans x i) are)))))
 
 -- what is asked leaves the platoons of a phase what planning and forecasting ask
 pub asked-sound : (age : Option ℕ) (split : Option Head) (net : Net) (node phase : ℕ) (sensed : Sensed) (heard : List Heard) (list : List Platoon)

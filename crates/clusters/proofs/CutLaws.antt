@@ -5,7 +5,7 @@ use Rattle.std.specs.List.{range_with_len}
 use Rattle.std.proofs.lemmas.List.Elements.{filter-append}
 use Rattle.std.proofs.lemmas.Bool.{cases_lt, cond_below, cond_above}
 use Rattle.clusters.specs.Cuts.{filled_from, filled, first_of, last_of, IsRun}
-use Rattle.clusters.specs.Steps.{IsEmpty, IsNext, IsRunUpTo, IsClosed}
+use Rattle.clusters.specs.Steps.{IsEmpty, IsNext, IsRunUpTo}
 use Rattle.clusters.proofs.ListLaws.{range-append, get_or-push-last, get_or-push-at, get_or-push-other, length-push}
 
 abbrev is_filled : List ℕ → ℕ → Bool
@@ -124,21 +124,6 @@ growing-take gap most series first end x h lt filled near within =
       passed = omega arith;
       empty = λ k lo hi. absurd (omega arith);
     }
-
--- the run is closed where the next second lies too far after, or after the last second that could belong to it
-pub growing-far : (gap most : ℕ) (series : List ℕ) (first end x : ℕ) → IsGrowing gap most series first end x → end + gap < x
-    → IsClosed gap most series first end
-growing-far gap most series first end x h far = λ y lo filled. elim (cases_lt y x) [
-  | inl below ↦ let e : get_or series y 0 ≡ 0 = h.empty y lo below in absurd (omega (arith, e, filled))
-  | inr past ↦ inl (omega arith)
-]
-
-pub growing-done : (gap most : ℕ) (series : List ℕ) (first end x : ℕ) → IsGrowing gap most series first end x
-    → ((y : ℕ) → x ≤ y → 1 ≤ get_or series y 0 → first + most ≤ y) → IsClosed gap most series first end
-growing-done gap most series first end x h all = λ y lo filled. elim (cases_lt y x) [
-  | inl below ↦ let e : get_or series y 0 ≡ 0 = h.empty y lo below in absurd (omega (arith, e, filled))
-  | inr past ↦ inr (omega (arith, all y past filled))
-]
 
 -- the first filled second of a series is the first one that is found from 0 on
 first-next : (series : List ℕ) (x : ℕ) → IsNext series 0 x → first_of (filled series) ≡ x

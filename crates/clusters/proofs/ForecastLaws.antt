@@ -1,12 +1,12 @@
 -- A forecast's rows are put in their seconds one after another.
-use Rattle.std.proofs.Common.{◌≡◌, ◌≢◌, ℕ, ◌+◌, ◌*◌, ◌<◌, ◌≤◌, ◌⊎◌, Bool, true, false, cond, nat_lt, nat_eq, List, [], ◌∷◌, Option, None, Some, All, length, get_or, set, take, find, sum, unwrap_or, refl, sym, ap, ◌∙◌, inl, inr, arith, get_or-set_other, get_or-set_same}
+use Rattle.std.proofs.Common.{◌≡◌, ◌≢◌, ℕ, ◌+◌, ◌*◌, ◌<◌, ◌≤◌, ◌⊎◌, Bool, true, false, nat_eq, List, [], ◌∷◌, Option, None, Some, All, length, get_or, set, take, find, sum, unwrap_or, refl, sym, ap, ◌∙◌, inl, inr, arith, get_or-set_other, get_or-set_same}
 use Rattle.std.specs.Option.{option_map, option_or}
 use Rattle.std.specs.List.Sorted.{IsStrictlyIncreasing}
-use Rattle.std.proofs.lemmas.List.{length-take, take_more, get_or-map, get_or-take, length-map, take_all}
+use Rattle.std.proofs.lemmas.List.{length-take, take_more, get_or-map, get_or-take, length-map}
 use Rattle.std.proofs.lemmas.List.Elements.{All-from_get_or, All-get_or}
 use Rattle.std.proofs.lemmas.List.Folds.{find-append}
 use Rattle.std.proofs.lemmas.List.Sums.{sum_by-set}
-use Rattle.std.proofs.lemmas.Bool.{eq-eqb, cases_lt, cond_below, cond_above}
+use Rattle.std.proofs.lemmas.Bool.{eq-eqb}
 use Rattle.std.proofs.lemmas.Bool.Decides.{eqb_tells}
 use Rattle.board_model.specs.declared.forecasts.Row.{Row}
 use Rattle.board_model.specs.Forecasts.{IsForecast, IsRow, amount_at, seconds}
@@ -60,13 +60,6 @@ pub record IsPutting (now from : ℕ) (rows : List Row) (before amounts : List �
   pub far : (k : ℕ) → from ≤ now + k → k < length before → get_or amounts k 0 ≡ amount_at (take i rows) (now + k)
   pub total : sum amounts ≤ sum before + 80000 * i
 
-pub putting-none : (now from : ℕ) (rows : List Row) (before : List ℕ) → ((k : ℕ) → from ≤ now + k → get_or before k 0 ≡ 0) → IsPutting now from rows before before 0
-putting-none now from rows before h = record {
-  near = λ k lt. refl;
-  far = λ k le lt. h k le;
-  total = omega arith;
-}
-
 -- a row whose second has no place changes nothing
 pub putting-skip : (now from : ℕ) (rows : List Row) (before amounts : List ℕ) (i : ℕ)
     → IsPutting now from rows before amounts i → i < length rows → ((get_or rows i no_row).second < from) ⊎ (now + length before ≤ (get_or rows i no_row).second)
@@ -98,13 +91,3 @@ putting-put now from rows before amounts i place rows_are h same lt le below e =
       let row : IsRow (get_or rows i no_row) = All-get_or IsRow rows i no_row lt rows_are.each in
       omega (arith, h.total, sum_by-set (λ x. x) amounts place (get_or rows i no_row).amount 0 (omega arith), row.most);
 }
-
-pub putting-all : (now from : ℕ) (rows : List Row) (before amounts : List ℕ) (i : ℕ) → IsPutting now from rows before amounts i → length rows ≤ i
-    → (k : ℕ) → k < length before → get_or amounts k 0 ≡ cond (nat_lt (now + k) from) (get_or before k 0) (amount_at rows (now + k))
-putting-all now from rows before amounts i h all k below = elim (cases_lt (now + k) from) [
-  | inl near ↦ h.near k near ∙ cond_below (now + k) from (get_or before k 0) (amount_at rows (now + k)) near
-  | inr far ↦
-      let whole : take i rows ≡ rows = take_all i rows all in
-      let value : get_or amounts k 0 ≡ amount_at rows (now + k) = rw whole at (h.far k far below) in
-      cond_above (now + k) from (get_or before k 0) (amount_at rows (now + k)) (get_or amounts k 0) far value
-]

@@ -227,9 +227,6 @@ pub record ArePhases (Are : ℕ → List Platoon → Type 0) (lists : List (List
   pub count : length lists ≡ i
   pub each : (k : ℕ) → k < i → Are k (platoons_at lists k)
 
-pub phases-none : (Are : ℕ → List Platoon → Type 0) → ArePhases Are [] 0
-phases-none Are = record { count = refl; each = λ k lt. absurd (omega arith) }
-
 pub phases-more : (Are : ℕ → List Platoon → Type 0) (lists more : List (List Platoon)) (list : List Platoon) (i : ℕ)
     → ArePhases Are lists i → Are i list → more ≡ lists ++ list ∷ [] → ArePhases Are more (i + 1)
 phases-more Are lists more list i h one pushed =

@@ -1,13 +1,11 @@
 -- The steps of taking platoons into a window.
-use Rattle.std.proofs.Common.{◌≡◌, ◌≢◌, ℕ, zero, suc, ◌+◌, ◌-◌, ◌*◌, ◌<◌, ◌≤◌, List, [], ◌∷◌, Option, Some, None, All, length, get_or, set, take, map, min, sum, replicate, refl, sym, ap, subst, ◌∙◌, inl, inr, arith, length-set, get_or-set_other, get_or-set_same}
-use Rattle.std.proofs.lemmas.List.{get_or-map, length-map, get_or_past, get_or-replicate, length-replicate, length-take, get_or-take, take-map, ext_get_or, take_all}
+use Rattle.std.proofs.Common.{◌≡◌, ◌≢◌, ℕ, ◌+◌, ◌-◌, ◌*◌, ◌<◌, ◌≤◌, List, [], ◌∷◌, All, length, get_or, set, take, map, sum, replicate, refl, sym, ap, subst, ◌∙◌, inl, inr, arith, length-set, get_or-set_other, get_or-set_same}
+use Rattle.std.proofs.lemmas.List.{get_or-map, length-map, get_or_past, get_or-replicate, length-replicate, length-take, get_or-take, take-map, ext_get_or}
 use Rattle.std.proofs.lemmas.List.Elements.{All-get_or, All-take, All-from_get_or, All-map, All-weaker}
-use Rattle.std.proofs.lemmas.List.Folds.{sum_by-replicate}
-use Rattle.std.proofs.lemmas.List.Sums.{sum_by-set, sum_by_more}
-use Rattle.std.proofs.lemmas.Grind.{get_or_default_zero}
+use Rattle.std.proofs.lemmas.List.Sums.{sum_by-set}
 use Rattle.std.proofs.lemmas.Bool.{cases_lt}
 use Rattle.std.proofs.lemmas.Bool.Decides.{eqb_tells}
-use Rattle.switch_rules.specs.Orders.{orders, orders_of}
+use Rattle.switch_rules.specs.Orders.{orders}
 use Rattle.switch_rules.specs.Sequences.{IsSpaced}
 use Rattle.switch_rules.specs.Serving.{IsCluster}
 use Rattle.switch_rules.specs.declared.Cluster.{Cluster}
@@ -16,70 +14,9 @@ use Rattle.net_numbers.specs.Outline.{phase_links_at}
 use Rattle.clusters.specs.declared.vehicle_groups.Platoon.{Platoon}
 use Rattle.clusters.specs.Platoons.{platoons_at}
 use Rattle.clusters.specs.Sound.{AreOfNode, ArePlannable, AreSpacedClusters, IsPlatoon, cluster_lists, clusters_of}
-use Rattle.clusters.specs.Windows.{IsFront, IsLongest, IsRising, ArePlannableCounts, IsWindow, arrival, counts_of}
-use Rattle.clusters.specs.Taking.{AreFronts, IsEarlier, IsFirstAmong, IsFirstOf}
-use Rattle.clusters.proofs.WindowLaws.{front-grows, full-longest, more_of, stuck-longest, whole-longest}
-
--- a phase of which all have been taken changes nothing
-pub first-skip : (lists : List (List Platoon)) (counts : List ℕ) (i : ℕ) (o : Option (ℕ × ℕ)) → IsFirstOf lists counts i o
-    → length (platoons_at lists i) ≤ get_or counts i 0 → IsFirstOf lists counts (i + 1) o
-first-skip lists counts i None h none = λ k lt. elim (cases_lt k i) [
-  | inl below ↦ h k below
-  | inr past ↦ let e : k ≡ i = omega arith in rw e none
-]
-first-skip lists counts i (Some first) h none = record {
-  phase = omega (arith, h.phase);
-  waits = h.waits;
-  arr = h.arr;
-  comes = λ k lt waits. elim (cases_lt k i) [
-    | inl below ↦ h.comes k below waits
-    | inr past ↦ absurd (let e : k ≡ i = omega arith in omega (arith, ap (λ x. get_or counts x 0) e, ap (λ x. length (platoons_at lists x)) e))
-  ];
-}
-
--- and else it is the first one or comes after it
-pub first-take : (lists : List (List Platoon)) (counts : List ℕ) (i arr : ℕ) (o : Option (ℕ × ℕ)) (result : ℕ × ℕ) → IsFirstOf lists counts i o
-    → get_or counts i 0 < length (platoons_at lists i) → arr ≡ arrival lists i (get_or counts i 0) → IsEarlier o arr i result → IsFirstOf lists counts (i + 1) (Some result)
-first-take lists counts i arr None result h waits e is =
-    let P : ℕ × ℕ → Type 0 = IsFirstAmong lists counts (i + 1) in
-    subst P (sym is)
-    (record {
-      phase = omega arith;
-      waits = waits;
-      arr = e;
-      comes = λ k lt more. elim (cases_lt k i) [
-        | inl below ↦ absurd (omega (arith, h k below))
-        | inr past ↦ let at : k ≡ i = omega arith in rw at (inr (e, omega arith))
-      ];
-    })
-first-take lists counts i arr (Some first) result h waits e is = elim (cases_lt arr first.0) [
-  | inl earlier ↦
-      let P : ℕ × ℕ → Type 0 = IsFirstAmong lists counts (i + 1) in
-      subst P (sym (is.1 earlier))
-      (record {
-        phase = omega arith;
-        waits = waits;
-        arr = e;
-        comes = λ k lt more. elim (cases_lt k i) [
-          | inl below ↦ elim (h.comes k below more) [ inl before ↦ inl (omega arith) | inr together ↦ inl (omega (arith, together.0)) ]
-          | inr past ↦ let at : k ≡ i = omega arith in rw at (inr (e, omega arith))
-        ];
-      })
-  | inr later ↦
-      let P : ℕ × ℕ → Type 0 = IsFirstAmong lists counts (i + 1) in
-      subst P (sym (is.0 later))
-      (record {
-        phase = omega (arith, h.phase);
-        waits = h.waits;
-        arr = h.arr;
-        comes = λ k lt more. elim (cases_lt k i) [
-          | inl below ↦ h.comes k below more
-          | inr past ↦
-              let at : k ≡ i = omega arith in
-              rw at (elim (cases_lt first.0 arr) [ inl before ↦ inl (omega (arith, e)) | inr same ↦ inr (omega (arith, e), omega (arith, h.phase)) ])
-        ];
-      })
-]
+use Rattle.clusters.specs.Windows.{IsFront, IsLongest, IsRising, ArePlannableCounts, IsWindow, counts_of}
+use Rattle.clusters.specs.Taking.{AreFronts, IsFirstAmong}
+use Rattle.clusters.proofs.WindowLaws.{front-grows, more_of, stuck-longest, whole-longest}
 
 -- These counts have been taken, each phase's in their order.
 pub record IsTaking (lists : List (List Platoon)) (counts : List ℕ) (i : ℕ) : Type 0 where
@@ -95,21 +32,6 @@ none-at n k = elim (cases_lt k n) [
   | inl below ↦ get_or-replicate n k 0 0 below
   | inr past ↦ get_or_past (none_of n) k 0 (let e : length (none_of n) ≡ n = length-replicate n (let z : ℕ = 0 in z) in omega (arith, e))
 ]
-
-pub taking-none : (lists : List (List Platoon)) (n : ℕ) → n ≡ length lists → IsTaking lists (none_of n) 0
-taking-none lists n e =
-    let total : sum (none_of n) ≡ 0 = sum_by-replicate (λ x. x) n 0 ∙ omega arith in
-    record {
-      front = record {
-        phases = length-replicate n (let z : ℕ = 0 in z) ∙ e;
-        there = λ k. omega (arith, none-at n k);
-        before = λ j k taken waiting was. absurd (omega (arith, none-at n j));
-      };
-      orders =
-          let one : length (orders (none_of n)) ≡ 1 = ap (λ t. length (orders_of t (none_of n))) total in
-          omega (arith, one);
-      total = total;
-    }
 
 pub sum-more_of : (counts : List ℕ) (p : ℕ) → p < length counts → sum (more_of counts p) ≡ sum counts + 1
 sum-more_of counts p lt = omega (arith, sum_by-set (λ x. x) counts p (get_or counts p 0 + 1) 0 lt)
@@ -135,9 +57,6 @@ taking-stuck lists counts back i first h le next many e =
     let P : List ℕ → Type 0 = IsLongest lists in
     subst P (sym e) (stuck-longest lists counts first h.front (small-of lists counts i h le) next many)
 
-pub taking-full : (lists : List (List Platoon)) (counts : List ℕ) (i : ℕ) → IsTaking lists counts i → i ≡ 40 → IsLongest lists counts
-taking-full lists counts i h e = full-longest lists counts h.front (small-of lists counts i h (omega arith)) (omega (arith, h.total))
-
 -- what was added is taken back
 pub put-back : (counts : List ℕ) (p more back : ℕ) → p < length counts → more ≡ get_or counts p 0 + 1 → back + 1 ≡ more → set (set counts p more) p back ≡ counts
 put-back counts p more back lt e f =
@@ -155,70 +74,11 @@ pub record IsCounting (lists : List (List Platoon)) (counts : List ℕ) (waiting
   pub total : waiting + sum (take i counts) ≡ sum (take i (counts_of lists))
   pub fits : waiting ≤ 180 * i
 
-pub counting-fits : (lists : List (List Platoon)) (i : ℕ) → All (λ list. length list ≤ 180) lists → i < length lists → length (platoons_at lists i) ≤ 180
-counting-fits lists i h lt = All-get_or (λ list. length list ≤ 180) lists i [] lt h
-
-pub counting-more : (lists : List (List Platoon)) (counts : List ℕ) (waiting i left : ℕ) → IsCounting lists counts waiting i → i < length lists → length counts ≡ length lists
-    → All (λ list. length list ≤ 180) lists → left + get_or counts i 0 ≡ length (platoons_at lists i) → IsCounting lists counts (waiting + left) (i + 1)
-counting-more lists counts waiting i left h lt same few e =
-    let has : get_or (counts_of lists) i 0 ≡ length (platoons_at lists i) = get_or-map length lists i [] 0 lt in
-    record {
-      total = omega (
-        arith,
-        h.total,
-        sum_by_more (λ x. x) counts i 0 (omega arith),
-        sum_by_more (λ x. x) (counts_of lists) i 0 (omega (arith, length-map lists (λ (list : List Platoon). length list))),
-        has,
-      );
-      fits = omega (arith, h.fits, counting-fits lists i few lt);
-    }
-
-pub counting-all : (lists : List (List Platoon)) (counts : List ℕ) (waiting i : ℕ) → IsCounting lists counts waiting i → length counts ≡ length lists → length lists ≤ i
-    → waiting + sum counts ≡ sum (counts_of lists)
-counting-all lists counts waiting i h same all =
-    let one : take i counts ≡ counts = take_all i counts (omega arith) in
-    let other : take i (counts_of lists) ≡ counts_of lists = take_all i (counts_of lists) (omega (arith, length-map lists (λ (list : List Platoon). length list))) in
-    omega (arith, h.total, ap sum one, ap sum other)
-
-abbrev no_platoons : List Platoon
-no_platoons = []
-
 -- The lists of the first i phases are cut.
 pub record IsCutting (before : List (List Platoon)) (counts : List ℕ) (lists : List (List Platoon)) (i : ℕ) : Type 0 where
   pub count : length lists ≡ length before
   pub done : (k : ℕ) → k < i → platoons_at lists k ≡ take (get_or counts k 0) (platoons_at before k)
   pub rest : (k : ℕ) → i ≤ k → platoons_at lists k ≡ platoons_at before k
-
-pub cutting-none : (before : List (List Platoon)) (counts : List ℕ) → IsCutting before counts before 0
-cutting-none before counts = record { count = refl; done = λ k lt. absurd (omega arith); rest = λ k le. refl }
-
-pub cutting-more : (before : List (List Platoon)) (counts : List ℕ) (lists : List (List Platoon)) (i : ℕ) (list : List Platoon) → IsCutting before counts lists i → i < length lists
-    → list ≡ take (get_or counts i 0) (platoons_at lists i) → IsCutting before counts (set lists i list) (i + 1)
-cutting-more before counts lists i list h lt e = record {
-  count = length-set lists i list ∙ h.count;
-  done = λ k below. elim (eqb_tells k i) [
-    | inl same ↦
-        let at : k ≡ i = same.1 in
-        rw at (rw get_or-set_same (e ∙ ap (take (get_or counts i 0)) (h.rest i (omega arith))))
-    | inr other ↦ let ne : k ≢ i = other.1 in rw get_or-set_other (h.done k (omega arith))
-  ];
-  rest = λ k above. let ne : k ≢ i = omega arith in rw get_or-set_other (h.rest k (omega arith));
-}
-
-take-none : (n : ℕ) → take n (no_platoons) ≡ no_platoons
-take-none zero = refl
-take-none (suc n) = refl
-
-pub cutting-all : (before : List (List Platoon)) (counts : List ℕ) (lists : List (List Platoon)) (i : ℕ) → IsCutting before counts lists i → length before ≤ i → AreFronts before counts lists
-cutting-all before counts lists i h all = record {
-  count = h.count;
-  each = λ k. elim (cases_lt k i) [
-    | inl below ↦ h.done k below
-    | inr past ↦
-        let none : platoons_at before k ≡ [] = get_or_past before k [] (omega arith) in
-        h.rest k past ∙ rw none (sym (take-none (get_or counts k 0)))
-  ];
-}
 
 -- The lists that are cut are the window.
 fronts-counts : (lists : List (List Platoon)) (counts : List ℕ) (fronts : List (List Platoon)) → AreFronts lists counts fronts → IsFront lists counts → counts_of fronts ≡ counts

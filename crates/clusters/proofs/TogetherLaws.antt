@@ -1,5 +1,5 @@
 -- What streams bring together, stream by stream; and how much that is.
-use Rattle.std.proofs.Common.{◌≡◌, ℕ, ◌+◌, ◌-◌, ◌*◌, ◌<◌, ◌≤◌, List, [], ◌∷◌, ◌++◌, All, length, get_or, take, drop, map, sum, sum_by, refl, sym, ap, subst, ◌∙◌, arith}
+use Rattle.std.proofs.Common.{◌≡◌, ℕ, ◌+◌, ◌-◌, ◌*◌, ◌<◌, ◌≤◌, List, [], ◌∷◌, ◌++◌, All, length, get_or, take, drop, map, sum, sum_by, sym, ap, subst, ◌∙◌, arith}
 use Rattle.std.specs.List.{slice_range}
 use Rattle.std.proofs.lemmas.List.{take_more, map-append, get_or-drop, get_or-take, length-take, length-drop, take_all}
 use Rattle.std.proofs.lemmas.List.FromFn.{fill_by_all}
@@ -25,10 +25,6 @@ pub together-fits : (streams : List Part) (series : List ℕ) (i k : ℕ) (s : P
     → IsTogether streams series i → get_or series k 0 + get_or s.amounts k 0 ≤ 80000
 together-fits streams series i k s few small lt e h =
     omega (arith, h k, sum_by_more (brought k) streams i s lt, ap (brought k) e, sum_by-take-le (brought k) streams (i + 1), brought-le streams k small)
-
-pub together-more : (streams : List Part) (before series : List ℕ) (i : ℕ) (s : Part) → i < length streams → s ≡ get_or streams i s
-    → IsTogether streams before i → ((k : ℕ) → get_or series k 0 ≡ get_or before k 0 + get_or s.amounts k 0) → IsTogether streams series (i + 1)
-together-more streams before series i s lt e h added = λ k. omega (arith, added k, h k, sum_by_more (brought k) streams i s lt, ap (brought k) e)
 
 pub together-all : (streams : List Part) (series : List ℕ) (i look : ℕ) → length streams ≤ i → length series ≡ look → IsTogether streams series i
     → series ≡ together streams look
@@ -69,9 +65,6 @@ pub record IsSizing (load : Part → ℕ) (first end : ℕ) (streams : List Part
   pub fits : size ≤ 900000 * i
   pub loads_are : loads ≡ sum_by load (map (part_of first end) (take i streams))
   pub loads_fit : loads ≤ 18000000 * i
-
-pub sizing-none : (load : Part → ℕ) (first end : ℕ) (streams : List Part) → IsSizing load first end streams 0 0 0
-sizing-none load first end streams = record { whole = refl; fits = omega arith; loads_are = refl; loads_fit = omega arith }
 
 pub sizing-more : (load : Part → ℕ) (first end : ℕ) (streams : List Part) (i size loads sum_of_it load_of_it : ℕ) (s : Part)
     → IsSizing load first end streams i size loads → i < length streams → s ≡ get_or streams i s → AreSmall streams → end ≤ 180

@@ -38,7 +38,3 @@ pub record IsCutBy (gap : ℕ) (span : ℕ → ℕ) (series : List ℕ) (runs : 
   pub all : concat runs ≡ filled series
   pub each : All (λ run. IsRun gap (span (first_of run)) run) runs
   pub apart : (k : ℕ) → k + 1 < length runs → CannotJoin gap (span (first_of (run_at runs k))) (run_at runs k) (first_of (run_at runs (k + 1)))
-
--- the same where all runs span at most `most` seconds
-abbrev pub IsCut : ℕ → ℕ → List ℕ → List (List ℕ) → Type 0
-IsCut gap most = IsCutBy gap (λ first. most)

@@ -5,7 +5,7 @@ use Rattle.std.specs.Option.{option_and_then}
 use Rattle.std.specs.List.Sorted.{IsNonDecreasingBy}
 use Rattle.std.proofs.lemmas.Bool.{cases_eq, cases_lt, cond_below, cond_above, and_from, and_left, and_parts, and_right, leb-true, ltb-true, lt-ltb, le-leb, lt-leb, le-ltb}
 use Rattle.std.proofs.lemmas.List.Sorted.{IsNonDecreasingBy-from_default}
-use Rattle.std.proofs.lemmas.List.Elements.{All-nil, All-cons, All-head, All-tail, All-weaker, All-get_or}
+use Rattle.std.proofs.lemmas.List.Elements.{All-cons, All-head, All-tail, All-weaker, All-get_or}
 use Rattle.phase_plan.specs.Phases.{IsPlan}
 use Rattle.phase_plan.specs.declared.Phase.{Phase}
 use Rattle.phase_plan.proofs.RingLaws.{phase-bounds}
@@ -16,9 +16,6 @@ use Rattle.control_flow.specs.Greens.{no_green, row_at, IsInOrder, IsGreen, IsLa
 
 abbrev IsLong : Green → Type 0
 IsLong row = row.from < row.to
-
-pub order-nil : IsInOrder []
-order-nil = record { long = All-nil IsLong; order = λ k h. absurd (omega arith) }
 
 next-cons : (row : Green) (rows : List Green) → (0 < length rows → row.to ≤ (row_at rows 0).from) → IsInOrder rows → (k : ℕ) → k + 1 < length (row ∷ rows) → (row_at (row ∷ rows) k).to ≤ (row_at (row ∷ rows) (k + 1)).from
 next-cons row rows first others zero h = first (omega arith)

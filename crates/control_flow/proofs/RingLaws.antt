@@ -1,14 +1,10 @@
 -- How long the ring takes.
-use Rattle.std.proofs.Common.{◌≡◌, ℕ, ◌+◌, ◌≤◌, List, [], ◌∷◌, ◌++◌, map, refl, arith}
+use Rattle.std.proofs.Common.{◌≡◌, ℕ, ◌+◌, ◌≤◌, List, [], ◌∷◌, ◌++◌, map, arith}
 use Rattle.std.proofs.lemmas.List.Sums.{sum_by-cons}
 use Rattle.phase_plan.specs.Phases.{passed_numbers, phase_at, passing, switch_time}
 use Rattle.phase_plan.specs.declared.Phase.{Phase}
 use Rattle.phase_plan.proofs.RingLaws.{time_at}
 use Rattle.control_flow.specs.Timelines.{begin_after}
-
-pub begin_after-append : (plan : List Phase) (from : ℕ) (ks ls : List ℕ) → begin_after plan from (ks ++ ls) ≡ begin_after plan (begin_after plan from ks) ls
-begin_after-append plan from [] ls = refl
-begin_after-append plan from (k ∷ ks) ls = begin_after-append plan (from + passing (phase_at plan k)) ks ls
 
 pub begin_after-later : (plan : List Phase) (from : ℕ) (ks : List ℕ) → from ≤ begin_after plan from ks
 begin_after-later plan from [] = omega arith

@@ -2,7 +2,7 @@
 use Rattle.std.proofs.Common.{◌≡◌, ℕ, ◌+◌, ◌-◌, ◌*◌, ◌<◌, ◌≤◌, List, length, get_or, take, ap, sym, ◌∙◌, arith}
 use Rattle.std.specs.List.{range_with_len, sum_by}
 use Rattle.std.proofs.Math.Nat.{add-mul, mul-add, mul-le-mul_left}
-use Rattle.std.proofs.lemmas.List.{get_or_default, take_all}
+use Rattle.std.proofs.lemmas.List.{get_or_default}
 use Rattle.std.proofs.lemmas.List.Sums.{sum_by_more}
 use Rattle.switch_rules.specs.Bounds.{greatest_load, latest_arrival}
 use Rattle.switch_rules.specs.declared.Cluster.{Cluster}
@@ -42,10 +42,6 @@ upward-rise list index d spaced inside next = omega (arith, spaced index next, a
 -- after the first that arrives later none waits
 pub upward-late : (list : List Cluster) (index from load offset : ℕ) (d : Cluster) → IsSpaced list → index < length list → IsUpward list index from load offset → (t : ℕ) → from ≤ t → t ≤ (get_or list index d).arr → sum_by (wait_until t) list + offset ≡ load * t
 upward-late list index from load offset d spaced inside h t later early = omega (arith, h t later, late-rest t index list d spaced inside early)
-
--- and where there is none all wait
-pub upward-all : (list : List Cluster) (index from load offset : ℕ) → length list ≤ index → IsUpward list index from load offset → (t : ℕ) → from ≤ t → sum_by (wait_until t) list + offset ≡ load * t
-upward-all list index from load offset all h t later = omega (arith, h t later, ap (sum_by (wait_until t)) (take_all index list (omega (arith, all))))
 
 -- the offset of one
 pub offset-le : (load arr : ℕ) → load ≤ greatest_load → arr ≤ latest_arrival → load * arr ≤ greatest_load * latest_arrival

@@ -55,15 +55,6 @@ pub record AreDrained (initial places : List (Option Row)) (place : ℕ) (out : 
   pub from : All (λ r. (k : ℕ) × (k < place) × (row_in initial k ≡ Some r)) out
   pub all : (k : ℕ) (r : Row) → k < place → row_in initial k ≡ Some r → Contains out r
 
-pub drained-start : (places : List (Option Row)) (first end : ℕ) → ArePlaced places first end → AreDrained places places first []
-drained-start places first end placed = record {
-  cleared = placed.below;
-  ahead = λ k h. refl;
-  later = λ i j d h k. absurd (omega arith);
-  from = λ k d h. absurd (omega arith);
-  all = λ k r h e. absurd (none-some r (sym (placed.below k h) ∙ e));
-}
-
 -- the next place is empty
 pub drained-none : (initial places : List (Option Row)) (place : ℕ) (out : List Row) → AreDrained initial places place out → row_in places place ≡ None → AreDrained initial places (place + 1) out
 drained-none initial places place out d empty = record {
@@ -106,13 +97,6 @@ placed-less places first end k placed inside = record {
   below = λ j h. elim (cases_eq j k) [ inl e ↦ get_or-set_at places k j None None e inside | inr other ↦ get_or-set_other places k j None None other ∙ placed.below j h ];
   above = λ j h. elim (cases_eq j k) [ inl e ↦ get_or-set_at places k j None None e inside | inr other ↦ get_or-set_other places k j None None other ∙ placed.above j h ];
 }
-
--- all are moved
-pub drained-left : (initial places : List (Option Row)) (first end place : ℕ) (out : List Row) → ArePlaced initial first end → AreDrained initial places place out → end ≤ place → (k : ℕ) → row_in places k ≡ None
-drained-left initial places first end place out placed d over k = elim (cases_lt k place) [
-  | inl less ↦ d.cleared k less
-  | inr rest ↦ d.ahead k rest ∙ placed.above k (omega (arith, over, rest))
-]
 
 pub drained-all : (initial places : List (Option Row)) (first end place : ℕ) (out : List Row) → ArePlaced initial first end → AreDrained initial places place out → end ≤ place → AreBestOf (IsPlaced initial) out
 drained-all initial places first end place out placed d over = record {

@@ -1,7 +1,7 @@
 -- Two lists of rows on their way into one, where of two rows with one time the better is taken and both are passed.
 use Rattle.std.proofs.Common.{◌≡◌, ℕ, ◌+◌, ◌<◌, ◌≤◌, ◌⊎◌, List, [], ◌∷◌, ◌++◌, length, get_or, All, Contains, refl, sym, ap, subst, ◌∙◌, inl, inr, arith}
 use Rattle.std.proofs.lemmas.Bool.{cases_lt}
-use Rattle.std.proofs.lemmas.List.{get_or_default, append-nil, append_assoc}
+use Rattle.std.proofs.lemmas.List.{get_or_default, append_assoc}
 use Rattle.std.proofs.lemmas.List.Elements.{All-push, Contains-append_left, Contains-append_right}
 use Rattle.std.proofs.lemmas.List.Quantifiers.{all_pairs_push}
 use Rattle.forward_dp.specs.declared.rows.Row.{Row}
@@ -90,18 +90,6 @@ pub record AreBehind (left right : List Row) (i n : ℕ) (old now : List Row) : 
   pub merged : List Row
   pub is : now ≡ old ++ merged
   pub meeting : AreMeeting left right i n merged
-
-pub behind-start : (left right old : List Row) → AreBehind left right 0 0 old old
-behind-start left right old = record {
-  merged = [];
-  is = sym (append-nil old);
-  meeting = record {
-    later = λ i j d h k. absurd (omega arith);
-    best = record { from = λ k d h. absurd (omega arith); all = λ r h. elim h [ inl a ↦ absurd (omega (arith, a.first)) | inr a ↦ absurd (omega (arith, a.first)) ] };
-    left_up = λ d h k e j. absurd (omega arith);
-    right_up = λ d h k e j. absurd (omega arith);
-  };
-}
 
 behind-push : (left right : List Row) (i n i' n' : ℕ) (old now : List Row) (x : Row) (b : AreBehind left right i n old now) → AreMeeting left right i' n' (b.merged ++ x ∷ []) → AreBehind left right i' n' old (now ++ x ∷ [])
 behind-push left right i n i' n' old now x b m = record { merged = b.merged ++ x ∷ []; is = ap (λ xs. xs ++ x ∷ []) b.is ∙ append_assoc old b.merged (x ∷ []); meeting = m }

@@ -1,5 +1,5 @@
 -- What the first rows of a source reach, row by row, and all of them in the end.
-use Rattle.std.proofs.Common.{◌≡◌, ℕ, ◌+◌, ◌-◌, ◌*◌, ◌<◌, ◌≤◌, ◌⊎◌, Bool, true, false, List, ◌++◌, length, get_or, Contains, Option, Some, None, IfSome, Result, Ok, refl, sym, ap, subst, ◌∙◌, inl, inr, arith}
+use Rattle.std.proofs.Common.{◌≡◌, ℕ, ◌+◌, ◌-◌, ◌*◌, ◌<◌, ◌≤◌, ◌⊎◌, Bool, true, false, List, ◌++◌, length, get_or, Contains, Option, Some, IfSome, Result, Ok, refl, sym, ap, subst, ◌∙◌, inl, inr, arith}
 use Rattle.std.proofs.lemmas.Bool.{cases_eq, cases_lt, cases_Bool}
 use Rattle.std.proofs.lemmas.Option.{none-some, same_Some}
 use Rattle.phase_plan.specs.Phases.{phase_at}
@@ -333,10 +333,3 @@ arrival-of p limit k cluster source place t is inside e stale reach within =
 -- what is reached has the green of its phase
 pub arrival-phase : (p : Problem) (limit : Option ℕ) (k : ℕ) (cluster : Cluster) (source : List Row) (n : ℕ) (kept : Bool) (c : Row) → IsArrival p limit k cluster source n kept c → c.entry.phase ≡ k
 arrival-phase p limit k cluster source n kept c a = (arrival-shape p limit k cluster source n kept c a).phase
-
--- what is claimed of a stage holds where the stage is known, and of none where there is none
-pub of-none : (o : Option Stage) (P : Stage → Type 0) → None ≡ o → IfSome o P
-of-none o P e = subst (λ (o : Option Stage). IfSome o P) e tt
-
-pub of-some : (o : Option Stage) (P : Stage → Type 0) (s : Stage) → Some s ≡ o → P s → IfSome o P
-of-some o P s e h = subst (λ (o : Option Stage). IfSome o P) e h

@@ -1,17 +1,13 @@
 -- The first at which a fact fails.
 use Rattle.std.proofs.Common.{◌≡◌, ℕ, ◌+◌, ◌-◌, ◌<◌, List, length, get_or, take, All, refl, subst, arith}
 use Rattle.std.proofs.lemmas.Option.{slice_get_read, slice_get_within, get_or_from_slice_get}
-use Rattle.foundation.specs.Firsts.{IsFirstWithout, IsFirstAt, FromOne}
+use Rattle.foundation.specs.Firsts.{IsFirstAt, FromOne}
 
 -- a number counted from 1 has the index that is one less
 pub FromOne-at : (place : ℕ → Type 0) (index number : ℕ) → number ≡ index + 1 → place index → FromOne place number
 FromOne-at place index number e here =
     let same : index ≡ number - 1 = omega arith in
     record { from_one = omega arith; at = subst place same here }
-
--- where a fact fails at a number below the count, it does not hold of all below it
-pub IsFirstWithout-not : (fact : ℕ → Type 0) (count number : ℕ) → IsFirstWithout fact count number → ((k : ℕ) → k < count → fact k) → ⊥
-IsFirstWithout-not fact count number first all = first.here (all number first.below)
 
 module _ {X : Type 0} (good at_fault : X → Type 0) (xs : List X) where
   -- at the exit of a loop: the element at i, after those before it

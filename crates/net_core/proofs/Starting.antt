@@ -1,8 +1,8 @@
 -- The parts of a core before the first round.
-use Rattle.std.proofs.Common.{◌≡◌, ℕ, ◌+◌, ◌*◌, ◌<◌, ◌≤◌, List, [], ◌∷◌, ◌++◌, Option, Some, None, length, get_or, vec_capacity, refl, sym, ap, ◌∙◌, inl, inr, arith}
+use Rattle.std.proofs.Common.{◌≡◌, ℕ, ◌+◌, ◌*◌, ◌<◌, ◌≤◌, List, [], ◌∷◌, ◌++◌, Option, Some, None, length, vec_capacity, refl, sym, ap, ◌∙◌, inl, inr, arith}
 use Rattle.std.specs.Global.{Vec}
 use Rattle.std.proofs.lemmas.Bool.{cases_lt}
-use Rattle.std.proofs.lemmas.List.{get_or_append_left, get_or_push, get_or_past, length_push}
+use Rattle.std.proofs.lemmas.List.{get_or_past}
 use Rattle.arrivals.specs.Amounts.{Amounts}
 use Rattle.histories.specs.Histories.{version_at}
 use Rattle.histories.specs.Steps.{board_steps}
@@ -63,16 +63,3 @@ at-first net network arrivals history actors boards world plans none new blank s
 -- one more board
 pub blank-none : (boards : List Board) → boards ≡ [] → AreBlank 0 boards
 blank-none boards none = record { all = ap length none; versions = λ k d less. absurd (omega arith); forecasts = λ k d less. absurd (omega arith) }
-
-pub blank-more : (n : ℕ) (boards : List Board) (b : Board) → AreBlank n boards → b.version ≡ 0 → b.forecast ≡ [] → AreBlank (n + 1) (boards ++ b ∷ [])
-blank-more n boards b were version forecast = record {
-  all = length_push boards b ∙ ap (λ k. k + 1) were.all;
-  versions = λ k d less. elim (cases_lt k n) [
-    | inl before ↦ ap (λ (x : Board). x.version) (get_or_append_left boards (b ∷ []) d k (omega (arith, were.all))) ∙ were.versions k d before
-    | inr at ↦ (let e : k ≡ n = omega arith in ap (λ m. (get_or (boards ++ b ∷ []) m d).version) e ∙ ap (λ (x : Board). x.version) (get_or_push boards b d n were.all) ∙ version)
-  ];
-  forecasts = λ k d less. elim (cases_lt k n) [
-    | inl before ↦ ap (λ (x : Board). x.forecast) (get_or_append_left boards (b ∷ []) d k (omega (arith, were.all))) ∙ were.forecasts k d before
-    | inr at ↦ (let e : k ≡ n = omega arith in ap (λ m. (get_or (boards ++ b ∷ []) m d).forecast) e ∙ ap (λ (x : Board). x.forecast) (get_or_push boards b d n were.all) ∙ forecast)
-  ];
-}

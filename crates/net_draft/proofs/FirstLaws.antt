@@ -10,7 +10,7 @@ use Rattle.foundation.proofs.FirstLaws.{IsFirstAt-weaker, IsFirstAt-within}
 use Rattle.foundation.proofs.OptionLaws.{and-some, some-and, bind-none}
 use Rattle.net_draft.specs.Faults.{Misses, Blames}
 use Rattle.net_draft.specs.FirstShape.{ordinal, IsAfterRead, IsFirstUnread, IsNodeFault, IsLinkFault, IsFaultWithin, IsShapeFault}
-use Rattle.net_draft.specs.Reading.{IsFaultAmong, IsNodeAtFault, IsPhaseAtFault, IsLinkAtFault, IsTurnAtFault, IsConflictAtFault}
+use Rattle.net_draft.specs.Reading.{IsFaultAmong, IsNodeAtFault, IsPhaseAtFault, IsLinkAtFault, IsConflictAtFault}
 use Rattle.net_draft.specs.Table.{NodeForm, LinkForm, TopForm, is_complete, top_form, run_of, node_form, node_of, phase_of, link_form, link_of, turn_of, conflict_of, draft_of}
 use Rattle.net_draft.specs.declared.drafts.Draft.{Draft}
 use Rattle.net_draft.specs.declared.faults.NetFault.{NetFault}
@@ -66,11 +66,6 @@ pub phases-fault : (complete : Bool) (d : Data) (node : NodeForm) (item number :
 phases-fault complete d node item number named is among =
     let first = after (phase_of complete) (IsPhaseAtFault complete) number named node.phases (ordinal among.index) (λ d. phase_of complete d ≡ None) among refl (λ d h. h.1) in
     subst (IsNodeAtFault complete item number d) (sym among.first.here.0) (refl, and-some (λ (n : NodeForm). IsFirstUnread (phase_of complete) n.phases (ordinal among.index)) (node_form d) node is first)
-
-pub turns-fault : (complete : Bool) (d : Data) (link : LinkForm) (item number : ℕ) (named : Place) → link_form complete d ≡ Some link → IsFaultAmong turn_of (IsTurnAtFault complete) number link.turns named → IsLinkAtFault complete item number d named
-turns-fault complete d link item number named is among =
-    let first = after turn_of (IsTurnAtFault complete) number named link.turns (ordinal among.index) (λ d. turn_of d ≡ None) among refl (λ d h. h.1) in
-    subst (IsLinkAtFault complete item number d) (sym among.first.here.0) (refl, and-some (λ (l : LinkForm). IsFirstUnread turn_of l.turns (ordinal among.index)) (link_form complete d) link is first)
 
 module _ (ms : Members) (top : TopForm) (form : top_form ms ≡ Some top) where
   -- a fault of the tables within the file is its fault

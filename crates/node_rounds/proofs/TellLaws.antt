@@ -2,7 +2,7 @@
 use Rattle.std.proofs.Common.{◌≡◌, ℕ, zero, suc, ◌+◌, ◌<◌, ◌≤◌, Bool, true, false, List, [], ◌∷◌, ◌++◌, Some, filter, is_some, length, map, take, get_or, refl, sym, ap, ◌∙◌, inl, inr, arith, append-nil, if◌then◌else◌}
 use Rattle.std.specs.Prelude.{not, slice_get}
 use Rattle.std.proofs.lemmas.Bool.{cases_Bool}
-use Rattle.std.proofs.lemmas.List.{length_push, length-map, map-append, take_all, take_more}
+use Rattle.std.proofs.lemmas.List.{length_push, length-map, map-append, take_more}
 use Rattle.std.proofs.lemmas.List.Elements.{All-nil, filter-append}
 use Rattle.std.proofs.lemmas.Option.{slice_get_within}
 use Rattle.board_model.specs.declared.calls.Call.{Call}
@@ -75,9 +75,6 @@ among-none net exits = refl
 pub goes-by : (net : Net) (link : ℕ) (is : Link) (none : Bool) → is ≡ link_at net link → is_some is.to ≡ not none → none ≡ false → goes net link ≡ true
 goes-by net link is none at e f = ap (λ (l : Link). is_some l.to) (sym at) ∙ e ∙ ap not f
 
-pub stays-by : (net : Net) (link : ℕ) (is : Link) (none : Bool) → is ≡ link_at net link → is_some is.to ≡ not none → none ≡ true → goes net link ≡ false
-stays-by net link is none at e f = ap (λ (l : Link). is_some l.to) (sym at) ∙ e ∙ ap not f
-
 module _ (net : Net) (exits : List ℕ) (i d : ℕ) (inside : i < length exits) where
   abbrev link : ℕ
   link = get_or exits i d
@@ -114,10 +111,6 @@ module _ (net : Net) (exits : List ℕ) (i d : ℕ) (inside : i < length exits) 
         let more = slice_get_within (told_links net node) (length (told_among net exits i)) link next in
         let count : length told.calls ≡ length (told_among net exits i) = sym (length-map told.calls step_of) ∙ ap length told.steps ∙ length-map (told_among net exits i) steps.Publish in
         omega (arith, had, more, count, ap (λ n. length (told_links net n)) own)
-
--- all
-pub among-all : (net : Net) (exits : List ℕ) (i node : ℕ) → exits ≡ exit_links net node → length exits ≤ i → told_among net exits i ≡ told_links net node
-among-all net exits i node are past = ap (filter (goes net)) (take_all i exits past ∙ are)
 
 -- one publishing
 pub sent-as : (net : Net) (link : ℕ) (a b : Acting) (p q : PassView) (f : List Row) (sent : Sent) → board.HasSent p q link f sent → f ≡ outgoing net link a

@@ -21,9 +21,6 @@ use Rattle.parallel_dp.specs.Pieces.{AreNextOfPieces, IsJoinOf, IsJoinOfAll, IsL
 
 -- ---- several lists as one
 
-pub none-all : IsJoinOfAll [] []
-none-all = record { rising = λ k inside. absurd (omega arith); each = λ k d inside. absurd (omega arith); all = λ list e among there. absurd (omega (arith, among.1)) }
-
 only-one : (xs : List Entry) (ys : List Entry) → Contains (xs ∷ []) ys → ys ≡ xs
 only-one xs ys (zero, inside, at) = sym at
 only-one xs ys (suc k, inside, at) = absurd (omega arith)

@@ -136,14 +136,6 @@ pub record AreSplit (p : Problem) (entries : List Entry) (n k : ℕ) (kept anew 
   pub each : (e : Entry) → IsOfEither kept anew e → IsOf (IsReachedBy p entries n k) e
   pub all : (s : Stage) → IsReachedBy p entries n k s → HasEntry kept (key_of s) s.delay ⊎ HasEntry anew (key_of s) s.delay
 
-pub none-split : (p : Problem) (entries : List Entry) (k : ℕ) → AreSplit p entries 0 k [] []
-none-split p entries k = record {
-  kept_rises = λ j inside. absurd (omega arith);
-  anew_rises = λ j inside. absurd (omega arith);
-  each = λ e o. absurd (elim o [ inl h ↦ omega (arith, h.1) | inr h ↦ omega (arith, h.1) ]);
-  all = λ s h. absurd (omega (arith, h.first));
-}
-
 on-entry : (p : Problem) (entries : List Entry) (n k : ℕ) (x : Entry) → IsOf (IsReachedBy p entries n k) x → IsOf (IsReachedBy p entries (n + 1) k) x
 on-entry p entries n k x o = record {
   stage = o.stage;

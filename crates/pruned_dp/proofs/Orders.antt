@@ -1,21 +1,18 @@
 -- The sequence in order of arrival: how it is found, that there is one alone, and that its delay is a limit.
 use Rattle.std.proofs.Common.{◌≡◌, ℕ, zero, suc, ◌+◌, ◌-◌, ◌*◌, ◌<◌, ◌≤◌, List, [], ◌∷◌, ◌++◌, length, map, sum, get_or, Contains, Option, Some, None, IfSome, refl, sym, ap, subst, ◌∙◌, inl, inr, length-set, arith}
-use Rattle.std.specs.Option.{option_map}
 use Rattle.std.proofs.lemmas.Bool.{cases_lt}
 use Rattle.std.proofs.lemmas.List.{append-nil, append_assoc, get_or-map, get_or_past, length-map}
 use Rattle.switch_rules.specs.Arriving.{ComesFirst}
-use Rattle.switch_rules.specs.declared.Head.{Head}
-use Rattle.switch_rules.specs.declared.Served.{Served}
 use Rattle.switch_rules.proofs.Arriving.{one-first}
 use Rattle.schedule_meaning.specs.Instances.{Problem, IsInstance, counts_of, list_at}
-use Rattle.schedule_meaning.specs.Timing.{delay_of, timed, timing, total_cost}
+use Rattle.schedule_meaning.specs.Timing.{delay_of}
 use Rattle.schedule_meaning.proofs.Sequences.{get_or-counts}
-use Rattle.dp_certificate.specs.Limits.{HasKeysWithin, IsSomeDelay, IsWithin}
+use Rattle.dp_certificate.specs.Limits.{HasKeysWithin, IsWithin}
 use Rattle.dp_certificate.specs.Prefixes.{first_stage, key_of, one_more, stage_of}
 use Rattle.dp_certificate.specs.Proves.{HasEntry, key_of_entry}
 use Rattle.dp_certificate.specs.declared.Entry.{Entry}
 use Rattle.dp_certificate.proofs.RestLaws.{arrives-later}
-use Rattle.dp_certificate.proofs.Stages.{more-other, more-same, more-within, none-counted, some-same, sum-one_more}
+use Rattle.dp_certificate.proofs.Stages.{more-other, more-same, more-within, none-counted, sum-one_more}
 use Rattle.forward_dp.proofs.Bounds.{sum-le}
 use Rattle.pruned_dp.specs.Arrivals.{ComesNext, GoesByArrival, IsArrivalDelay, IsByArrival, arrival}
 use Rattle.pruned_dp.specs.Bounded.{IsBounded}
@@ -113,26 +110,8 @@ one-order p (k ∷ s) [] counts a b = absurd (let some = a.0.some in omega (arit
 one-order p (k ∷ s) (j ∷ t) counts a b =
     let same : k ≡ j = one-next p counts k j a.0 b.0 in
     ap (λ xs. k ∷ xs) (one-order p s t (one_more counts k) a.1 (subst (λ i. GoesByArrival p (one_more counts i) t) (sym same) b.1)) ∙ ap (λ i. i ∷ t) same
-
 -- ---- its delay
 
--- a sequence that is timed has the delay that it is timed with
-pub timed-delay : (p : Problem) (sequence : List ℕ) (delay : ℕ) (h : Head) → timing p sequence ≡ Some (delay, h) → Some delay ≡ delay_of p sequence
-timed-delay p sequence delay h e = by (timed p sequence) e
-  where
-    by : (o : Option (List Served × Head)) → option_map (λ t. let x : ℕ × Head = (total_cost t.0, t.1) in x) o ≡ Some (delay, h) → Some delay ≡ option_map (λ t. total_cost t.0) o
-    by None e = absurd (cc)
-    by (Some t) e = ap (λ (x : ℕ × Head). let o : Option ℕ = Some x.0 in o) (sym (some-same (total_cost t.0, t.1) (delay, h) e))
-
-pub untimed-delay : (p : Problem) (sequence : List ℕ) → timed p sequence ≡ None → None ≡ delay_of p sequence
-untimed-delay p sequence e = sym (ap (option_map (λ t. total_cost t.0)) e)
-
--- it is a limit that a feasible sequence keeps
-pub arrival-limit : (p : Problem) (limit : Option ℕ) → IsArrivalDelay p limit → IsSomeDelay p limit
-arrival-limit p None h = tt
-arrival-limit p (Some most) h = (h.sequence, sym h.delay)
-
-if-some : {X : Type 0} (P : X → Type 0) (o : Option X) (x : X) → o ≡ Some x → IfSome o P → P x
 if-some P o x e h = subst (λ o. IfSome o P) e h
 
 if-each : {X : Type 0} (P : X → Type 0) (o : Option X) → ((x : X) → o ≡ Some x → P x) → IfSome o P

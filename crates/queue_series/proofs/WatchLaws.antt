@@ -111,9 +111,6 @@ module _ (net : Net) (past : ℕ → ℕ → Passed) (l : ℕ) where
 
 -- ---- one link after another
 
-pub none-moved : (world : WorldState) (watches : List Watch) → HaveMoved world watches 0 watches
-none-moved world watches = record { count = refl; moved = λ l less. absurd (omega (arith, less)); rest = λ l past. refl }
-
 pub more-moved : (world : WorldState) (old new : List Watch) (k : ℕ) (after : Watch) → k < length old → HaveMoved world old k new → after ≡ next_at world old k → HaveMoved world old (k + 1) (set new k after)
 more-moved world old new k after below were is = record {
   count = length-set new k after ∙ were.count;

@@ -1,8 +1,8 @@
 -- The rows of a line from the last that begins by a second on.
-use Rattle.std.proofs.Common.{◌≡◌, ℕ, zero, suc, ◌+◌, ◌-◌, ◌<◌, ◌≤◌, List, [], ◌∷◌, Some, drop, length, get_or, take, refl, sym, ap, subst, ◌∙◌, arith}
+use Rattle.std.proofs.Common.{◌≡◌, ℕ, zero, suc, ◌+◌, ◌-◌, ◌<◌, ◌≤◌, List, [], ◌∷◌, Some, drop, length, take, refl, sym, ap, subst, ◌∙◌, arith}
 use Rattle.std.specs.Prelude.{if◌then◌else◌, nat_le}
 use Rattle.std.specs.Option.{option_map}
-use Rattle.std.proofs.lemmas.Bool.{cond_both, le-leb, le-ltb, leb-true, lt-leb}
+use Rattle.std.proofs.lemmas.Bool.{cond_both, le-leb, le-ltb, leb-true}
 use Rattle.std.proofs.lemmas.List.{length-drop, take_all}
 use Rattle.control_flow.specs.Greens.{Follows, IsInOrder, IsLawful, head_at, head_in, row_after, row_at}
 use Rattle.control_flow.specs.declared.greens.Green.{Green}
@@ -66,15 +66,6 @@ after-one second (suc index) (x ∷ rows) inside begun =
 pub from-next : (second index next : ℕ) (rows : List Green) → index + 1 ≡ next → next < length rows → (row_at rows next).from ≤ second → rows_from second (drop index rows) ≡ rows_from second (drop next rows)
 from-next second index next rows place inside begun =
     after-one second index rows (omega arith) (subst (λ k. (row_at rows k).from ≤ second) (sym place) begun) ∙ ap (λ k. rows_from second (drop k rows)) place
-
-pub from-here : (second index : ℕ) (rows : List Green) (row : Green) → index + 1 < length rows → row ≡ get_or rows (index + 1) row → second < row.from → rows_from second (drop index rows) ≡ drop index rows
-from-here second zero [] row inside is late = absurd (omega arith)
-from-here second zero (x ∷ []) row inside is late = absurd (omega arith)
-from-here second zero (x ∷ y ∷ rows) row inside is late =
-    ap (λ b. if b then rows_from second (y ∷ rows) else x ∷ y ∷ rows) (lt-leb y.from second (let e : row.from ≡ y.from = ap (λ (g : Green). g.from) is in omega arith))
-from-here second (suc index) [] row inside is late = absurd (omega arith)
-from-here second (suc index) (x ∷ rows) row inside is late =
-    from-here second index rows row (omega arith) (is ∙ ap (λ k. get_or (x ∷ rows) k row) (let e : suc index + 1 ≡ suc (index + 1) = omega arith in e)) late
 
 pub from-last : (second index : ℕ) (rows : List Green) → length rows ≤ index + 1 → rows_from second (drop index rows) ≡ drop index rows
 from-last second zero [] past = refl

@@ -1,5 +1,5 @@
 -- The records of a state, one after another, and the first at fault.
-use Rattle.std.proofs.Common.{◌≡◌, ℕ, ◌<◌, List, [], ◌∷◌, ◌++◌, length, get_or, Some, None, Result, Ok, Err, IfErr, OnOk, refl, sym, ap, ◌∙◌, subst, inl, inr, arith}
+use Rattle.std.proofs.Common.{◌≡◌, ℕ, ◌<◌, List, [], ◌∷◌, ◌++◌, length, get_or, Some, None, Result, Ok, Err, IfErr, OnOk, sym, ap, ◌∙◌, subst, inl, inr, arith}
 use Rattle.std.proofs.lemmas.List.FromFn.{get_or-map-range_with_len}
 use Rattle.std.proofs.lemmas.Option.{same_Some, none-some}
 use Rattle.foundation.specs.Options.{◌>>=◌, each}
@@ -23,7 +23,7 @@ use Rattle.round_states.specs.States.{IsLineAt, IsSensedAt, begin_of, no_sense}
 use Rattle.round_states.specs.Taking.{Adds, HasTaken, IsRefused}
 use Rattle.round_states.specs.Texts.{AreStateRecords, TellState, all_said, green_said, sensed_in}
 use Rattle.round_states.specs.Told.{entry_of, header, name_of, place_of, told_of}
-use Rattle.round_states.proofs.OrderLaws.{order-middle, order-none, order-push}
+use Rattle.round_states.proofs.OrderLaws.{order-middle, order-push}
 
 -- what a record was read from
 record IsToldBy (net : Net) (fields : List (List ℕ)) (e : Entry) : Type 0 where
@@ -37,10 +37,6 @@ told-by net fields e reads =
     let (said, is, rest) = bind-some (told_of fields) (λ said. place_of net said (name_of fields) >>= λ place. Some (record { place = place; said = said })) e reads in
     let (place, of, last) = bind-some (place_of net said (name_of fields)) (λ place. Some (record { place = place; said = said })) e rest in
     record { said = said; is = is; place = of ∙ ap (λ (y : Entry). Some y.place) (same_Some _ _ last) }
-
--- nothing was read
-pub read-none : (net : Net) → AreReadAs net [] []
-read-none net = record { reads = refl; order = order-none net }
 
 -- a record was added, or not
 module _ (net : Net) (fields : List (List ℕ)) (number : ℕ) (old new : Entries) (e : Entry) (is : entry_of net fields ≡ Some e) where
@@ -82,10 +78,6 @@ told-fault net all es read (Sense l) h = record { records = read.records; are = 
 told-fault net all es read (Board l) h = record { records = read.records; are = read.are; after = record { entries = es; read_as = read.after; why = h } }
 told-fault net all es read (Line n) h = record { records = read.records; are = read.are; after = record { entries = es; read_as = read.after; why = h } }
 told-fault net all es read (Sum n) h = record { records = read.records; are = read.are; after = record { entries = es; read_as = read.after; why = h } }
-
--- records that tell a state are those of it
-pub told-text : (net : Net) (all : List (List (List ℕ))) (es : List Entry) (state : RoundState) → HasAfterHeader header all (λ records. AreReadAs net records es) → TellState net es state → AreStateRecords net all state
-told-text net all es state read tell = record { records = read.records; are = read.are; entries = es; reads = read.after.reads; tell = tell }
 
 -- what a state that records tell has of each node
 module _ (net : Net) (es : List Entry) (state : RoundState) (tell : TellState net es state) where

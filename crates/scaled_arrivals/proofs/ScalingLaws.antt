@@ -1,7 +1,7 @@
 -- Rows that bring scaled arrivals.
-use Rattle.std.proofs.Common.{◌≡◌, ℕ, zero, suc, ◌+◌, ◌-◌, ◌*◌, ◌/◌, ◌<◌, ◌≤◌, ◌&&◌, ◌==◌, eqb, eq-eqb, cond, Bool, true, false, List, [], ◌∷◌, ◌++◌, All, length, filter, sum_by, le_refl, refl, sym, ap, subst, ◌∙◌, inl, inr, arith}
+use Rattle.std.proofs.Common.{◌≡◌, ℕ, zero, suc, ◌+◌, ◌-◌, ◌*◌, ◌/◌, ◌<◌, ◌≤◌, ◌&&◌, ◌==◌, eqb, eq-eqb, cond, List, [], ◌∷◌, ◌++◌, All, length, sum_by, le_refl, refl, sym, ap, subst, ◌∙◌, inl, inr, arith}
 use Rattle.std.proofs.lemmas.Bool.{and_parts, cases_Bool, cases_lt, eqb-true}
-use Rattle.std.proofs.lemmas.List.Elements.{All-append, All-cons, All-nil, filter-append}
+use Rattle.std.proofs.lemmas.List.Elements.{All-nil}
 use Rattle.std.proofs.lemmas.List.Sums.{sum_by-append, sum_by-cons}
 use Rattle.std.proofs.lemmas.Nat.{mul-le}
 use Rattle.std.proofs.lemmas.Option.{same_Some}
@@ -12,7 +12,7 @@ use Rattle.road_net.specs.Totals.{total}
 use Rattle.road_net.proofs.TotalLaws.{total-le, total-same}
 use Rattle.arrivals.specs.Amounts.{Amounts, AreArrivals, AreArrivalsOf, entering}
 use Rattle.arrivals.specs.Faults.{IsRowFault}
-use Rattle.arrivals.specs.Rows.{IsRow, IsSource, amount_of, entering_by, is_at, most_of_all, seconds}
+use Rattle.arrivals.specs.Rows.{IsRow, amount_of, entering_by, most_of_all, seconds}
 use Rattle.arrivals.specs.declared.rows.ArrivalRow.{ArrivalRow}
 use Rattle.arrivals.specs.declared.rows.RowFault.TheVariants.{Bound, Link, Sum}
 use Rattle.arrivals.proofs.SumLaws.{entering-beyond}
@@ -22,52 +22,6 @@ use Rattle.scaled_arrivals.specs.Scaling.{IsScaled, entered, scaled_whole, share
 -- what is brought to a link in a second, where it is this one
 abbrev at_place : (link second l x : ℕ) → ℕ → ℕ
 at_place link second l x amount = cond ((link == l) && (second == x)) amount 0
-
-at-none : (link second l x : ℕ) → at_place link second l x 0 ≡ 0
-at-none link second l x = elim (cases_Bool ((link == l) && (second == x))) [
-  | inl t ↦ ap (λ b. cond b 0 0) t
-  | inr f ↦ ap (λ b. cond b 0 0) f
-]
-
-at-both : (link second l x a b : ℕ) → at_place link second l x a + at_place link second l x b ≡ at_place link second l x (a + b)
-at-both link second l x a b = by ((link == l) && (second == x))
-  where
-    by : (t : Bool) → cond t a 0 + cond t b 0 ≡ cond t (a + b) 0
-    by true = refl
-    by false = omega arith
-
--- nothing is brought
-pub brings-none : (net : Net) (link second : ℕ) (rows : List ArrivalRow) → Brings net link second 0 rows rows
-brings-none net link second rows = record {
-  lawful = λ all. all;
-  each = λ l x. omega (arith, at-none link second l x);
-  whole = omega arith;
-}
-
--- one row more
-row-brings : (r : ArrivalRow) (l x : ℕ) → sum_by amount_of (filter (is_at l x) (r ∷ [])) ≡ at_place r.link r.second l x r.amount
-row-brings r l x = by (is_at l x r)
-  where
-    by : (t : Bool) → sum_by amount_of (cond t (r ∷ []) []) ≡ cond t r.amount 0
-    by true = omega (arith, sum_by-cons amount_of r [])
-    by false = refl
-
-pub brings-more : (net : Net) (link second amount : ℕ) (old rows new : List ArrivalRow) (r : ArrivalRow) → r.link ≡ link → r.second ≡ second → IsRow net r → new ≡ rows ++ r ∷ [] → Brings net link second amount old rows
-    → Brings net link second (amount + r.amount) old new
-brings-more net link second amount old rows new r is_link is_second lawful is brings =
-    rw (is, ← is_link, ← is_second) (record {
-      lawful = λ all. All-append (IsRow net) rows (r ∷ []) (brings.lawful all) (All-cons (IsRow net) r [] lawful (All-nil (IsRow net)));
-      each = λ l x. each l x;
-      whole = omega (arith, sum_by-append amount_of rows (r ∷ []), sum_by-cons amount_of r [], brings.whole);
-    })
-  where
-    each : (l x : ℕ) → entering_by (rows ++ r ∷ []) l x ≡ entering_by old l x + at_place r.link r.second l x (amount + r.amount)
-    each l x =
-        let before : entering_by rows l x ≡ entering_by old l x + at_place r.link r.second l x amount = rw (is_link, is_second) (brings.each l x) in
-        let all = ap (sum_by amount_of) (filter-append (is_at l x) rows (r ∷ [])) ∙ sum_by-append amount_of (filter (is_at l x) rows) (filter (is_at l x) (r ∷ [])) in
-        omega (arith, before, all, row-brings r l x, at-both r.link r.second l x amount r.amount)
-
-at-other : (link second l x amount : ℕ) → (link ≡ l → second ≡ x → ⊥) → at_place link second l x amount ≡ 0
 at-other link second l x amount other = elim (cases_Bool ((link == l) && (second == x))) [
   | inl t ↦ absurd (other (eqb-true link l (and_parts (eqb link l) (eqb second x) t).0) (eqb-true second x (and_parts (eqb link l) (eqb second x) t).1))
   | inr f ↦ ap (λ b. cond b amount 0) f
@@ -225,12 +179,3 @@ entered-most a few link n = omega (arith, total-le (entering a link) (λ x. tota
   where
     each : (x : ℕ) → entering a link x ≤ total (λ l. entering a l x) (link + 1)
     each x = omega (arith, total-next (λ l. entering a l x) link)
-
--- what is brought to a link is brought from outside
-pub brought-source : (net : Net) (factor : ℕ) (a : Amounts) → AreArrivals net a → (link second before after : ℕ) → before ≡ entered (entering a) link second → after ≡ before + entering a link second
-    → 0 < share_of factor after - share_of factor before → IsSource net link
-brought-source net factor a are link second before after is_before is_after some = are.sources link second (by (entering a link second) refl)
-  where
-    by : (e : ℕ) → e ≡ entering a link second → 0 < entering a link second
-    by zero is = let same : after ≡ before = omega (arith, is, is_after) in absurd (omega (arith, some, ap (share_of factor) same))
-    by (suc e) is = omega (arith, is)

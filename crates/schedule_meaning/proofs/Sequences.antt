@@ -149,10 +149,6 @@ timing-end p left head delay h =
     ap (λ b. option_map (onward delay) (cond b (Some ([], head)) None)) over
     ∙ ap (λ (n : ℕ). let x : Option (ℕ × Head) = Some (n, head) in x) (omega arith)
 
-pub none-mapped : {X Y : Type 0} (f : X → Y) (o : Option X) → option_map f o ≡ None → o ≡ None
-none-mapped f None e = refl
-none-mapped f (Some x) e = absurd (cc)
-
 -- a number that stands in a sequence is named in it
 pub times-at : (sequence : List ℕ) (i : ℕ) → i < length sequence → 1 ≤ times_of (get_or sequence i 0) sequence
 times-at sequence i h =

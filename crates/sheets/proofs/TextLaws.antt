@@ -6,7 +6,7 @@ use Rattle.std.proofs.lemmas.Option.{same_Some, none-some}
 use Rattle.foundation.specs.Options.{each}
 use Rattle.foundation.proofs.EachLaws.{each-append, each-cons, each-length, each-push}
 use Rattle.foundation.proofs.ListLaws.{All-middle}
-use Rattle.foundation.proofs.OptionLaws.{and-at, and-some}
+use Rattle.foundation.proofs.OptionLaws.{and-at}
 use Rattle.control_flow.specs.declared.greens.Green.{Green}
 use Rattle.net_numbers.specs.Numbers.{Net}
 use Rattle.record_text.specs.Faults.{HasAfterHeader}
@@ -18,20 +18,11 @@ use Rattle.sheets.specs.declared.drafts.Draft.{Draft}
 use Rattle.sheets.specs.declared.faults.SheetFault.{SheetFault}
 use Rattle.sheets.specs.declared.faults.SheetFault.TheVariants.{NoMemory, Header, Row, Extra, Name, Short}
 use Rattle.sheets.specs.declared.sheet.Sheet.{Sheet}
-use Rattle.sheets.specs.Entries.{AreTaken, HasCome, IsEntryFault, IsMore, IsRefused, IsToldFault}
+use Rattle.sheets.specs.Entries.{AreTaken, HasCome, IsEntryFault, IsMore, IsRefused}
 use Rattle.sheets.specs.Faults.{AreFaulty, IsAtExtra, IsAtName, IsAtRow, IsEarly, IsExtra, IsFirst, IsMisnamed, IsRecordFault, Refuses, TellInOrder, links_told}
 use Rattle.sheets.specs.Texts.{AreSheetRecords, HasShape, IsSheetOf, NamesNode, counts_of, green_of, link_of, sums_of}
 use Rattle.sheets.specs.Told.{Counts, Passed, Shows, Sums, Told, told_of}
 use Rattle.sheets.proofs.DraftLaws.{come-once, rows-few, shape-of}
-
--- a record that tells what is at fault
-pub fault-told : (net : Net) (told : List Told) (fields : List (List ℕ)) (t : Told) (number : ℕ) (fault : SheetFault) → told_of fields ≡ Some t → IsToldFault net told t number fault → IsEntryFault net told fields number fault
-fault-told net told fields t number NoMemory is h = tt
-fault-told net told fields t number Header is h = absurd h
-fault-told net told fields t number (Row n) is h = absurd h
-fault-told net told fields t number (Extra n) is h = (h.0, and-some (IsExtra net told) (told_of fields) t is h.1)
-fault-told net told fields t number (Name n) is h = (h.0, and-some (IsMisnamed net told) (told_of fields) t is h.1)
-fault-told net told fields t number Short is h = absurd h
 
 -- what has come is in order
 in-order : (net : Net) (records : List (List (List ℕ))) (told : List Told) (draft : Draft) → each told_of records ≡ Some told → HasCome net told draft → TellInOrder net records told

@@ -2,13 +2,11 @@
 use Rattle.std.proofs.Common.{◌≡◌, ℕ, zero, suc, ◌+◌, ◌*◌, ◌<◌, ◌≤◌, List, Option, length, [], sym, ap, subst, ◌∙◌, arith}
 use Rattle.std.proofs.lemmas.List.FromFn.{get_or-map-range_with_len}
 use Rattle.std.proofs.lemmas.Nat.{div_below}
-use Rattle.arrivals.specs.Amounts.{Amounts, AreArrivals}
 use Rattle.audit.specs.Audits.{AreLawful}
 use Rattle.control_flow.specs.Greens.{IsLawful, standing}
 use Rattle.control_flow.specs.declared.greens.Green.{Green}
 use Rattle.net_numbers.specs.Numbers.{Net}
 use Rattle.net_numbers.specs.Outline.{plan_at}
-use Rattle.net_simulator.specs.Arriving.{arriving_of}
 use Rattle.net_simulator.specs.Sums.{end_of_run}
 use Rattle.net_simulator.specs.Worlds.{line_in, standing_by}
 use Rattle.road_net.specs.Network.{IsNetwork}
@@ -23,7 +21,7 @@ use Rattle.actuated.proofs.Acting.{more-acted, none-acted, one-round, same-befor
 use Rattle.actuated.proofs.LineLaws.{first-is-line, next-keeps}
 use Rattle.spillback_world.specs.Spilled.{spilled}
 use Rattle.spillback_world.specs.Storage.{past_in}
-use Rattle.spillback_world.specs.Worlds.{IsWorldOf, SpillState, Stands}
+use Rattle.spillback_world.specs.Worlds.{SpillState, Stands}
 use Rattle.spillback_world.specs.declared.totals.SpillTotals.{SpillTotals}
 use Rattle.spillback_world.proofs.Shown.{past-same, stands-under}
 use Rattle.spillback_control.specs.SpillRounds.{HaveSpilled}
@@ -58,10 +56,6 @@ module _ (net : Net) (network : IsNetwork net) (arriving : ℕ → ℕ → ℕ) 
     second = omega (arith, second, a.second, one-round net r);
     stands = stands;
   }
-
--- the world of lines that have acted is one of the network
-pub spilled-world : (net : Net) (arrivals : Amounts) (store : ℕ → ℕ) (r : ℕ) (lines : List (List Green)) (w : SpillState) → AreArrivals net arrivals → HaveSpilled net (arriving_of arrivals) store r lines w → IsWorldOf net w
-spilled-world net arrivals store r lines w enter a = record { arrivals = arrivals; store = store; lines = line_in lines; enter = enter; stands = a.stands }
 
 -- what is counted when all rounds are over
 pub ended : (net : Net) (arriving : ℕ → ℕ → ℕ) (store : ℕ → ℕ) (lines : List (List Green)) (w : SpillState) (t : SpillTotals) → HaveSpilled net arriving store net.run.rounds lines w → t ≡ w.totals → IsActuatedIn net arriving store t

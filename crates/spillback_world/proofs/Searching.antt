@@ -2,8 +2,6 @@
 use Rattle.std.proofs.Common.{◌≡◌, ℕ, zero, suc, ◌+◌, ◌*◌, ◌/◌, ◌<◌, ◌≤◌, Bool, true, false, ◌&&◌, leb, List, [], ◌∷◌, length, get_or, refl, sym, ap, subst, inl, inr, arith}
 use Rattle.std.specs.List.{list_all}
 use Rattle.std.proofs.lemmas.Bool.{cases_lt, le-leb}
-use Rattle.std.proofs.lemmas.Bool.Decides.{eqb_tells}
-use Rattle.std.proofs.lemmas.Nat.{le-div}
 use Rattle.net_numbers.specs.declared.roads.Turn.{Turn}
 use Rattle.road_net.specs.Joins.{AreParts, part_between, shares_to, split_of}
 use Rattle.road_net.proofs.Shares.{shares-more}
@@ -25,13 +23,6 @@ greatest-at fits (suc n) amount most here above = elim (cases_lt amount (suc n))
 pub greatest-none : (fits : ℕ → Bool) (wish : ℕ) → ((a : ℕ) → 0 < a → a ≤ wish → fits a ≡ false) → greatest fits wish ≡ 0
 greatest-none fits zero above = refl
 greatest-none fits (suc n) above = rw (above (suc n) (omega arith) (omega arith)) (greatest-none fits n (λ a more inside. above a more (omega (arith, inside))))
-
--- what is above the quotient
-pub above-quotient : (n share a : ℕ) → 0 < share → n / share < a → n < a * share
-above-quotient n share a some more = elim (cases_lt n (a * share)) [
-  | inl less ↦ less
-  | inr fits ↦ absurd (omega (arith, more, le-div a n share some fits))
-]
 
 module _ (room : ℕ → ℕ) (amount : ℕ) (turns : List Turn) where
   abbrev fit : Turn → Bool
@@ -79,11 +70,3 @@ try-next room turns ts is wish most new k r parts inside above at here =
     let there : k < length turns = (let e = ap length is in omega (arith, inside)) in
     try-turn room turns wish most new k parts there above (λ a more under.
     subst (λ (t : Turn). (room t.exit + 1) * 1000 < a * t.share) (ap (λ q. get_or q k no_turn) is) (subst (λ n. (n + 1) * 1000 < a * (get_or ts k no_turn).share) at (here a more under)))
-
--- one turn more with room
-pub fit-more : (turns : List Turn) (room : ℕ → ℕ) (amount n : ℕ) → ((i : ℕ) → i < n → split_of turns amount (exit_at turns i) ≤ room (exit_at turns i)) → split_of turns amount (exit_at turns n) ≤ room (exit_at turns n)
-    → (i : ℕ) → i < n + 1 → split_of turns amount (exit_at turns i) ≤ room (exit_at turns i)
-fit-more turns room amount n before here i h = elim (eqb_tells i n) [
-  | inl p ↦ rw p.1 here
-  | inr q ↦ before i (let ne = q.1 in omega (arith, h))
-]

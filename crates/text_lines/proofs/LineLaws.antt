@@ -27,9 +27,6 @@ numbers-more ns i line now initial h a b =
 pub digits-byte : (n : ℕ) → n < 2 ^ 8 → length (decimal n) ≤ 3
 digits-byte n h = length-decimal-le 3 n (omega arith) (omega arith) (omega arith)
 
-pub digits-word : (n : ℕ) → n < 2 ^ 32 → length (decimal n) ≤ 10
-digits-word n h = length-decimal-le 10 n (omega arith) (omega arith) (omega arith)
-
 pub digits-long : (n : ℕ) → n < 2 ^ 64 → length (decimal n) ≤ 20
 digits-long n h = length-decimal-le 20 n (omega arith) (omega arith) (omega arith)
 

@@ -1,12 +1,12 @@
 -- What is written, one record after another.
-use Rattle.std.proofs.Common.{◌≡◌, ◌≢◌, ℕ, ◌+◌, ◌<◌, ◌≤◌, Bool, true, false, List, [], ◌∷◌, ◌++◌, length, get_or, take, map, filter, if◌then◌else◌, Option, Some, None, Result, Ok, Err, OnOk, IfOk, Vec, ok_or, refl, sym, ap, ◌∙◌, subst, arith, append_assoc, append-nil}
+use Rattle.std.proofs.Common.{◌≡◌, ◌≢◌, ℕ, ◌+◌, ◌<◌, ◌≤◌, Bool, true, false, List, [], ◌∷◌, ◌++◌, length, get_or, take, map, filter, if◌then◌else◌, Option, Some, None, Result, Ok, Err, OnOk, Vec, ok_or, refl, sym, ap, ◌∙◌, subst, arith, append_assoc, append-nil}
 use Rattle.std.proofs.lemmas.List.{map-append, map_more, take_all, take_more}
 use Rattle.std.proofs.lemmas.List.Elements.{filter-append}
 use Rattle.std.proofs.lemmas.Option.{same_Some}
 use Rattle.std.proofs.lemmas.Grind.{flat_map-append}
 use Rattle.std.specs.List.{flat_map, range_with_len}
 use Rattle.std.specs.Result.{result_ok}
-use Rattle.std.specs.Io.KnownBytes.{Appends, Keeps}
+use Rattle.std.specs.Io.KnownBytes.{Appends}
 use Rattle.foundation.proofs.RangeLaws.{range-push}
 use Rattle.csv.specs.Writing.{default_writer, fields_written, has_written, row_text, text_written, writer_setup}
 use Rattle.csv.specs.declared.writer.QuoteStyle.TheVariants as style
@@ -31,10 +31,6 @@ appends-from None new xs bs known h = absurd cc
 appends-from (Some ys) None xs bs known h = absurd h
 appends-from (Some ys) (Some zs) xs bs known h = ap (λ l. Some l) (h ∙ ap (λ l. l ++ bs) (same_Some ys xs known))
 
-keeps-from : (old : Option (List ℕ)) (xs new : List ℕ) → old ≡ Some xs → Keeps old (Some new) → new ≡ xs
-keeps-from None xs new known h = absurd cc
-keeps-from (Some ys) xs new known h = h ∙ same_Some ys xs known
-
 -- what a call appends, where the writer stood between two records
 abbrev pub Writes : {Z : Type 0} → Writer (Vec ℕ Z) → Writer (Vec ℕ Z) → List (List ℕ) → Type 0
 Writes {Z} old new fields = fields_written old ≡ 0 → has_written old ≡ false → ((writer_setup old).style ≢ style.NonNumeric)
@@ -58,12 +54,6 @@ pub record-written : {E D Z : Type 0} (want : D) (old new : Writer (Vec ℕ Z)) 
     → OnOk r (Writes old new fields) → OnOk r (fields_written new ≡ 0) → OnOk r (has_written new ≡ false) → OnOk r (writer_setup new ≡ writer_setup old) → OnOk answer (Adds old new (fields ∷ []))
 record-written want old new fields (Ok done) answer same bytes ended clean setup = rw same (one-written old new fields bytes ended clean setup)
 record-written want old new fields (Err e) answer same bytes ended clean setup = rw same tt
-
--- the bytes that a call gave back are the text that was written
-pub bytes-written : {E D Z : Type 0} (want : D) (out : Writer (Vec ℕ Z)) (r : Result (Vec ℕ Z) E) (answer : Result (Vec ℕ Z) D) → answer ≡ ok_or (result_ok r) want
-    → IfOk r (λ (w : Vec ℕ Z). Keeps (text_written (λ (v : Vec ℕ Z). Some v.items) out) (Some w.items)) → IfOk answer (λ (bytes : Vec ℕ Z). (text : List ℕ) → HasWritten out text → bytes.items ≡ text)
-bytes-written want out (Ok w) answer same keeps = rw same (λ text h. keeps-from _ text w.items h.text_is keeps)
-bytes-written want out (Err e) answer same keeps = rw same tt
 
 -- a loop over a list: none yet, one element more, and all
 module _ {X Z : Type 0} (f : X → List (List ℕ)) (xs : List X) where
