@@ -1,5 +1,6 @@
 pub mod Calls
 pub mod Fetching
+pub mod Kept
 pub mod NoReading
 pub mod Outcomes
 pub mod Stopping

@@ -1,9 +1,10 @@
-//! The commands: their words; the texts that they read, fetched from a shelf; what is wrong with one; what they write, and how they
-//! end; and the refusals, each with its line and its status.
+//! The commands: their words; the texts that they read, fetched from a shelf; what is wrong with one; the run of a history; what they
+//! write, and how they end; and the refusals, each with its line and its status.
 #![tactic(auto)]
 
 mod bad_texts;
 mod ending;
+mod kept_runs;
 mod pieces;
 mod record_codes;
 mod refusals;
@@ -14,7 +15,8 @@ mod words;
 
 pub use bad_texts::BadText;
 pub use ending::{Made, end};
-pub use pieces::{push_one, push_two};
+pub use kept_runs::{kept_run, run_of_turns};
+pub use pieces::{push_one, push_totals, push_two};
 pub use refusals::{Named, Refusal, TextPlace, refuse};
 pub use scenes::{
     HistoryScene, PlanScene, Scene, SheetScene, StateScene, StoreScene, fetch_history_scene,

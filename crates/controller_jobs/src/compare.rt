@@ -8,9 +8,8 @@ ghost use Rattle.commands.specs.Outcome.{Outcome};
 
 use super::actuate::actuated_run;
 use arrivals::Arrivals;
-use commands::{Made, Refusal, Status, end, fetch_scene};
+use commands::{Made, Refusal, Status, end, fetch_scene, push_totals, run_of_turns};
 use net_simulator::Totals;
-use network_jobs::{push_totals, run_of_turns};
 use outside_world::{Shelf, Sink};
 use road_net::Network;
 use std::alloc::{AllocError, Global};

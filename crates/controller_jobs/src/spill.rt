@@ -12,9 +12,8 @@ ghost use Rattle.net_simulator.specs.Worlds.{line_in, standing_by};
 ghost use Rattle.runs.specs.declared.records.RunRecord.{RunRecord};
 
 use arrivals::Arrivals;
-use commands::{Made, Refusal, Status, end, fetch_store_scene};
+use commands::{Made, Refusal, Status, end, fetch_store_scene, run_of_turns};
 use net_simulator::Lines;
-use network_jobs::run_of_turns;
 use outside_world::{Shelf, Sink};
 use road_net::Network;
 use spillback_control::spill_actuated;

@@ -1,15 +1,9 @@
 -- The text of a planned instance.
-use Rattle.std.proofs.Common.{◌≡◌, ℕ, ◌*◌, ◌≤◌, List, [], ◌++◌, length, map, get_or, IfSome, Option, Some, Result, Ok, Err, IfOk, sym, ap, subst, ◌∙◌, arith}
+use Rattle.std.proofs.Common.{◌≡◌, ℕ, ◌≤◌, List, [], ◌++◌, length, get_or, IfSome, Option, Some, Result, Ok, Err, IfOk, sym, ap, subst, ◌∙◌, arith}
 use Rattle.std.specs.Prelude.{Contains}
 use Rattle.std.proofs.lemmas.List.Elements.{All-contains}
-use Rattle.std.proofs.lemmas.List.{length-map}
-use Rattle.std.proofs.lemmas.List.Concat.{length-flat_map}
-use Rattle.std.proofs.lemmas.List.FromFn.{length-map-range_with_len, length-range_with_len}
-use Rattle.std.proofs.lemmas.List.Sums.{sum-map, sum_by-le}
-use Rattle.std.proofs.lemmas.Nat.{mul-le}
-use Rattle.std.specs.List.{range_with_len}
+use Rattle.std.proofs.lemmas.List.Sums.{sum-map}
 use Rattle.histories.specs.Histories.{turn_order}
-use Rattle.road_net.specs.Network.{IsNetwork}
 use Rattle.arrivals.specs.Amounts.{Amounts, entering}
 use Rattle.instance_form.specs.InstanceText.{HasText, IsWritable, IsWritableCluster, instance_text}
 use Rattle.instance_form.proofs.FormLaws.{text_once}
@@ -18,9 +12,6 @@ use Rattle.intersection_actor.specs.declared.records.PlanRecord.{PlanRecord}
 use Rattle.net_numbers.specs.Numbers.{Net, number_of}
 use Rattle.phase_plan.specs.Phases.{IsPhase, no_phase}
 use Rattle.phase_plan.specs.declared.Phase.{Phase}
-use Rattle.runs.specs.Promises.{IsKeptRun}
-use Rattle.runs.specs.Runs.{IsRun}
-use Rattle.runs.specs.Complete.{IsComplete, rounds_and_nodes}
 use Rattle.runs.specs.declared.records.RunRecord.{RunRecord}
 use Rattle.scenario_gen.specs.Grids.{IsGrid}
 use Rattle.schedule_meaning.specs.Best.{IsLeast}
@@ -105,31 +96,6 @@ pub all_planned : {X E : Type 0} (text_of : X → List ℕ) (net : Net) (arrival
 all_planned text_of net arrivals history number round run plan (Ok x) runs among of_node of_round lawful is = λ node named.
     planned net arrivals history node number round (text_of x) run plan runs among of_node of_round named lawful is (All-contains (λ (p : PlanRecord). IsLeast p.instance p.answer) run.plans plan runs.kept.kept.least among)
 all_planned text_of net arrivals history number round run plan (Err e) runs among of_node of_round lawful is = tt
-
--- every run that is kept is whole
-pub all_whole : {E : Type 0} (net : Net) (enters : ℕ → ℕ → ℕ) (history : List ℕ) (result : Result RunRecord E) → ((run : RunRecord) → IsRun net enters history run → IsComplete net run)
-    → IfOk result (IsKeptRun net enters history) → IfOk result (IsComplete net)
-all_whole net enters history (Ok run) whole kept = whole run kept.run
-all_whole net enters history (Err e) whole kept = tt
-
--- a run of a network has few plans, since the network has few rounds and nodes
-few_pairs : (rounds nodes : ℕ) → length (rounds_and_nodes rounds nodes) ≤ rounds * nodes
-few_pairs rounds nodes =
-    let row : ℕ → List (ℕ × ℕ) = λ round. map (λ node. (round, node)) (range_with_len 0 nodes) in
-    let each : (round : ℕ) → length (row round) ≡ nodes = λ round. length-map-range_with_len (λ (node : ℕ). let pair : ℕ × ℕ = (round, node) in pair) 0 nodes in
-    let listed : length (rounds_and_nodes rounds nodes) ≤ length (range_with_len 0 rounds) * nodes
-    = omega (arith, length-flat_map row (range_with_len 0 rounds), sum_by-le (λ round. length (row round)) nodes (range_with_len 0 rounds) (λ i d inside. omega (arith, each (get_or (range_with_len 0 rounds) i d)))) in
-    subst (λ n. length (rounds_and_nodes rounds nodes) ≤ n * nodes) (length-range_with_len 0 rounds) listed
-
-few_plans : (net : Net) (run : RunRecord) → IsNetwork net → IsComplete net run → length run.plans ≤ 38400
-few_plans net run network whole =
-    let pairs = few_pairs net.run.rounds (length net.node_names) in
-    let most : net.run.rounds * length net.node_names ≤ 600 * 64 = mul-le net.run.rounds (length net.node_names) 600 64 network.outline.run.rounds.1 network.outline.node_count.1 in
-    omega (arith, length-map {B = ℕ × ℕ} run.plans (λ (p : PlanRecord). (p.round, p.node)), ap length whole.plans, pairs, most)
-
-pub all_few : {E : Type 0} (net : Net) (result : Result RunRecord E) → IsNetwork net → IfOk result (IsComplete net) → IfOk result (λ run. length run.plans ≤ 38400)
-all_few net (Ok run) network whole = few_plans net run network whole
-all_few net (Err e) network whole = tt
 
 -- the summary of a run of the turn order on a grid
 pub all_summed : {X E : Type 0} (text_of : X → List ℕ) (number side rounds : ℕ) (net : Net) (arrivals : Amounts) (run : RunRecord) (result : Result X E) → IsGrid number side rounds net arrivals

@@ -8,9 +8,8 @@ ghost use Rattle.commands.specs.Ending.{Makes};
 ghost use Rattle.commands.specs.Headline.{IsGridSummary};
 ghost use Rattle.commands.specs.Outcome.{Outcome};
 
-use super::history_runs::run_of_turns;
 use super::summary::summary;
-use commands::{Made, Refusal, Status, end};
+use commands::{Made, Refusal, Status, end, run_of_turns};
 use outside_world::Sink;
 use scenario_gen::grid;
 use std::alloc::{AllocError, Global};

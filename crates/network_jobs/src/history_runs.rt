@@ -1,53 +1,15 @@
-//! The run of a history, planned by the bounded table, and its report.
-ghost use Rattle.std.specs.Prelude.{◌≤◌, IfOk, length};
+//! The report of the run of a history.
+ghost use Rattle.std.specs.Prelude.{IfOk};
 ghost use Rattle.arrivals.specs.Amounts.{AreArrivals, entering};
-ghost use Rattle.histories.specs.Histories as histories;
 ghost use Rattle.histories.specs.Histories.{IsLawful};
-ghost use Rattle.runs.specs.Complete.{IsComplete};
-ghost use Rattle.commands.specs.Headline.{Headline, IsRunOf};
+ghost use Rattle.commands.specs.Headline.{Headline};
 
 use arrivals::Arrivals;
+use commands::kept_run;
 use delay_report::{law_of_reports, render};
-use histories::{History, turn_order};
-use net_core::run;
-use pruned_dp::BoundPlanner;
+use histories::History;
 use road_net::Network;
-use runs::{RunRecord, law_of_runs};
 use std::alloc::{AllocError, Global};
-
-/// The run of a lawful history, with all that it keeps; it has at most 38,400 plans. `Err`: out of memory.
-pub fn kept_run(
-    alloc: Global,
-    net: &Network,
-    arrivals: &Arrivals,
-    h: &History,
-) -> Result<RunRecord, AllocError>
-    requires arrivals { AreArrivals net.now arrivals.now }
-    requires lawful { IsLawful net.now h.now }
-    ensures kept { IfOk result (IsRunOf net.now (entering arrivals.now) h.now) }
-    ensures whole { IfOk result (IsComplete net.now) }
-    ensures few { IfOk result (λ run. length run.plans ≤ 38400) }
-{
-    let _nodes = net.nodes();
-    law_of_runs(net);
-    run(alloc, net, arrivals, h, &mut BoundPlanner::new(alloc))
-}
-
-/// The run of the turn order, with all that it keeps; it has at most 38,400 plans. `Err`: out of memory.
-///
-/// docs/RULES.md, "Run".
-pub fn run_of_turns(
-    alloc: Global,
-    net: &Network,
-    arrivals: &Arrivals,
-) -> Result<RunRecord, AllocError>
-    requires { AreArrivals net.now arrivals.now }
-    ensures kept { IfOk result (IsRunOf net.now (entering arrivals.now) (histories.turn_order net.now)) }
-    ensures few { IfOk result (λ run. length run.plans ≤ 38400) }
-{
-    let history = turn_order(alloc, net)?;
-    kept_run(alloc, net, arrivals, &history)
-}
 
 /// The report of the run of a lawful history. `Err`: out of memory.
 pub fn report(

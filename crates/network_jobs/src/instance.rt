@@ -10,9 +10,8 @@ ghost use Rattle.commands.specs.Outcome.{Outcome};
 ghost use Rattle.network_jobs.specs.Args.{call_with};
 ghost use Rattle.network_jobs.specs.Missing.{Misses};
 
-use super::history_runs::kept_run;
 use arrivals::Arrivals;
-use commands::{Made, Named, Refusal, Status, end, fetch_history_scene};
+use commands::{Made, Named, Refusal, Status, end, fetch_history_scene, kept_run};
 use histories::History;
 use outside_world::{Shelf, Sink};
 use road_net::Network;

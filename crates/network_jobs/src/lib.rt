@@ -19,12 +19,10 @@ mod upgrade;
 
 pub use audits::audit_job;
 pub use grid::grid_job;
-pub use history_runs::run_of_turns;
 pub use instance::instance_job;
 pub use laws::{law_of_instances, law_of_replays};
 pub use net::net_job;
 pub use queues::queues_job;
 pub use replay::replay_job;
-pub use summary::push_totals;
 pub use turns::turns_job;
 pub use upgrade::upgrade_job;

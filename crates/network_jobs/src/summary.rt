@@ -1,12 +1,12 @@
 //! The summary of a run.
-ghost use Rattle.std.specs.Prelude.{◌≡◌, ◌<◌, ◌≤◌, ◌++◌, All, IfOk, OnOk, length};
+ghost use Rattle.std.specs.Prelude.{◌≡◌, ◌≤◌, All, IfOk, length};
 ghost use Rattle.commands.specs.Summary as summary;
-ghost use Rattle.commands.specs.Summary.{is_no_plan, planned_delay, none_count, planned_delays, summary_text, totals_line};
+ghost use Rattle.commands.specs.Summary.{is_no_plan, planned_delay, none_count, planned_delays, summary_text};
 ghost use Rattle.schedule_meaning.specs.Best.{IsLeast};
 ghost use Rattle.switch_rules.specs.Bounds.{greatest_delay};
 
+use commands::push_totals;
 use intersection_actor::PlanRecord;
-use net_simulator::Totals;
 use runs::RunRecord;
 use schedule_meaning::Answer;
 use std::alloc::{AllocError, Global};
@@ -36,21 +36,6 @@ pub fn summary(
     push_line(&mut text, b"delay", &[planned_delays(plans)])?;
     push_totals(&mut text, b"total", &run.totals)?;
     Ok(text)
-}
-
-/// Appends a line of a word and totals to a text: what entered, left, is on the links, and waited, in thousandths. `Err`: out of
-/// memory.
-///
-/// docs/FORMATS.md, "Summary text".
-pub fn push_totals(text: &mut Vec<u8>, word: &[u8], totals: &Totals) -> Result<(), AllocError>
-    requires { length word.now < 70 }
-    ensures { OnOk result (text.new.items ≡ text.old.items ++ totals_line word.now totals.now) }
-{
-    push_line(
-        text,
-        word,
-        &[totals.entered, totals.left, totals.on, totals.delay],
-    )
 }
 
 // How many of these plans are none.

@@ -1,6 +1,6 @@
 use Rattle.arrivals.specs.Amounts.{entering}
-use Rattle.network_jobs.proofs.Planned.{all_few, all_whole}
-use Rattle.network_jobs.proofs.history_runs.kept_run.Goals as goal
+use Rattle.commands.proofs.Kept.{all_few, all_whole}
+use Rattle.commands.proofs.kept_runs.kept_run.Goals as goal
 
 pub returns-clause-whole : goal.returns-clause-whole
 returns-clause-whole c = all_whole c.args.net.now (entering c.args.arrivals.now) c.args.h.now c.run.result (λ run is. c.law_of_runs.ensures.whole (entering c.args.arrivals.now) c.args.h.now run c.requires.lawful is) c.run.ensures
