@@ -1,9 +1,10 @@
 -- Lines that are filled from their ends.
-use Rattle.std.proofs.Common.{◌≡◌, ℕ, ◌+◌, ◌^◌, ◌<◌, ◌≤◌, List, [], ◌∷◌, ◌++◌, length, map, drop, get_or, sym, ap, ◌∙◌, append_assoc, length-append, arith}
+use Rattle.std.proofs.Common.{◌≡◌, ℕ, ◌+◌, ◌^◌, ◌<◌, ◌≤◌, List, [], ◌∷◌, ◌++◌, length, map, take, drop, get_or, sym, ap, ◌∙◌, append_assoc, length-append, arith}
 use Rattle.std.specs.Fmt.{decimal}
 use Rattle.std.specs.List.{flat_map, join_with_byte}
 use Rattle.std.proofs.lemmas.Fmt.{length-decimal-le}
-use Rattle.std.proofs.lemmas.List.{append-nil, drop_more}
+use Rattle.std.proofs.lemmas.List.{append-nil, drop_more, take_more}
+use Rattle.std.proofs.lemmas.List.Concat.{flat_map-append}
 use Rattle.text_lines.specs.Lines.{line}
 use Rattle.text_lines.specs.Numbers.{after_space}
 
@@ -22,6 +23,24 @@ numbers-more ns i line now initial h a b =
     a ∙ ap (λ (y : List ℕ). 32 ∷ (decimal (get_or ns i 0) ++ y)) b
     ∙ sym (append_assoc (after_space (get_or ns i 0)) (flat_map after_space (drop (i + 1) ns)) initial)
     ∙ ap (λ (ys : List ℕ). flat_map after_space ys ++ initial) (sym (drop_more ns i 0 h))
+
+-- one more number after those before it
+numbers-front : (ns : List ℕ) (i n : ℕ) → i < length ns → n ≡ get_or ns i 0 → flat_map after_space (take (i + 1) ns) ≡ flat_map after_space (take i ns) ++ after_space n
+numbers-front ns i n h same =
+    ap (flat_map after_space) (take_more ns i 0 h)
+    ∙ flat_map-append after_space (take i ns) (get_or ns i 0 ∷ [])
+    ∙ ap (λ (ys : List ℕ). flat_map after_space (take i ns) ++ ys) (append-nil (after_space (get_or ns i 0)))
+    ∙ ap (λ (m : ℕ). flat_map after_space (take i ns) ++ after_space m) (sym same)
+
+-- a text that had the numbers so far, and was given a space and one more number
+pub numbers-next : (ns : List ℕ) (i n : ℕ) (start now spaced next : List ℕ) → i < length ns → n ≡ get_or ns i 0 → now ≡ start ++ flat_map after_space (take i ns) → spaced ≡ now ++ 32 ∷ [] → next ≡ spaced ++ decimal n
+    → next ≡ start ++ flat_map after_space (take (i + 1) ns)
+numbers-next ns i n start now spaced next h same was space is =
+    is ∙ ap (λ (ys : List ℕ). ys ++ decimal n) space
+    ∙ append_assoc now (32 ∷ []) (decimal n)
+    ∙ ap (λ (ys : List ℕ). ys ++ after_space n) was
+    ∙ append_assoc start (flat_map after_space (take i ns)) (after_space n)
+    ∙ ap (λ (ys : List ℕ). start ++ ys) (sym (numbers-front ns i n h same))
 
 -- how long numbers are
 pub digits-byte : (n : ℕ) → n < 2 ^ 8 → length (decimal n) ≤ 3
