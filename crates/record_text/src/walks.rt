@@ -2,11 +2,12 @@
 ghost use Rattle.std.specs.Prelude.{[], IfErr, IfOk};
 ghost use Rattle.road_net.specs.Network.{IsNetwork};
 ghost use Rattle.record_text.specs.Faults.{HasAfterHeader};
+ghost use Rattle.record_text.specs.Reading.{IsReading, left_of};
 ghost use Rattle.record_text.specs.Records.{records_of};
 ghost use Rattle.record_text.specs.Walks.{AreCounted, AreTakenIf, IsFaultAmong, OrMemory};
 
 use crate::records::{next_record, open};
-use csv::ByteRecord;
+use csv::{ByteRecord, Reader};
 use road_net::Network;
 use std::alloc::{AllocError, Global};
 
@@ -71,16 +72,35 @@ pub fn take_records<T: RecordTaker>(
 {
     let mut reader = open(alloc, bytes);
     let mut row = ByteRecord::new(alloc);
-    if !next_record(&mut reader, &mut row)? {
+    walk(alloc, net, &mut reader, &mut row, taker)
+}
+
+/// The walk over what a reader has left.
+fn walk<T: RecordTaker>(
+    alloc: Global,
+    net: &Network,
+    reader: &mut Reader<&[u8]>,
+    row: &mut ByteRecord,
+    taker: &mut T,
+) -> Result<bool, T::Fault>
+    requires network { IsNetwork net.now }
+    requires reading { IsReading reader.old }
+    requires few { AreCounted (T.has_taken net.now) (left_of reader.old) }
+    requires none { T.has_taken net.now [] taker.old }
+    ensures taken { IfOk result (AreTakenIf T.header (T.has_taken net.now) (left_of reader.old) taker.new) }
+    ensures first { IfErr result (λ fault. OrMemory T.Fault.from_gives fault
+        (HasAfterHeader T.header (left_of reader.old) (IsFaultAmong (T.has_taken net.now) (T.at_fault net.now) fault))) }
+{
+    if !next_record(reader, row)? {
         return Ok(false);
     }
-    if !T::is_header(&row) {
+    if !T::is_header(row) {
         return Ok(false);
     }
     let mut number = 0;
-    while next_record(&mut reader, &mut row)? {
+    while next_record(reader, row)? {
         number += 1;
-        taker.take(alloc, net, &row, number)?;
+        taker.take(alloc, net, row, number)?;
     }
     Ok(true)
 }
