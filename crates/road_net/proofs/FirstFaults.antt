@@ -1,5 +1,5 @@
 -- The first fault of a network, from the tests of its joins.
-use Rattle.std.proofs.Common.{◌≡◌, ℕ, ◌<◌, length, Result, Err, IfErr, IsErrAnd, List, All, ap, subst, sym}
+use Rattle.std.proofs.Common.{◌≡◌, ℕ, ◌<◌, length, Result, Ok, Err, IfErr, IsErrAnd, List, All, ap, subst, sym}
 use Rattle.std.proofs.lemmas.Result.{err_from_is_err_and}
 use Rattle.foundation.specs.Firsts.{IsFirstWithout}
 use Rattle.foundation.proofs.ListLaws.{All-each}
@@ -16,7 +16,7 @@ use Rattle.road_net.specs.FirstFaults.{IsJoinFault}
 use Rattle.road_net.specs.Stored.{TestsEach, clash_at, HasFewAt}
 use Rattle.road_net.specs.Joins.{HasEnds, HasEndsAt, HaveFewEntries, AreByNode, HasSharesAt, AreShared, IsPhasedAt, ArePhased, conflict_at, IsConflict, IsConflictAt}
 use Rattle.road_net.specs.Network.{IsJoined}
-use Rattle.road_net.specs.Stored.{Joins, Links}
+use Rattle.road_net.specs.Stored.{Joins, Links, Passes}
 use Rattle.road_net.specs.declared.joins.Side.TheVariants.{To}
 use Rattle.road_net.proofs.Joining.{few-entries, crowded}
 
@@ -45,6 +45,12 @@ module _ (net : Net) where
 -- a fault of the joins is what is answered in place of the links of each node
 pub blamed : (parts : Parts) (fault : NetFault) (result : Result NodeLinks NetFault) → IsJoinFault (net_of parts) fault → IsErrAnd result (λ named. named ≡ fault) → Links parts result
 blamed parts fault result h is =
+    let p = err_from_is_err_and result is in
+    rw (p.1, p.2) h
+
+-- and it is what a test of the joins answers
+pub halted : (net : Net) (fault : NetFault) (result : Result (Unit {0}) NetFault) → IsJoinFault net fault → IsErrAnd result (λ named. named ≡ fault) → Passes net result
+halted net fault result h is =
     let p = err_from_is_err_and result is in
     rw (p.1, p.2) h
 
@@ -83,3 +89,8 @@ module _ (net : Net) (lists : List (List ℕ)) (by_node : AreByNode To net.links
         -- a network that passes all of them
         pub passed : ((k : ℕ) → k < length net.conflicts → IsConflictAt net.links net.conflicts k) → IsJoined net
         passed conflicts = record { ends = have_ends; entries = have_few; shares = shares; phases = phases; conflicts = All-each (IsConflict net.links) net.conflicts (0, 0) conflicts }
+
+        -- the last of them
+        pub conflicts-last : (links : List Link) (conflicts : List (ℕ × ℕ)) → links ≡ net.links → conflicts ≡ net.conflicts → (result : Result (Unit {0}) NetFault) → TestsEach (clash_at conflicts) (IsConflictAt links conflicts) (length conflicts) result → Passes net result
+        conflicts-last links conflicts links_are conflicts_are (Ok _) h = passed (rw (links_are, conflicts_are) at h)
+        conflicts-last links conflicts links_are conflicts_are (Err fault) h = conflicts-fault links conflicts links_are conflicts_are fault h

@@ -26,6 +26,11 @@ abbrev pub Links : Parts → Result NodeLinks NetFault → Type 0
 Links parts (Ok links) = IsStored parts links.entry.items links.exit.items
 Links parts (Err fault) = IsJoinFault (net_of parts) fault
 
+-- the parts pass the tests of their joins; a fault is the first of their joins
+abbrev pub Passes : Net → Result (Unit {0}) NetFault → Type 0
+Passes net (Ok _) = IsJoined net
+Passes net (Err fault) = IsJoinFault net fault
+
 -- the network is that of the parts, where they are joined as they have to be
 abbrev pub Joins : Net → Result Net NetFault → Type 0
 Joins net (Ok network) = (network ≡ net) × IsJoined net

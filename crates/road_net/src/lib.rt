@@ -1,15 +1,16 @@
 //! The road network: nodes with signals, links between them, and how vehicles turn from link to link.
 #![tactic(auto)]
 
-ghost use Rattle.std.specs.Prelude.{◌≡◌, ◌<◌, ◌^◌, IfOk, IfErr, length};
+ghost use Rattle.std.specs.Prelude.{◌≡◌, ℕ, ◌<◌, ◌^◌, IfOk, IfErr, length};
 ghost use Rattle.net_draft.specs.Faults.{Unless};
 ghost use Rattle.net_numbers.specs.Numbers.{Net};
 ghost use Rattle.net_numbers.specs.FirstFaults.{Refuses};
 ghost use Rattle.net_numbers.specs.Outline.{IsOutline};
 ghost use Rattle.net_numbers.specs.Parts.{net_of};
 ghost use Rattle.road_net.specs.FirstFaults.{IsJoinFault, IsDraftFault};
+ghost use Rattle.road_net.specs.Joins.{AreByNode, HasEndsAt};
 ghost use Rattle.road_net.specs.Network.{IsNetworkOf, IsNetworkText, IsCause};
-ghost use Rattle.road_net.specs.Stored.{IsStored, Drafts, Joins, Links};
+ghost use Rattle.road_net.specs.Stored.{IsStored, Drafts, Joins, Links, Passes};
 ghost use Rattle.road_net.specs.Upgrade.{IsUpgraded};
 
 mod joins;
@@ -289,12 +290,24 @@ fn node_links(alloc: Global, parts: &Parts) -> Result<NodeLinks, NetFault>
     let nodes = parts.node_names.len();
     joins::check_ends(links)?;
     let entry = joins::links_by_node(alloc, links, nodes, Side::To)?;
-    joins::check_entries(entry.as_slice())?;
-    joins::check_shares(links, parts.turns.as_slice())?;
-    joins::check_phases(alloc, links, parts.phase_links.as_slice())?;
-    joins::check_conflicts(links, parts.conflicts.as_slice())?;
+    check_joins(alloc, parts, entry.as_slice())?;
     let exit = joins::links_by_node(alloc, links, nodes, Side::From)?;
     Ok(NodeLinks { entry, exit })
+}
+
+/// Tests crowded nodes, shares, phases and conflicts, in this order, where the ends of the links are as they must be.
+/// `entry` has the links that end at each node.
+fn check_joins(alloc: Global, parts: &Parts, entry: &[Items<u32>]) -> Result<(), NetFault>
+    requires outline { IsOutline (net_of parts.now) }
+    requires ends { (k : ℕ) → k < length parts.now.links.items → HasEndsAt parts.now.links.items k }
+    requires entry { AreByNode Side.To parts.now.links.items (length parts.now.node_names) entry.now }
+    ensures { Passes (net_of parts.now) result }
+{
+    let links = parts.links.as_slice();
+    joins::check_entries(entry)?;
+    joins::check_shares(links, parts.turns.as_slice())?;
+    joins::check_phases(alloc, links, parts.phase_links.as_slice())?;
+    joins::check_conflicts(links, parts.conflicts.as_slice())
 }
 
 /// The network of a text, which is read as TOML. The text has fewer than 2^32 bytes.
