@@ -3,12 +3,13 @@
 ghost use Rattle.std.specs.Prelude.{◌≡◌, MatchOption, option_map, option_copied, map};
 ghost use Rattle.toml.specs.Data.{as_table};
 ghost use Rattle.toml.specs.View.{view, table_view};
+ghost use Rattle.net_draft.specs.Parts as parts;
 ghost use Rattle.net_draft.specs.Table as spec;
 
 use crate::drafts::Run;
 use crate::values::{
-    flag_at, list_at, number_at, only, optional_list_at, optional_number_at, optional_text_at,
-    table_at, text_at, weight_at,
+    flag_at, list_at, number_at, numbers_at, only, optional_list_at, optional_number_at,
+    optional_numbers_at, optional_text_at, table_at, text_at, weight_at,
 };
 use phase_plan::Phase;
 use toml::{Table, Value};
@@ -51,15 +52,26 @@ pub(crate) fn top_form(table: &Table) -> Option<TopForm>
 pub(crate) fn run_of(table: &Table) -> Option<Run>
     ensures { result ≡ spec.run_of (table_view table.now) }
 {
-    let table = only_run_keys(table)?;
+    run_fields(only_run_keys(table)?)
+}
+
+/// What a run has at its keys.
+#[tactic(auto, unfolding(crate::specs::Parts::run_fields))]
+fn run_fields(table: &Table) -> Option<Run>
+    ensures { result ≡ parts.run_fields (table_view table.now) }
+{
+    let (step, look) = numbers_at(table, "step", "look")?;
+    let (gap, rounds) = numbers_at(table, "gap", "rounds")?;
+    let split = flag_at(table, "split", false)?;
+    let (age, hold) = optional_numbers_at(table, "age", "hold")?;
     Some(Run {
-        step: number_at(table, "step")?,
-        look: number_at(table, "look")?,
-        gap: number_at(table, "gap")?,
-        rounds: number_at(table, "rounds")?,
-        split: flag_at(table, "split", false)?,
-        age: optional_number_at(table, "age")?,
-        hold: optional_number_at(table, "hold")?,
+        step,
+        look,
+        gap,
+        rounds,
+        split,
+        age,
+        hold,
     })
 }
 
@@ -92,18 +104,39 @@ pub(crate) fn phase_form(value: &Value, complete: bool) -> Option<(Phase, &[Valu
         (λ form. spec.phase_form complete (view value.now)
         ≡ Some (record { phase = form.0; links = map view form.1.now })) }
 {
-    let table = only_phase_keys(value.as_table()?)?;
-    let phase = Phase {
-        least: number_at(table, "least")?,
-        greatest: number_at(table, "greatest")?,
-        yellow: number_at(table, "yellow")?,
-        clear: number_at(table, "clear")?,
-        loss: number_at(table, "loss")?,
-        wait: number_at(table, "wait")?,
-        skip: flag_at(table, "skip", complete)?,
-    };
+    phase_fields(only_phase_keys(value.as_table()?)?, complete)
+}
+
+/// What a phase has at its keys.
+#[tactic(auto, unfolding(crate::specs::Parts::phase_fields))]
+fn phase_fields(table: &Table, complete: bool) -> Option<(Phase, &[Value])>
+    ensures { MatchOption result (parts.phase_fields complete (table_view table.now) ≡ None)
+        (λ form. parts.phase_fields complete (table_view table.now)
+        ≡ Some (record { phase = form.0; links = map view form.1.now })) }
+{
+    let phase = phase_times(table, complete)?;
     let links = list_at(table, "links")?;
     Some((phase, links))
+}
+
+/// The times and the mark of a phase.
+#[tactic(auto, unfolding(crate::specs::Parts::phase_times))]
+fn phase_times(table: &Table, complete: bool) -> Option<Phase>
+    ensures { result ≡ parts.phase_times complete (table_view table.now) }
+{
+    let (least, greatest) = numbers_at(table, "least", "greatest")?;
+    let (yellow, clear) = numbers_at(table, "yellow", "clear")?;
+    let (loss, wait) = numbers_at(table, "loss", "wait")?;
+    let skip = flag_at(table, "skip", complete)?;
+    Some(Phase {
+        least,
+        greatest,
+        yellow,
+        clear,
+        loss,
+        wait,
+        skip,
+    })
 }
 
 /// The table, where it has no key beside those of a phase.
@@ -143,16 +176,57 @@ pub(crate) fn link_form(value: &Value, complete: bool) -> Option<LinkForm>
           turns = map view link.turns.now;
         })) }
 {
-    let table = only_link_keys(value.as_table()?)?;
+    link_fields(only_link_keys(value.as_table()?)?, complete)
+}
+
+/// What a link has at its keys.
+#[tactic(auto, unfolding(crate::specs::Parts::link_fields))]
+fn link_fields(table: &Table, complete: bool) -> Option<LinkForm>
+    ensures { MatchOption result (parts.link_fields complete (table_view table.now) ≡ None)
+        (λ link. parts.link_fields complete (table_view table.now) ≡ Some (record {
+          name = link.name.now;
+          from = option_copied link.from;
+          to = option_copied link.to;
+          travel = link.travel;
+          sat = link.sat;
+          weight = link.weight;
+          turns = map view link.turns.now;
+        })) }
+{
+    let name = text_at(table, "name")?;
+    let (travel, sat, weight) = link_numbers(table, complete)?;
+    let (from, to) = link_ends(table)?;
+    let turns = optional_list_at(table, "turn")?;
     Some(LinkForm {
-        name: text_at(table, "name")?,
-        travel: number_at(table, "travel")?,
-        sat: number_at(table, "sat")?,
-        weight: weight_at(table, "weight", complete)?,
-        from: optional_text_at(table, "from")?,
-        to: optional_text_at(table, "to")?,
-        turns: optional_list_at(table, "turn")?,
+        name,
+        from,
+        to,
+        travel,
+        sat,
+        weight,
+        turns,
     })
+}
+
+/// The travel time, the saturation and the weight of a link.
+#[tactic(auto, unfolding(crate::specs::Parts::link_numbers))]
+fn link_numbers(table: &Table, complete: bool) -> Option<(u32, u32, u32)>
+    ensures { result ≡ parts.link_numbers complete (table_view table.now) }
+{
+    let (travel, sat) = numbers_at(table, "travel", "sat")?;
+    let weight = weight_at(table, "weight", complete)?;
+    Some((travel, sat, weight))
+}
+
+/// The names of the nodes that a link comes from and ends at.
+#[tactic(auto, unfolding(crate::specs::Parts::link_ends))]
+fn link_ends(table: &Table) -> Option<(Option<&str>, Option<&str>)>
+    ensures { option_map (λ ends. (option_copied ends.0, option_copied ends.1)) result
+        ≡ parts.link_ends (table_view table.now) }
+{
+    let from = optional_text_at(table, "from")?;
+    let to = optional_text_at(table, "to")?;
+    Some((from, to))
 }
 
 /// The table, where it has no key beside those of a link.

@@ -4,6 +4,7 @@ ghost use Rattle.std.specs.List.{list_any};
 ghost use Rattle.std.specs.Str.{bytes_eq};
 ghost use Rattle.toml.specs.Data.{get_member, as_array};
 ghost use Rattle.toml.specs.View.{view, table_view};
+ghost use Rattle.net_draft.specs.Parts as parts;
 ghost use Rattle.net_draft.specs.Table as spec;
 
 use toml::{Table, Value};
@@ -44,6 +45,30 @@ pub(crate) fn optional_number_at(table: &Table, key: &str) -> Option<Option<u32>
         Some(value) => Some(Some(field_of(value.as_integer()?))),
         None => Some(None),
     }
+}
+
+/// The whole numbers at two keys.
+#[tactic(auto, unfolding(crate::specs::Parts::numbers_at))]
+pub(crate) fn numbers_at(table: &Table, first: &str, second: &str) -> Option<(u32, u32)>
+    ensures { result ≡ parts.numbers_at first.now second.now (table_view table.now) }
+{
+    let a = number_at(table, first)?;
+    let b = number_at(table, second)?;
+    Some((a, b))
+}
+
+/// The whole numbers at two keys that may be absent.
+#[tactic(auto, unfolding(crate::specs::Parts::optional_numbers_at))]
+pub(crate) fn optional_numbers_at(
+    table: &Table,
+    first: &str,
+    second: &str,
+) -> Option<(Option<u32>, Option<u32>)>
+    ensures { result ≡ parts.optional_numbers_at first.now second.now (table_view table.now) }
+{
+    let a = optional_number_at(table, first)?;
+    let b = optional_number_at(table, second)?;
+    Some((a, b))
 }
 
 /// The weight at a key; an absent one is 1, where the file need not be complete.
