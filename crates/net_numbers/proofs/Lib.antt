@@ -4,3 +4,4 @@ pub mod FirstFaults
 pub mod Known
 pub mod Outline
 pub mod Plans
+pub mod Stages

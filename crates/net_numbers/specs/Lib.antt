@@ -4,3 +4,4 @@ pub mod Numbers
 pub mod Outcome
 pub mod Outline
 pub mod Parts
+pub mod Stages

@@ -30,10 +30,10 @@ abbrev pub Checks : Type 0 → (Place → Type 0) → Result (Unit {0}) NetFault
 Checks fact why (Ok _) = fact
 Checks fact why (Err fault) = IsBoundAt why fault
 
--- names were numbered in order, where no two are the same; otherwise the first that comes again is named, at its place
-abbrev pub Lists : Section → List (List ℕ) → Result (List (List ℕ)) NetFault → Type 0
-Lists part names (Ok made) = (made ≡ names) × AreDistinct names
-Lists part names (Err fault) = IsTwiceAt (λ place. (place.part ≡ part) × (place.sub ≡ 0) × FromOne (IsFirstTwice names) place.item) fault
+-- names were added in order, where no two are the same; otherwise the first that comes again is named, at its place
+abbrev pub AreAdded : Section → List (List ℕ) → List (List ℕ) → Result (Unit {0}) NetFault → Type 0
+AreAdded part names new (Ok _) = (new ≡ names) × AreDistinct names
+AreAdded part names new (Err fault) = IsTwiceAt (λ place. (place.part ≡ part) × (place.sub ≡ 0) × FromOne (IsFirstTwice names) place.item) fault
 
 -- what was made, seen by `view`, is what the names stand for; otherwise a place is named where `why` holds
 abbrev pub Makes : {X Y : Type 0} → (X → Y) → Result X NetFault → Option Y → (Place → Type 0) → Type 0

@@ -1,14 +1,15 @@
 //! Numbers for the names of a draft.
-ghost use Rattle.std.specs.Prelude.{◌≡◌, ◌≤◌, ◌<◌, IfOk, IfErr, IfSome, All, Contains, length, map, position, count_by};
+ghost use Rattle.std.specs.Prelude.{◌≡◌, ◌≤◌, ◌<◌, [], Some, IfOk, IfErr, IfSome, OnOk, All, Contains, length, map, position, count_by};
 ghost use Rattle.foundation.specs.Firsts.{IsFirstAt, IsFirstNot, FromOne};
 ghost use Rattle.foundation.specs.Options.{each};
 ghost use Rattle.phase_plan.specs.Phases.{is_unmarked};
 ghost use Rattle.net_numbers.specs.Bounds.{IsBoundedNode, IsBoundedPhase, IsBounded};
-ghost use Rattle.net_numbers.specs.FirstFaults.{IsKnownPhase, IsKnownNode, HasKnownEnds, IsKnownTurn, IsKnownLink, IsKnownConflict, IsUnknownInNode, IsUnknownInLink, FailsNumbers, Refuses};
-ghost use Rattle.net_numbers.specs.Outcome.{Makes, Lists};
+ghost use Rattle.net_numbers.specs.FirstFaults.{IsKnownPhase, IsKnownNode, HasKnownEnds, IsKnownTurn, IsKnownLink, IsKnownConflict, IsUnknownInNode, IsUnknownInLink, IsUnknownFault, FailsNumbers, Refuses};
+ghost use Rattle.net_numbers.specs.Outcome.{AreAdded, Makes};
 ghost use Rattle.net_numbers.specs.Numbers as spec;
 ghost use Rattle.net_numbers.specs.Numbers.{Net, number_of, number_if, has_link};
 ghost use Rattle.net_numbers.specs.Parts.{net_of, IsNetOf};
+ghost use Rattle.net_numbers.specs.Stages.{AreNames, AreTables, net_with};
 
 use crate::names::Names;
 use crate::roads::{Link, Turn};
@@ -40,62 +41,122 @@ pub struct Parts {
 /// that repeats a name, or else that uses one which stands for nothing.
 ///
 /// docs/RULES.md, "Road network"; docs/FORMATS.md, "Places and faults".
-#[tactic(auto, unfolding(crate::specs::Numbers::numbered))]
 pub fn number_draft(alloc: Global, draft: &Draft) -> Result<Parts, NetFault>
     requires { IsBounded draft.now }
     ensures ok { IfOk result (λ parts. IsNetOf draft.now (net_of parts)) }
     ensures refused { IfErr result (λ fault. Refuses fault ((net : Net) → ¬ IsNetOf draft.now net)) }
     ensures first { IfErr result (FailsNumbers draft.now) }
 {
-    let node_names = node_names(alloc, draft.nodes.as_slice())?;
-    let link_names = link_names(alloc, draft.links.as_slice())?;
-    let phase_links = phase_links(alloc, &link_names, draft.nodes.as_slice())?;
-    let names = Tables {
-        nodes: &node_names,
-        links: &link_names,
-        phase_links: phase_links.as_slice(),
-    };
-    let (links, turns) = roads(alloc, &names, draft.links.as_slice())?;
-    let conflicts = conflicts(alloc, &link_names, draft.conflicts.as_slice())?;
-    let plans = plans(alloc, draft.nodes.as_slice())?;
+    let mut node_names = Names::new(alloc);
+    let mut link_names = Names::new(alloc);
+    let (phase_links, lists) = add_all(alloc, draft, &mut node_names, &mut link_names)?;
     Ok(Parts {
         run: draft.run,
         node_names,
-        plans,
+        plans: lists.plans,
         phase_links,
         link_names,
-        links,
-        turns,
-        conflicts,
+        links: lists.links,
+        turns: lists.turns,
+        conflicts: lists.conflicts,
     })
 }
 
-/// The names of the nodes, no two the same.
-fn node_names(alloc: Global, nodes: &[DraftNode]) -> Result<Names, NetFault>
-    requires { length nodes.now ≤ 64 }
-    ensures { Lists Section.Node (map (λ n. n.name) nodes.now) result }
+/// Adds the names of the nodes and of the links, no two the same. Answers what is numbered by them.
+fn add_all(
+    alloc: Global,
+    draft: &Draft,
+    nodes: &mut Names,
+    links: &mut Names,
+) -> Result<(Vec<Items<Items<u32>>>, Lists), NetFault>
+    requires bounded { IsBounded draft.now }
+    requires no_nodes { nodes.old ≡ [] }
+    requires no_links { links.old ≡ [] }
+    ensures names { OnOk result (AreNames draft.now nodes.new links.new) }
+    ensures ok { IfOk result (λ made. spec.numbered draft.now ≡ Some (net_with draft.now made.0.items made.1)) }
+    ensures first { IfErr result (FailsNumbers draft.now) }
 {
-    let mut names = Names::new(alloc);
+    add_node_names(alloc, draft.nodes.as_slice(), nodes)?;
+    add_link_names(alloc, draft.links.as_slice(), links)?;
+    phases_and_lists(alloc, nodes, links, draft)
+}
+
+/// What is numbered by the names and by the links of the phases.
+#[derive(Drop)]
+struct Lists {
+    links: Vec<Link>,
+    turns: Vec<Items<Turn>>,
+    conflicts: Vec<(u32, u32)>,
+    plans: Vec<PhasePlan>,
+}
+
+/// The links of each phase of each node, and all that is numbered after them.
+fn phases_and_lists(
+    alloc: Global,
+    nodes: &Names,
+    links: &Names,
+    draft: &Draft,
+) -> Result<(Vec<Items<Items<u32>>>, Lists), NetFault>
+    requires bounds { IsBounded draft.now }
+    requires nodes { nodes.now ≡ spec.node_names draft.now }
+    requires links { links.now ≡ spec.link_names draft.now }
+    ensures { Makes (λ made. net_with draft.now made.0.items made.1) result (spec.numbered draft.now)
+        (λ place. IsUnknownFault draft.now place.part place.item place.sub) }
+{
+    let phase_links = phase_links(alloc, links, draft.nodes.as_slice())?;
+    let tables = Tables {
+        nodes,
+        links,
+        phase_links: phase_links.as_slice(),
+    };
+    let lists = lists_by_names(alloc, &tables, draft)?;
+    Ok((phase_links, lists))
+}
+
+/// The links with their turns, the conflicts and the plans, in this order.
+fn lists_by_names(alloc: Global, names: &Tables, draft: &Draft) -> Result<Lists, NetFault>
+    requires bounds { IsBounded draft.now }
+    requires tables { AreTables draft.now names.now.nodes.now names.now.links.now names.now.phase_links.now }
+    ensures { Makes (λ lists. net_with draft.now names.now.phase_links.now lists) result (spec.numbered draft.now)
+        (λ place. IsUnknownFault draft.now place.part place.item place.sub) }
+{
+    let (links, turns) = roads(alloc, names, draft.links.as_slice())?;
+    let conflicts = conflicts(alloc, names.links, draft.conflicts.as_slice())?;
+    let plans = plans(alloc, draft.nodes.as_slice())?;
+    Ok(Lists {
+        links,
+        turns,
+        conflicts,
+        plans,
+    })
+}
+
+/// Adds the names of the nodes, no two the same.
+fn add_node_names(alloc: Global, nodes: &[DraftNode], names: &mut Names) -> Result<(), NetFault>
+    requires few { length nodes.now ≤ 64 }
+    requires none { names.old ≡ [] }
+    ensures { AreAdded Section.Node (map (λ n. n.name) nodes.now) names.new result }
+{
     for (index, node) in nodes.iter().enumerate() {
         if !names.add(alloc, node.name.as_str())? {
             return Err(NetFault::Twice(place(Section::Node, index as u32 + 1, 0)));
         }
     }
-    Ok(names)
+    Ok(())
 }
 
-/// The names of the links, no two the same.
-fn link_names(alloc: Global, links: &[DraftLink]) -> Result<Names, NetFault>
-    requires { length links.now ≤ 320 }
-    ensures { Lists Section.Link (map (λ l. l.name) links.now) result }
+/// Adds the names of the links, no two the same.
+fn add_link_names(alloc: Global, links: &[DraftLink], names: &mut Names) -> Result<(), NetFault>
+    requires few { length links.now ≤ 320 }
+    requires none { names.old ≡ [] }
+    ensures { AreAdded Section.Link (map (λ l. l.name) links.now) names.new result }
 {
-    let mut names = Names::new(alloc);
     for (index, link) in links.iter().enumerate() {
         if !names.add(alloc, link.name.as_str())? {
             return Err(NetFault::Twice(place(Section::Link, index as u32 + 1, 0)));
         }
     }
-    Ok(names)
+    Ok(())
 }
 
 /// A place.
