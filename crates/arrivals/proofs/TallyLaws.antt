@@ -1,9 +1,10 @@
 -- The amounts of the rows so far.
 use Rattle.std.proofs.Common.{◌≡◌, ◌≢◌, ℕ, ◌+◌, ◌-◌, ◌*◌, ◌<◌, ◌≤◌, true, eqb, List, [], ◌∷◌, ◌++◌, length, get_or, filter, replicate, take, sum, sum_by, All, refl, sym, ap, ◌∙◌, subst, inl, inr, arith}
+use Rattle.std.proofs.Math.ListN.{set}
 use Rattle.std.proofs.lemmas.Bool.{cases_lt, cond_both, and_parts, eqb-true, false≢true}
 use Rattle.std.specs.Cmp.Derive.{both_true}
 use Rattle.std.proofs.lemmas.Bool.Decides.{eqb_tells}
-use Rattle.std.proofs.lemmas.List.{get_or-set_same, get_or-set_other, get_or-replicate, get_or_append_left, get_or-append_right, get_or_past, length-append, length-replicate, take_more}
+use Rattle.std.proofs.lemmas.List.{get_or-set_same, get_or-set_other, get_or-replicate, get_or_append_left, get_or-append_right, get_or_past, get_or_read, length-append, length-replicate, take_more}
 use Rattle.std.proofs.lemmas.Nat.{mul-add-lt, same_from_place}
 use Rattle.std.proofs.lemmas.List.Elements.{All-nil, All-cons, All-append, All-head, All-tail, filter-append}
 use Rattle.std.proofs.lemmas.List.Folds.{sum_by-replicate}
@@ -12,7 +13,7 @@ use Rattle.net_numbers.specs.Numbers.{Net}
 use Rattle.arrivals.specs.declared.rows.ArrivalRow.{ArrivalRow}
 use Rattle.arrivals.specs.Amounts.{Amounts, place, entering, KeepsSources, AreArrivals}
 use Rattle.arrivals.specs.Rows.{seconds, most_of_all, IsSource, IsRow, amount_of, is_at, entering_by}
-use Rattle.arrivals.specs.Stored.{IsTally, added, amounts_to, reaching}
+use Rattle.arrivals.specs.Stored.{IsStored, IsTally, added, amounts_to, reaching}
 use Rattle.arrivals.proofs.SumLaws.{entering-within, entering-beyond, entering-most, few}
 
 -- no rows
@@ -120,6 +121,18 @@ module _ (a : Amounts) (r : ArrivalRow) (low : a.first ≤ r.link) (high : r.lin
         sum-reaching a.amounts ((r.second + 1) * a.width),
         get_or-reaching a.amounts ((r.second + 1) * a.width) (place a r.link r.second),
       )
+
+-- Amounts that are stored with their sum, and a lawful row with which all bring no more than they may: where the amount in
+-- its place is raised by its own, they are stored so.
+pub stored-more : (net : Net) (a : Amounts) (r : ArrivalRow) → KeepsSources net a.first a.width → IsRow net r → (whole : ℕ) → IsStored a.amounts whole → whole + r.amount ≤ most_of_all → (items : List ℕ) (k element : ℕ)
+    → items ≡ amounts_to a r.second → k ≡ place a r.link r.second → element ≡ get_or items k element → IsStored (set items k (element + r.amount)) (whole + r.amount)
+stored-more net a r kept is whole stored few items k element are at here =
+    let (low, high) = kept.all r.link is.source in
+    let within : k < length items = rw (at, are) (inside a r low high is.bounds.second) in
+    let old : element ≡ get_or a.amounts (place a r.link r.second) 0 =
+    get_or_read items k element within here 0 ∙ (λ i. get_or (are i) (at i) 0) ∙ get_or-reaching a.amounts ((r.second + 1) * a.width) (place a r.link r.second) in
+    let same : set items k (element + r.amount) ≡ (added a r).amounts = λ i. set (are i) (at i) (old i + r.amount) in
+    record { adds = omega (arith, sum-added a r low high is.bounds.second, stored.adds, ap sum same); few = few }
 
 one-row : (P : ArrivalRow → Type 0) (r : ArrivalRow) → P r → All P (r ∷ [])
 one-row P r holds = All-cons P r [] holds (All-nil P)
