@@ -1,6 +1,6 @@
 //! The header and the fields of records.
-ghost use Rattle.std.specs.Prelude.{◌≡◌, ◌≢◌, ◌↔◌, [], ◌∷◌, IsTrue, MatchOption, OnOk, codes, length};
-ghost use Rattle.csv.specs.Records.{fields_of};
+ghost use Rattle.std.specs.Prelude.{◌≡◌, ◌≢◌, ◌↔◌, ◌<◌, [], ◌∷◌, IsTrue, MatchOption, OnOk, Some, codes, length};
+ghost use Rattle.csv.specs.Records.{field_at, fields_of};
 ghost use Rattle.world_records.specs.Records.{header};
 ghost use Rattle.world_records.specs.Written.{Adds};
 
@@ -55,12 +55,24 @@ pub fn seven_fields(row: &ByteRecord) -> Option<(&[u8], &[u8], &[u8], &[u8], &[u
         return None;
     }
     Some((
-        row.get(0)?,
-        row.get(1)?,
-        row.get(2)?,
-        row.get(3)?,
-        row.get(4)?,
-        row.get(5)?,
-        row.get(6)?,
+        field(row, 0),
+        field(row, 1),
+        field(row, 2),
+        field(row, 3),
+        field(row, 4),
+        field(row, 5),
+        field(row, 6),
     ))
+}
+
+/// The field at a place that a record has.
+#[inline]
+fn field(row: &ByteRecord, place: usize) -> &[u8]
+    requires { place < length (fields_of row.now) }
+    ensures { Some result.now ≡ field_at (fields_of row.now) place }
+{
+    let Some(field) = row.get(place) else {
+        unreachable!()
+    };
+    field
 }
