@@ -5,6 +5,7 @@ pub mod Turning
 pub mod Sound
 pub mod Standing
 pub mod Keeping
+pub mod Leaving
 pub mod Conserving
 pub mod EveryWorld
 pub mod Outside

@@ -211,6 +211,13 @@ module _ (net : Net) (network : IsNetwork net) (arriving : ℕ → ℕ → ℕ) 
         delay = omega (arith, ap (λ (q : LinkTotals). q.delay) (stands.counts l h), delay-small net network arriving S arrivals n l h);
       }
 
+-- a world that stands, seen as `v`, by lists that are those that it keeps
+pub stands-parts : (net : Net) (arriving : ℕ → ℕ → ℕ) (shown : ℕ → ℕ → Option (ℕ × ℕ)) (w v : WorldState) (n : ℕ) (qs rs ws ss : List ℕ) (cs : List LinkTotals)
+    → w ≡ v → n ≡ w.nodes → qs ≡ w.queues → rs ≡ w.recent → ws ≡ w.waits → ss ≡ w.stood → cs ≡ w.counts → Stands net arriving shown v
+    → Stands net arriving shown (record { second = w.second; nodes = n; queues = qs; recent = rs; waits = ws; stood = ss; counts = cs; totals = w.totals })
+stands-parts net arriving shown w v n qs rs ws ss cs seen a b c d e f stands =
+    subst (Stands net arriving shown) (λ i. record { second = w.second; nodes = sym a i; queues = sym b i; recent = sym c i; waits = sym d i; stood = sym e i; counts = sym f i; totals = w.totals }) (subst (Stands net arriving shown) (sym seen) stands)
+
 outward-none : (to : Option ℕ) → outward to 0 ≡ 0
 outward-none None = refl
 outward-none (Some node) = refl
