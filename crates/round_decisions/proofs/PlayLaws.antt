@@ -119,6 +119,17 @@ last-one [] plan own e = same e
     same e = cc
 last-one (first ∷ rest) plan own e = absurd (omega (arith, ap length e, length_push rest plan))
 
+-- an actor that was at rest has one record after a round
+pub played-one : (net : Net) (round node : ℕ) (line : List Green) (sensed : Sensed) (old new : List LinkBoard) (a b : Acting) → a ≡ at_rest node line → HasPlayed net round sensed old new a b → length b.records ≡ 1
+played-one net round node line sensed old new a b rests played =
+    let none : a.records ≡ [] = ap (λ (x : Acting). x.records) rests in
+    omega (arith, ap length played.records, length_push a.records (record_of a.node round (heard_on net (board_of old) a.node) played.made), ap length none)
+
+-- and its last record is all of them
+pub popped-one : (own records rest : List PlanRecord) (plan : PlanRecord) → records ≡ own → length own ≡ 1 → records ≡ rest ++ plan ∷ [] → own ≡ plan ∷ []
+popped-one own records [] plan same one last = sym same ∙ last
+popped-one own records (first ∷ rest) plan same one last = absurd (omega (arith, ap length last, ap length same, length_push rest plan))
+
 pub turn-is : (net : Net) (round node : ℕ) (line : List Green) (sensed : Sensed) (old new : List LinkBoard) (a b : Acting) → a ≡ at_rest node line → HasPlayed net round sensed old new a b
     → (plan : PlanRecord) (after : List Green) (records rest : List PlanRecord) → after ≡ b.line → records ≡ b.records → records ≡ rest ++ plan ∷ [] → IsTurn net round node line sensed old new plan after
 turn-is net round node line sensed old new a b rests played plan after records rest lines same last = by (subst (λ (x : Acting). HasPlayed net round sensed old new x b) rests played)

@@ -1,5 +1,5 @@
 //! A node's turn: it senses, hears what stands on the boards, plans, and publishes what it tells.
-ghost use Rattle.std.specs.Prelude.{◌≡◌, ℕ, ◌+◌, ◌<◌, [], All, IfOk, OnOk, length};
+ghost use Rattle.std.specs.Prelude.{◌≡◌, ℕ, ◌+◌, ◌<◌, [], ◌∷◌, All, IfOk, OnOk, length};
 ghost use Rattle.control_flow.specs.Greens.{end_of};
 ghost use Rattle.intersection_actor.specs.Acting.{reading, tells_from, wanting, with_heard};
 ghost use Rattle.intersection_actor.specs.Rounds.{IsOf};
@@ -148,9 +148,18 @@ pub(crate) fn turn<P: Planner>(
     let NodeState { node, sensed, line } = state;
     let mut actor = Actor::standing(alloc, node, line);
     play(alloc, net, round, sensed, boards, &mut actor, planner)?;
+    Ok(plan_of(actor))
+}
+
+/// The one plan of an actor, and its timeline.
+fn plan_of(actor: Actor) -> NodePlan
+    requires { length actor.records ≡ 1 }
+    ensures plan { actor.records ≡ result.plan ∷ [] }
+    ensures line { result.line ≡ actor.line }
+{
     let (line, mut records) = actor.into_parts();
     let Some(plan) = records.pop() else {
         unreachable!()
     };
-    Ok(NodePlan { plan, line })
+    NodePlan { plan, line }
 }
