@@ -1,4 +1,5 @@
 pub mod ArrivalLaws
+pub mod Filtered
 pub mod LineLaws
 pub mod PlanLaws
 pub mod RoundLaws

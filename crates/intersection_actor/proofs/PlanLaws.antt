@@ -22,7 +22,7 @@ use Rattle.road_net.specs.declared.senses.Sensed.{Sensed}
 use Rattle.clusters.specs.Sound.{cluster_lists, clusters_of}
 use Rattle.clusters.specs.declared.vehicle_groups.Window.{Window}
 use Rattle.intersection_actor.specs.Commits.{line_for, used_of}
-use Rattle.intersection_actor.specs.Steps.{IsExpected, IsNextLine, IsPlanned, IsScheduled}
+use Rattle.intersection_actor.specs.Steps.{AreSoonServed, IsExpected, IsNextLine, IsPlanned, IsScheduled}
 use Rattle.intersection_actor.specs.declared.planning.Schedule.{Schedule}
 use Rattle.intersection_actor.specs.declared.planning.RoundPlan.{RoundPlan}
 use Rattle.intersection_actor.proofs.ServedLaws.{greens-by}
@@ -40,12 +40,15 @@ module _ (net : Net) (node : ℕ) (sensed : Sensed) (heard : List Heard) (plan :
   plan-each : length (cluster_lists window.lists) ≡ length plan
   plan-each = length-map window.lists clusters_of ∙ expected.of_node.count ∙ sym (ap (λ (ps : List Phase). length ps) same)
 
-  pub plan-servings : AreServings plan head schedule.phases schedule.served
+  plan-servings : AreServings plan head schedule.phases schedule.served
   plan-servings = next-servings plan (cluster_lists window.lists) p plan-each expected.plannable.clusters schedule.phases (counts_of (cluster_lists window.lists)) head schedule.served plan-next
 
-  pub plan-greens : IsHead plan head → sensed.now + net.run.look + 3600 ≤ 100000 → All (λ (s : Served). s.green ≤ 100000) schedule.served
+  plan-greens : IsHead plan head → sensed.now + net.run.look + 3600 ≤ 100000 → All (λ (s : Served). s.green ≤ 100000) schedule.served
   plan-greens h few = greens-by plan (cluster_lists window.lists) p plan-each expected.plannable.clusters (sensed.now + net.run.look) expected.soon
       schedule.phases (counts_of (cluster_lists window.lists)) head schedule.served h few plan-next
+
+  pub plan-soon : IsHead plan head → sensed.now + net.run.look + 3600 ≤ 100000 → AreSoonServed plan head schedule
+  plan-soon h few = record { served = plan-servings; greens = plan-greens h few }
 
 -- what the steps make is the node's plan of the round
 at-plan : (net : Net) (node : ℕ) (old : List Green) (sensed : Sensed) (heard : List Heard) (head : Head) (p : RoundPlan)

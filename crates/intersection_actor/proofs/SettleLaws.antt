@@ -6,7 +6,7 @@ use Rattle.std.proofs.lemmas.List.Elements.{Contains-append_left, Contains-appen
 use Rattle.board_model.specs.declared.boards.Heard.{Heard}
 use Rattle.switch_rules.specs.Sequences.{AreNextServings, counts_of}
 use Rattle.switch_rules.specs.declared.Head.{Head}
-use Rattle.control_flow.specs.Greens.{GoesOn, IsContinued, IsLawful, head_at}
+use Rattle.control_flow.specs.Greens.{GoesOn, IsContinued, IsLawful, head_at, spliced}
 use Rattle.control_flow.specs.declared.greens.Green.{Green}
 use Rattle.net_numbers.specs.Numbers.{Net}
 use Rattle.net_numbers.specs.Outline.{plan_at}
@@ -15,9 +15,11 @@ use Rattle.clusters.specs.Sound.{cluster_lists}
 use Rattle.clusters.specs.Windows as windows
 use Rattle.clusters.specs.declared.vehicle_groups.Platoon.{Platoon}
 use Rattle.intersection_actor.specs.Acting.{Acting, reading, telling, tells_from, wanting}
-use Rattle.intersection_actor.specs.Commits.{used_of}
-use Rattle.intersection_actor.specs.Rounds.{IsHearing, IsInRound, IsOf, IsTelling, KeepsPast}
-use Rattle.intersection_actor.specs.Steps.{IsPlanned}
+use Rattle.intersection_actor.specs.Commits.{record_of, used_of}
+use Rattle.intersection_actor.specs.Rounds.{IsCommitted, IsHearing, IsInRound, IsOf, IsTelling, KeepsPast}
+use Rattle.intersection_actor.specs.Splices.{record_from}
+use Rattle.intersection_actor.specs.Steps.{IsPlanned, commitment}
+use Rattle.intersection_actor.specs.declared.planning.Kept.{Kept}
 use Rattle.intersection_actor.specs.declared.planning.RoundPlan.{RoundPlan}
 use Rattle.intersection_actor.specs.declared.records.PlanRecord.{PlanRecord}
 use Rattle.intersection_actor.specs.declared.records.Used.{Used}
@@ -78,6 +80,26 @@ sent-of net a link first is wants =
 -- the actor with what a plan of its round leaves it
 abbrev pub settled : Acting → RoundPlan → List Green → List PlanRecord → Want → Acting
 settled a p line records want = record a { line = line; records = records; want = want; window = p.window; phases = p.schedule.phases; served = p.schedule.served }
+
+-- the same by what is kept of the plan
+abbrev pub settled_by : Acting → Kept → List Green → List PlanRecord → Want → Acting
+settled_by a k line records want = record a { line = line; records = records; want = want; window = k.window; phases = k.phases; served = k.served }
+
+-- the actor has committed, where `a` is seen as `b`
+pub commits : (net : Net) (a b : Acting) (p : RoundPlan) (line : List Green) (records : List PlanRecord) (want : Want) → a ≡ b → IsOf net b → b.want ≡ Commit → IsPlanned net b.node b.line b.sensed b.heard p
+    → line ≡ spliced a.line p.next → records ≡ a.records ++ record_from a.node a.round p ∷ [] → want ≡ tells_from net a.node 0 → IsCommitted net b (settled a p line records want)
+commits net a b p line records want same of_b wants_b planned_b splices grows next =
+    let is : IsOf net a = subst (IsOf net) (sym same) of_b in
+    let planned : IsPlanned net a.node a.line a.sensed a.heard p = subst (λ (x : Acting). IsPlanned net x.node x.line x.sensed x.heard p) (sym same) planned_b in
+    let hears : IsHearing net a = hearing-of net a is (ap (λ (x : Acting). x.want) same ∙ wants_b) in
+    let all : records ≡ a.records ++ record_of a.node a.round a.heard (commitment a.line planned.head planned.platoons p) ∷ [] =
+    grows ∙ ap (λ (u : List Used). a.records ++ record { node = a.node; round = a.round; used = u; instance = p.instance; answer = p.schedule.answer } ∷ []) planned.used in
+    subst (λ (x : Acting). IsCommitted net x (settled a p line records want)) same
+    (record {
+      made = commitment a.line planned.head planned.platoons p;
+      is = planned.is a.round hears.now;
+      all = λ i. record a { line = splices i; records = all i; want = next i; window = p.window; phases = planned.phases i; served = p.schedule.served };
+    })
 
 -- what is left of an actor that settles this plan, where `a` is seen as `b`
 module _ (net : Net) (a b : Acting) (p : RoundPlan) (line : List Green) (records : List PlanRecord) (want : Want) (same : a ≡ b) (of_b : IsOf net b) (wants_b : b.want ≡ Commit) (planned_b : IsPlanned net b.node b.line b.sensed b.heard p)

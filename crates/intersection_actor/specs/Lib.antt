@@ -1,4 +1,5 @@
 pub mod Acting
 pub mod Commits
 pub mod Rounds
+pub mod Splices
 pub mod Steps

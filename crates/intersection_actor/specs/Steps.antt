@@ -5,9 +5,11 @@ use Rattle.phase_plan.specs.declared.Phase.{Phase}
 use Rattle.switch_rules.specs.Sequences.{AreNextServings}
 use Rattle.switch_rules.specs.declared.Cluster.{Cluster}
 use Rattle.switch_rules.specs.declared.Head.{Head}
+use Rattle.switch_rules.specs.declared.Served.{Served}
 use Rattle.schedule_meaning.specs.Best.{IsBest}
 use Rattle.schedule_meaning.specs.Instances.{Problem, counts_of}
 use Rattle.control_flow.specs.Greens.{BeginBy, GoesOn, IsLawful, Joins, end_of, head_at, spliced}
+use Rattle.control_flow.specs.Timelines.{AreServings}
 use Rattle.control_flow.specs.declared.greens.Green.{Green}
 use Rattle.net_numbers.specs.Numbers.{Net}
 use Rattle.net_numbers.specs.Outline.{plan_at}
@@ -17,7 +19,7 @@ use Rattle.clusters.specs.UnderLoad.{AreExpected}
 use Rattle.clusters.specs.Windows.{IsWindow}
 use Rattle.clusters.specs.declared.vehicle_groups.Platoon.{Platoon}
 use Rattle.clusters.specs.declared.vehicle_groups.Window.{Window}
-use Rattle.intersection_actor.specs.Commits.{AreServedBy, Commitment, IsCommit, phases_of, used_of}
+use Rattle.intersection_actor.specs.Commits.{AreServedBy, Commitment, IsCommit, line_for, phases_of, used_of}
 use Rattle.intersection_actor.specs.declared.planning.Schedule.{Schedule}
 use Rattle.intersection_actor.specs.declared.planning.RoundPlan.{RoundPlan}
 
@@ -49,6 +51,17 @@ pub record IsNextLine (plan : List Phase) (head : Head) (until : ℕ) (line : Li
   pub goes_on : GoesOn head line
   pub begins : BeginBy 100000 line
   pub later : until < end_of line
+
+-- what a schedule serves can stand in a timeline from this head, and its greens begin by 100,000
+pub record AreSoonServed (plan : List Phase) (head : Head) (s : Schedule) : Type 0 where
+  pub served : AreServings plan head s.phases s.served
+  pub greens : All (λ (r : Served). r.green ≤ 100000) s.served
+
+-- the best answer of a problem, and its timeline from a head
+pub record HasLine (p : Problem) (plan : List Phase) (head : Head) (until : ℕ) (s : Schedule) (line : List Green) : Type 0 where
+  pub schedule : IsScheduled p s
+  pub value : line ≡ line_for plan head s.answer s.served until
+  pub next : IsNextLine plan head until line
 
 -- what a plan of a round commits to, from this line, head and platoons
 abbrev pub commitment : List Green → Head → List (List Platoon) → RoundPlan → Commitment

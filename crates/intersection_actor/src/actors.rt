@@ -1,7 +1,7 @@
 //! The actor of a node.
 ghost use Rattle.std.specs.Prelude.{◌≡◌, []};
 
-use crate::planning::{RoundPlan, Schedule, plan_round};
+use crate::planning::{Kept, RoundPlan, keep_plan, plan_round};
 use crate::reads::{heard_links, next_read, next_told};
 use crate::records::{PlanRecord, Want};
 use board_model::{Forecast, Heard};
@@ -285,27 +285,18 @@ impl Actor {
         // Called for its clause `plan`, and not for the count.
         let _ = net.plan(self.node).count();
         let want = next_told(net, self.node, 0);
-        let RoundPlan {
+        let kept = keep_plan(
+            &mut self.records,
+            &mut self.line,
+            self.node,
+            self.round,
+            plan,
+        )?;
+        let Kept {
             window,
-            instance,
-            schedule,
-            next,
-            used,
-        } = plan;
-        let Schedule {
-            answer,
             phases,
             served,
-        } = schedule;
-        self.records.reserve(1)?;
-        self.line.splice(next)?;
-        self.records.push_reserved(PlanRecord {
-            node: self.node,
-            round: self.round,
-            used,
-            instance,
-            answer,
-        });
+        } = kept;
         self.want = want;
         self.window = window;
         self.phases = phases;

@@ -1,18 +1,19 @@
 //! What a node plans in a round.
-ghost use Rattle.std.specs.Prelude.{◌≡◌, ◌+◌, ◌<◌, ◌≤◌, All, IfOk, length};
+ghost use Rattle.std.specs.Prelude.{◌≡◌, ◌+◌, ◌<◌, ◌≤◌, ◌++◌, [], ◌∷◌, All, IfOk, OnErr, OnOk, length};
 ghost use Rattle.clusters.specs.Inflow.{IsHeardOf};
 ghost use Rattle.clusters.specs.Sound.{ArePlannable, cluster_lists, clusters_of};
-ghost use Rattle.control_flow.specs.Greens.{BeginBy, IsLawful, end_of};
+ghost use Rattle.control_flow.specs.Greens.{BeginBy, IsLawful, Joins, end_of, spliced};
 ghost use Rattle.control_flow.specs.Timelines.{AreServings};
 ghost use Rattle.intersection_actor.specs.Commits.{AreServedBy, line_for, phases_of, used_of};
-ghost use Rattle.intersection_actor.specs.Steps.{IsExpected, IsNextLine, IsPlanned, IsScheduled};
+ghost use Rattle.intersection_actor.specs.Splices.{IsLawAlong, kept_of, record_from};
+ghost use Rattle.intersection_actor.specs.Steps.{AreSoonServed, HasLine, IsExpected, IsNextLine, IsPlanned, IsScheduled};
 ghost use Rattle.net_numbers.specs.Outline.{plan_at};
 ghost use Rattle.road_net.specs.Senses.{IsSensedOf};
 ghost use Rattle.schedule_meaning.specs.Best.{IsBest};
 ghost use Rattle.switch_rules.specs.declared.Served.{Served};
 ghost use Rattle.switch_rules.specs.Serving.{IsHead};
 
-use crate::records::Used;
+use crate::records::{PlanRecord, Used};
 use board_model::Heard;
 use clusters::{Platoon, Window, expected_platoons, window};
 use control_flow::greens::Timeline;
@@ -42,6 +43,14 @@ pub(crate) struct RoundPlan {
     pub(crate) used: Items<Used>,
 }
 
+/// What a node keeps of a plan besides the record and the line.
+#[derive(Drop)]
+pub(crate) struct Kept {
+    pub(crate) window: Window,
+    pub(crate) phases: Items<u8>,
+    pub(crate) served: Items<Served>,
+}
+
 /// What a node plans from its line, what it senses and what it has heard.
 pub(crate) fn plan_round<P: Planner>(
     alloc: Global,
@@ -65,16 +74,16 @@ pub(crate) fn plan_round<P: Planner>(
     let _ = plan.count();
     let until = sensed.now + net.run().look;
     let head = head_at(plan, line, sensed.now);
+    let used = used_versions(alloc, heard)?;
     let window = expected_window(alloc, net, node, &head, sensed, heard)?;
     let instance = problem(alloc, plan, &head, &window)?;
-    let schedule = best_schedule(alloc, planner, &instance)?;
-    let next = next_line(alloc, plan, &head, &schedule, until)?;
+    let (schedule, next) = schedule_line(alloc, planner, &instance, plan, &head, until)?;
     Ok(RoundPlan {
         window,
         instance,
         schedule,
         next,
-        used: Items::from_vec(used_versions(alloc, heard)?),
+        used: Items::from_vec(used),
     })
 }
 
@@ -161,6 +170,26 @@ fn best_schedule<P: Planner>(
     })
 }
 
+/// The best answer of an instance, and its timeline from the head.
+fn schedule_line<P: Planner>(
+    alloc: Global,
+    planner: &mut P,
+    i: &Instance,
+    plan: &PhasePlan,
+    head: &Head,
+    until: u32,
+) -> Result<(Schedule, Timeline), AllocError>
+    requires head { IsHead plan.now head.now }
+    requires reach { head.now.at ≤ 100000 }
+    requires until { until ≤ 99980 }
+    requires law { (s : Schedule) → IsScheduled i.now s → AreSoonServed plan.now head.now s }
+    ensures { IfOk result (λ made. HasLine i.now plan.now head.now until made.0 made.1) }
+{
+    let schedule = best_schedule(alloc, planner, i)?;
+    let next = next_line(alloc, plan, head, &schedule, until)?;
+    Ok((schedule, next))
+}
+
 /// What the best answer of an instance serves.
 fn servings_of(alloc: Global, i: &Instance, answer: &Answer) -> Result<Vec<Served>, AllocError>
     requires { IsBest i.now answer.now }
@@ -231,4 +260,47 @@ fn used_versions(alloc: Global, heard: &[Heard]) -> Result<Vec<Used>, AllocError
             version: heard.version,
         })
         .collect(alloc)
+}
+
+/// Adds the record of a plan, and splices the plan's timeline into the line. Answers what else the node keeps of it.
+pub(crate) fn keep_plan(
+    records: &mut Vec<PlanRecord>,
+    line: &mut Timeline,
+    node: u32,
+    round: u32,
+    plan: RoundPlan,
+) -> Result<Kept, AllocError>
+    requires { Joins line.old plan.next }
+    ensures records { OnOk result (records.new.items ≡ records.old.items ++ record_from node round plan ∷ []) }
+    ensures line { OnOk result (line.new ≡ spliced line.old plan.next) }
+    ensures law { OnOk result (IsLawAlong line.old plan.next line.new) }
+    ensures kept { IfOk result (λ kept. kept ≡ kept_of plan) }
+    ensures refused { OnErr result ((records.new.items ≡ records.old.items) × (line.new ≡ line.old)) }
+{
+    records.reserve(1)?;
+    let RoundPlan {
+        window,
+        instance,
+        schedule,
+        next,
+        used,
+    } = plan;
+    line.splice(next)?;
+    let Schedule {
+        answer,
+        phases,
+        served,
+    } = schedule;
+    records.push_reserved(PlanRecord {
+        node,
+        round,
+        used,
+        instance,
+        answer,
+    });
+    Ok(Kept {
+        window,
+        phases,
+        served,
+    })
 }

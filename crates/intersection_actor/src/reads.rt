@@ -17,9 +17,10 @@ pub(crate) fn heard_links(alloc: Global, net: &Network, node: u32) -> Result<Vec
     let entries = net.entry_links(node);
     let mut heard = Vec::with_capacity(alloc, entries.len())?;
     for link in entries {
-        if net.link(*link).from.is_some() {
-            heard.push(*link)?;
+        if net.link(*link).from.is_none() {
+            continue;
         }
+        heard.push(*link)?;
     }
     Ok(heard)
 }
