@@ -1,15 +1,46 @@
-use Rattle.std.proofs.Common.{◌+◌, List, length, slice_index, sym, ap, subst, ◌∙◌}
+use Rattle.std.proofs.Common.{◌+◌, ◌<◌, ◌≤◌, List, length, slice_index, sym, ap, subst, ◌∙◌}
 use Rattle.control_flow.specs.declared.greens.Green.{Green}
 use Rattle.clusters.proofs.SeenLaws.{written}
 use Rattle.net_draft.specs.declared.drafts.Run.{Run}
+use Rattle.net_numbers.specs.Outline.{plan_at}
 use Rattle.net_simulator.specs.Arriving.{arriving_of}
 use Rattle.net_simulator.specs.Worlds.{line_in, standing_by}
-use Rattle.actuated.specs.Rounds.{AreRenewed}
+use Rattle.actuated.specs.Rounds.{AreAmounts, AreRenewed, IsReady}
 use Rattle.actuated.specs.RunsSoFar.{AreNear}
 use Rattle.spillback_world.specs.Storage.{past_in}
 use Rattle.spillback_world.specs.Worlds.{Stands}
-use Rattle.spillback_control.proofs.RunLaws.{more-spilled, renewed-stands}
+use Rattle.spillback_control.proofs.RunLaws.{more-spilled, renewed-stands, room, spilled-world}
 use Rattle.spillback_control.proofs.spill_runs.play_rounds.Goals as goal
+
+pub sense_near-requires-clause-world : goal.sense_near-requires-clause-world
+sense_near-requires-clause-world c = spilled-world c.args.net.now c.args.arrivals.now (slice_index c.args.store.now) c.loop-round._round c.loop-round.lines.items c.loop-round.world c.requires.arrivals c.loop-round.invariant.played
+
+pub renew_lines-requires-clause-now : goal.renew_lines-requires-clause-now
+renew_lines-requires-clause-now c = subst (λ s. s ≤ 18000) (sym c.now.ensures) c.loop-round.invariant.played.stands.by
+
+pub renew_lines-requires-clause-near : goal.renew_lines-requires-clause-near
+renew_lines-requires-clause-near c =
+    let l = c.loop-round in
+    let list = written l.near.items c.sense_near.new.near l.near.len (c.sense_near.ensures.amounts.count ∙ sym l.invariant.near) l.near.ok.0 in
+    subst (AreAmounts c.args.net.now) (sym (c.as_slice.ensures.value ∙ list)) c.sense_near.ensures.amounts
+
+pub renew_lines-requires-clause-count : goal.renew_lines-requires-clause-count
+renew_lines-requires-clause-count c = c.loop-round.invariant.played.acted.count
+
+pub renew_lines-requires-clause-ready : goal.renew_lines-requires-clause-ready
+renew_lines-requires-clause-ready c node below =
+    let l = c.loop-round in
+    subst (λ s. IsReady (plan_at c.args.net.now node) s (line_in l.lines.items node)) (sym (c.now.ensures ∙ l.invariant.played.second)) (l.invariant.played.acted.ready node below)
+
+pub advance-requires-clause-second : goal.advance-requires-clause-second
+advance-requires-clause-second c =
+    let l = c.loop-round in
+    let net = c.args.net.now in
+    let renewed = c.renew_lines.new.lines.items in
+    let are = subst (λ s. AreRenewed net c.as_slice.result.now s (length net.node_names) l.lines.items renewed) c.now.ensures c.in_ok-renew_lines.ensures in
+    let less = subst (λ (r : Run). l._round < r.rounds) c.run-run.ensures.value c.loop-round-test.true in
+    subst (λ (r : Run). l.world.second + r.step ≤ 18000) (sym c.run-run.ensures.value)
+    (room net c.run-run.ensures.network (arriving_of c.args.arrivals.now) (slice_index c.args.store.now) l._round l.lines.items renewed c.as_slice.result.now l.world l.invariant.played are less)
 
 pub advance-requires-clause-stands : goal.advance-requires-clause-stands
 advance-requires-clause-stands c =
