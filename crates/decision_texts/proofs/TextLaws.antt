@@ -29,8 +29,13 @@ adds-last (Ok done) a b c xs ys first last = adds-then a b c xs ys first last
 adds-last (Err e) a b c xs ys first last = tt
 
 -- the header, the turns and the boards are the whole
-pub text-parts : {Z : Type 0} (net : Net) (node : Option ℕ) (turns : List (List (List ℕ))) (lent boards : List LinkBoard) (text : List ℕ) (o0 o1 o2 o3 : Writer (Vec ℕ Z)) → text ≡ [] → lent ≡ boards → HasWritten o0 text → Adds o0 o1 (header ∷ []) → Adds o1 o2 turns
-    → Adds o2 o3 (boards_records net node lent) → HasWritten o3 (records_text (header ∷ turns ++ boards_records net node boards))
-text-parts net node turns lent boards text o0 o1 o2 o3 none same start first second third =
+pub adds-parts : {E Z : Type 0} (r : Result (Unit {0}) E) (net : Net) (node : Option ℕ) (turns : List (List (List ℕ))) (lent boards : List LinkBoard) (o0 o1 o2 o3 : Writer (Vec ℕ Z)) → lent ≡ boards → Adds o0 o1 (header ∷ []) → Adds o1 o2 turns
+    → OnOk r (Adds o2 o3 (boards_records net node lent)) → OnOk r (Adds o0 o3 (header ∷ turns ++ boards_records net node boards))
+adds-parts (Ok done) net node turns lent boards o0 o1 o2 o3 same first second third =
     let b = subst (λ l. Adds o2 o3 (boards_records net node l)) same third in
-    (adds-then o0 o1 o3 _ _ first (adds-then o1 o2 o3 _ _ second b)).adds [] (subst (HasWritten o0) none start)
+    adds-then o0 o1 o3 _ _ first (adds-then o1 o2 o3 _ _ second b)
+adds-parts (Err e) net node turns lent boards o0 o1 o2 o3 same first second third = tt
+
+-- a writer that begins with no text has written the records that it adds
+pub text-written : {Z : Type 0} (text : List ℕ) (o0 o1 : Writer (Vec ℕ Z)) (records : List (List (List ℕ))) → text ≡ [] → HasWritten o0 text → Adds o0 o1 records → HasWritten o1 (records_text records)
+text-written text o0 o1 records none start part = part.adds [] (subst (HasWritten o0) none start)

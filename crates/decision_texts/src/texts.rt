@@ -2,7 +2,7 @@
 ghost use Rattle.std.specs.Prelude.{◌≡◌, ◌<◌, ◌≤◌, [], ◌∷◌, IfOk, OnOk, length};
 ghost use Rattle.std.specs.List.{flat_map};
 ghost use Rattle.decision_texts.specs.DecisionTexts as texts;
-ghost use Rattle.decision_texts.specs.DecisionTexts.{IsDecisionOf, IsNodeDecisionOf, turn_records};
+ghost use Rattle.decision_texts.specs.DecisionTexts.{IsDecisionOf, IsNodeDecisionOf, decision_records, node_decision_records, turn_records};
 ghost use Rattle.round_decisions.specs.Promises.{decided_line};
 ghost use Rattle.round_states.specs.Told.{header};
 ghost use Rattle.world_records.specs.Written.{Adds};
@@ -29,11 +29,8 @@ pub fn decision_text(
     requires decision { IsDecisionOf net.now decision.now }
     ensures { IfOk result (λ text. text.items ≡ texts.decision_text net.now round decision.now) }
 {
-    let second = round * net.run().step;
     let mut out = start(Vec::new(alloc));
-    write_header(&mut out)?;
-    write_turns(alloc, net, second, decision, &mut out)?;
-    write_boards(net, None, decision.boards.as_slice(), &mut out)?;
+    write_decision(alloc, net, round, decision, &mut out)?;
     finish(out)
 }
 
@@ -52,12 +49,46 @@ pub fn node_decision_text(
     requires decision { IsNodeDecisionOf net.now decision.now }
     ensures { IfOk result (λ text. text.items ≡ texts.node_decision_text net.now round node decision.now) }
 {
-    let second = round * net.run().step;
     let mut out = start(Vec::new(alloc));
-    write_header(&mut out)?;
-    write_turn(alloc, net, second, &decision.plan, &decision.line, &mut out)?;
-    write_boards(net, Some(node), decision.boards.as_slice(), &mut out)?;
+    write_node_decision(alloc, net, round, node, decision, &mut out)?;
     finish(out)
+}
+
+/// Writes the records of a decision of a round.
+fn write_decision(
+    alloc: Global,
+    net: &Network,
+    round: u32,
+    decision: &Decision,
+    out: &mut Writer<Vec<u8>>,
+) -> Result<(), AllocError>
+    requires round { round < net.now.run.rounds }
+    requires decision { IsDecisionOf net.now decision.now }
+    ensures { OnOk result (Adds out.old out.new (decision_records net.now round decision.now)) }
+{
+    let second = round * net.run().step;
+    write_header(out)?;
+    write_turns(alloc, net, second, decision, out)?;
+    write_boards(net, None, decision.boards.as_slice(), out)
+}
+
+/// Writes the records of what one node decides in a round.
+fn write_node_decision(
+    alloc: Global,
+    net: &Network,
+    round: u32,
+    node: u32,
+    decision: &NodeDecision,
+    out: &mut Writer<Vec<u8>>,
+) -> Result<(), AllocError>
+    requires round { round < net.now.run.rounds }
+    requires decision { IsNodeDecisionOf net.now decision.now }
+    ensures { OnOk result (Adds out.old out.new (node_decision_records net.now round node decision.now)) }
+{
+    let second = round * net.run().step;
+    write_header(out)?;
+    write_turn(alloc, net, second, &decision.plan, &decision.line, out)?;
+    write_boards(net, Some(node), decision.boards.as_slice(), out)
 }
 
 /// Writes the header.
