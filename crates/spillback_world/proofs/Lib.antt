@@ -7,6 +7,7 @@ pub mod Passing
 pub mod Played
 pub mod Searching
 pub mod Sensing
+pub mod Setting
 pub mod Shown
 pub mod Sources
 pub mod Start

@@ -25,7 +25,7 @@ use Rattle.net_simulator.proofs.Standing.{stood-kept, stood-most, stood-next}
 use Rattle.net_simulator.proofs.Sums.{total-most, total-of, total-part}
 use Rattle.spillback_world.specs.declared.totals.SpillTotals.{SpillTotals}
 use Rattle.spillback_world.specs.Spilled.{outside_all, spilled}
-use Rattle.spillback_world.specs.Steps.{AreHeld, HaveDischarged, comes_of, first_given, first_goes, opening_by, served_at}
+use Rattle.spillback_world.specs.Steps.{AreHeld, HaveDischarged, HaveLeft, comes_of, first_given, first_goes, opening_by, served_at}
 use Rattle.spillback_world.specs.Storage.{goes_of, held_after, inward, opening, outside, stored}
 use Rattle.spillback_world.specs.Worlds.{HasShape, SpillState, Stands}
 use Rattle.spillback_world.proofs.Agreeing.{AgreeAt, goes-same}
@@ -50,6 +50,26 @@ pub stands-seen : (net : Net) (arriving : ℕ → ℕ → ℕ) (store : ℕ → 
     → Stands net arriving store shown (record { second = w.second; nodes = w.nodes; queues = qs; recent = rs; waits = ws; stood = ss; outside = os; held = hs; totals = w.totals })
 stands-seen net arriving store shown w qs rs ws ss os hs a b c d e f stands =
     subst (Stands net arriving store shown) (λ i. record { second = w.second; nodes = w.nodes; queues = sym a i; recent = sym b i; waits = sym c i; stood = sym d i; outside = sym e i; held = sym f i; totals = w.totals }) stands
+
+out-none : (to : Option ℕ) (w q v : ℕ) → to ≡ None → v ≡ outward to w → q ≡ w - v → q ≡ 0
+out-none None w q v e goes queue = omega (arith, goes, queue)
+out-none (Some node) w q v e goes queue = let gone : ⊥ = cc in absurd gone
+
+stays-none : (to : Option ℕ) (w v node : ℕ) → to ≡ Some node → v ≡ outward to w → v ≡ 0
+stays-none None w v node e goes = let gone : ⊥ = cc in absurd gone
+stays-none (Some n) w v node e goes = goes
+
+-- what reached the ends of links and leaves the network has left, by what waited there
+pub left-of : (net : Net) (waits : ℕ → ℕ) (qs lv : List ℕ) → ((l : ℕ) → l < length net.link_names → slice_index lv l ≡ outward (link_at net l).to (waits l)) → ((l : ℕ) → l < length net.link_names → slice_index qs l ≡ waits l - slice_index lv l)
+    → HaveLeft net qs lv
+left-of net waits qs lv leaves queues = record {
+  out = λ l h none. out-none (link_at net l).to (waits l) (slice_index qs l) (slice_index lv l) none (leaves l h) (queues l h);
+  stays = λ l node h some. stays-none (link_at net l).to (waits l) (slice_index lv l) node some (leaves l h);
+}
+
+-- what entered a link is on it
+pub entering-held : (net : Net) (store queues entering held : List ℕ) → AreHeld net store queues entering held → (l : ℕ) → l < length net.link_names → slice_index entering l ≤ slice_index held l
+entering-held net store queues entering held are l h = omega (arith, are.there l h)
 
 -- What has been done when the links discharge: the lists of what leaves, of the queues, of what enters and of what is held, and which
 -- links may discharge where the nodes show these greens.

@@ -1,7 +1,8 @@
 -- The search of the greatest amount for which there is room.
-use Rattle.std.proofs.Common.{◌≡◌, ℕ, zero, suc, ◌+◌, ◌*◌, ◌/◌, ◌<◌, ◌≤◌, Bool, true, false, ◌&&◌, leb, List, [], ◌∷◌, length, get_or, refl, sym, ap, subst, inl, inr, arith}
+use Rattle.std.proofs.Common.{◌≡◌, ℕ, zero, suc, ◌+◌, ◌*◌, ◌/◌, ◌<◌, ◌≤◌, Bool, true, false, ◌&&◌, leb, List, [], ◌∷◌, length, get_or, refl, sym, ap, subst, ◌∙◌, inl, inr, arith}
 use Rattle.std.specs.List.{list_all}
 use Rattle.std.proofs.lemmas.Bool.{cases_lt, le-leb}
+use Rattle.std.proofs.lemmas.Bool.Decides.{eqb_tells}
 use Rattle.net_numbers.specs.declared.roads.Turn.{Turn}
 use Rattle.road_net.specs.Joins.{AreParts, part_between, shares_to, split_of}
 use Rattle.road_net.proofs.Shares.{shares-more}
@@ -70,3 +71,38 @@ try-next room turns ts is wish most new k r parts inside above at here =
     let there : k < length turns = (let e = ap length is in omega (arith, inside)) in
     try-turn room turns wish most new k parts there above (λ a more under.
     subst (λ (t : Turn). (room t.exit + 1) * 1000 < a * t.share) (ap (λ q. get_or q k no_turn) is) (subst (λ n. (n + 1) * 1000 < a * (get_or ts k no_turn).share) at (here a more under)))
+
+-- one turn more with room
+pub fit-more : (turns : List Turn) (room : ℕ → ℕ) (amount n : ℕ) → ((i : ℕ) → i < n → split_of turns amount (exit_at turns i) ≤ room (exit_at turns i)) → split_of turns amount (exit_at turns n) ≤ room (exit_at turns n)
+    → (i : ℕ) → i < n + 1 → split_of turns amount (exit_at turns i) ≤ room (exit_at turns i)
+fit-more turns room amount n before here i h = elim (eqb_tells i n) [
+  | inl p ↦ rw p.1 here
+  | inr q ↦ before i (let ne = q.1 in omega (arith, h))
+]
+
+-- What is read of a turn: `ts` is the list of the turns, of which n were read before, `s` their shares together, and `r` the room in
+-- the exit of the turn.
+module _ (room : ℕ → ℕ) (turns ts : List Turn) (is : ts ≡ turns) (parts : AreParts turns) (amount n : ℕ) (inside : n < length ts) (s : ℕ) (here : s ≡ shares_to turns n) where
+  there : n < length turns
+  there = subst (λ (q : List Turn). n < length q) is inside
+
+  pub through : s + (get_or ts n no_turn).share ≡ shares_to turns (n + 1)
+  through = rw is (omega (arith, here, shares-more turns n no_turn there))
+
+  pub shares-small : s + (get_or ts n no_turn).share ≤ 1000
+  shares-small = omega (arith, through, parts.shares (n + 1))
+
+  part-is : (part : ℕ) → part ≡ part_between amount s (s + (get_or ts n no_turn).share) → part ≡ split_of turns amount (exit_at turns n)
+  part-is part value = value ∙ ap (λ q. part_between amount q (s + (get_or ts n no_turn).share)) here ∙ ap (part_between amount (shares_to turns n)) through ∙ sym (parts.each amount n no_turn there)
+
+  room-is : (r : ℕ) → r ≡ room (get_or ts n no_turn).exit → r ≡ room (exit_at turns n)
+  room-is r value = value ∙ ap (λ (q : List Turn). room (get_or q n no_turn).exit) is
+
+  -- there is too little room for its part
+  pub room-short : (part r : ℕ) → part ≡ part_between amount s (s + (get_or ts n no_turn).share) → r ≡ room (get_or ts n no_turn).exit → r < part → false ≡ has_room turns room amount
+  room-short part r p q less = sym (room-none room amount turns n there (omega (arith, part-is part p, room-is r q, less)))
+
+  -- there is room for it
+  pub fit-next : ((i : ℕ) → i < n → split_of turns amount (exit_at turns i) ≤ room (exit_at turns i)) → (part r : ℕ) → part ≡ part_between amount s (s + (get_or ts n no_turn).share) → r ≡ room (get_or ts n no_turn).exit → part ≤ r
+      → (i : ℕ) → i < n + 1 → split_of turns amount (exit_at turns i) ≤ room (exit_at turns i)
+  fit-next before part r p q fits = fit-more turns room amount n before (omega (arith, part-is part p, room-is r q, fits))

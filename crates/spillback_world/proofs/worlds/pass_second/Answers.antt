@@ -1,11 +1,12 @@
-use Rattle.std.proofs.Common.{◌≡◌, ◌+◌, ◌-◌, ◌*◌, length, slice_index, refl, ap, ◌∙◌, arith}
+use Rattle.std.proofs.Common.{◌≡◌, ◌+◌, ◌-◌, ◌*◌, length, slice_index, refl, sym, ap, ◌∙◌, arith}
 use Rattle.net_simulator.specs.Arriving.{arriving_of}
+use Rattle.net_simulator.specs.LinkSeconds.{waits_at}
 use Rattle.net_simulator.specs.Worlds.{standing_by}
 use Rattle.net_simulator.proofs.Passing.{begun-by, few-of, seen-by}
 use Rattle.std.proofs.lemmas.List.{with_items_is}
 use Rattle.spillback_world.specs.Steps.{state_of}
 use Rattle.spillback_world.specs.Worlds.{SpillState}
-use Rattle.spillback_world.proofs.Passing.{are-held, delay-most, outside-fits, room-entered, room-left, stands-next, stands-seen, stood-small, waits-held}
+use Rattle.spillback_world.proofs.Passing.{are-held, delay-most, entering-held, left-of, outside-fits, room-entered, room-left, stands-next, stands-seen, stood-small, waits-held}
 use Rattle.spillback_world.proofs.Sources.{sources-of}
 use Rattle.spillback_world.proofs.worlds.pass_second.Goals as goal
 
@@ -18,6 +19,71 @@ reach_ends-out-requires-clause-there g c =
 
 pub serve-requires-clause-begun : goal.serve-requires-clause-begun
 serve-requires-clause-begun g c = begun-by c.args.moment.now.greens.now (length c.args.moment.now.net.now.node_names) (g.T.Lights.lines c.args.moment.now.lights.now) c.args.moment.now.second c.requires.greens
+
+pub discharge-requires-clause-links : goal.discharge-requires-clause-links
+discharge-requires-clause-links g c =
+    let s = c.requires.stands.shape in
+    record {
+      store = c.requires.store;
+      leaving = c.reach_ends-out.auto.leaving ∙ ap length c.as_mut_slice-leaving.ensures.value ∙ c.requires.scratch.leaving ∙ s.queues;
+      queues = c.reach_ends-out.auto.queues ∙ ap length c.as_mut_slice-queues.ensures.value ∙ s.queues;
+      entering = c.clear.auto.amounts ∙ ap length c.as_mut_slice-entering.ensures.value ∙ c.requires.scratch.entering ∙ s.queues;
+      held = c.reach_ends-out.auto.held ∙ ap length c.as_mut_slice-held.ensures.value ∙ s.held;
+      served = c.serve.auto.served ∙ ap length c.as_mut_slice-served.ensures.value ∙ c.requires.scratch.served ∙ s.queues;
+    }
+
+pub discharge-requires-clause-left : goal.discharge-requires-clause-left
+discharge-requires-clause-left g c =
+    left-of c.args.moment.now.net.now (waits_at c.args.moment.now.net.now c.as_mut_slice-queues.result.now c.as_mut_slice-recent.result.now c.args.moment.now.second)
+    c.reach_ends-out.new.queues c.reach_ends-out.new.leaving c.reach_ends-out.ensures.leaving c.reach_ends-out.ensures.queues
+
+pub returns-clause-scratch : goal.returns-clause-scratch
+returns-clause-scratch g c =
+    let s = c.requires.stands.shape in
+    let d = c.discharge.ensures.links in
+    let links = c.args.links.now in
+    let queues = ap length (with_items_is links.queues c.discharge.new.queues (omega (arith, d.queues, s.queues, links.queues.ok.0))) ∙ d.queues in
+    record {
+      leaving = ap length (with_items_is links.leaving c.discharge.new.leaving (omega (arith, d.leaving, c.requires.scratch.leaving, s.queues, links.leaving.ok.0))) ∙ d.leaving ∙ sym queues;
+      entering = ap length (with_items_is links.entering c.discharge.new.entering (omega (arith, d.entering, c.requires.scratch.entering, s.queues, links.entering.ok.0))) ∙ d.entering ∙ sym queues;
+      served = ap length (with_items_is links.served c.serve.new.served (omega (arith, d.served, c.requires.scratch.served, s.queues, links.served.ok.0))) ∙ d.served ∙ sym queues;
+    }
+
+pub reach_ends-out-requires-clause-leaving : goal.reach_ends-out-requires-clause-leaving
+reach_ends-out-requires-clause-leaving g c = ap length c.as_mut_slice-leaving.ensures.value ∙ c.requires.scratch.leaving ∙ c.requires.stands.shape.queues
+
+pub reach_ends-out-requires-clause-queues : goal.reach_ends-out-requires-clause-queues
+reach_ends-out-requires-clause-queues g c = ap length c.as_mut_slice-queues.ensures.value ∙ c.requires.stands.shape.queues
+
+pub reach_ends-out-requires-clause-held : goal.reach_ends-out-requires-clause-held
+reach_ends-out-requires-clause-held g c = ap length c.as_mut_slice-held.ensures.value ∙ c.requires.stands.shape.held
+
+pub reach_ends-out-requires-clause-recent : goal.reach_ends-out-requires-clause-recent
+reach_ends-out-requires-clause-recent g c = ap length c.as_mut_slice-recent.ensures.value ∙ c.requires.stands.shape.recent
+
+pub serve-requires-clause-served : goal.serve-requires-clause-served
+serve-requires-clause-served g c = ap length c.as_mut_slice-served.ensures.value ∙ c.requires.scratch.served ∙ c.requires.stands.shape.queues
+
+pub serve-requires-clause-waits : goal.serve-requires-clause-waits
+serve-requires-clause-waits g c = ap length c.as_mut_slice-waits.ensures.value ∙ c.requires.stands.shape.waits
+
+pub let_in-come-requires-clause-store : goal.let_in-come-requires-clause-store
+let_in-come-requires-clause-store g c = c.requires.store ∙ sym c.links-all.ensures.value
+
+pub let_in-come-requires-clause-outside : goal.let_in-come-requires-clause-outside
+let_in-come-requires-clause-outside g c = ap length c.as_mut_slice-outside.ensures.value ∙ c.requires.stands.shape.outside ∙ sym c.links-all.ensures.value
+
+pub let_in-come-requires-clause-held : goal.let_in-come-requires-clause-held
+let_in-come-requires-clause-held g c = c.discharge.ensures.links.held ∙ sym c.links-all.ensures.value
+
+pub let_in-come-requires-clause-entering : goal.let_in-come-requires-clause-entering
+let_in-come-requires-clause-entering g c = c.discharge.ensures.links.entering ∙ sym c.links-all.ensures.value
+
+pub let_in-come-requires-clause-there : goal.let_in-come-requires-clause-there
+let_in-come-requires-clause-there g c l h = entering-held c.args.moment.now.net.now c.args.moment.now.store.now c.discharge.new.queues c.discharge.new.entering c.discharge.new.held c.discharge.ensures.are l (rw (← c.links-all.ensures.value) h)
+
+pub let_in-come-requires-clause-within : goal.let_in-come-requires-clause-within
+let_in-come-requires-clause-within g c l h = c.discharge.ensures.are.within l (rw (← c.links-all.ensures.value) h)
 
 pub discharge-requires-clause-held : goal.discharge-requires-clause-held
 discharge-requires-clause-held g c =
