@@ -1,6 +1,6 @@
 -- A table with the best answer is a certificate that proves it, whether it is whole or has a limit that some sequence keeps.
 use Rattle.std.specs.Prelude.{option_and_then}
-use Rattle.std.proofs.Common.{◌≡◌, ℕ, ◌+◌, ◌-◌, ◌<◌, ◌≤◌, ◌⊎◌, List, [], ◌∷◌, ◌++◌, length, sum, get_or, map, take, drop, All, Contains, Option, Some, None, IfSome, refl, sym, ap, subst, ◌∙◌, inl, inr, arith}
+use Rattle.std.proofs.Common.{◌≡◌, ℕ, ◌+◌, ◌-◌, ◌<◌, ◌≤◌, ◌⊎◌, true, List, [], ◌∷◌, ◌++◌, length, sum, get_or, map, take, drop, All, Contains, Option, Some, None, IfSome, Result, Ok, Err, IfOk, OnOk, refl, sym, ap, subst, ◌∙◌, inl, inr, arith}
 use Rattle.std.proofs.lemmas.Bool.{cases_lt}
 use Rattle.std.proofs.lemmas.List.{get_or-map, get_or_default, length-map}
 use Rattle.std.proofs.lemmas.List.Elements.{All-map, All-weaker}
@@ -27,13 +27,15 @@ use Rattle.forward_dp.specs.Rows.{IsNoWorse}
 use Rattle.forward_dp.specs.declared.rows.Row.{Row}
 use Rattle.forward_dp.proofs.Keeping.{no-worse-trans}
 use Rattle.forward_dp.specs.Numbers.{counts_number, order_number}
-use Rattle.forward_dp.specs.Tables.{HasAnswers, IsFrom, IsReached, IsTableMade, IsWholeTable, all_rows}
+pub use Rattle.forward_dp.specs.Parts.{AreParts}
+use Rattle.forward_dp.specs.Tables.{HasAnswers, HasEntries, IsFrom, IsReached, IsTableMade, IsWholeTable, all_rows}
 use Rattle.forward_dp.proofs.Bounds.{IsStage, stage-bounds, stage-few, sum-le}
 use Rattle.forward_dp.proofs.Cells.{IsCell, led-at}
 use Rattle.forward_dp.proofs.Few.{rows-few}
 use Rattle.forward_dp.proofs.Growing.{no-more}
 use Rattle.forward_dp.proofs.KeyOrder.{keys-rise}
 use Rattle.forward_dp.proofs.OrderLaws.{best-none, best-plan}
+use Rattle.forward_dp.specs.declared.live_rows.DroppedRows.{DroppedRows}
 use Rattle.forward_dp.specs.declared.live_rows.Rows.{Rows}
 use Rattle.forward_dp.proofs.Parting.{latest-cell}
 use Rattle.forward_dp.proofs.RowLaws.{entry_for, entry-stage, four, led, reached-led, same-parts}
@@ -283,18 +285,9 @@ last-cell p lawful rows latest last start end has same lengths first second =
     (last-rows p has.limit lawful (all_rows has.gone rows) (take (end - start) (drop start rows.latest.items)) (length (has.gone ++ rows.earlier.items) + start) last has.made.table lengths
     (latest-cell p has.limit lawful has.gone rows last start end has.made lengths (subst (λ xs. IsFrom xs 0 (counts_number last) start) same first) (subst (λ xs. IsFrom xs start (counts_number last + 1) end) same second)))
 
--- a table within a limit, and the best answer of an instance
-pub record AreParts (p : Problem) (limit : Option ℕ) (entries : List Entry) (answer : Answer) : Type 0 where
-  pub lawful : IsInstance p
-  pub delay : IsSomeDelay p limit
-  pub table : IsLimited p limit entries
-  pub best : IsBest p answer
-  pub few : length entries ≤ 2000001
-
-pub parts : (p : Problem) (limit : Option ℕ) (gone : List Row) (rows : Rows) (earlier latest : List Row) (entries : List Entry) (answer : Answer) → IsInstance p → IsSomeDelay p limit → IsTableMade p limit gone rows → earlier ≡ rows.earlier.items → latest ≡ rows.latest.items
-    → entries ≡ map (λ r. r.entry) (gone ++ earlier ++ latest) → IsBest p answer → AreParts p limit entries answer
-parts p limit gone rows earlier latest entries answer lawful delay made first second taken best =
-    let are : entries ≡ map (λ (r : Row). r.entry) (all_rows gone rows) = taken ∙ ap (λ xs. map (λ (r : Row). r.entry) (gone ++ xs ++ latest)) first ∙ ap (λ xs. map (λ (r : Row). r.entry) (gone ++ rows.earlier.items ++ xs)) second in
+-- the entries of all rows of a table, and the best answer of an instance
+pub parts : (p : Problem) (limit : Option ℕ) (gone : List Row) (rows : Rows) (entries : List Entry) (answer : Answer) → IsInstance p → IsSomeDelay p limit → IsTableMade p limit gone rows → entries ≡ map (λ r. r.entry) (all_rows gone rows) → IsBest p answer → AreParts p limit entries answer
+parts p limit gone rows entries answer lawful delay made are best =
     record {
       lawful = lawful;
       delay = delay;
@@ -302,6 +295,16 @@ parts p limit gone rows earlier latest entries answer lawful delay made first se
       best = best;
       few = omega (arith, ap length are, length-map (all_rows gone rows) (λ (r : Row). r.entry), rows-few p lawful (all_rows gone rows) made.table.made);
     }
+
+-- as a call answers with them
+pub made-parts : {F : Type 0} (p : Problem) (limit : Option ℕ) (gone : List Row) (rows : Rows) (past : DroppedRows) (result : Result Answer F) → OnOk result (IsInstance p) → IsSomeDelay p limit → IsTableMade p limit gone rows → OnOk result (HasEntries past (all_rows gone rows)) → past.keeps_entries ≡ true → IfOk result (IsBest p) → IfOk result (AreParts p limit past.entries.items)
+made-parts p limit gone rows past (Ok answer) lawful delay made taken keeps best = parts p limit gone rows past.entries.items answer lawful delay made (taken keeps) best
+made-parts p limit gone rows past (Err fault) lawful delay made taken keeps best = tt
+
+-- the rows that were taken last are those of the table
+pub taken-all : (past : DroppedRows) (gone : List Row) (rows : Rows) (earlier latest : List Row) → earlier ≡ rows.earlier.items → latest ≡ rows.latest.items → HasEntries past (gone ++ earlier ++ latest) → HasEntries past (all_rows gone rows)
+taken-all past gone rows earlier latest first second taken keeps =
+    taken keeps ∙ ap (λ xs. map (λ (r : Row). r.entry) (gone ++ xs ++ latest)) first ∙ ap (λ xs. map (λ (r : Row). r.entry) (gone ++ rows.earlier.items ++ xs)) second
 
 -- a best answer has at most 40 places
 pub best-few : (p : Problem) (answer : Answer) → IsInstance p → IsBest p answer → length (sequence_of answer) ≤ 40
@@ -322,12 +325,6 @@ certified p given limit entries answer made h same out =
     let is : made ≡ c = out ∙ ap (λ (q : Problem). let x : Claim = record { problem = q; entries = entries; answer = answer } in x) same in
     let here : IsCertified p limit c = record { table = h.table; best = h.best; proves = whole-proves p limit entries answer h.lawful h.delay h.table h.best; few = (h.few, best-few p answer h.lawful h.best) } in
     subst (IsCertified p limit) (sym is) here
-
--- of the table as it was made, and the answer of its best row
-pub certified-parts : (p given : Problem) (limit : Option ℕ) (gone : List Row) (rows : Rows) (earlier latest : List Row) (entries : List Entry) (answer : Answer) (made : Claim) → IsInstance p → IsSomeDelay p limit → IsTableMade p limit gone rows → earlier ≡ rows.earlier.items → latest ≡ rows.latest.items
-    → entries ≡ map (λ r. r.entry) (gone ++ earlier ++ latest) → IsBest p answer → given ≡ p → made ≡ record { problem = given; entries = entries; answer = answer } → IsCertified p limit made
-certified-parts p given limit gone rows earlier latest entries answer made lawful delay table first second taken best same out =
-    certified p given limit entries answer made (parts p limit gone rows earlier latest entries answer lawful delay table first second taken best) same out
 
 -- and they are one
 pub lawful : (p given : Problem) (limit : Option ℕ) (entries : List Entry) (answer : Answer) → AreParts p limit entries answer → given ≡ p → IsCertificate (record { problem = given; entries = entries; answer = answer })

@@ -3,6 +3,7 @@ pub mod Greens
 pub mod Groups
 pub mod Halves
 pub mod Numbers
+pub mod Parts
 pub mod Rows
 pub mod Tables
 pub use Rattle.schedule_meaning.specs.Best

@@ -1,21 +1,25 @@
 //! The whole table as a certificate.
 
-ghost use Rattle.std.specs.Prelude.{◌≡◌, ◌+◌, ◌*◌, ◌≤◌, List, length, IfOk};
+ghost use Rattle.std.specs.Prelude.{◌≡◌, ◌+◌, ◌*◌, ◌≤◌, [], List, length, IfOk, OnOk, true};
 ghost use Rattle.switch_rules.specs.Bounds.{most_clusters, most_entries};
 ghost use Rattle.schedule_meaning.specs.Best.{IsBest};
+ghost use Rattle.schedule_meaning.specs.Instances.{IsInstance};
 ghost use Rattle.dp_certificate.specs.Limits.{HasKeysWithin, IsLimited, IsSomeDelay};
 ghost use Rattle.dp_certificate.specs.Numbers.{sequence_of};
 ghost use Rattle.dp_certificate.specs.Prefixes.{HasAllKeys, Key};
 ghost use Rattle.dp_certificate.specs.Proves.{Proves};
 ghost use Rattle.dp_certificate.specs.Whole.{IsWhole};
+ghost use Rattle.forward_dp.specs.Parts.{AreParts};
+ghost use Rattle.forward_dp.specs.Tables.{HasAnswers, HasEntries, all_rows};
+ghost use Rattle.forward_dp.specs.declared.rows.Row.{Row};
 
 use crate::best_answer;
 use crate::lists::Lists;
-use crate::live_rows::DroppedRows;
+use crate::live_rows::{DroppedRows, Rows};
 use crate::table::{row_capacity, table};
 use dp_certificate::Certificate;
 use foundation::steps::Steps;
-use schedule_meaning::Instance;
+use schedule_meaning::{Answer, Instance};
 use std::alloc::{AllocError, Global};
 use std::sync::ledger::Ledger;
 
@@ -69,23 +73,51 @@ pub fn certify_within<L: Ledger>(
         keeps_entries: true,
         entries: Vec::with_capacity(alloc, 2 * row_capacity(i))?,
     };
+    let answer = answer_of_table(alloc, i, limit, &mut past, steps)?;
+    let instance = i.copy(alloc)?;
+    Ok(Certificate::of_lawful(instance, past.entries, answer))
+}
+
+/// The best answer of the table with a limit, in lists of its own, whose entries are kept. `Err`: out of memory.
+fn answer_of_table<L: Ledger>(
+    alloc: Global,
+    i: &Instance,
+    limit: Option<u64>,
+    past: &mut DroppedRows,
+    steps: &mut Steps<L>,
+) -> Result<Answer, AllocError>
+    requires delay { IsSomeDelay i.now limit }
+    requires past { HasEntries past.old [] }
+    requires keeps_entries { past.old.keeps_entries ≡ true }
+    ensures parts { IfOk result (AreParts i.now limit past.new.entries.items) }
+    ensures servings { (keys : List Key) → HasKeysWithin i.now limit keys
+        → steps.new ≤ steps.old + length i.now.plan * length keys }
+{
     let Lists {
         mut reached,
         mut rows,
         mut cells,
     } = Lists::new(alloc).for_table(i)?;
-    table(
-        i,
-        limit,
-        &mut past,
-        &mut reached,
-        &mut rows,
-        &mut cells,
-        steps,
-    )?;
-    let answer = best_answer(alloc, i, &rows)?;
+    table(i, limit, past, &mut reached, &mut rows, &mut cells, steps)?;
+    answer_of_rows(alloc, i, &rows, past)
+}
+
+/// The best answer of the rows of a table, whose entries are kept as those before them. `Err`: out of memory.
+fn answer_of_rows(
+    alloc: Global,
+    i: &Instance,
+    rows: &Rows,
+    past: &mut DroppedRows,
+) -> Result<Answer, AllocError>
+    requires { HasAnswers i.now rows.now }
+    ensures instance { OnOk result (IsInstance i.now) }
+    ensures best { IfOk result (IsBest i.now) }
+    ensures taken { (gone : List Row) → HasEntries past.old gone
+        → OnOk result (HasEntries past.new (all_rows gone rows.now)) }
+    ensures keeps_entries { past.new.keeps_entries ≡ past.old.keeps_entries }
+{
+    let answer = best_answer(alloc, i, rows)?;
     past.take(rows.earlier.as_slice())?;
     past.take(rows.latest.as_slice())?;
-    let instance = i.copy(alloc)?;
-    Ok(Certificate::of_lawful(instance, past.entries, answer))
+    Ok(answer)
 }
