@@ -2,17 +2,12 @@
 use Rattle.std.proofs.Common.{◌≡◌, ℕ, zero, suc, ◌+◌, ◌-◌, ◌<◌, ◌≤◌, List, [], ◌∷◌, ◌++◌, length, get_or, All, ap, ◌∙◌, inl, inr, arith, length-append}
 use Rattle.std.specs.List.Sorted.{IsStrictlyIncreasing}
 use Rattle.std.proofs.lemmas.Bool.{cases_lt}
-use Rattle.std.proofs.lemmas.List.Concat.{flat_map-append}
 use Rattle.std.proofs.lemmas.Option.{slice_get-get_or}
 use Rattle.board_model.specs.declared.boards.BoardEvent.{BoardEvent}
 use Rattle.board_model.specs.declared.boards.BoardKind.{BoardKind}
 use Rattle.board_model.specs.declared.boards.BoardKind.TheVariants.{Read, Publish}
 use Rattle.board_model.specs.Forecasts.{IsAboveLast}
 use Rattle.board_model.specs.Boards.{published_by, published, version_of}
-
--- later events add their versions
-pub version_of-more : (events later : List BoardEvent) → version_of (events ++ later) ≡ version_of events + version_of later
-version_of-more events later = ap length (flat_map-append _ events later) ∙ length-append (published events) (published later)
 
 one-at-most : (kind : BoardKind) → length (published_by kind) ≤ 1
 one-at-most (Read version) = omega arith

@@ -229,6 +229,3 @@ whole-longest lists counts h small none = record {
     | inr past ↦ let nothing : get_or more k 0 ≡ 0 = get_or_past more k 0 (omega (arith, g.phases)) in omega (arith, nothing)
   ]);
 }
-
-pub full-longest : (lists : List (List Platoon)) (counts : List ℕ) → IsFront lists counts → ArePlannableCounts counts → sum counts ≡ 40 → IsLongest lists counts
-full-longest lists counts h small e = record { front = h; small = small; longest = λ more g fits. omega (arith, fits.clusters, e) }

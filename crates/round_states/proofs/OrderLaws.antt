@@ -14,10 +14,6 @@ use Rattle.round_states.specs.declared.entries.Said.TheVariants.{Begins, Shows, 
 use Rattle.round_states.specs.Order.{AreInOrder, FitsAfter, IsBegin, IsFirstSaid, begin_said, now_of}
 use Rattle.round_states.specs.States.{begin_of}
 
--- no record
-pub order-none : (net : Net) → AreInOrder net []
-order-none net k d h = absurd (omega (arith, h))
-
 -- one record more
 pub order-push : (net : Net) (es : List Entry) (e : Entry) → AreInOrder net es → FitsAfter net es e → AreInOrder net (es ++ e ∷ [])
 order-push net es e order fits k d h = elim (cases_lt k (length es)) [
