@@ -1,9 +1,6 @@
-//! The worked network of docs/FORMATS.md for tests: its text, what enters it, a report of its run, the network itself, and copies of it.
+//! The worked network of docs/FORMATS.md for tests: its text, what enters it, and the network itself.
 #![tactic(auto)]
 
-mod copies;
-
-pub use copies::{network_of_copies, vehicles_of_copies};
 use road_net::{NetFault, Network, read_network};
 use std::alloc::{AllocError, Global};
 
@@ -39,43 +36,6 @@ rounds = 4
 
 /// One vehicle enters in second 0.
 pub const ONE_VEHICLE: &str = "second,link,amount\n0,sa,1000\n";
-
-/// The report of the run of four rounds in the turn order, with the one vehicle. It is a file of its history too.
-pub const REPORT: &str = "kind,round,node,x,y,z,w
-step,0,a,read,ba,0,
-step,0,a,publish,ab,1,
-step,0,b,read,ab,1,
-step,0,b,publish,ba,1,
-step,1,a,read,ba,1,
-step,1,a,publish,ab,2,
-step,1,b,read,ab,2,
-step,1,b,publish,ba,2,
-step,2,a,read,ba,2,
-step,2,a,publish,ab,3,
-step,2,b,read,ab,3,
-step,2,b,publish,ba,3,
-step,3,a,read,ba,3,
-step,3,a,publish,ab,4,
-step,3,b,read,ab,4,
-step,3,b,publish,ba,4,
-plan,0,a,ba=0,plan,0,
-plan,0,b,ab=1,plan,0,
-plan,1,a,ba=1,plan,2000,1
-plan,1,b,ab=2,plan,0,0
-plan,2,a,ba=2,plan,2000,10
-plan,2,b,ab=3,plan,0,0
-plan,3,a,ba=3,plan,0,0
-plan,3,b,ab=4,plan,0,00
-green,,a,0,0,5,
-green,,a,1,10,27,
-green,,b,0,0,27,
-link,,,sa,1000,1000,500
-link,,,ab,1000,0,0
-link,,,ba,0,0,0
-link,,,sb,0,0,0
-link,,,xb,0,0,0
-total,,,1000,0,1000,500
-";
 
 /// The text of the network with this number of rounds.
 fn with_rounds(alloc: Global, rounds: u32) -> Result<String, AllocError> {

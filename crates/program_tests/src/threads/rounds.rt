@@ -1,0 +1,84 @@
+//! The rounds of a network, with boards and passes of the test.
+ghost use Rattle.std.specs.Prelude.{◌≡◌, ◌*◌, ◌≤◌, length};
+ghost use Rattle.arrivals.specs.Amounts.{AreArrivals};
+ghost use Rattle.board_rule.specs.Passes.{AreAllPasses, fresh_passes};
+
+use super::copies::{network_of_copies, vehicles_of_copies};
+use super::pairs::{COPIES, MET, PAIRS};
+use crate::gates::meeting::MeetingGate;
+use arrivals::{Arrivals, read_arrivals};
+use forward_dp::LayerPlanner;
+use histories::law_of_steps;
+use net_threads::run_rounds;
+use plan_boards::{Boards, Pass};
+use road_net::Network;
+use std::alloc::{AllocError, Global};
+use std::sync::Wait;
+use std::test::Fail;
+use std::thread::Threads;
+use worked_network::network_of;
+
+/// Enough calls for each node's board steps in all rounds.
+pub(crate) fn calls_for(net: &Network) -> u32
+    ensures value { result ≡ net.now.run.rounds * 320 }
+    ensures few { (1 ≤ result) × (result ≤ 1000000) }
+{
+    net.run().rounds * 320
+}
+
+/// Plays the rounds by new passes. How many vehicles, in thousandths, entered.
+fn play<R: Threads + Wait + Sync>(
+    rt: &R,
+    alloc: Global,
+    net: &Network,
+    arrivals: &Arrivals,
+    boards: &Boards,
+    passes: &mut [Pass],
+    gate: &MeetingGate,
+) -> Result<u64, AllocError>
+    requires arrivals { AreArrivals net.now arrivals.now }
+    requires links { boards.now.links ≡ length net.now.link_names }
+    requires all { AreAllPasses boards.now passes.old }
+    requires passes { passes.old ≡ fresh_passes boards.now.id (net.now.run.rounds * 320) 0 (length net.now.node_names) }
+{
+    law_of_steps(net);
+    let planners = vec![in alloc; LayerPlanner; net.nodes() as usize]?;
+    let run = run_rounds(rt, alloc, net, arrivals, planners, boards, passes, gate)?;
+    Ok(run.totals.entered)
+}
+
+/// Plays the rounds by new boards.
+fn play_anew<R: Threads + Wait + Sync>(
+    rt: &R,
+    gate: &MeetingGate,
+    alloc: Global,
+    net: &Network,
+    arrivals: &Arrivals,
+) -> Result<u64, AllocError>
+    requires { AreArrivals net.now arrivals.now }
+{
+    let (boards, mut passes) = Boards::new(alloc, net.links(), net.nodes(), calls_for(net))?;
+    play(
+        rt,
+        alloc,
+        net,
+        arrivals,
+        &boards,
+        passes.as_mut_slice(),
+        gate,
+    )
+}
+
+#[test]
+fn two_reads_inside(rt: HostRuntime) -> Result<(), Fail> {
+    let alloc = rt.alloc();
+    let net = network_of(alloc, network_of_copies(alloc, COPIES)?.as_str())?;
+    let arrivals = read_arrivals(alloc, vehicles_of_copies(alloc, COPIES)?.as_bytes(), &net)?;
+    for (place, &[first, second]) in PAIRS.iter().enumerate() {
+        let gate = MeetingGate::new(first, second);
+        let entered = play_anew(&rt, &gate, alloc, &net, &arrivals)?;
+        assert_eq!(rt; gate.met(), MET, "pair {place}");
+        assert!(rt; entered == 5000);
+    }
+    Ok(())
+}

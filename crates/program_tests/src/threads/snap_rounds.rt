@@ -1,0 +1,85 @@
+//! The rounds of a network at boards whose forecasts are read beside the writer, with boards and passes of the test.
+ghost use Rattle.std.specs.Prelude.{◌≡◌, ◌*◌, length};
+ghost use Rattle.arrivals.specs.Amounts.{AreArrivals};
+ghost use Rattle.board_rule.specs.Passes.{AreAllPasses, fresh_passes};
+ghost use Rattle.net_threads.specs.Ends.{AreEndsOf};
+ghost use Rattle.snap_boards.specs.Boards.{shared_of};
+
+use super::copies::{network_of_copies, vehicles_of_copies};
+use super::pairs::{COPIES, MET, PAIRS};
+use super::rounds::calls_for;
+use crate::gates::meeting::MeetingGate;
+use arrivals::{Arrivals, read_arrivals};
+use forward_dp::LayerPlanner;
+use histories::law_of_steps;
+use net_threads::{link_ends, run_rounds_snap};
+use road_net::Network;
+use snap_boards::{SnapBoards, SnapPass};
+use std::alloc::{AllocError, Global};
+use std::sync::Wait;
+use std::test::Fail;
+use std::thread::Threads;
+use worked_network::network_of;
+
+/// Plays the rounds by new passes. How many vehicles, in thousandths, entered.
+fn play<R: Threads + Wait + Sync>(
+    rt: &R,
+    alloc: Global,
+    net: &Network,
+    arrivals: &Arrivals,
+    boards: &SnapBoards,
+    passes: &mut [SnapPass],
+    gate: &MeetingGate,
+) -> Result<u64, AllocError>
+    requires arrivals { AreArrivals net.now arrivals.now }
+    requires links { boards.now.links ≡ length net.now.link_names }
+    requires ends { AreEndsOf net.now boards.now.ends }
+    requires all { AreAllPasses (shared_of boards.now) passes.old }
+    requires passes { passes.old ≡ fresh_passes boards.now.id (net.now.run.rounds * 320) 0 (length net.now.node_names) }
+    ensures { AreAllPasses (shared_of boards.now) passes.new }
+{
+    law_of_steps(net);
+    let planners = vec![in alloc; LayerPlanner; net.nodes() as usize]?;
+    let run = run_rounds_snap(rt, alloc, net, arrivals, planners, boards, passes, gate)?;
+    Ok(run.totals.entered)
+}
+
+/// Plays the rounds by new boards.
+fn play_anew<R: Threads + Wait + Sync>(
+    rt: &R,
+    gate: &MeetingGate,
+    alloc: Global,
+    net: &Network,
+    arrivals: &Arrivals,
+) -> Result<u64, AllocError>
+    requires { AreArrivals net.now arrivals.now }
+{
+    let ends = link_ends(alloc, net)?;
+    let calls = calls_for(net);
+    let (boards, mut passes) = SnapBoards::new(rt, alloc, ends.as_slice(), net.nodes(), calls)?;
+    let entered = play(
+        rt,
+        alloc,
+        net,
+        arrivals,
+        &boards,
+        passes.as_mut_slice(),
+        gate,
+    );
+    let _logs = boards.close(rt, alloc, passes)?;
+    entered
+}
+
+#[test]
+fn two_reads_inside_beside_the_writer(rt: HostRuntime) -> Result<(), Fail> {
+    let alloc = rt.alloc();
+    let net = network_of(alloc, network_of_copies(alloc, COPIES)?.as_str())?;
+    let arrivals = read_arrivals(alloc, vehicles_of_copies(alloc, COPIES)?.as_bytes(), &net)?;
+    for (place, &[first, second]) in PAIRS.iter().enumerate() {
+        let gate = MeetingGate::new(first, second);
+        let entered = play_anew(&rt, &gate, alloc, &net, &arrivals)?;
+        assert_eq!(rt; gate.met(), MET, "pair {place}");
+        assert!(rt; entered == 5000);
+    }
+    Ok(())
+}
