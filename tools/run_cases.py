@@ -3,12 +3,14 @@
 
 A case is a folder with a file `words`, which has the words of the program's command line, one a
 line, and with the answer that is wanted: `status` has the exit status, `stdout` and `stderr` have
-the bytes written there. A `stdout` or `stderr` that is absent stands for no bytes. The program is
-run in a copy of the case's folder, so that the words can name its other files. A file `replays`
+the bytes written there. A `stdout` or `stderr` that is absent stands for no bytes, and a file
+`stdout.sum` for a `stdout` of which only the length and the SHA-256 are kept. The program is run in
+a copy of the case's folder, so that the words can name its other files. A file `replays`
 stands for an output that is not fixed: it has the words of a second run, whose last word names
 what the first one wrote to standard output; the second has to write the same, and to end with 0.
 
-Each FOLDER is a case, or holds cases at any depth. The exit status is 0 where all cases agree, 1
+Each PLACE is a folder that is a case, or that holds cases or files of cases at any depth, or such a
+file, as cases.py says. The exit status is 0 where all cases agree, 1
 where any differs, and 2 where there are none, one is malformed or the program can't be run; a
 line on standard error then says what is wrong.
 """
@@ -24,19 +26,40 @@ import tempfile
 from concurrent.futures import ThreadPoolExecutor
 from pathlib import Path
 
+from cases import SUM, Malformed, sum_line, unpack
+
 ANSWER = ("status", "stdout", "stderr")
-NO_FILES = ("words", "replays", "note", *ANSWER)
+NO_FILES = ("words", "replays", "note", SUM, *ANSWER)
 
 
-class Malformed(Exception):
-    """What is wrong with a case, a folder or the program."""
+class Sum:
+    """An answer of which only the length and the sum are kept. It is equal to the bytes that have them."""
+
+    def __init__(self, line):
+        self.line = line
+
+    def __eq__(self, found):
+        return self.line == sum_line(found)
+
+    def __str__(self):
+        return self.line
 
 
-def cases_in(folder):
-    """The cases at or below a folder, by name."""
-    if not Path(folder).is_dir():
-        raise Malformed(f"{folder} is no folder")
-    return sorted(words.parent for words in Path(folder).rglob("words") if words.is_file())
+def cases_in(place, room):
+    """The cases of a file of cases, or at or below a folder, by name. Those of files are unpacked in a new folder of the room."""
+    place = Path(place)
+    if not place.exists() or not (place.is_dir() or place.suffix == ".cases"):
+        raise Malformed(f"{place} is no folder and no file of cases")
+    files = sorted(place.rglob("*.cases")) if place.is_dir() else [place]
+    folders = [Path(tempfile.mkdtemp(dir=room)) for _ in files]
+    for file, folder in zip(files, folders):
+        unpack([file], folder)
+    return [
+        words.parent
+        for folder in ([place] if place.is_dir() else []) + folders
+        for words in sorted(folder.rglob("words"))
+        if words.is_file()
+    ]
 
 
 def bytes_of(path):
@@ -51,7 +74,10 @@ def recorded(case):
     status = file.read_bytes().strip()
     if not status.isdigit() or int(status) > 255:
         raise Malformed(f"{file} has {shown(status)} in place of a number from 0 to 255")
-    return int(status), bytes_of(case / "stdout"), bytes_of(case / "stderr")
+    out = bytes_of(case / "stdout")
+    if (case / SUM).is_file():
+        out = Sum((case / SUM).read_text().rstrip())
+    return int(status), out, bytes_of(case / "stderr")
 
 
 def words_in(file):
@@ -130,6 +156,11 @@ def difference(program, case, seconds, bad_prefix):
     return "; ".join(differing) or None
 
 
+def name_of(case, room):
+    """The path of a case, or GROUP/NAME where it was unpacked in the room."""
+    return "/".join(case.parts[-2:]) if Path(room) in case.parents else str(case)
+
+
 def shown(value):
     text = repr(value.decode(errors="replace")) if isinstance(value, bytes) else str(value)
     return text if len(text) <= 200 else text[:200] + ".."
@@ -169,7 +200,9 @@ def main():
         action="store_true",
         help="leave out what follows `signal: bad K` on standard error, on both sides",
     )
-    parser.add_argument("folders", nargs="+", metavar="FOLDER", help="a case, or a folder of cases")
+    parser.add_argument(
+        "places", nargs="+", metavar="PLACE", help="a case, a folder of cases, or a file of cases"
+    )
     end(parser, compared)
 
 
@@ -178,7 +211,13 @@ def compared(options):
     program = shutil.which(os.path.abspath(options.program))
     if program is None:
         raise Malformed(f"{options.program} is no program that can be run")
-    cases = [case for folder in options.folders for case in cases_in(folder)]
+    with tempfile.TemporaryDirectory() as room:
+        return compared_in(options, program, room)
+
+
+def compared_in(options, program, room):
+    """The same, with a folder in which files of cases are unpacked."""
+    cases = [case for place in options.places for case in cases_in(place, room)]
     if not cases:
         raise Malformed("no cases: a case is a folder with a file `words`")
     for case in cases:
@@ -192,7 +231,7 @@ def compared(options):
             for case, told in zip(cases, found):
                 if told is not None:
                     differing += 1
-                    print(f"{case}: {told}", flush=True)
+                    print(f"{name_of(case, room)}: {told}", flush=True)
         except BaseException:
             runs.shutdown(cancel_futures=True)
             raise
