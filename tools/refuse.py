@@ -1,8 +1,8 @@
 #!/usr/bin/env python3
 """Runs a program over recorded cases with memory or threads refused, and counts the runs.
 
-Each PLACE is a case, as run_cases.py says, a folder that holds cases at any depth, or a program of
-tests. If none is named, the cases of every command are meant, and the programs of tests that are
+Each PLACE is a case, as run_cases.py says, a folder that holds cases or files of cases at any depth,
+a file of cases, or a program of tests. If none is named, the cases of every command are meant, and the programs of tests that are
 built. There are three ways: the Nth request for memory alone is refused; the Nth and all later ones
 are; and, where the case starts threads, the Nth start of a thread and all later ones. N rises from
 1 until a run meets no refusal: by 1 up to --each, and then by 97. A run may end with status 6,
@@ -31,7 +31,7 @@ from pathlib import Path
 from run_cases import Malformed, cases_in, end, ended, parser_of, recorded, shown, words_in
 
 ROOT = Path(__file__).resolve().parent.parent
-EVERY_COMMAND = ROOT / "crates/recorded_cases/data/each_command"
+EVERY_COMMAND = ROOT / "crates/recorded_cases/data/each_command.cases"
 SOURCE = ROOT / "tools/refuse.c"
 TESTS = "whichever_is_refused"
 
@@ -114,16 +114,16 @@ def tests_of(program):
     return [Test(program, name) for name in names if name.endswith(TESTS)]
 
 
-def subjects(options):
-    """The cases and tests of the places that are named, or of all."""
+def subjects(options, room):
+    """The cases and tests of the places that are named, or of all. Files of cases are unpacked in the room."""
     places = list(map(Path, options.places)) or [
         EVERY_COMMAND,
         *sorted((ROOT / "crates").glob("*/out/*_tests")),
     ]
     program = runnable(options.program)
     for place in places:
-        if place.is_dir():
-            yield from (Case(program, folder) for folder in cases_in(place))
+        if place.is_dir() or place.suffix == ".cases":
+            yield from (Case(program, folder) for folder in cases_in(place, room))
         else:
             yield from tests_of(runnable(place))
 
@@ -201,7 +201,10 @@ def main():
         "--each", type=int, default=2000, metavar="N", help="by 1 up to this request, 2000 if left out"
     )
     parser.add_argument(
-        "places", nargs="*", metavar="PLACE", help="a case, a folder of cases, or a program of tests"
+        "places",
+        nargs="*",
+        metavar="PLACE",
+        help="a case, a folder of cases, a file of cases, or a program of tests",
     )
     end(parser, refused)
 
@@ -215,7 +218,7 @@ def refused(options):
     made, wrong = 0, 0
     with tempfile.TemporaryDirectory() as folder:
         runs = Runs(options, Path(folder), compiler)
-        for subject in subjects(options):
+        for subject in subjects(options, folder):
             for way in subject.ways:
                 if runs.asks(subject, way):
                     more, faults = runs.wrong_ends(subject, way)

@@ -1,88 +1,86 @@
-//! Cases, as their folders have them.
+//! Cases, as the groups have them.
+use crate::groups::{File, Group, Recorded, malformed};
+use crate::texts::text_of;
 use foundation::items::Items;
 use foundation::text::Text;
-use std::alloc::Global;
-use std::fs;
-use std::io::{self, ErrorKind};
-use std::rt::Files;
+use hex::encode;
+use sha2::{Digest, Sha256};
+use std::alloc::{AllocError, Global};
+use std::io;
 
 /// A case: the words and files that the program is given, and the answer that is wanted of it.
 ///
-/// In its folder `words` has the words, one a line, `status` the exit status, and `stdout` and `stderr` have the bytes that are
-/// written; where one of these two is absent, nothing is. A file `replays` stands for an answer that is not fixed: it has the words
-/// of a second call, which has to write once more what the first wrote, and whose last word names that text. A file `note` is for
-/// the reader. All other files are the program's.
+/// Of its files `words` has the words, one a line, `status` the exit status, and `stdout` and `stderr` have the bytes that are written;
+/// where one of these two is absent, nothing is. A file `replays` stands for an answer that is not fixed: it has the words of a second
+/// call, which has to write once more what the first wrote, and whose last word names that text. A file `note` is for the reader. All
+/// other files are the program's.
 #[derive(Drop)]
 pub(crate) struct Case {
     pub(crate) words: Vec<Text>,
     pub(crate) files: Vec<(Text, Items<u8>)>,
     pub(crate) status: String,
-    pub(crate) out: Vec<u8>,
+    pub(crate) out: Wanted,
     pub(crate) err: Vec<u8>,
     pub(crate) replays: Vec<Text>,
 }
 
-/// What a folder holds.
-#[derive(Debug, Clone, Copy, PartialEq, Eq)]
-pub(crate) enum Kind {
-    /// Folders.
-    Folder,
-    /// Files.
-    File,
+/// What has to be written to `out`.
+#[derive(Drop)]
+pub(crate) enum Wanted {
+    /// These bytes.
+    Bytes(Vec<u8>),
+    /// Bytes with this length and SHA-256, as the form `of N bytes, sha256 HEX` of the file `stdout` says them.
+    Sum(String),
 }
 
-/// The names of the folders in a folder, or those of all else, in their order.
-pub(crate) fn names_in<R: Files + AllocGlobal + Clone + Drop>(
-    rt: &R,
-    folder: &str,
-    kind: Kind,
-) -> io::Result<Vec<String>> {
-    let alloc = rt.alloc();
-    let mut names = Vec::new(alloc);
-    for entry in fs::read_dir(rt, folder)? {
-        let entry = entry?;
-        if entry.file_type()?.is_dir() == (kind == Kind::Folder) {
-            names.push(String::from_str(alloc, entry.file_name())?)?;
-        }
-    }
-    names.sort_unstable();
-    Ok(names)
+/// The length and the SHA-256 of some bytes, as the form of a file says them.
+pub(crate) fn sum_of(alloc: Global, bytes: &[u8]) -> Result<String, AllocError> {
+    let (length, digest) = (
+        bytes.len(),
+        encode(alloc, Sha256::digest(bytes).as_slice())?,
+    );
+    format!(in alloc; "of {length} bytes, sha256 {digest}")
 }
 
-/// The case of a folder.
-pub(crate) fn read_case<R: Files + AllocGlobal + Clone + Drop>(
-    rt: &R,
-    folder: &str,
-) -> io::Result<Case> {
-    let alloc = rt.alloc();
+/// The case that some groups have.
+pub(crate) fn read_case(alloc: Global, groups: &[Group], recorded: &Recorded) -> io::Result<Case> {
     let mut case = Case {
         words: Vec::new(alloc),
         files: Vec::new(alloc),
         status: String::new(alloc),
-        out: Vec::new(alloc),
+        out: Wanted::Bytes(Vec::new(alloc)),
         err: Vec::new(alloc),
         replays: Vec::new(alloc),
     };
-    for name in names_in(rt, folder, Kind::File)? {
-        let path = format!(in alloc; "{folder}/{name}")?;
-        let bytes = fs::read(rt, path.as_str())?;
-        add_file(alloc, &mut case, name, bytes)?;
+    for file in &recorded.files {
+        if is_sum(file) {
+            case.out = Wanted::Sum(String::from_str(alloc, file.form.as_str())?);
+        } else {
+            let text = text_of(alloc, groups, file)?;
+            add_file(alloc, &mut case, file.name.as_str(), text)?;
+        }
     }
     Ok(case)
 }
 
-/// Adds a file of its folder to a case.
-fn add_file(alloc: Global, case: &mut Case, name: String, bytes: Vec<u8>) -> io::Result<()> {
-    match name.as_str() {
-        "words" => case.words = words_of(alloc, &text_of(bytes)?)?,
-        "status" => case.status = text_of(bytes)?,
-        "stdout" => case.out = bytes,
-        "stderr" => case.err = bytes,
-        "replays" => case.replays = words_of(alloc, &text_of(bytes)?)?,
+/// Whether a file is an answer of which only the sum is kept.
+fn is_sum(file: &File) -> bool {
+    file.name.as_str() == "stdout" && file.form.starts_with("of ")
+}
+
+/// Adds a file with its text to a case.
+fn add_file(alloc: Global, case: &mut Case, name: &str, text: Vec<u8>) -> io::Result<()> {
+    match name {
+        "words" => case.words = words_of(alloc, &string_of(text)?)?,
+        "status" => case.status = string_of(text)?,
+        "stdout" => case.out = Wanted::Bytes(text),
+        "stderr" => case.err = text,
+        "replays" => case.replays = words_of(alloc, &string_of(text)?)?,
         "note" => {}
-        _ => case
-            .files
-            .push((Text::from_string(name), Items::from_vec(bytes)))?,
+        _ => {
+            let name = Text::from_string(String::from_str(alloc, name)?);
+            case.files.push((name, Items::from_vec(text)))?;
+        }
     }
     Ok(())
 }
@@ -99,10 +97,10 @@ fn words_of(alloc: Global, lines: &str) -> io::Result<Vec<Text>> {
     Ok(words)
 }
 
-/// The text of these bytes.
-fn text_of(bytes: Vec<u8>) -> io::Result<String> {
+/// These bytes as a string.
+fn string_of(bytes: Vec<u8>) -> io::Result<String> {
     match String::from_utf8(bytes) {
         Ok(text) => Ok(text),
-        Err(_) => Err(io::Error::from(ErrorKind::InvalidData)),
+        Err(_) => Err(malformed()),
     }
 }

@@ -1,25 +1,27 @@
 //! What is answered otherwise than a case has it.
 use crate::calls::{Ending, Failing, NOTHING, call};
-use crate::cases::{Case, read_case};
+use crate::cases::{Case, Wanted, read_case, sum_of};
+use crate::groups::{Group, Recorded};
 use foundation::items::Items;
 use foundation::text::Text;
 use std::alloc::{AllocError, Global};
-use std::rt::Files;
 use std::sync::Wait;
 use std::thread::Threads;
 use std::{io, mem};
 
-/// What differs in the case of a folder; nothing where it is answered as it has to be.
-pub(crate) fn difference<R: Files + AllocGlobal + Clone + Drop + Threads + Wait + Sync>(
+/// What differs in a case of some groups; nothing where it is answered as it has to be.
+pub(crate) fn difference<R: Threads + Wait + Sync>(
     rt: &R,
-    folder: &str,
+    alloc: Global,
+    groups: &[Group],
+    recorded: &Recorded,
 ) -> io::Result<String> {
-    let mut case = read_case(rt, folder)?;
+    let mut case = read_case(alloc, groups, recorded)?;
     if case.replays.is_empty() {
-        return Ok(of_answer(rt, rt.alloc(), &mut case)?);
+        return Ok(of_answer(rt, alloc, &mut case)?);
     }
-    let mut replay = read_case(rt, folder)?;
-    Ok(of_replay(rt, rt.alloc(), &mut case, &mut replay)?)
+    let mut replay = read_case(alloc, groups, recorded)?;
+    Ok(of_replay(rt, alloc, &mut case, &mut replay)?)
 }
 
 /// Calls the program with the words of a case over its files, which the case then no longer has.
@@ -51,7 +53,7 @@ fn of_replay<R: Threads + Wait + Sync>(
     replay: &mut Case,
 ) -> Result<String, AllocError> {
     let found = call_case(rt, alloc, case, NOTHING)?;
-    case.out = found.out().to_vec(alloc)?;
+    case.out = Wanted::Bytes(found.out().to_vec(alloc)?);
     turn_to_replay(alloc, replay, found.out())?;
     let text = differing(alloc, case, &found)?;
     if text.is_empty() {
@@ -70,7 +72,7 @@ fn turn_to_replay(alloc: Global, case: &mut Case, written: &[u8]) -> Result<(), 
         case.files.push((name, content))?;
     }
     case.status = String::from_str(alloc, "0")?;
-    case.out = written.to_vec(alloc)?;
+    case.out = Wanted::Bytes(written.to_vec(alloc)?);
     case.err = Vec::new(alloc);
     Ok(())
 }
@@ -82,7 +84,10 @@ pub(crate) fn differing(alloc: Global, case: &Case, found: &Ending) -> Result<St
     if format!(in alloc; "{code}")?.as_str() != wanted {
         write!(text, "status is {code} in place of {wanted}; ")?;
     }
-    add_difference(&mut text, "stdout", &case.out, found.out())?;
+    match &case.out {
+        Wanted::Bytes(wanted) => add_difference(&mut text, "stdout", wanted, found.out())?,
+        Wanted::Sum(wanted) => add_sum_difference(alloc, &mut text, wanted, found.out())?,
+    }
     add_difference(&mut text, "stderr", &case.err, found.err())?;
     Ok(text)
 }
@@ -109,4 +114,28 @@ fn add_difference(
         }
     }
     Ok(write!(text, "{part} ends otherwise; ")?)
+}
+
+/// How many lines of an answer are shown whose sum differs.
+const SHOWN: usize = 3;
+
+/// Adds how the length or the sum of what was written differs, if it does, and the first lines of that.
+fn add_sum_difference(
+    alloc: Global,
+    text: &mut String,
+    wanted: &str,
+    found: &[u8],
+) -> Result<(), AllocError> {
+    let sum = sum_of(alloc, found)?;
+    if sum.as_str() == wanted {
+        return Ok(());
+    }
+    write!(
+        text,
+        "stdout is {sum} in place of {wanted}, and begins with"
+    )?;
+    for line in str::from_utf8(found).unwrap_or("?").split('\n').take(SHOWN) {
+        write!(text, " {line:?}")?;
+    }
+    text.push_str("; ")
 }

@@ -1,11 +1,11 @@
 //! Cases once more, in which calls of the shelf and of the sinks fail.
 use crate::calls::{Ending, Failing, NO_PUT, NOTHING};
-use crate::cases::{Case, read_case};
+use crate::cases::{Case, Wanted, read_case};
 use crate::differences::{call_case, differing};
+use crate::groups::{Group, Recorded};
 use outside_world::SinkFail;
 use std::alloc::{AllocError, Global};
 use std::io;
-use std::rt::Files;
 use std::sync::Wait;
 use std::thread::Threads;
 
@@ -25,21 +25,22 @@ pub(crate) struct Runs {
     pub(crate) text: String,
 }
 
-/// Does the case of a folder with each of its fetches failing in turn, and with each of its puts failing in turn, keeping no byte or
+/// Does a case of some groups with each of its fetches failing in turn, and with each of its puts failing in turn, keeping no byte or
 /// one: each with a put to `err` that is whole and with one that fails; and with this alone.
-pub(crate) fn run_failing<R: Files + AllocGlobal + Clone + Drop + Threads + Wait + Sync>(
+pub(crate) fn run_failing<R: Threads + Wait + Sync>(
     rt: &R,
-    folder: &str,
+    alloc: Global,
+    groups: &[Group],
+    recorded: &Recorded,
 ) -> io::Result<Runs> {
-    let alloc = rt.alloc();
-    let mut whole = read_case(rt, folder)?;
+    let mut whole = read_case(alloc, groups, recorded)?;
     let found = call_case(rt, alloc, &mut whole, NOTHING)?;
     let mut runs = Runs {
         count: 0,
         text: String::new(alloc),
     };
     for &failing in &ways(alloc, found.fetches, found.out.calls)? {
-        let mut case = read_case(rt, folder)?;
+        let mut case = read_case(alloc, groups, recorded)?;
         runs.count = runs.count.saturating_add(1);
         runs.text = of_failing(rt, alloc, &mut case, found.out(), failing)?;
         if !runs.text.is_empty() {
@@ -119,15 +120,16 @@ fn set_answer(
     if failing.fetch > 0 {
         let fetch = failing.fetch;
         case.status = String::from_str(alloc, "4")?;
-        case.out = Vec::new(alloc);
+        case.out = Wanted::Bytes(Vec::new(alloc));
         case.err = format!(in alloc; "signal: cannot read {fetch}\n")?.into_bytes();
     } else if failing.out.call > 0 {
         let most = whole.len().saturating_sub(1);
         case.status = String::from_str(alloc, "5")?;
-        case.out = whole[..found.out().len().min(most)].to_vec(alloc)?;
+        let front = &whole[..found.out().len().min(most)];
+        case.out = Wanted::Bytes(front.to_vec(alloc)?);
         case.err = Vec::from_slice(alloc, b"signal: cannot write\n")?;
     } else if !case.replays.is_empty() {
-        case.out = found.out().to_vec(alloc)?;
+        case.out = Wanted::Bytes(found.out().to_vec(alloc)?);
     }
     if failing.err.call > 0 {
         case.err.truncate(failing.err.kept);
