@@ -1,8 +1,8 @@
 #!/usr/bin/env python3
 """Runs a program over recorded cases with memory or threads refused, and counts the runs.
 
-Each PLACE is a case, as run_cases.py says, a folder that holds cases or files of cases at any depth,
-a file of cases, or a program of tests. If none is named, the cases of every command are meant, and the programs of tests that are
+Each PLACE is a case, a folder of cases or a file of cases, as run_cases.py says, or a program of
+tests. If none is named, the cases of every command are meant, and the programs of tests that are
 built. There are three ways: the Nth request for memory alone is refused; the Nth and all later ones
 are; and, where the case starts threads, the Nth start of a thread and all later ones. N rises from
 1 until a run meets no refusal: by 1 up to --each, and then by 97. A run may end with status 6,

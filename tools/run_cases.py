@@ -46,7 +46,7 @@ class Sum:
 
 
 def cases_in(place, room):
-    """The cases of a file of cases, or at or below a folder, by name. Those of files are unpacked in a new folder of the room."""
+    """The cases of a file of cases, or at or below a folder, by name. Those of files are unpacked in the room."""
     place = Path(place)
     if not place.exists() or not (place.is_dir() or place.suffix == ".cases"):
         raise Malformed(f"{place} is no folder and no file of cases")
