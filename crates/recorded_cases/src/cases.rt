@@ -29,17 +29,17 @@ pub(crate) struct Case {
 pub(crate) enum Wanted {
     /// These bytes.
     Bytes(Vec<u8>),
-    /// Bytes with this length and SHA-256, as the form `of N bytes, sha256 HEX` of the file `stdout` says them.
+    /// Bytes with this length and SHA-256, as `N bytes, sha256 HEX` says them.
     Sum(String),
 }
 
-/// The length and the SHA-256 of some bytes, as the form of a file says them.
+/// The length and the SHA-256 of some bytes, as `Wanted` says them.
 pub(crate) fn sum_of(alloc: Global, bytes: &[u8]) -> Result<String, AllocError> {
     let (length, digest) = (
         bytes.len(),
         encode(alloc, Sha256::digest(bytes).as_slice())?,
     );
-    format!(in alloc; "of {length} bytes, sha256 {digest}")
+    format!(in alloc; "{length} bytes, sha256 {digest}")
 }
 
 /// The case that some groups have.
@@ -53,8 +53,8 @@ pub(crate) fn read_case(alloc: Global, groups: &[Group], recorded: &Recorded) ->
         replays: Vec::new(alloc),
     };
     for file in &recorded.files {
-        if is_sum(file) {
-            case.out = Wanted::Sum(String::from_str(alloc, file.form.as_str())?);
+        if let Some(sum) = sum_in(file) {
+            case.out = Wanted::Sum(String::from_str(alloc, sum)?);
         } else {
             let text = text_of(alloc, groups, file)?;
             add_file(alloc, &mut case, file.name.as_str(), text)?;
@@ -63,9 +63,12 @@ pub(crate) fn read_case(alloc: Global, groups: &[Group], recorded: &Recorded) ->
     Ok(case)
 }
 
-/// Whether a file is an answer of which only the sum is kept.
-fn is_sum(file: &File) -> bool {
-    file.name.as_str() == "stdout" && file.form.starts_with("of ")
+/// The length and the SHA-256 of an answer, where its file has no more: its form is `of` and these.
+fn sum_in(file: &File) -> Option<&str> {
+    if file.name.as_str() != "stdout" {
+        return None;
+    }
+    file.form.as_str().strip_prefix("of ")
 }
 
 /// Adds a file with its text to a case.

@@ -132,7 +132,7 @@ fn add_sum_difference(
     }
     write!(
         text,
-        "stdout is {sum} in place of {wanted}, and begins with"
+        "stdout has {sum} in place of {wanted}, and begins with"
     )?;
     for line in str::from_utf8(found).unwrap_or("?").split('\n').take(SHOWN) {
         write!(text, " {line:?}")?;
