@@ -6,7 +6,7 @@ use Rattle.std.specs.List.{concat, range_with_len}
 unfoldable pub filled_from : List ℕ → ℕ → ℕ → List ℕ
 filled_from series first n = filter (λ x. nat_lt 0 (slice_index series x)) (range_with_len first n)
 
--- and among all
+-- the seconds of a series that are not empty, in order
 abbrev pub filled : List ℕ → List ℕ
 filled series = filled_from series 0 (length series)
 

@@ -34,7 +34,7 @@ abbrev pub inflow_at : ℕ → ℕ → ℕ → List ℕ → List Row → ℕ →
 inflow_at now travel queue coming forecast x =
     (if x == now then queue else 0) + (if nat_lt x (now + travel) then slice_index coming (x - now) else amount_at forecast x)
 
--- and in each of `look` seconds from `now` on
+-- what reaches the end of a link in each of `look` seconds from `now` on
 unfoldable pub inflow : ℕ → ℕ → ℕ → ℕ → List ℕ → List Row → List ℕ
 inflow now look travel queue coming forecast = map (inflow_at now travel queue coming forecast) (range_with_len now look)
 

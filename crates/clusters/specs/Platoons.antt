@@ -16,7 +16,7 @@ pub use Rattle.clusters.specs.Streams.{part_of}
 abbrev pub streams_of : Net → Sensed → List Heard → List ℕ → List Part
 streams_of net sensed heard links = map (λ l. record { link = l; amounts = leaving net sensed heard l }) links
 
--- what they bring together, in each of the first `look` seconds
+-- what streams bring together, in each of the first `look` seconds
 unfoldable pub together : List Part → ℕ → List ℕ
 together streams look = map (λ x. sum_by (λ s. slice_index s.amounts x) streams) (range_with_len 0 look)
 

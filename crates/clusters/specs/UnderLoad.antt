@@ -41,7 +41,7 @@ aged_load_of age net sensed part = sum_by (amount_load age (link_at net part.lin
 abbrev pub with_held_load : ℕ → Platoon → Platoon
 with_held_load hold p = record { cluster = record p.cluster { load = min (greatest_weight * p.cluster.size) (hold * p.cluster.load) }; parts = p.parts }
 
--- the same of the first of these platoons, where it has arrived by this second; without a hold the platoons as they are
+-- these platoons, of which the first counts so many times where it has arrived by this second; without a hold as they are
 abbrev pub with_first_held : Option ℕ → ℕ → List Platoon → List Platoon
 with_first_held None at list = list
 with_first_held (Some hold) at [] = []

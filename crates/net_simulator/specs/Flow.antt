@@ -20,7 +20,9 @@ nothing = record { entered = 0; left = 0 }
 abbrev pub passed_in : List (List Passed) → ℕ → ℕ → Passed
 passed_in history n l = slice_index_or (slice_index_or history n []) l nothing
 
--- Below, `past n l` is what passed link l in the first n seconds. All that reached the end of the link in them.
+-- Below, `past n l` is what passed link l in the first n seconds.
+
+-- all that reached the end of a link in the first n seconds
 abbrev pub reached : Net → (ℕ → ℕ → Passed) → ℕ → ℕ → ℕ
 reached net past n l = (past (n - (link_at net l).travel) l).entered
 

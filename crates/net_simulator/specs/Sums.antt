@@ -24,7 +24,7 @@ AreFew net arriving = (n : ℕ) → arrived net arriving n ≤ 2000000000
 abbrev pub gone : Net → (ℕ → ℕ → Passed) → ℕ → ℕ
 gone net past n = total (λ l. outward (link_at net l).to (past n l).left) (length net.link_names)
 
--- all that is in it then
+-- all that is on the links of the network after the first n seconds
 abbrev pub on_road : Net → (ℕ → ℕ → Passed) → ℕ → ℕ
 on_road net past n = total (λ l. (past n l).entered - (past n l).left) (length net.link_names)
 
@@ -36,7 +36,7 @@ delay net past n l = total (λ x. queue net past (x + 1) l) n
 abbrev pub link_totals : Net → (ℕ → ℕ → Passed) → ℕ → ℕ → LinkTotals
 link_totals net past n l = record { entered = (past n l).entered; left = (past n l).left; delay = delay net past n l }
 
--- and of the whole network
+-- what the first n seconds have counted of the whole network
 abbrev pub totals : Net → (ℕ → ℕ → ℕ) → (ℕ → ℕ → Passed) → ℕ → Totals
 totals net arriving past n = record {
   entered = arrived net arriving n;

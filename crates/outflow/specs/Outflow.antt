@@ -47,11 +47,11 @@ abbrev pub part_coming : Net → ℕ → ℕ → ℕ → ℕ → Part → ℕ
 part_coming net exit travel d start part =
     if nat_lt d (start + travel) then 0 else split_of (turns_at net part.link) (slice_index part.amounts (d - (start + travel))) exit
 
--- and of all parts of a departure
+-- what of all parts of a departure comes to the end of the exit in second d
 abbrev pub departure_coming : Net → ℕ → ℕ → ℕ → Departure → ℕ
 departure_coming net exit travel d departure = sum_by (part_coming net exit travel d departure.start) departure.platoon.parts
 
--- and of all departures
+-- what of all departures comes to the end of the exit in second d
 abbrev pub coming_in : Net → ℕ → List Departure → ℕ → ℕ
 coming_in net exit leave d = sum_by (departure_coming net exit (link_at net exit).travel d) leave
 

@@ -32,7 +32,7 @@ abbrev pub links_from : Side → ℕ → ℕ → List Link → List ℕ
 links_from side node first [] = []
 links_from side node first (l ∷ ls) = if is_node node (node_at side l) then first ∷ links_from side node (suc first) ls else links_from side node (suc first) ls
 
--- the same of all links of a network
+-- the numbers of all links of a network that have the node at this side, rising
 abbrev pub links_of_node : Side → List Link → ℕ → List ℕ
 links_of_node side links node = links_from side node 0 links
 

@@ -86,7 +86,7 @@ IsCause bytes fault = HasNoNetwork bytes fault
 abbrev pub entry_links : Net → ℕ → List ℕ
 entry_links net n = joins.links_of_node To net.links n
 
--- those that come from it, rising
+-- the links that come from a node, rising
 abbrev pub exit_links : Net → ℕ → List ℕ
 exit_links net n = joins.links_of_node From net.links n
 
@@ -94,7 +94,7 @@ exit_links net n = joins.links_of_node From net.links n
 abbrev pub heard_links : Net → ℕ → List ℕ
 heard_links net n = filter (λ l. is_some (link_at net l).from) (entry_links net n)
 
--- those on which it tells one: its exit links that end at a node, rising
+-- the links on which a node tells another one: its exit links that end at a node, rising
 abbrev pub told_links : Net → ℕ → List ℕ
 told_links net n = filter (λ l. is_some (link_at net l).to) (exit_links net n)
 
