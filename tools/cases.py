@@ -9,18 +9,18 @@
 What the files of a case are is said in run_cases.py. A file of cases is a text in UTF-8. A line
 `=== NAME` begins a case, and a line `--- FILE` a file of it, whose lines follow. A line
 `*** N lines as D before` stands for N lines, each of which is as the line D lines before it. A text
-that can't be written so is `--- FILE escaped`: it does not end in a newline, has a control character
-other than a tab, is not UTF-8, or has a line that begins like one of these. In its lines `\\r` stands
-for a carriage return and `\\xHH` for the byte HH, also for a backslash, and a backslash at the end
-of a line says that no newline follows. Of these files no lines follow:
+that can't be written so is `--- FILE escaped`: it does not end in a newline, has a control
+character other than a tab, is not UTF-8, or has a line that begins like one of these. In its lines
+`\\r` stands for a carriage return and `\\xHH` for the byte HH, also for a backslash, and a
+backslash at the end of a line says that no newline follows. Of these files no lines follow:
 
     --- FILE as GROUP/CASE/FILE                        the text of another file of this folder
     --- FILE first N bytes of GROUP/CASE/FILE          the front of one
     --- stdout of N bytes, sha256 HEX                  an answer of which only the sum is kept
 
-The other file has its own lines. An answer that is a sum is the file `stdout.sum` of a case that is
-unpacked. A `stdout` or `stderr` of no bytes is left out. The exit status is 0, 1 where a file is not
-as pack makes it, or 2 where something can't be read or written.
+The other file has its own lines. An answer that is a sum is the file `stdout.sum` of a case that
+is unpacked. A `stdout` or `stderr` of no bytes is left out. The exit status is 0, 1 where a file is
+not as pack makes it, or 2 where something can't be read or written.
 """
 
 import argparse
@@ -66,14 +66,17 @@ def is_plain(text):
         text.decode()
     except UnicodeDecodeError:
         return False
-    ends = text == b"" or text.endswith(b"\n")
-    return ends and PLAIN.fullmatch(text) and not any(b"\n" + mark in b"\n" + text for mark in MARKS)
+    if text and not text.endswith(b"\n"):
+        return False
+    has_mark = any(b"\n" + mark in b"\n" + text for mark in MARKS)
+    return PLAIN.fullmatch(text) is not None and not has_mark
 
 
 def escaped(text):
     """The escaped form of a text."""
     text = text.decode(errors="surrogateescape")
-    text = re.sub("[\0-\x08\x0b\x0c\x0e-\x1f\x7f\\\\\udc80-\udcff]", escape, text).replace("\r", r"\r")
+    text = re.sub("[\0-\x08\x0b\x0c\x0e-\x1f\x7f\\\\\udc80-\udcff]", escape, text)
+    text = text.replace("\r", r"\r")
     text = re.sub(r"(?m)^[-=*](?=(--|==|\*\*) )", escape, text)
     return text.encode() + (b"" if text.endswith("\n") else b"\\\n")
 
@@ -96,7 +99,7 @@ def unescaped(text):
 
 
 def folded(lines):
-    """Lines in which those that are as lines before them are named together, where that is much shorter."""
+    """Lines of which those that are as lines before them are named together, where that is shorter."""
     made, places, place = [], {}, 0
     while place < len(lines):
         saved, count, back = best_copy(lines, place, places.get(lines[place], ()))
@@ -112,7 +115,7 @@ def folded(lines):
 
 
 def best_copy(lines, place, alike):
-    """The copy at a place that saves most: how many bytes, how many lines it has, and from how many lines before."""
+    """The copy at a place that saves most: how many bytes, of how many lines, and from how far before."""
     best = 0, 1, 0
     for before in reversed(alike[-MOST_ALIKE:]):
         count = 0
@@ -145,7 +148,7 @@ def unfolded(lines):
 
 
 def sections(path):
-    """The cases of a file: of each its name, and of each file of it what its head says and its lines."""
+    """The cases of a file by name, and of each its files: what their heads say, and their lines."""
     cases = {}
     *whole, rest = path.read_bytes().split(b"\n")
     if rest:
