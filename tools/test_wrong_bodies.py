@@ -217,6 +217,13 @@ class WrongBodiesTest(unittest.TestCase):
         self.assertEqual(repository.below("top"), {"lines", "low"})
         self.assertEqual(repository.lines["lines"], "lines may_wait=2: low csv")
 
+    def test_all_wrong_bodies_of_the_repository_can_be_applied(self):
+        repository = wrong_bodies.Repository(wrong_bodies.ROOT)
+        for crate in repository.lines:
+            edits, faults = repository.edits(crate)
+            faults |= wrong_bodies.checks_of(edits, repository.folder(crate))[1]
+            self.assertEqual({edit.label: fault for edit, fault in faults.items()}, {})
+
 
 if __name__ == "__main__":
     unittest.main()

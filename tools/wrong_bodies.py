@@ -192,7 +192,7 @@ def head_of(lines, at):
 def without_brackets(text):
     """A text without what is in angle brackets."""
     kept, depth = [], 0
-    for letter in text.replace("impl<", "impl <"):
+    for letter in text.replace("impl<", "impl <").replace("->", ""):
         depth += letter == "<"
         kept += letter if depth == 0 else ""
         depth -= letter == ">"
