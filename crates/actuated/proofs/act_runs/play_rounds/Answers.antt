@@ -1,4 +1,4 @@
-use Rattle.std.proofs.Common.{◌+◌, ◌<◌, ◌≤◌, List, length, sym, ap, subst, ◌∙◌}
+use Rattle.std.proofs.Common.{◌≡◌, ◌+◌, ◌<◌, ◌≤◌, List, length, sym, ap, subst, ◌∙◌, arith}
 use Rattle.control_flow.specs.declared.greens.Green.{Green}
 use Rattle.clusters.proofs.SeenLaws.{written}
 use Rattle.net_draft.specs.declared.drafts.Run.{Run}
@@ -7,9 +7,18 @@ use Rattle.net_simulator.specs.Arriving.{arriving_of}
 use Rattle.net_simulator.specs.Flow.{past_of}
 use Rattle.net_simulator.specs.Worlds.{Stands, line_in, standing_by}
 use Rattle.actuated.specs.Rounds.{AreAmounts, AreRenewed, IsReady}
-use Rattle.actuated.specs.RunsSoFar.{AreNear}
+use Rattle.actuated.specs.RunsSoFar.{AreNear, HavePlayed}
 use Rattle.actuated.proofs.RunLaws.{more-played, played-world, renewed-stands, room}
 use Rattle.actuated.proofs.act_runs.play_rounds.Goals as goal
+
+pub sense_near-requires-clause-near : goal.sense_near-requires-clause-near
+sense_near-requires-clause-near c = ap length c.as_mut_slice.ensures.value ∙ c.loop-round.invariant.near
+
+pub returns : goal.returns
+returns c =
+    let l = c.loop-round in
+    let end : l._round ≡ c.args.net.now.run.rounds = omega (arith, ap (λ (r : Run). r.rounds) c.run-run.ensures.value) in
+    subst (λ r. HavePlayed c.args.net.now (arriving_of c.args.arrivals.now) r l.lines.items l.world) end l.invariant.played
 
 pub sense_near-requires-clause-world : goal.sense_near-requires-clause-world
 sense_near-requires-clause-world c = played-world c.args.net.now c.args.arrivals.now c.loop-round._round c.loop-round.lines.items c.loop-round.world c.requires.arrivals c.loop-round.invariant.played

@@ -1,4 +1,4 @@
-use Rattle.std.proofs.Common.{◌+◌, ◌<◌, ◌≤◌, List, length, slice_index, sym, ap, subst, ◌∙◌}
+use Rattle.std.proofs.Common.{◌≡◌, ◌+◌, ◌<◌, ◌≤◌, List, length, slice_index, sym, ap, subst, ◌∙◌, arith}
 use Rattle.control_flow.specs.declared.greens.Green.{Green}
 use Rattle.clusters.proofs.SeenLaws.{written}
 use Rattle.net_draft.specs.declared.drafts.Run.{Run}
@@ -9,8 +9,18 @@ use Rattle.actuated.specs.Rounds.{AreAmounts, AreRenewed, IsReady}
 use Rattle.actuated.specs.RunsSoFar.{AreNear}
 use Rattle.spillback_world.specs.Storage.{past_in}
 use Rattle.spillback_world.specs.Worlds.{Stands}
+use Rattle.spillback_control.specs.SpillRounds.{HaveSpilled}
 use Rattle.spillback_control.proofs.RunLaws.{more-spilled, renewed-stands, room, spilled-world}
 use Rattle.spillback_control.proofs.spill_runs.play_rounds.Goals as goal
+
+pub sense_near-requires-clause-near : goal.sense_near-requires-clause-near
+sense_near-requires-clause-near c = ap length c.as_mut_slice.ensures.value ∙ c.loop-round.invariant.near
+
+pub returns : goal.returns
+returns c =
+    let l = c.loop-round in
+    let end : l._round ≡ c.args.net.now.run.rounds = omega (arith, ap (λ (r : Run). r.rounds) c.run-run.ensures.value) in
+    subst (λ r. HaveSpilled c.args.net.now (arriving_of c.args.arrivals.now) (slice_index c.args.store.now) r l.lines.items l.world) end l.invariant.played
 
 pub sense_near-requires-clause-world : goal.sense_near-requires-clause-world
 sense_near-requires-clause-world c = spilled-world c.args.net.now c.args.arrivals.now (slice_index c.args.store.now) c.loop-round._round c.loop-round.lines.items c.loop-round.world c.requires.arrivals c.loop-round.invariant.played
