@@ -94,7 +94,35 @@ fn without_newline(line: &str) -> &str {
 pub(crate) fn file_at<'a>(groups: &'a [Group], path: &str) -> Option<&'a File> {
     let (group, path) = path.split_once('/')?;
     let (case, file) = path.split_once('/')?;
-    let group = groups.iter().find(|it| it.name.as_str() == group)?;
-    let case = group.cases.iter().find(|it| it.name.as_str() == case)?;
-    case.files.iter().find(|it| it.name.as_str() == file)
+    file_of(files_of(cases_of(groups, group)?, case)?, file)
+}
+
+/// The cases of the group of this name.
+fn cases_of<'a>(groups: &'a [Group], name: &str) -> Option<&'a [Recorded]> {
+    for group in groups {
+        if group.name.as_str() == name {
+            return Some(group.cases.as_slice());
+        }
+    }
+    None
+}
+
+/// The files of the case of this name.
+fn files_of<'a>(cases: &'a [Recorded], name: &str) -> Option<&'a [File]> {
+    for case in cases {
+        if case.name.as_str() == name {
+            return Some(case.files.as_slice());
+        }
+    }
+    None
+}
+
+/// The file of this name.
+fn file_of<'a>(files: &'a [File], name: &str) -> Option<&'a File> {
+    for file in files {
+        if file.name.as_str() == name {
+            return Some(file);
+        }
+    }
+    None
 }
