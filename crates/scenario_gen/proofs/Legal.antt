@@ -2,11 +2,9 @@
 use Rattle.std.proofs.Common.{◌≡◌, ◌≢◌, ℕ, zero, suc, ◌<◌, ◌≤◌, Bool, true, false, not, ◌&&◌, ◌||◌, ◌==◌, List, [], ◌∷◌, length, get_or, Option, Some, None, All, refl, sym, ap, ◌∙◌, subst, inl, inr, arith, rules}
 use Rattle.std.specs.Prelude.{position, slice_index_or, sum_by, count_by, is_some, nat_le, nat_lt}
 use Rattle.std.specs.List.{list_all, list_any}
-use Rattle.std.specs.Str.{bytes_eq}
 use Rattle.std.proofs.lemmas.Bool.{and_parts, or_cases, or_parts, leb-true, ltb-true, eqb-true, eqb-false, not-true, false≢true, true≢false, cases_lt}
 use Rattle.std.proofs.lemmas.List.Elements.{All-weaker}
 use Rattle.std.proofs.lemmas.List.Sums.{AllPass-from_list_all}
-use Rattle.std.proofs.lemmas.Slice.Eq.{bytes_eq-Decides}
 use Rattle.phase_plan.specs.declared.Phase.{Phase}
 use Rattle.phase_plan.specs.Phases.{IsPhase, is_unmarked}
 use Rattle.net_draft.specs.declared.drafts.Draft.{Draft}
@@ -17,9 +15,10 @@ use Rattle.net_draft.specs.declared.drafts.DraftTurn.{DraftTurn}
 use Rattle.net_numbers.specs.declared.roads.Link.{Link}
 use Rattle.net_numbers.specs.declared.roads.Turn.{Turn}
 use Rattle.net_numbers.specs.Bounds.{IsNameByte, IsName, IsRun, IsBoundedPhase, IsBoundedNode, IsBoundedTurn, IsBoundedLink, IsBounded}
-use Rattle.net_numbers.specs.Numbers.{Net, AreDistinct, has_link, node_names, link_names, numbered}
+use Rattle.net_numbers.specs.Numbers.{Net, AreDistinct, has_link, node_names, link_names}
 use Rattle.road_net.specs.Joins.{HasEnds, HasFewEntries, IsShareTable, HasShares, HasSharesAt, IsPhased, IsPhasedAt, IsConflict, is_node, link_at, share_of, times_named}
 use Rattle.road_net.specs.Network.{IsJoined, IsNetworkOf, entry_links}
+use Rattle.scenario_gen.proofs.Guesses.{are_own, numbered_guessed, numbered-guessed, own-distinct}
 
 -- all elements, and all numbers below a bound
 
@@ -56,9 +55,6 @@ module _ {X : Type 0} (same : X → X → Bool) (R : X → X → Type 0) (apart 
   pairs-by (x ∷ xs) e i zero d before inside = absurd (omega arith)
   pairs-by (x ∷ xs) e zero (suc j) d before inside = apart x (get_or xs j d) (none-at (same x) xs (not-true (list_any (same x) xs) (and_parts (not (list_any (same x) xs)) (distinct_by same xs) e).0) j d (omega arith))
   pairs-by (x ∷ xs) e (suc i) (suc j) d before inside = pairs-by xs (and_parts (not (list_any (same x) xs)) (distinct_by same xs) e).1 i j d (omega arith) (omega arith)
-
-distinct-names : (names : List (List ℕ)) → distinct_by bytes_eq names ≡ true → AreDistinct names
-distinct-names names e = pairs-by bytes_eq (λ a b. a ≢ b) (λ a b other same. false≢true (sym other ∙ (bytes_eq-Decides a b).1 same)) names e
 
 -- the bounds of a draft, but for its run
 
@@ -275,9 +271,9 @@ abbrev is_joined_if : Option Net → Bool
 is_joined_if None = false
 is_joined_if (Some net) = is_joined net && nat_le (length net.link_names) 320
 
--- the draft stands for a network, if its run is within its bounds
-abbrev pub is_legal : Draft → Bool
-is_legal d = is_bounded d && (distinct_by bytes_eq (node_names d) && (distinct_by bytes_eq (link_names d) && is_joined_if (numbered d)))
+-- the draft stands for a network, if its run is within its bounds; the guesses tell the numbers of its names
+abbrev pub is_legal : (List ℕ → ℕ) → (List ℕ → ℕ) → Draft → Bool
+is_legal node link d = is_bounded d && (are_own node 0 (node_names d) && (are_own link 0 (link_names d) && is_joined_if (numbered_guessed node link d)))
 
 -- and there it is; it has few links
 pub record HasNetwork (d : Draft) : Type 0 where
@@ -285,15 +281,16 @@ pub record HasNetwork (d : Draft) : Type 0 where
   pub network : IsNetworkOf d net
   pub few : length net.link_names ≤ 320
 
-pub legal-by : (d : Draft) → IsRun d.run → is_legal d ≡ true → HasNetwork d
-legal-by d run e =
+pub legal-by : (node link : List ℕ → ℕ) (d : Draft) → IsRun d.run → is_legal node link d ≡ true → HasNetwork d
+legal-by node link d run e =
     let bounds = and_parts (is_bounded d) _ e in
-    let nodes = and_parts (distinct_by bytes_eq (node_names d)) _ bounds.1 in
-    let links = and_parts (distinct_by bytes_eq (link_names d)) (is_joined_if (numbered d)) nodes.1 in
-    there (numbered d) refl links.1 (bounded-by d run bounds.0) (distinct-names (node_names d) nodes.0) (distinct-names (link_names d) links.0)
+    let nodes = and_parts (are_own node 0 (node_names d)) _ bounds.1 in
+    let links = and_parts (are_own link 0 (link_names d)) (is_joined_if (numbered_guessed node link d)) nodes.1 in
+    there (numbered_guessed node link d) refl links.1 (bounded-by d run bounds.0) (own-distinct node (node_names d) nodes.0) (own-distinct link (link_names d) links.0)
   where
-    there : (o : Option Net) → numbered d ≡ o → is_joined_if o ≡ true → IsBounded d → AreDistinct (node_names d) → AreDistinct (link_names d) → HasNetwork d
+    there : (o : Option Net) → numbered_guessed node link d ≡ o → is_joined_if o ≡ true → IsBounded d → AreDistinct (node_names d) → AreDistinct (link_names d) → HasNetwork d
     there None is none bounds nodes links = absurd (false≢true none)
     there (Some net) is joined bounds nodes links =
         let p = and_parts (is_joined net) (nat_le (length net.link_names) 320) joined in
-        record { net = net; network = record { bounds = bounds; node_names = nodes; link_names = links; numbers = is; joins = joined-by net p.0 }; few = leb-true (length net.link_names) 320 p.1 }
+        let numbers = numbered-guessed d node link nodes links net is in
+        record { net = net; network = record { bounds = bounds; node_names = nodes; link_names = links; numbers = numbers; joins = joined-by net p.0 }; few = leb-true (length net.link_names) 320 p.1 }

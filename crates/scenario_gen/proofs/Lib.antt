@@ -1,3 +1,4 @@
+pub mod Guesses
 pub mod Lawful
 pub mod Legal
 pub mod Loops
