@@ -1,0 +1,40 @@
+"""Files of arrivals, the second text of the commands over a network: docs/FORMATS.md, "Arrivals file"."""
+
+from collections.abc import Iterable
+from dataclasses import dataclass
+
+from .records import Place, number_in, read_rows
+
+HEADER = ("second", "link", "amount")
+VEHICLE = 1000  # thousandths: the amount of one vehicle
+MOST_SECOND = 17_999
+MOST_AMOUNT = 1_000_000
+MOST_SUM = 2_000_000_000
+
+
+@dataclass(frozen=True, slots=True)
+class Arrival:
+    """What enters a link in a second, counted from the begin of the run: an amount in thousandths of a vehicle."""
+
+    second: int
+    link: str
+    amount: int
+
+
+def read_arrivals(place: Place) -> list[Arrival]:
+    """The arrivals in a file, in its order; a row that has not the form of one raises a fault with its line."""
+    rows = read_rows(place, HEADER)
+    return [
+        Arrival(
+            number_in(place, row.line, "the second", row.fields[0]),
+            row.fields[1],
+            number_in(place, row.line, "the amount", row.fields[2]),
+        )
+        for row in rows
+    ]
+
+
+def arrivals_text(arrivals: Iterable[Arrival]) -> str:
+    """The text of a file that has these arrivals."""
+    rows = [",".join(HEADER), *(f"{arrival.second},{arrival.link},{arrival.amount}" for arrival in arrivals)]
+    return "\n".join(rows) + "\n"

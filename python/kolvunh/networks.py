@@ -1,0 +1,165 @@
+"""Network files, the first text of the commands over a network: docs/FORMATS.md, "Network file". They are read as right.
+
+Times are whole seconds. `sat` is in thousandths of a vehicle a second, and a share in thousandths of what a link brings.
+"""
+
+import tomllib
+from dataclasses import dataclass
+from functools import cached_property
+from typing import Any
+
+from .faults import Fault
+from .records import Place, text_of
+
+
+@dataclass(frozen=True)
+class Run:
+    """How a run goes: a round every `step` seconds, `rounds` of them; plans look `look` seconds ahead, and vehicles that are at most `gap`
+    seconds apart are one platoon. `split`, `age` and `hold` are for busy streets; None where the file has no `age` or `hold`."""
+
+    step: int
+    look: int
+    gap: int
+    rounds: int
+    split: bool = False
+    age: int | None = None
+    hold: int | None = None
+
+    @property
+    def seconds(self) -> int:
+        """How long the run is."""
+        return self.step * self.rounds
+
+
+@dataclass(frozen=True)
+class Phase:
+    """The times of a phase, the links that have green in it, and whether the ring leaves it out (`skip`) where nobody comes."""
+
+    least: int
+    greatest: int
+    yellow: int
+    clear: int
+    loss: int
+    wait: int
+    links: tuple[str, ...]
+    skip: bool = False
+
+
+@dataclass(frozen=True)
+class Node:
+    """A junction with one signal, with its phases in the order of the ring."""
+
+    name: str
+    phases: tuple[Phase, ...]
+
+
+@dataclass(frozen=True)
+class Turn:
+    """The part of what comes to the end of a link that goes on by the link `exit`, in thousandths."""
+
+    exit: str
+    share: int
+
+
+@dataclass(frozen=True)
+class Link:
+    """A lane, or several that have green together: `travel` seconds long, with `sat` at its end.
+
+    `start` and `end` are the nodes between which it leads, `from` and `to` in the file: it enters the network where `start` is None, and
+    leaves it where `end` is None.
+    """
+
+    name: str
+    travel: int
+    sat: int
+    start: str | None = None
+    end: str | None = None
+    turns: tuple[Turn, ...] = ()
+    weight: int = 1
+
+
+@dataclass(frozen=True)
+class Conflict:
+    """Two links that are never to be green together."""
+
+    a: str
+    b: str
+
+
+@dataclass(frozen=True)
+class Network:
+    """A network: its run, and its nodes, links and conflicts in the order of the file. `version` is None where the file says none."""
+
+    run: Run
+    nodes: tuple[Node, ...]
+    links: tuple[Link, ...]
+    conflicts: tuple[Conflict, ...] = ()
+    version: int | None = None
+
+    @cached_property
+    def _nodes(self) -> dict[str, Node]:
+        return {node.name: node for node in self.nodes}
+
+    @cached_property
+    def _links(self) -> dict[str, Link]:
+        return {link.name: link for link in self.links}
+
+    @cached_property
+    def phase_of(self) -> dict[str, tuple[Node, int]]:
+        """The node and the number of the phase, from 0, in which each link that ends at a node has green."""
+        return {link: (node, number) for node in self.nodes for number, phase in enumerate(node.phases) for link in phase.links}
+
+    def node_named(self, name: str) -> Node | None:
+        """The node of this name, or None."""
+        return self._nodes.get(name)
+
+    def link_named(self, name: str) -> Link | None:
+        """The link of this name, or None."""
+        return self._links.get(name)
+
+    def links_to(self, node: str) -> list[Link]:
+        """The links that end at a node."""
+        return [link for link in self.links if link.end == node]
+
+    def links_from(self, node: str) -> list[Link]:
+        """The links that begin at a node."""
+        return [link for link in self.links if link.start == node]
+
+
+def read_network(place: Place) -> Network:
+    """The network in a file. Where a table lacks a key, or is none, the fault says what the program says of it: nothing else is tested."""
+    text = text_of(place)
+    try:
+        text.encode()  # what was no UTF-8 in the file is refused here
+        return network_of(tomllib.loads(text))
+    except tomllib.TOMLDecodeError as fault:
+        raise Fault(f"{place}: {fault}") from fault
+    except UnicodeEncodeError as fault:
+        raise Fault(f"{place}: the file is not in UTF-8") from fault
+    except KeyError as fault:
+        raise Fault(f"{place}: a table has no key {fault}") from fault
+    except (TypeError, AttributeError) as fault:
+        raise Fault(f"{place}: a key has a value of another kind than docs/FORMATS.md says") from fault
+
+
+def network_of(file: dict[str, Any]) -> Network:
+    """The network of the tables that `tomllib` reads."""
+    run = file["run"]
+    return Network(
+        Run(run["step"], run["look"], run["gap"], run["rounds"], run.get("split", False), run.get("age"), run.get("hold")),
+        tuple(Node(node["name"], tuple(map(_phase, node["phase"]))) for node in file["node"]),
+        tuple(map(_link, file["link"])),
+        tuple(Conflict(pair["a"], pair["b"]) for pair in file.get("conflict", [])),
+        file.get("version"),
+    )
+
+
+def _phase(table: dict[str, Any]) -> Phase:
+    times = (table[key] for key in ("least", "greatest", "yellow", "clear", "loss", "wait"))
+    return Phase(*times, tuple(table["links"]), table.get("skip", False))
+
+
+def _link(table: dict[str, Any]) -> Link:
+    turns = tuple(Turn(turn["exit"], turn["share"]) for turn in table.get("turn", []))
+    ends = table.get("from"), table.get("to")
+    return Link(table["name"], table["travel"], table["sat"], *ends, turns, table.get("weight", 1))

@@ -1,0 +1,71 @@
+"""Files of records, as docs/FORMATS.md has them under "Records": commas, double quotes, no trimming, empty lines are no records."""
+
+import csv
+import io
+from collections.abc import Iterator, Sequence
+from os import PathLike
+from pathlib import Path
+from typing import NamedTuple
+
+from .faults import Fault
+
+Place = str | PathLike[str]
+
+
+class Record(NamedTuple):
+    """A record of a file: the line of the file on which it begins, from 1, and its fields."""
+
+    line: int
+    fields: list[str]
+
+
+def text_of(place: Place) -> str:
+    """The text of a file. A byte order mark at its front is passed over, and bytes that are no UTF-8 stand for themselves."""
+    try:
+        return Path(place).read_bytes().decode("utf-8-sig", errors="surrogateescape")
+    except OSError as fault:
+        raise Fault(f"{place}: {fault.strerror or fault}") from fault
+
+
+def records_of(text: str) -> Iterator[Record]:
+    """The records of a text, its header among them."""
+    rows = csv.reader(io.StringIO(text, newline=""))
+    before = 0
+    for fields in rows:
+        if fields:
+            yield Record(before + 1, fields)
+        before = rows.line_num
+
+
+def read_rows(place: Place, header: Sequence[str]) -> list[Record]:
+    """The records of a file after its header, which has to be this one; each has as many fields as the header."""
+    records = records_of(text_of(place))
+    first = next(records, None)
+    wanted = ",".join(header)
+    if first is None:
+        raise Fault(f"{place}: the file is empty, and has to begin with {wanted}")
+    if first.fields != list(header):
+        raise Fault(f"{place}:{first.line}: the header is {shown(','.join(first.fields))}, and has to be {wanted}")
+    rows = list(records)
+    for row in rows:
+        if len(row.fields) != len(header):
+            raise Fault(f"{place}:{row.line}: the row has {counted(len(row.fields), 'field')}, and has to have {len(header)}")
+    return rows
+
+
+def number_in(place: Place, line: int, name: str, cell: str) -> int:
+    """The whole number of a cell that has this name."""
+    if not (cell.isascii() and cell.isdigit()):
+        raise Fault(f"{place}:{line}: {name} is {shown(cell)}, and has to be a whole number")
+    return int(cell)
+
+
+def shown(text: str) -> str:
+    """A text of a file in quotes, on one line and not too long."""
+    line = text.encode(errors="replace").decode().translate({ord(mark): " " for mark in "\r\n\t"})
+    return f'"{line if len(line) <= 60 else line[:57] + "..."}"'
+
+
+def counted(count: int, noun: str) -> str:
+    """`1 row`, `2 rows`."""
+    return f"{count} {noun}{'' if count == 1 else 's'}"
