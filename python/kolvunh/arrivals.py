@@ -3,7 +3,7 @@
 from collections.abc import Iterable
 from dataclasses import dataclass
 
-from .records import Place, number_in, read_rows
+from .records import Place, number_in, rows_of, text_of
 
 HEADER = ("second", "link", "amount")
 VEHICLE = 1000  # thousandths: the amount of one vehicle
@@ -23,7 +23,7 @@ class Arrival:
 
 def read_arrivals(place: Place) -> list[Arrival]:
     """The arrivals in a file, in its order; a row that has not the form of one raises a fault with its line."""
-    rows = read_rows(place, HEADER)
+    rows = rows_of(place, text_of(place), HEADER)
     return [
         Arrival(
             number_in(place, row.line, "the second", row.fields[0]),

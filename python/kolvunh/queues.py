@@ -4,7 +4,7 @@ from collections import defaultdict
 from dataclasses import dataclass, field
 
 from .faults import Fault
-from .records import Place, number_in, read_rows, shown
+from .records import Place, number_in, rows_of, shown, text_of
 
 HEADER = ("second", "link", "queue", "on")
 
@@ -45,8 +45,13 @@ class Queues:
 
 def read_queues(place: Place) -> Queues:
     """The queues in a file; a row that has not the form of one raises a fault with its line. A verdict that rejects is none."""
+    return queues_of(place, text_of(place))
+
+
+def queues_of(place: Place, text: str) -> Queues:
+    """The queues in a text; faults name the place from which it is."""
     queues = Queues()
-    for row in read_rows(place, HEADER):
+    for row in rows_of(place, text, HEADER):
         second, link, queue, last = row.fields
         amount = number_in(place, row.line, f"the queue of {shown(link)}", queue)
         other = number_in(place, row.line, "the last field", last)

@@ -19,10 +19,10 @@ class Record(NamedTuple):
     fields: list[str]
 
 
-def text_of(place: Place) -> str:
+def text_of(place: Place, encoding: str = "utf-8-sig") -> str:
     """The text of a file. A byte order mark at its front is passed over, and bytes that are no UTF-8 stand for themselves."""
     try:
-        return Path(place).read_bytes().decode("utf-8-sig", errors="surrogateescape")
+        return Path(place).read_bytes().decode(encoding, errors="surrogateescape")
     except OSError as fault:
         raise Fault(f"{place}: {fault.strerror or fault}") from fault
 
@@ -37,9 +37,9 @@ def records_of(text: str) -> Iterator[Record]:
         before = rows.line_num
 
 
-def read_rows(place: Place, header: Sequence[str]) -> list[Record]:
-    """The records of a file after its header, which has to be this one; each has as many fields as the header."""
-    records = records_of(text_of(place))
+def rows_of(place: Place, text: str, header: Sequence[str]) -> list[Record]:
+    """The records of a text after its header, which has to be this one; each has as many fields as the header. Faults name the place."""
+    records = records_of(text)
     first = next(records, None)
     wanted = ",".join(header)
     if first is None:
@@ -62,8 +62,8 @@ def number_in(place: Place, line: int, name: str, cell: str) -> int:
 
 def shown(text: str) -> str:
     """A text of a file in quotes, on one line and not too long."""
-    line = text.encode(errors="replace").decode().translate({ord(mark): " " for mark in "\r\n\t"})
-    return f'"{line if len(line) <= 60 else line[:57] + "..."}"'
+    line = "".join(mark if mark.isprintable() else repr(mark)[1:-1] for mark in text[:61])
+    return f'"{line if len(text) <= 60 else line[:57] + "..."}"'
 
 
 def counted(count: int, noun: str) -> str:

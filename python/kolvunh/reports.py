@@ -9,7 +9,7 @@ from dataclasses import dataclass, field
 
 from .faults import Fault
 from .networks import Network
-from .records import Place, Record, number_in, read_rows, shown
+from .records import Place, Record, number_in, rows_of, shown, text_of
 
 HEADER = ("kind", "round", "node", "x", "y", "z", "w")
 
@@ -113,8 +113,13 @@ class Records:
 
 def read_report(place: Place) -> Records:
     """The records of the report in a file; a record that is none of a report raises a fault with its line."""
+    return records_of_report(place, text_of(place))
+
+
+def records_of_report(place: Place, text: str) -> Records:
+    """The records of the text of a report; faults name the place from which it is."""
     report: dict[str, list] = {kind: [] for kind in READERS}
-    for row in read_rows(place, HEADER):
+    for row in rows_of(place, text, HEADER):
         kind = row.fields[0]
         if kind not in READERS:
             raise Fault(f"{place}:{row.line}: the kind is {shown(kind)}, and has to be one of {', '.join(READERS)}")

@@ -1,0 +1,95 @@
+"""What is wrong with the words of a call: docs/FORMATS.md, "Words"."""
+
+import re
+from collections.abc import Sequence
+
+from ..records import counted, shown
+from .wording import meant, thousands
+
+NUMBER = re.compile(r"0|[1-9][0-9]*")
+FORMS: dict[str, tuple[str, ...]] = {
+    "plan": ("FILE",),
+    "certify": ("FILE",),
+    "certify_bound": ("FILE",),
+    "certify_par": ("FILE WIDTH",),
+    "check": ("FILE",),
+    "turns": ("NET ARR",),
+    "net": ("NET ARR",),
+    "replay": ("NET ARR HIST",),
+    "instance": ("NET ARR HIST NODE ROUND",),
+    "actuate": ("NET ARR",),
+    "fixed": ("NET ARR PLAN",),
+    "compare": ("NET ARR", "NET ARR PLAN"),
+    "scale": ("NET ARR FROM TO STEP",),
+    "spill": ("NET ARR STORE",),
+    "decide": ("NET STATE", "NET STATE NODE"),
+    "audit": ("NET ARR REPORT",),
+    "queues": ("NET ARR REPORT",),
+    "upgrade": ("NET",),
+    "grid": ("NUMBER SIDE ROUNDS",),
+}
+BOUNDS = {
+    "WIDTH": (1, 4096),
+    "ROUND": (0, 2**32 - 1),
+    "NUMBER": (0, 2**64 - 1),
+    "SIDE": (2, 8),
+    "ROUNDS": (1, 600),
+    "FROM": (0, 10_000),
+    "TO": (0, 10_000),
+    "STEP": (1, 2**32 - 1),
+}
+# The kind of text that a word of the form names.
+KINDS = {"ARR": "arrivals", "HIST": "history", "PLAN": "plan", "STORE": "store", "STATE": "state", "REPORT": "sheet"}
+MOST_FACTORS = 20
+
+
+def form_of(words: Sequence[str]) -> list[str]:
+    """The names of the words of this call, the command first; nothing where it is none by its command and count."""
+    found = next((form.split() for form in FORMS.get(words[0], ()) if len(form.split()) == len(words) - 1), None) if words else None
+    return [words[0], *found] if found is not None else []
+
+
+def files_of(words: Sequence[str]) -> list[tuple[str, str]]:
+    """The files that a call names, in the order of its words, each with the name of its word."""
+    pairs = zip(form_of(words), words)
+    return [(name, word) for name, word in pairs if name in ("FILE", "NET") or name in KINDS]
+
+
+def usage(words: Sequence[str]) -> list[str]:
+    """Why words are no call, and the form of the call that was meant."""
+    if not words:
+        return ["no command is named; `./signal --help` lists them"]
+    command = words[0]
+    if command not in FORMS:
+        if command.startswith("-"):
+            return [f"there is no option {shown(command)}: the first word is a command, and `./signal --help` lists them"]
+        return [f"there is no command {shown(command)}{meant(command, FORMS)}: there are {', '.join(FORMS)}"]
+    forms = " or ".join(f"`{command} {form}`" for form in FORMS[command])
+    form = form_of(words)
+    if not form:
+        options = [word for word in words[1:] if word.startswith("-")]
+        hint = f"; there are no options, as {shown(options[0])}" if options else ""
+        return [f"{command} has {counted(len(words) - 1, 'word')} after it, and the form is {forms}{hint}"]
+    words_of = dict(zip(form[1:], words[1:]))
+    fault = next(filter(None, (number_fault(name, word) for name, word in words_of.items() if name in BOUNDS)), None)
+    fault = fault or (factors_fault(*(int(words_of[name]) for name in ("FROM", "TO", "STEP"))) if command == "scale" else None)
+    return [f"{fault}; the form is {forms}"] if fault else []
+
+
+def number_fault(name: str, word: str) -> str | None:
+    """Why a word is not the number that its place wants."""
+    least, most = BOUNDS[name]
+    if not NUMBER.fullmatch(word):
+        zero = ", without a zero in front" if word.isdigit() else ""
+        return f"{name} is {shown(word)}, and has to be a whole number from 0 on{zero}"
+    if not least <= int(word) <= most:
+        return f"{name} is {word}, and has to be {least} to {thousands(most)}"
+    return None
+
+
+def factors_fault(first: int, last: int, step: int) -> str | None:
+    """Why FROM, TO and STEP of `scale` make no factors."""
+    if first > last:
+        return f"FROM is {first}, and has to be at most TO, which is {last}"
+    count = (last - first) // step + 1
+    return f"there are {count} factors from {first} to {last} by {step}, and may be {MOST_FACTORS}" if count > MOST_FACTORS else None

@@ -1,0 +1,488 @@
+"""What is wrong with a network file: docs/FORMATS.md, "Network file"."""
+
+import re
+import tomllib
+from collections import Counter
+from typing import Any
+
+from ..records import counted, shown, text_of
+from ..toml_lines import Path, TomlLines
+from .wording import at, joined, meant, ordinal, thousands, value
+
+MOST_WHOLE = 2**63 - 1
+NAME = re.compile(r"[a-z0-9_]{1,16}")
+LINKS_MOST, ENTRIES_MOST, TURNS_MOST = 16, 16, 16
+
+WHOLE, TEXT, TRUTH, TEXTS, TABLE, TABLES = (
+    "a whole number",
+    "a text in quotes",
+    "true or false",
+    "a list of texts in quotes",
+    "a table",
+    "a list of tables",
+)
+# The keys that a table has to have, and those that it may have, each with its kind.
+KEYS: dict[str, tuple[dict[str, str], dict[str, str]]] = {
+    "top": ({"run": TABLE, "node": TABLES, "link": TABLES}, {"conflict": TABLES, "version": WHOLE}),
+    "run": (dict.fromkeys(("step", "look", "gap", "rounds"), WHOLE), {"split": TRUTH, "age": WHOLE, "hold": WHOLE}),
+    "node": ({"name": TEXT, "phase": TABLES}, {}),
+    "phase": (
+        {**dict.fromkeys(("least", "greatest", "yellow", "clear", "loss", "wait"), WHOLE), "links": TEXTS},
+        {"skip": TRUTH},
+    ),
+    "link": ({"name": TEXT, "travel": WHOLE, "sat": WHOLE}, {"from": TEXT, "to": TEXT, "turn": TABLES, "weight": WHOLE}),
+    "turn": ({"exit": TEXT, "share": WHOLE}, {}),
+    "conflict": ({"a": TEXT, "b": TEXT}, {}),
+}
+# The least and the greatest value of a key, and the unit; `Explanation` tests bounds between two keys.
+BOUNDS: dict[str, dict[str, tuple[int, int, str]]] = {
+    "run": {
+        "step": (1, 30, "seconds"),
+        "look": (10, 180, "seconds"),
+        "gap": (0, 10, "seconds"),
+        "rounds": (1, 600, ""),
+        "age": (1, 3600, "seconds"),
+        "hold": (1, 20, ""),
+    },
+    "phase": {
+        "least": (1, 120, "seconds"),
+        "greatest": (1, 240, "seconds"),
+        "yellow": (1, 10, "seconds"),
+        "clear": (0, 10, "seconds"),
+        "loss": (0, 10, "seconds"),
+        "wait": (1, 3600, "seconds"),
+    },
+    "link": {
+        "travel": (1, 120, "seconds"),
+        "sat": (1, 5000, "thousandths of a vehicle a second: 500 is 1800 vehicles an hour"),
+        "weight": (1, 20, ""),
+    },
+    "turn": {"share": (0, 1000, "thousandths of what the link brings")},
+}
+
+
+class NetworkFile:
+    """The tables of a network file and the lines on which they begin."""
+
+    def __init__(self, file: str) -> None:
+        self.file, self.text = file, text_of(file)
+        self.tables: dict[str, Any] = tomllib.loads(self.text)
+        self.lines = TomlLines(self.text)
+
+    def tables_of(self, key: str) -> list[Any]:
+        """The tables of a list at the top."""
+        found = self.tables.get(key, [])
+        return found if isinstance(found, list) else []
+
+    def table(self, path: Path) -> Any:
+        """What is at a path."""
+        found: Any = self.tables
+        for part in path:
+            found = found[part]
+        return found
+
+    def called(self, path: Path) -> str:
+        """A table in words: by its name where it has one, else by its place."""
+        match path:
+            case ():
+                return "the top of the file"
+            case ("run",):
+                return "[run]"
+            case ("node", node, "phase", phase):
+                return f"phase {phase} (the {ordinal(phase + 1)}) of {self.called(path[:2])}"
+            case ("link", link, "turn", turn):
+                exit = self._cell(path, "exit")
+                into = f" into {shown(exit)}" if exit is not None else ""
+                return f"turn {turn + 1} of {self.called(path[:2])}{into}"
+            case ("conflict", conflict):
+                a, b = self._cell(path, "a"), self._cell(path, "b")
+                between = f" of {shown(a)} and {shown(b)}" if a is not None and b is not None else ""
+                return f"conflict {conflict + 1}{between}"
+        kind, place = path
+        name = self._cell(path, "name")
+        return f"{kind} {place + 1}" if name is None else f"{kind} {shown(name)}"
+
+    def _cell(self, path: Path, key: str) -> str | None:
+        table = self.table(path)
+        found = table.get(key) if isinstance(table, dict) else None
+        return found if isinstance(found, str) else None
+
+    def say(self, path: Path, words: str, key: str | None = None) -> str:
+        """A line on a table, at the line of the key where there is one."""
+        line = self.lines.line(path if key is None else (*path, key))
+        return at(self.file, line, f"{self.called(path)}: {words}")
+
+    def names(self, kind: str) -> list[str]:
+        """The names of the nodes or of the links."""
+        return [table["name"] for table in self.tables_of(kind)]
+
+    def link(self, name: str) -> dict[str, Any]:
+        """The link of this name."""
+        return next(link for link in self.tables_of("link") if link["name"] == name)
+
+    def homes(self, link: str) -> list[Path]:
+        """The phases that name a link, each as often as it names it."""
+        return [
+            ("node", node, "phase", phase)
+            for node, table in enumerate(self.tables_of("node"))
+            for phase, of_phase in enumerate(table["phase"])
+            for name in of_phase["links"]
+            if name == link
+        ]
+
+
+def place_of(section: str, item: str, sub: str) -> Path:
+    """The path of a place that a code names."""
+    first, second = int(item) - 1, int(sub) - 1
+    match section:
+        case "top":
+            return ()
+        case "run":
+            return ("run",)
+        case "phase":
+            return ("node", first, "phase", second)
+        case "turn":
+            return ("link", first, "turn", second)
+    return (section, first)
+
+
+def no_toml(file: str) -> list[str]:
+    """Why a text is no TOML, as far as Python's reader of TOML 1.0 knows."""
+    text = text_of(file)
+    try:
+        text.encode()
+    except UnicodeEncodeError as fault:
+        return [at(file, text.count("\n", 0, fault.start) + 1, "a byte here is no UTF-8: save the file as UTF-8")]
+    other = _other_kind(text)
+    if other:
+        return [at(file, 1, f"this is {other}, and a network file (TOML) is wanted here: are the words in another order?")]
+    try:
+        tables = tomllib.loads(text)
+    except tomllib.TOMLDecodeError as fault:
+        return _toml_fault(file, text, str(fault))
+    found = next((path for path, number in _numbers(tables, ()) if not -MOST_WHOLE - 1 <= number <= MOST_WHOLE), None)
+    return [at(file, TomlLines(text).line(found), "a whole number has to be from -2^63 to 2^63 - 1")] if found else []
+
+
+def _toml_fault(file: str, text: str, fault: str) -> list[str]:
+    """The line of Python's fault, where nothing that is of TOML 1.1 comes before it."""
+    newer, place = TomlLines(text).newer, re.search(r" \(at (?:line (\d+), column (\d+)|end of document)\)$", fault)
+    if place is None:
+        return []
+    lines = text.split("\n")
+    line = int(place[1]) if place[1] else len(lines)
+    if newer is not None and newer <= line:
+        return []
+    why = next((words for begin, words in TOML_FAULTS.items() if fault.startswith(begin)), fault[: place.start()])
+    return [at(file, line, f"{shown(lines[line - 1].strip())} is no TOML: {why}")]
+
+
+# What Python's reader says of a text that is no TOML, in other words.
+TOML_FAULTS = {
+    "Illegal character '\\n'": "a text has to end with a quote on its line",
+    "Cannot overwrite a value": "its table has a key of this name already",
+    "Cannot declare": "there is such a table already; of a list each table begins with [[..]]",
+    "Invalid value": "there is no such value; a text stands in quotes, and a truth value is true or false",
+    "Invalid statement": "a line has a key with its value, a table's header or a comment",
+    "Expected '=' after a key": "a key is followed by = and its value",
+    "Expected newline or end of document": "after a value or a header the line has to end",
+    "Unclosed array": "a list has to end with ]",
+    "Unclosed inline table": "between keys in braces stands a comma, and } at the end",
+}
+
+
+def _numbers(found: Any, path: Path):
+    """All whole numbers in tables, with their paths."""
+    if isinstance(found, dict):
+        for key, inner in found.items():
+            yield from _numbers(inner, (*path, key))
+    elif isinstance(found, list):
+        for place, inner in enumerate(found):
+            yield from _numbers(inner, (*path, place))
+    elif isinstance(found, int):
+        yield path, found
+
+
+def _other_kind(text: str) -> str | None:
+    """What a text is that begins as one of another kind does."""
+    first = text.split("\n", 1)[0].strip().replace('"', "")
+    return HEADERS.get(first) or next((kind for begin, kind in BEGINS.items() if first.startswith(begin)), None)
+
+
+HEADERS = {
+    "second,link,amount": "a file of arrivals",
+    "link,storage": "a store file",
+    "node,phase,green,offset": "a fixed plan",
+    "kind,round,node,x,y,z,w": "a report or a history",
+    "kind,name,x,y,z": "a state of a round",
+    "second,link,queue,on": "what `queues` writes",
+}
+BEGINS = {"instance ": "the text of an instance", "certificate ": "a certificate", "<?xml": "an XML file"}
+
+
+def shape(net: NetworkFile, section: str, item: str, sub: str) -> list[str]:
+    """The keys that a table lacks, has beyond its own, or has of another kind."""
+    path = place_of(section, item, sub)
+    table = net.table(path)
+    if not isinstance(table, dict):
+        return [net.say(path, f"it is {value(table)}, and has to be a table")]
+    needed, others = KEYS[section]
+    needed = dict(needed)
+    newer = {"phase": "skip", "link": "weight"}.get(section)
+    if newer and "version" in net.tables:
+        needed[newer] = others[newer]
+    said = [net.say(path, _lacks(net, key, key == newer)) for key in needed if key not in table]
+    known = needed | others
+    said += [net.say(path, _further(section, key, known), key) for key in table if key not in known]
+    said += [
+        net.say(path, f"{key} is {_kind_of(table[key])}, and has to be {kind}{_kind_hint(section, key, table[key])}", key)
+        for key, kind in known.items()
+        if key in table and not is_kind(table[key], kind)
+    ]
+    return said[:2]
+
+
+def _lacks(net: NetworkFile, key: str, is_newer: bool) -> str:
+    why = "; where the file says its version each such table has it" if is_newer else ""
+    return f"the key {key} is missing{why}"
+
+
+def _further(section: str, key: str, known: dict[str, str]) -> str:
+    """What a key is that a table may not have."""
+    words = f"there is no key {shown(key)} here"
+    hint = meant(key, known)
+    if not hint and section == "top" and key in ("phase", "turn"):
+        hint = f" (write [[{'node' if key == 'phase' else 'link'}.{key}]])"
+    if not hint and section != "top" and key in KEYS["top"][1]:
+        hint = " (a key of the whole file stands before its first [table])"
+    homes = [home for home, (needed, others) in KEYS.items() if key in needed | others and home not in (section, "top")]
+    if not hint and homes:
+        hint = f" (it is a key of a {joined(homes, 'or')})" if homes != ["run"] else " (it is a key of [run])"
+    return f"{words}{hint}; it may have {', '.join(known)}"
+
+
+def _kind_of(found: Any) -> str:
+    if isinstance(found, list) and not all(isinstance(inner, dict) for inner in found):
+        other = next((inner for inner in found if not isinstance(inner, str)), None)
+        return "a list" if other is None else f"a list with {value(other)} in it"
+    return value(found)
+
+
+def _kind_hint(section: str, key: str, found: Any) -> str:
+    kind = (KEYS[section][0] | KEYS[section][1])[key]
+    if isinstance(found, str) and found in ("true", "false") and kind == TRUTH:
+        return ": write it without quotes"
+    if isinstance(found, dict) and kind == TABLES:
+        return f": write [[{key}]] in place of [{key}]" if section == "top" else f": write [[{section}.{key}]]"
+    if key == "run" and isinstance(found, list):
+        return ": write [run] in place of [[run]]"
+    if isinstance(found, float) and found.is_integer() and kind == WHOLE:
+        return f": write {int(found)}"
+    if isinstance(found, str) and found.isdigit() and kind == WHOLE:
+        return ": write it without quotes"
+    return ""
+
+
+def is_kind(found: Any, kind: str) -> bool:
+    """Whether a value is of this kind. The elements of a list of tables are looked at in their own place."""
+    if kind == WHOLE:
+        return isinstance(found, int) and not isinstance(found, bool)
+    if kind == TEXTS:
+        return isinstance(found, list) and all(isinstance(inner, str) for inner in found)
+    return isinstance(found, {TEXT: str, TRUTH: bool, TABLE: dict, TABLES: list}[kind])
+
+
+def bound(net: NetworkFile, section: str, item: str, sub: str) -> list[str]:
+    """The first number, count or name of a table that is out of its bounds."""
+    path = place_of(section, item, sub)
+    table = net.table(path)
+    for key, words in _bound_faults(net, section, table):
+        return [net.say(path, words, key if key in table else None)]
+    return []
+
+
+def _bound_faults(net: NetworkFile, section: str, table: dict[str, Any]):
+    """What is out of bounds in a table, each with its key, in the order in which bounds are tested."""
+    if section == "top":
+        for key, least, most in (("node", 1, 64), ("link", 1, 320), ("conflict", 0, 1024)):
+            if not least <= len(net.tables_of(key)) <= most:
+                yield key, f"there are {counted(len(net.tables_of(key)), key)}, and there have to be {least} to {most}"
+        if table.get("version", 2) != 2:
+            yield "version", f"version is {value(table['version'])}, and has to be 2"
+    if "name" in table and not NAME.fullmatch(table["name"]):
+        yield "name", f"the name is {shown(table['name'])}, and has to be 1 to 16 characters out of a to z, 0 to 9 and _"
+    if section == "node":
+        yield from _node_faults(table)
+    for key, (least, most, unit) in BOUNDS.get(section, {}).items():
+        if key in table:
+            yield from _number_faults(table, key, least, most, unit)
+    if section == "phase" and len(table["links"]) > LINKS_MOST:
+        yield "links", f"it names {counted(len(table['links']), 'link')}, and may name at most {LINKS_MOST}"
+    if section == "link" and len(table.get("turn", [])) > TURNS_MOST:
+        yield "turn", f"it has {counted(len(table['turn']), 'turn')}, and may have at most {TURNS_MOST}"
+
+
+def _node_faults(table: dict[str, Any]):
+    count, marks = len(table["phase"]), sum(phase.get("skip", False) for phase in table["phase"])
+    if not 2 <= count <= 4:
+        yield "phase", f"it has {counted(count, 'phase')}, and has to have 2 to 4"
+    elif count - marks < 2:
+        yield "phase", f"{marks} of its {count} phases have skip = true, and at least two have to be without it"
+
+
+def _number_faults(table: dict[str, Any], key: str, least: int, most: int, unit: str):
+    number = table[key]
+    if not least <= number <= most:
+        yield key, f"{key} is {value(number)}, and has to be {least} to {thousands(most)}{f' ({unit})' if unit else ''}"
+    elif key == "step" and number > table["look"]:
+        yield key, f"step is {number}, and has to be at most look, which is {table['look']}"
+    elif key == "greatest" and number < table["least"]:
+        yield key, f"greatest is {number}, and has to be at least least, which is {table['least']}"
+    elif key == "loss" and number >= table["greatest"]:
+        yield key, f"loss is {number}, and has to be less than greatest, which is {table['greatest']}"
+
+
+def twice(net: NetworkFile, kind: str, item: str, _: str) -> list[str]:
+    """The earlier node or link that has the name."""
+    path: Path = (kind, int(item) - 1)
+    name = net.table(path)["name"]
+    earlier = net.names(kind).index(name)
+    if earlier >= path[1]:
+        return []
+    line = net.lines.line((kind, earlier, "name"))
+    words = f"{kind} {item} has this name, which {kind} {earlier + 1} on line {line} has: no two {kind}s may share a name"
+    return [net.say(path, words, "name")]
+
+
+def unknown(net: NetworkFile, section: str, item: str, sub: str) -> list[str]:
+    """The name in a table that stands for nothing in the file."""
+    path = place_of(section, item, sub)
+    table, links, nodes = net.table(path), net.names("link"), net.names("node")
+    cells = {
+        "phase": [(("links", place), name, "link") for place, name in enumerate(table.get("links", []))],
+        "link": [((key,), table[key], "node") for key in ("from", "to") if key in table],
+        "turn": [(("exit",), table.get("exit"), "link")],
+        "conflict": [((key,), table.get(key), "link") for key in ("a", "b")],
+    }[section]
+    for key, name, kind in cells:
+        known, other = (links, nodes) if kind == "link" else (nodes, links)
+        if name not in known:
+            hint = meant(name, known) or (f" (it is a {'node' if kind == 'link' else 'link'})" if name in other else "")
+            words = f"{key[0]} names {shown(name)}, and the file has no {kind} of this name{hint}"
+            return [at(net.file, net.lines.line((*path, *key)), f"{net.called(path)}: {words}")]
+    return []
+
+
+def ends(net: NetworkFile, item: str) -> list[str]:
+    """A link with no end at a node, or with both at one."""
+    path: Path = ("link", int(item) - 1)
+    table = net.table(path)
+    if "from" not in table and "to" not in table:
+        return [net.say(path, "it has neither from nor to: a link begins or ends at a node, or both")]
+    if table.get("from") == table.get("to"):
+        return [net.say(path, f"from and to are both {shown(table['to'])}: a link may not lead from a node to itself", "to")]
+    return []
+
+
+def crowd(net: NetworkFile, item: str) -> list[str]:
+    """A node at which too many links end."""
+    path: Path = ("node", int(item) - 1)
+    name = net.table(path)["name"]
+    count = sum(link.get("to") == name for link in net.tables_of("link"))
+    return [net.say(path, f"{count} links end at it, and at most {ENTRIES_MOST} may")] if count > ENTRIES_MOST else []
+
+
+def shares(net: NetworkFile, item: str) -> list[str]:
+    """Turns that are not those of the link's end, or do not sum to 1000."""
+    path: Path = ("link", int(item) - 1)
+    table = net.table(path)
+    turns = table.get("turn", [])
+    if "to" not in table:
+        return [net.say(path, "it has turns, and has no to: a link that leaves the network has none", "turn")] if turns else []
+    exits = [turn["exit"] for turn in turns]
+    for place, exit in enumerate(exits):
+        where: Path = (*path, "turn", place)
+        if net.link(exit).get("from") != table["to"]:
+            start = net.link(exit).get("from")
+            begins = f"which begins at {shown(start)}" if start is not None else "which enters the network"
+            words = f"its turns go into {shown(exit)}, {begins}, and have to go into links from {shown(table['to'])}"
+            return [at(net.file, net.lines.line(where), f"{net.called(path)}: {words}")]
+        if exit in exits[:place]:
+            return [at(net.file, net.lines.line(where), f"{net.called(path)}: two of its turns go into {shown(exit)}: join them")]
+    total = sum(turn["share"] for turn in turns)
+    if not turns:
+        return [net.say(path, f"it ends at node {shown(table['to'])} and has no turn: its shares have to sum to 1000")]
+    if total == 1000:
+        return []
+    words = " + ".join(str(turn["share"]) for turn in turns) + f" = {total}" if len(turns) > 1 else f"{total}"
+    return [net.say(path, f"its turns sum to {words}, and have to sum to 1000", "turn")]
+
+
+def phaseless(net: NetworkFile, item: str) -> list[str]:
+    """A link that phases do not name as they must."""
+    path: Path = ("link", int(item) - 1)
+    table = net.table(path)
+    name, homes = table["name"], net.homes(table["name"])
+    lines = joined([f"{net.called(home)} on line {net.lines.line((*home, 'links'))}" for home in dict.fromkeys(homes)] or [""])
+    if "to" not in table:
+        return [net.say(path, f"it leaves the network and has no signal, and {lines} names it")] if homes else []
+    node = table["to"]
+    if not homes:
+        return [net.say(path, f"it ends at node {shown(node)}, and no phase of that node names it in links")]
+    if len(homes) > 1:
+        lines = lines if len(set(homes)) > 1 else f"in {net.called(homes[0])} on line {net.lines.line((*homes[0], 'links'))}"
+        return [net.say(path, f"it is named {len(homes)} times, {lines}; it has to be in one phase, once")]
+    if net.table(homes[0][:2])["name"] != node:
+        return [net.say(path, f"it ends at node {shown(node)}, and {lines} names it: it has to be in a phase of {shown(node)}")]
+    return []
+
+
+def clash(net: NetworkFile, first: str, second: str) -> list[str]:
+    """The conflict of two links that can be none."""
+    wanted = [net.tables_of("link")[int(place) - 1]["name"] for place in (first, second)]
+    for place, pair in enumerate(net.tables_of("conflict")):
+        if [pair["a"], pair["b"]] == wanted:
+            path: Path = ("conflict", place)
+            return [net.say(path, words) for words in _clash_words(net, *wanted)]
+    return []
+
+
+def _clash_words(net: NetworkFile, a: str, b: str):
+    """Why two links can be no conflict."""
+    if a == b:
+        yield f"both are the link {shown(a)}"
+        return
+    ends = [net.link(name).get("to") for name in (a, b)]
+    if None in ends or ends[0] != ends[1]:
+        where = [f"{shown(name)} {f'ends at {shown(end)}' if end else 'leaves the network'}" for name, end in zip((a, b), ends)]
+        yield f"{joined(where)}: links in conflict end at one node"
+        return
+    homes = [net.homes(name)[0] for name in (a, b)]
+    if homes[0] == homes[1]:
+        yield f"both are in {net.called(homes[0])}: links in conflict are in two phases"
+
+
+CODES = {
+    "shape": shape,
+    "bound": bound,
+    "twice": twice,
+    "unknown": unknown,
+    "ends": ends,
+    "crowd": crowd,
+    "shares": shares,
+    "phaseless": phaseless,
+    "clash": clash,
+}
+
+
+def network_fault(file: str, code: list[str]) -> list[str]:
+    """What the code of a network file means there."""
+    if code == ["toml"]:
+        return no_toml(file)
+    return CODES[code[0]](NetworkFile(file), *code[1:])
+
+
+def link_counts(net: NetworkFile) -> Counter[str]:
+    """How many board steps each node has in a round: one for each link that joins it with another node."""
+    inner = [link for link in net.tables_of("link") if "from" in link and "to" in link]
+    return Counter(link[end] for link in inner for end in ("from", "to"))
