@@ -1,0 +1,41 @@
+"""Commands over what the program `signal` reads and writes: python3 -m kolvunh COMMAND WORDS ..
+
+    check-input NET ARR       what each junction has to carry, and what in the two files may make trouble
+    draw KIND FILES ..        greens as text; a street, queues or points as SVG
+    explain WORDS ..          calls the program by the words, and says of a refusal what is wrong and where
+    sweep NET ARR ..          a network under several demands with several seeds
+    to-sumo, from-sumo, sumo-loop, compare-sumo ..    beside SUMO: docs in tools/sumo/README.md
+
+Each says more with --help.
+"""
+
+import importlib
+import sys
+
+MODULES = {
+    "check-input": "check_input",
+    "draw": "draw",
+    "explain": "explain.command",
+    "sweep": "sweep",
+    "to-sumo": "sumo.to_sumo",
+    "from-sumo": "sumo.from_sumo",
+    "sumo-loop": "sumo.loop",
+    "compare-sumo": "sumo.compare_sumo",
+}
+
+
+def main() -> None:
+    """Runs the command that the first word names."""
+    words = sys.argv[1:]
+    if not words or words[0] in ("-h", "--help", "help"):
+        print(__doc__.strip())
+        return
+    if words[0] not in MODULES:
+        print(f"kolvunh: there is no command {words[0]!r}; there are {', '.join(MODULES)}", file=sys.stderr)
+        sys.exit(2)
+    sys.argv = [f"kolvunh {words[0]}", *words[1:]]
+    importlib.import_module(f".{MODULES[words[0]]}", __package__).main()
+
+
+if __name__ == "__main__":
+    main()
