@@ -9,7 +9,7 @@ from .faults import Fault
 
 
 def end(work: Callable[[], int | None]) -> NoReturn:
-    """Does the work of a command and ends with the status that it gives, or with 0. A fault is a line on standard error, and the status 2."""
+    """Does the work of a command and ends with the status that it gives, or with 0. A fault is a line on standard error and status 2."""
     try:
         status = work() or 0
         sys.stdout.flush()

@@ -83,7 +83,7 @@ class Totals:
 
 @dataclass(frozen=True, slots=True)
 class Records:
-    """The records of a report by their kinds, each in the order of the file. Reports of `actuate` and `fixed` have no steps and no plans."""
+    """The records of a report by their kinds, in the order of the file. Those of `actuate` and `fixed` have no steps and no plans."""
 
     steps: list[Step] = field(default_factory=list)
     plans: list[Plan] = field(default_factory=list)

@@ -1,7 +1,7 @@
 """On which lines the tables and keys of a TOML text begin.
 
-A path names a table, a key or an element of a list: `("node", 0, "phase", 1, "least")`. Lines count from 1. The text is taken as right, up to
-where it is not: what comes after has no lines.
+A path names a table, a key or an element of a list: `("node", 0, "phase", 1, "least")`. Lines count from 1. Where a text is no TOML, what
+comes after has no lines.
 """
 
 import bisect
@@ -179,5 +179,8 @@ class TomlLines:
 
     def _gap(self) -> None:
         """Passes over what may stand between the parts of an inline table; a new line there is of TOML 1.1."""
+        begin = self._at
         if "\n" in self._skip(_BLANK):
+            after, self._at = self._at, begin
             self._note_newer()
+            self._at = after

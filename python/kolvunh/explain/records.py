@@ -225,7 +225,7 @@ def history_fault(rows: RecordFile, code: str, number: int) -> list[str]:
         return [rows.say(number, words if counts else "the nodes of this network hear nobody, and a history of it has no step")]
     done, left = progress(rows, number - 1, counts)
     words = f"node {shown(name)} has {counted(counts[name], 'board step')} a round, and has done all of round {done}"
-    return [rows.say(number, f"{words}; there {said_left(left)} left")] if counts[name] else [rows.say(number, f"node {shown(name)} has no board step")]
+    return [rows.say(number, f"{words}; there {said_left(left)} left" if counts[name] else f"node {shown(name)} has no board step")]
 
 
 def progress(rows: RecordFile, count: int, counts: Counter[str]) -> tuple[int, Counter[str]]:
@@ -291,7 +291,7 @@ def sheet_short(rows: RecordFile) -> list[str]:
     links = rows.net.names("link")
     missing = []
     if kinds["link"] < len(links):
-        missing.append(f"{kinds['link']} of {len(links)} links, and {shown(links[kinds['link']])} is next")
+        missing.append(f"{kinds['link']} of {len(links)} links ({shown(links[kinds['link']])} is next)")
     if not kinds["total"]:
         missing.append("no total")
     return [rows.end(f"the file ends here with {' and '.join(missing)}")] if missing else []

@@ -93,7 +93,8 @@ def time_fault(state: StateFile, number: int) -> list[str]:
     if fields[0] == "now":
         return [state.say(number, "`now` is told in the first row alone")]
     travel, second = state.net.link(fields[1])["travel"], int(fields[2])
-    words = f"what comes on link {shown(fields[1])}, of travel {travel}, reaches its end in the seconds {state.now} to {state.now + travel - 1}"
+    last = state.now + travel - 1
+    words = f"what comes on link {shown(fields[1])}, of travel {travel}, reaches its end in the seconds {state.now} to {last}"
     return [state.say(number, words)] if not state.now <= second < state.now + travel else []
 
 

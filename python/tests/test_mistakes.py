@@ -1,0 +1,53 @@
+"""Tests of explanations of refusals, by the table of mistakes beside the files that have them."""
+
+import os
+import shutil
+import subprocess
+import tomllib
+import unittest
+from concurrent.futures import ThreadPoolExecutor
+from pathlib import Path
+
+from kolvunh.explain import explained
+
+from .worked import ROOT
+
+FOLDER = Path(__file__).resolve().parent / "mistakes"
+MISTAKES = tomllib.loads((FOLDER / "table.toml").read_text(encoding="utf-8"))["mistake"]
+
+
+def program() -> str | None:
+    """The program of the environment, or one of the repository that is built; nothing is built for a test."""
+    built = (ROOT / "crates/signal_program/out/signal_program", ROOT / "out/unproved/signal")
+    return shutil.which(os.environ.get("KOLVUNH_PROGRAM", "")) or next((str(path) for path in built if path.exists()), None)
+
+
+def answered(mistake: dict[str, str]) -> tuple[str, str]:
+    """What the program writes where it is called with the words of a mistake."""
+    run = subprocess.run([program(), *mistake["words"].split()], capture_output=True, text=True, check=False)
+    return run.stdout, run.stderr
+
+
+class MistakesTest(unittest.TestCase):
+    def setUp(self):
+        before = os.getcwd()
+        self.addCleanup(os.chdir, before)
+        os.chdir(FOLDER)
+
+    def test_what_is_said(self):
+        self.assertGreaterEqual(len(MISTAKES), 61)
+        for mistake in MISTAKES:
+            with self.subTest(words=mistake["words"]):
+                said = explained(mistake["words"].split(), mistake["line"])
+                self.assertEqual("\n".join(said).replace(str(FOLDER), "FOLDER"), mistake["says"])
+
+    def test_each_file_is_named(self):
+        named = {word for mistake in MISTAKES for word in mistake["words"].split()}
+        self.assertEqual({path.name for path in FOLDER.iterdir()} - named, {"table.toml"})
+
+    @unittest.skipUnless(program(), "no program is built")
+    def test_the_lines_of_the_program(self):
+        with ThreadPoolExecutor(os.cpu_count()) as calls:
+            for mistake, found in zip(MISTAKES, calls.map(answered, MISTAKES)):
+                with self.subTest(words=mistake["words"]):
+                    self.assertEqual(found, ("", mistake["line"] + "\n"))
