@@ -22,7 +22,7 @@ _STRINGS = {
         "'": r"'[^'\n]*'",
     }.items()
 }
-_NO_SECONDS = re.compile(r"[0-9]:[0-9]{2}(?![:0-9])")
+_NO_SECONDS = re.compile(r"[^:]*[0-9]:[0-9]{2}(?![:0-9])")
 _NEWER = re.compile(r"(?<!\\)(?:\\\\)*\\[ex]")
 
 
@@ -147,7 +147,7 @@ class TomlLines:
             self._array(path)
         elif first == "{":
             self._inline(path)
-        elif _NO_SECONDS.search(self._skip(_PLAIN)):
+        elif _NO_SECONDS.match(self._skip(_PLAIN)):
             self._note_newer()
 
     def _array(self, path: Path) -> None:
