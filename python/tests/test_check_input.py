@@ -1,0 +1,117 @@
+"""Tests of the loads and warnings of `check-input`, on the worked network of docs/FORMATS.md with numbers by hand."""
+
+import contextlib
+import io
+import sys
+import unittest
+from unittest import mock
+
+from kolvunh.check_input import inputs_of, load_lines, main, warnings
+
+from . import worked
+from .worked import FilesTest
+
+# What a network with nothing to warn of has: `look` a green below `greatest`, and `split`.
+QUIET = worked.NETWORK.replace("look = 30", "look = 20\nsplit = true")
+STEADY = "second,link,amount\n" + "".join(f"{second},{link},100\n" for second in range(20) for link in ("sa", "sb"))
+
+
+class CheckInputTest(FilesTest):
+    def inputs(self, network=QUIET, arrivals=STEADY, plan=None):
+        files = [self.file(text, name) for text, name in ((network, "net"), (arrivals, "arr"), (plan or "", "plan"))]
+        return inputs_of(*files[: 3 if plan else 2])
+
+    def said(self, *texts, **named):
+        return warnings(self.inputs(*texts, **named))
+
+    def test_loads(self):
+        # 100 a second enter by sa and by sb. Half of what comes to the end of ab comes back by ba: ab has 200, ba 100. Each link lets 500
+        # through; a cycle of greatest greens has 70 seconds, of which 14 are lost.
+        wanted = ["a: phase 0 0.20, phase 1 0.20; saturation 0.50", "b: phase 0 0.40, phase 1 0.20; saturation 0.75"]
+        self.assertEqual(load_lines(self.inputs()), wanted)
+        self.assertEqual(self.said(), [])
+
+    def test_sat(self):
+        said = self.said(QUIET.replace("sat = 500", "sat = 1800", 1))
+        words = "link sa: sat = 1800 is 1.8 vehicles a second, 6480 an hour: if 1800 an hour are meant, write sat = 500"
+        self.assertEqual(said, [words + "; if these are several lanes, some 500 for each"])
+        low = self.said(QUIET.replace("sat = 500", "sat = 50", 1), "second,link,amount\n0,sb,1000\n")
+        words = "link sa: sat = 50 is 180 vehicles an hour: is it one every 20 seconds? A lane lets some 500 through, which is 1800 an hour"
+        self.assertEqual(low[0], words)
+
+    def test_amounts(self):
+        said = self.said(arrivals="second,link,amount\n0,sa,1\n4,sa,2\n")
+        words = "arrivals: all amounts are at most 2, thousandths of a vehicle: if they count vehicles, write 1000 for each, as 2000 for 2"
+        self.assertEqual(said, [words])
+        said = self.said(arrivals="second,link,amount\n0,sa,20000\n")
+        self.assertIn("link sa: 20 vehicles enter in second 0 alone: if they come in an interval, write a row for each second", said[0])
+
+    def test_arrivals_after_the_end(self):
+        said = self.said(arrivals="second,link,amount\n0,sa,1000\n20,sa,1000\n27,sb,1000\n")
+        words = "arrivals: 2 of 3 rows come at second 20, the end of the run, or later, and never enter: write rounds = 6 or more"
+        self.assertEqual(said, [words])
+        self.assertEqual(self.said(arrivals="second,link,amount\n"), ["arrivals: there are none: nobody enters"])
+
+    def test_times_of_a_node(self):
+        said = self.said(QUIET.replace("look = 20", "look = 26"))
+        words = ": greatest is below look and least together in phase 0, 1: a late queue may take two greens; write greatest = 31"
+        self.assertEqual(said, [f"{node}{words}, or a smaller look" for node in "ab"])
+        # The longest red of a phase is its own yellow and clear time, and the other's greatest green with those after it: 5 + 35.
+        said = self.said(QUIET.replace("wait = 120", "wait = 39", 1))
+        words = "a: phase 0: wait = 39 is shorter than the longest red, 40: where no order keeps it, there is no plan; write wait = 41 or more"
+        self.assertEqual(said, [words])
+        said = self.said(QUIET.replace("least = 5", "least = 2", 1))
+        words = "a: phase 0: least = 2 is not above loss = 2: a green of the least length serves no queue; write least = 3 or more"
+        self.assertEqual(said, [words])
+        self.assertEqual(self.said(worked.NETWORK.replace("look = 30", "look = 20"))[-1].split(":")[0], "no split")
+        full = self.said(arrivals=STEADY.replace(",100\n", ",120\n"))
+        self.assertEqual(full, ["b is at 0.90 of saturation: queues will be long"])
+
+    def test_a_phase_on_call(self):
+        third = '[[node.phase]]\nleast = 5\ngreatest = 30\nyellow = 3\nclear = 2\nloss = 2\nwait = 120\nskip = true\nlinks = ["ta"]\n\n[[node]]\nname = "b"'
+        link = '[[link]]\nname = "ta"\nto = "a"\ntravel = 10\nsat = 500\nturn = [{ exit = "ab", share = 1000 }]\n\n[[conflict]]\na = "ta"\nb = "ba"\n\n'
+        network = QUIET.replace('[[node]]\nname = "b"', third).replace("[[conflict]]", link + "[[conflict]]", 1)
+        words = "a: phase 2: skip = true: a plan may leave it out time after time, and nothing bounds how long its vehicles wait"
+        said = self.said(network, STEADY + "0,ta,100\n")
+        self.assertEqual(said[0], words + "; write age in [run] or a weight of its links, or leave skip out")
+        crossing = "a: in two phases and in no conflict are sa and ta; for each two that cross write [[conflict]] with a and b"
+        self.assertEqual(said[1:], [crossing])
+        self.assertEqual(self.said(network), [crossing])
+
+    def test_cycles_of_neighbours(self):
+        self.assertEqual(self.said(plan=worked.PLAN)[0].split(":")[0], "fixed plan")
+        # a has 10 + 5 + 20 + 5 = 40 seconds, b 15 + 5 + 10 + 5 = 35
+        self.assertIn("a has a cycle of 40 seconds and its neighbour b one of 35", self.said(plan=worked.PLAN)[0])
+        self.assertEqual(self.said(plan=worked.PLAN.replace("b,0,15,0", "b,0,20,0")), [])
+
+    def command(self, *words):
+        """The status, output and error of the command."""
+        out, err = io.StringIO(), io.StringIO()
+        with mock.patch.object(sys, "argv", ["check-input", *map(str, words)]), self.assertRaises(SystemExit) as ended:
+            with contextlib.redirect_stdout(out), contextlib.redirect_stderr(err):
+                main()
+        return ended.exception.code, out.getvalue(), err.getvalue()
+
+    def test_the_command(self):
+        net, arr = self.file(worked.NETWORK, "a net.toml"), self.file(STEADY, "arr")
+        status, out, err = self.command(net, arr)
+        self.assertEqual((status, err), (1, ""))
+        self.assertEqual(out.splitlines()[-1].split(":")[:2], ["warning", " no split"])
+        self.assertEqual(self.command(self.file(QUIET, "quiet"), arr)[0], 0)
+
+    def test_faults_in_one_line(self):
+        net, arr = self.file(QUIET, "net"), self.file(STEADY, "arr")
+        for words, said in (
+            ((net, self.folder / "none"), "none: No such file or directory"),
+            ((arr, net), "arr: Expected '=' after a key in a key/value pair (at line 1, column 7)"),
+            ((net, self.file("second,amount\n0,1\n", "short")), 'short:1: the header is "second,amount", and has to be second,link,amount'),
+            ((worked.EXAMPLES / "corridor.toml", arr), 'the arrivals name link "sa", which the network has not: are they of another network?'),
+            ((self.file(QUIET.replace('links = ["sb"]', 'links = ["xx"]'), "odd"), arr), "this is no network that the program takes"),
+        ):
+            status, out, err = self.command(*words)
+            self.assertEqual((status, out, err.count("\n")), (2, "", 1), err)
+            self.assertIn(said, err)
+
+
+if __name__ == "__main__":
+    unittest.main()
