@@ -34,6 +34,12 @@ def program_words() -> list[str]:
     raise Fault(f"there is no ./signal here: set {VARIABLE} to the path of the program")
 
 
+def built_program_words() -> list[str]:
+    """The same for many calls: the program that is built in the repository before ./signal, which looks each time whether it is current."""
+    built = Path(__file__).resolve().parents[2] / "crates/signal_program/out/signal_program"
+    return [str(built)] if not os.environ.get(VARIABLE) and built.is_file() else program_words()
+
+
 @dataclass(frozen=True)
 class Report:
     """What a call of the program answered.

@@ -3,7 +3,7 @@
 import xml.etree.ElementTree as ElementTree
 from typing import NamedTuple
 
-from layout import Signals
+from .layout import Signals
 
 
 class Outcome(NamedTuple):
@@ -43,6 +43,11 @@ def run_words(folder, name, seed, signals, additional=()):
         "--xml-validation": "never",
     }
     return ["sumo", *(str(word) for pair in words.items() for word in pair)]
+
+
+def last_line(text):
+    """The last line of what a program wrote on standard error."""
+    return (text.strip().splitlines() or ["it says nothing on standard error"])[-1]
 
 
 def outcome(folder, name, seed):

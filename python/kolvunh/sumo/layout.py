@@ -1,6 +1,5 @@
 """A network file laid out for SUMO: edges with lanes, vehicles with routes, and what a signal shows. Nothing here is proved."""
 
-import csv
 import math
 import os
 import random
@@ -8,10 +7,13 @@ import re
 import tomllib
 import xml.etree.ElementTree as ElementTree
 from collections import defaultdict
-from pathlib import Path
-from typing import NamedTuple
+from typing import Any, NamedTuple
 
-PROGRAM = Path(__file__).resolve().parents[2] / "crates/signal_program/out/signal_program"
+from ..arrivals import read_arrivals
+from ..faults import Fault
+from ..records import Place, rows_of, text_of
+from ..reports import read_report
+
 SUMO_HOME = os.environ.setdefault("SUMO_HOME", "/usr/share/sumo")
 SPEED = 13.89  # metres a second
 LANE_SAT = 500  # what one lane lets through, in thousandths of a vehicle a second
@@ -52,7 +54,7 @@ class Layout:
         name, start, end = link["name"], link.get("from"), link.get("to")
         ends = ("node", start) if start else ("link", name), ("node", end) if end else ("link", name)
         for kind, of in set(ends) - set(self.places):
-            raise SystemExit(f"the file of places has no row {kind},{of}")
+            raise Fault(f"the file of places has no row {kind},{of}")
         at = tuple(self.places[end] for end in ends)
         for edge_name, edge in self.edges.items():
             if (self.places[edge.start], self.places[edge.end]) == at:
@@ -101,17 +103,23 @@ class Layout:
         }
 
 
-def read_network(path):
-    with open(path, "rb") as file:
-        return tomllib.load(file)
+def read_tables(path: Place) -> dict[str, Any]:
+    """The tables of a network file."""
+    try:
+        return tomllib.loads(text_of(path))
+    except tomllib.TOMLDecodeError as fault:
+        raise Fault(f"{path}: {fault}") from fault
 
 
 def read_places(path):
     """The places of nodes and of the open ends of links, from a CSV with the header `kind,name,x,y`; None for `-`."""
     if str(path) == "-":
         return None
-    with open(path, newline="") as file:
-        return {(row["kind"], row["name"]): (float(row["x"]), float(row["y"])) for row in csv.DictReader(file)}
+    try:
+        rows = rows_of(path, text_of(path), ("kind", "name", "x", "y"))
+        return {(row.fields[0], row.fields[1]): (float(row.fields[2]), float(row.fields[3])) for row in rows}
+    except ValueError as fault:
+        raise Fault(f"{path}: x and y of a place have to be metres: {fault}") from fault
 
 
 def places_in_line(network):
@@ -145,7 +153,7 @@ def open_sides(network, node, order):
     for number, phase in enumerate(node["phase"]):
         for link in (link for link in phase["links"] if link not in sides):
             if not free:
-                raise SystemExit(f"{name} has more than four sides: give the places of its links in a file")
+                raise Fault(f"{name} has more than four sides: give the places of its links in a file")
             sides[link] = free.pop(0 if number == 0 else -len(free[-2:]))
     for link in network["link"]:
         if link.get("from") == name and "to" not in link:
@@ -256,24 +264,22 @@ def state_at(phases, greens, rows, second):
 def read_greens(path):
     """The greens (phase, from, to) of each node in a report."""
     greens = defaultdict(list)
-    with open(path, newline="") as file:
-        for row in csv.DictReader(file):
-            if row["kind"] == "green":
-                greens[row["node"]].append((int(row["x"]), int(row["y"]), int(row["z"])))
+    for green in read_report(path).greens:
+        greens[green.node].append((green.phase, green.begin, green.end))
     return greens
 
 
 def vehicles(layout, path, seed):
     """The vehicles of a file of arrivals, one for each 1000 of a link: second and links; turns are drawn by shares."""
     draw, carried, found = random.Random(seed), defaultdict(int), []
-    with open(path, newline="") as file:
-        rows = sorted(csv.DictReader(file), key=lambda row: int(row["second"]))
-    for row in rows:
-        carried[row["link"]] += int(row["amount"])
-        while carried[row["link"]] >= 1000:
-            carried[row["link"]] -= 1000
-            way = [row["link"]]
+    for arrival in sorted(read_arrivals(path), key=lambda arrival: arrival.second):
+        if arrival.link not in layout.links:
+            raise Fault(f"{path}: link {arrival.link!r} is none of the network")
+        carried[arrival.link] += arrival.amount
+        while carried[arrival.link] >= 1000:
+            carried[arrival.link] -= 1000
+            way = [arrival.link]
             while turns := layout.links[way[-1]].get("turn"):
                 way += draw.choices([turn["exit"] for turn in turns], [turn["share"] for turn in turns])
-            found.append((int(row["second"]), way))
+            found.append((arrival.second, way))
     return found

@@ -1,4 +1,4 @@
-"""Tests of the tools for SUMO: python3 -m unittest discover tools/sumo. Where SUMO is not installed, they are skipped."""
+"""Tests of the tools for SUMO. Where SUMO is not installed, those that need it are skipped."""
 
 import random
 import shutil
@@ -8,14 +8,15 @@ import unittest
 from collections import Counter
 from pathlib import Path
 
-from layout import Layout, read_network, read_places, state_at
-from loop import Loop, run_loop
-from measures import differences, outcome, run_words
-from to_sumo import convert, element, report_programs, write_routes
+from kolvunh.sumo.layout import Layout, read_places, read_tables, state_at
+from kolvunh.sumo.loop import Loop, run_loop
+from kolvunh.sumo.measures import differences, outcome, run_words
+from kolvunh.sumo.to_sumo import convert, element, report_programs, write_routes
 
-HERE = Path(__file__).resolve().parent
-EXAMPLES = HERE.parents[1] / "examples"
-CORRIDOR = read_network(EXAMPLES / "corridor.toml")
+from .worked import EXAMPLES, ROOT
+
+HERE = ROOT / "tools/sumo"
+CORRIDOR = read_tables(EXAMPLES / "corridor.toml")
 GREENS = {
     "first": [(0, 0, 23), (1, 28, 35), (0, 40, 64), (1, 69, 77), (0, 82, 122)],
     "second": [(0, 0, 9), (1, 14, 27), (0, 32, 50), (1, 55, 63), (0, 68, 108), (1, 113, 118)],
@@ -41,7 +42,7 @@ def ring_answer(state):
 
 class LayoutTest(unittest.TestCase):
     def test_lanes_of_one_road(self):
-        layout = Layout(read_network(EXAMPLES / "junction.toml"), read_places(HERE / "places_junction.csv"))
+        layout = Layout(read_tables(EXAMPLES / "junction.toml"), read_places(HERE / "places_junction.csv"))
         self.assertEqual(layout.edges["north"].lanes, {"north": [0, 1], "north_left": [2]})
 
     def test_right_and_left(self):
@@ -79,7 +80,7 @@ class SumoTest(unittest.TestCase):
 
     def test_crossings_of_the_examples_are_declared(self):
         self.assertEqual(list(self.corridor().undeclared_crossings()), [])
-        junction = convert(read_network(EXAMPLES / "junction.toml"), read_places(HERE / "places_junction.csv"), self.folder)
+        junction = convert(read_tables(EXAMPLES / "junction.toml"), read_places(HERE / "places_junction.csv"), self.folder)
         self.assertEqual(list(junction.undeclared_crossings()), [])
 
     def test_a_crossing_that_is_not_declared(self):
@@ -121,7 +122,7 @@ class SumoTest(unittest.TestCase):
         routes.write_text(f"<routes>{rows}</routes>")
         subprocess.run([HERE / "from_sumo.py", grid, "--survey"], check=True, capture_output=True)
         subprocess.run([HERE / "from_sumo.py", grid, routes, out], check=True, capture_output=True)
-        network = read_network(out / "net.toml")
+        network = read_tables(out / "net.toml")
         self.assertEqual(len(network["node"]), 4)
         self.assertEqual((out / "arrivals.csv").read_text().count(",1000\n"), 3)
 

@@ -1,0 +1,171 @@
+"""Lets the program decide for SUMO's signals: senses SUMO's vehicles in each round, asks `decide`, shows the greens.
+
+    tools/sumo/loop.py NET PLACES ARR DIR [--seed N] [--program WORDS]
+
+PLACES is that of to_sumo.py, or `-`. A vehicle of an entry link that is slower than 5 m/s is in the link's queue; any other
+is coming, and reaches the end of its link in free driving. Signals are set second by second. Afterwards what SUMO showed is
+compared with the greens that the program answered: the exit status is 1 where they differ. DIR/greens.csv has these greens
+as a report has them. Nothing here is proved.
+"""
+
+import argparse
+import contextlib
+import csv
+import io
+import shlex
+import subprocess
+import sys
+from collections import Counter, defaultdict
+from pathlib import Path
+
+from ..commands import end
+from ..faults import Fault
+from ..programs import built_program_words
+from .layout import SPEED, SUMO_HOME, read_tables, read_places
+from .measures import differences, outcome, run_words
+from .to_sumo import convert, write_routes
+
+sys.path.append(f"{SUMO_HOME}/tools")
+SLOW = 5  # metres a second, below which a vehicle is in the queue
+VEHICLE = 1000  # thousandths of a vehicle
+
+
+class Loop:
+    """The nodes' timelines and forecasts between the rounds, and the queues that have stood so far."""
+
+    def __init__(self, signals, ask):
+        self.ask = ask
+        self.lines = {name: [(0, 0, node["phase"][0]["least"])] for name, node in signals.layout.nodes.items()}
+        self.told, self.stood = [], Counter()
+
+    def see(self, queues):
+        """Counts one second more for each queue that stands."""
+        self.stood = Counter({link: self.stood[link] + 1 for link in queues})
+
+    def state(self, now, queues, coming):
+        """The state of a round as a file of records."""
+        rows = [("now", "", now, "", "")]
+        for node, line in self.lines.items():
+            standing = max(place for place, row in enumerate(line) if row[1] <= now)
+            rows += [("green", node, *row) for row in line[standing:]]
+        rows += [("queue", link, VEHICLE * queue, self.stood[link], "") for link, queue in queues.items()]
+        rows += [("coming", link, second, VEHICLE * count, "") for (link, second), count in sorted(coming.items())]
+        return csv_text([("kind", "name", "x", "y", "z"), *rows, *self.told])
+
+    def decide(self, now, queues, coming):
+        """Asks the program for a round; its greens go on where the rows that began before them end."""
+        answered = defaultdict(list)
+        self.told = []
+        for row in csv.DictReader(io.StringIO(self.ask(self.state(now, queues, coming)))):
+            if row["kind"] == "green":
+                answered[row["name"]].append((int(row["x"]), int(row["y"]), int(row["z"])))
+            elif row["kind"] in ("version", "row"):
+                self.told.append(tuple(row.values()))
+        for node, line in answered.items():
+            self.lines[node] = [row for row in self.lines[node] if row[1] < line[0][1]] + line
+
+
+def csv_text(rows):
+    text = io.StringIO()
+    csv.writer(text, lineterminator="\n").writerows(rows)
+    return text.getvalue()
+
+
+def asker(program, network, state):
+    """A call of `decide` by the program's words on a network file, over a file for the state."""
+
+    def ask(text):
+        state.write_text(text)
+        run = subprocess.run([*program, "decide", str(network), str(state)], capture_output=True, text=True)
+        if run.returncode:
+            raise Fault(f"{state}: {'; '.join(run.stderr.strip().splitlines())}")
+        return run.stdout
+
+    return ask
+
+
+class Sensors:
+    """SUMO's vehicles on the entry links; one within a junction is at the begin of the link that it comes to."""
+
+    def __init__(self, traci, signals):
+        self._traci, self._layout, self._link_of = traci, signals.layout, signals.layout.link_of_lane()
+        self._after = signals.junctions.after
+        self._length = {lane: traci.lane.getLength(lane) for lane in self._link_of}
+
+    def vehicles(self):
+        """The link, the speed and the way to the stop line of each vehicle on an entry link."""
+        values = self._traci.constants.VAR_LANE_ID, self._traci.constants.VAR_SPEED, self._traci.constants.VAR_LANEPOSITION
+        for vehicle in self._traci.simulation.getDepartedIDList():
+            self._traci.vehicle.subscribe(vehicle, values)
+        for found in self._traci.vehicle.getAllSubscriptionResults().values():
+            lane, speed, place = (found[value] for value in values)
+            if lane in self._after:
+                lane, speed, place = self._after[lane], SPEED, 0
+            link = self._link_of.get(lane)
+            if link is not None and "to" in self._layout.links[link]:
+                yield link, speed, self._length[lane] - place
+
+    def look(self, now):
+        """The vehicles in each queue, and how many come to the end of each link in which second."""
+        queues, coming = Counter(), Counter()
+        for link, speed, way in self.vehicles():
+            if speed < SLOW:
+                queues[link] += 1
+            else:
+                coming[link, now + min(int(way / SPEED), self._layout.links[link]["travel"] - 1)] += 1
+        return queues, coming
+
+
+def run_loop(signals, ask, words):
+    """Runs SUMO by its words with the program in the loop, and answers the lines of greens of all nodes."""
+    import traci
+
+    with contextlib.redirect_stdout(sys.stderr):
+        traci.start(words, stdout=subprocess.DEVNULL)
+    try:
+        loop, sensors = Loop(signals, ask), Sensors(traci, signals)
+        for now in range(signals.layout.seconds):
+            queues, coming = sensors.look(now)
+            if now % signals.layout.network["run"]["step"] == 0:
+                loop.decide(now, queues, coming)
+            loop.see(queues)
+            for node, line in loop.lines.items():
+                traci.trafficlight.setRedYellowGreenState(node, signals.at(node, line, now))
+            traci.simulationStep()
+        return loop.lines
+    finally:
+        traci.close()
+
+
+def write_greens(path, lines):
+    rows = [("green", "", node, *row, "") for node, line in lines.items() for row in line]
+    path.write_text(csv_text([("kind", "round", "node", "x", "y", "z", "w"), *rows]))
+
+
+def work() -> int:
+    """Runs the loop, and says how it went."""
+    parser = argparse.ArgumentParser(description=__doc__, formatter_class=argparse.RawDescriptionHelpFormatter)
+    for name in ("network", "places", "arrivals", "folder"):
+        parser.add_argument(name, type=Path)
+    parser.add_argument("--seed", type=int, default=1)
+    parser.add_argument("--program", type=shlex.split, help="its words before `decide`; the built program if left out")
+    options = parser.parse_args()
+    folder, seed = options.folder, options.seed
+    signals = convert(read_tables(options.network), read_places(options.places), folder)
+    write_routes(signals.layout, options.arrivals, seed, folder / f"routes.{seed}.rou.xml")
+    ask = asker(options.program or built_program_words(), options.network, folder / "state.csv")
+    lines = run_loop(signals, ask, run_words(folder, "loop", seed, signals))
+    write_greens(folder / "greens.csv", lines)
+    print(outcome(folder, "loop", seed))
+    differing = list(differences(folder, "loop", seed, signals, lines))
+    print(f"{len(differing)} seconds of a node differ from the greens answered, of {signals.layout.seconds * len(lines)}")
+    return 1 if differing else 0
+
+
+def main() -> None:
+    """Runs the command."""
+    end(work)
+
+
+if __name__ == "__main__":
+    main()
