@@ -1,10 +1,13 @@
 """Tests of the pictures."""
 
+import contextlib
+import io
 import subprocess
 import sys
 import unittest
 import xml.etree.ElementTree as ElementTree
 from argparse import Namespace
+from unittest import mock
 
 from kolvunh import draw
 from kolvunh.queues import read_queues
@@ -60,9 +63,12 @@ class DrawTest(FilesTest):
             (("queues", self.file("second,link\n", "short")), 'short:1: the header is "second,link", and has to be second,link,queue,on'),
             (("points", self.file("series,x,y\na,1,b\n", "points")), 'points:2: x and y have to be numbers, and are "1,b"'),
         ):
-            run = subprocess.run([ROOT / "tools/draw.py", *words], capture_output=True, text=True, check=False)
-            self.assertEqual((run.returncode, run.stdout, run.stderr.count("\n")), (2, "", 1), run.stderr)
-            self.assertIn(said, run.stderr)
+            err = io.StringIO()
+            with mock.patch.object(sys, "argv", ["draw", *map(str, words)]), contextlib.redirect_stderr(err):
+                with self.assertRaises(SystemExit) as ended:
+                    draw.main()
+            self.assertEqual((ended.exception.code, err.getvalue().count("\n")), (2, 1), err.getvalue())
+            self.assertIn(said, err.getvalue())
 
     def test_a_reader_that_ends_early(self):
         command = f"'{sys.executable}' '{ROOT}/tools/draw.py' greens '{EXAMPLES}/corridor.toml' '{self.file(REPORT)}'"

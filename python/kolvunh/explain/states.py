@@ -3,7 +3,6 @@
 from typing import Any
 
 from ..records import Record, counted, shown
-from .networks import NetworkFile
 from .records import RecordFile, form_fault, header_fault
 from .wording import joined, meant, thousands
 

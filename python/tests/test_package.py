@@ -1,0 +1,59 @@
+"""Tests of the package as a whole: that it can be installed, and how its commands answer."""
+
+import contextlib
+import importlib
+import importlib.util
+import io
+import subprocess
+import sys
+import zipfile
+from unittest import mock
+
+from kolvunh.__main__ import MODULES
+
+from .worked import ROOT, FilesTest
+
+PACKAGE = ROOT / "python"
+
+
+def builder():
+    """The module that builds the package."""
+    spec = importlib.util.spec_from_file_location("build_wheel", PACKAGE / "build_wheel.py")
+    module = importlib.util.module_from_spec(spec)
+    spec.loader.exec_module(module)
+    return module
+
+
+class PackageTest(FilesTest):
+    def test_a_wheel_can_be_used(self):
+        name = builder().build_wheel(self.folder)
+        self.assertEqual(name, "kolvunh-1.0-py3-none-any.whl")
+        with zipfile.ZipFile(self.folder / name) as wheel:
+            names = wheel.namelist()
+            self.assertIn("kolvunh/explain/networks.py", names)
+            self.assertIn("kolvunh/sumo/loop.py", names)
+            self.assertEqual([name for name in names if "test" in name or "pycache" in name], [])
+            rows = wheel.read("kolvunh-1.0.dist-info/RECORD").decode().splitlines()
+        self.assertEqual([row.split(",")[0] for row in rows], names)
+        code = f"import sys; sys.path.insert(0, {str(self.folder / name)!r}); import kolvunh; print(kolvunh.__file__)"
+        run = subprocess.run([sys.executable, "-I", "-c", code], capture_output=True, text=True, check=True)
+        self.assertTrue(run.stdout.startswith(str(self.folder)), run.stdout)
+
+    def command(self, *words):
+        """The status, output and error of a command of the package."""
+        run = subprocess.run([sys.executable, "-I", "-B", PACKAGE, *words], capture_output=True, text=True, check=False)
+        return run.returncode, run.stdout, run.stderr
+
+    def test_commands(self):
+        status, out, err = self.command()
+        self.assertEqual((status, err), (0, ""))
+        self.assertIn("check-input NET ARR", out)
+        self.assertEqual(self.command("drawn")[0], 2)
+        self.assertIn("there is no command 'drawn'", self.command("drawn")[2])
+        for name, module in MODULES.items():
+            self.assertIn(name, out)
+            with mock.patch.object(sys, "argv", [name, "--help"]), contextlib.redirect_stdout(io.StringIO()) as said:
+                with self.assertRaises(SystemExit) as ended:
+                    importlib.import_module(f"kolvunh.{module}").main()
+            self.assertEqual(ended.exception.code, 0, name)
+            self.assertTrue(said.getvalue().startswith("usage:"), name)
