@@ -78,6 +78,8 @@ def header_fault(rows: RecordFile) -> list[str]:
         return [at(rows.file, None, f"the file is empty, and has to begin with the line {wanted}")]
     line, fields = rows.header[0]
     found = ",".join(fields)
+    if found == wanted:
+        return []
     other = HEADERS.get(found) or next((kind for begin, kind in BEGINS.items() if found.startswith(begin)), None)
     if other is None and ("[run]" in rows.text or "[[node]]" in rows.text):
         other = "a network file (TOML)"
