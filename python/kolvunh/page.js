@@ -1,0 +1,693 @@
+"use strict";
+window.onerror = (message, _, line) => { document.body.dataset.fault = `${message} (${line})`; };
+
+const data = JSON.parse(document.getElementById("data").textContent);
+const find = (id) => document.getElementById(id);
+const END = data.seconds, LEFT = 74, RIGHT = 24;
+const SERIES = ["#0072b2", "#d55e00", "#009e73", "#cc79a7", "#e69f00", "#56b4e9"];
+const LEVELS = [[10, "A", "#1a9850"], [20, "B", "#91cf60"], [35, "C", "#d9ef8b"], [55, "D", "#fee08b"], [80, "E", "#fc8d59"], [Infinity, "F", "#d73027"]];
+const GREEN = "#009e73", RED = "#e8a58f";
+const chosen = { report: 0, from: 0, to: END, node: 0, link: -1, street: 0, route: null, back: true, rows: "nodes", sort: -1 };
+
+const escape = (text) => String(text).replace(/[&<>"]/g, (mark) => ({ "&": "&amp;", "<": "&lt;", ">": "&gt;", '"': "&quot;" })[mark]);
+const clock = (second) => `${Math.floor(second / 60)}:${String(Math.round(second % 60)).padStart(2, "0")}`;
+const level = (delay) => (delay === null ? null : LEVELS.find(([most]) => delay <= most));
+const fixed = (value, digits) => (value === null ? "-" : value.toFixed(digits));
+const share = (value) => (value === null ? "-" : `${Math.round(100 * value)} %`);
+const divided = (amount, of) => (of ? amount / of : null);
+const sum = (values) => values.reduce((total, value) => total + value, 0);
+
+// Running totals from pairs of an amount and for how many seconds it comes in each.
+function totals(pairs) {
+  const all = new Int32Array(END + 1);
+  let moment = 0;
+  for (let at = 0; at < pairs.length; at += 2)
+    for (let count = 0; count < pairs[at + 1]; count++, moment++) all[moment + 1] = all[moment] + pairs[at];
+  for (; moment < END; moment++) all[moment + 1] = all[moment];
+  return all;
+}
+
+class Run {
+  constructor(report) {
+    this.name = report.name;
+    this.greens = report.greens;
+    this.none = report.none;
+    this.entered = report.entered.map(totals);
+    this.left = report.left.map(totals);
+    this.kept = new Map();
+  }
+  keep(key, make) {
+    if (!this.kept.has(key)) this.kept.set(key, make());
+    return this.kept.get(key);
+  }
+  reached(link, moment) { return this.entered[link][Math.max(0, moment - data.links[link].travel)]; }
+  queue(link) {
+    return this.keep(`queue ${link}`, () => this.left[link].map((left, moment) => this.reached(link, moment) - left));
+  }
+  // Who reaches the end of a link first leaves it first: triples of the second of reaching it, of leaving it (-1: never), and the amount.
+  passages(link) {
+    return this.keep(`passages ${link}`, () => {
+      const all = [], left = this.left[link];
+      let out = 0, gone = 0;
+      for (let second = 0; second < END; second++) {
+        let amount = this.reached(link, second + 1) - this.reached(link, second);
+        while (amount && out < END) {
+          const part = Math.min(amount, left[out + 1] - gone);
+          if (part) { all.push([second, out, part]); amount -= part; gone += part; }
+          if (gone === left[out + 1]) out++;
+        }
+        if (amount) all.push([second, -1, amount]);
+      }
+      return all;
+    });
+  }
+  greensOf(node, phase) {
+    return this.keep(`greens ${node} ${phase}`, () => this.greens[node].filter((green) => green[0] === phase));
+  }
+  // How many of the first seconds are green in a phase.
+  lit(node, phase) {
+    return this.keep(`lit ${node} ${phase}`, () => {
+      const lit = new Int32Array(END + 1), on = new Uint8Array(END);
+      for (const [, from, to] of this.greensOf(node, phase)) on.fill(1, from, Math.min(to, END));
+      for (let second = 0; second < END; second++) lit[second + 1] = lit[second] + on[second];
+      return lit;
+    });
+  }
+}
+const runs = data.reports.map((report) => new Run(report));
+data.links.forEach((link, number) => { link.number = number; });
+const ending = data.links.filter((link) => link.to >= 0);
+const into = data.nodes.map((_, node) => ending.filter((link) => link.to === node));
+
+function percentile(sorted, part) { return sorted.length ? sorted[Math.max(0, Math.ceil((part * sorted.length) / 100) - 1)] : 0; }
+
+// The first passage at or after a second
+function firstAt(passages, second) {
+  let low = 0, high = passages.length;
+  while (low < high) {
+    const middle = (low + high) >> 1;
+    if (passages[middle][0] < second) low = middle + 1; else high = middle;
+  }
+  return low;
+}
+
+function tally(run, links, from, to) {
+  const all = { vehicles: 0, delay: 0, stopped: 0, onGreen: 0, expected: 0 };
+  for (const link of links) {
+    const passages = run.passages(link.number), lit = run.lit(link.to, link.phase);
+    let vehicles = 0;
+    for (let at = firstAt(passages, from); at < passages.length && passages[at][0] < to; at++) {
+      const [reached, left, amount] = passages[at], wait = (left < 0 ? END : left) - reached;
+      vehicles += amount;
+      all.delay += amount * wait;
+      if (wait * link.sat >= 1000) all.stopped += amount;
+      if (lit[reached + 1] > lit[reached]) all.onGreen += amount;
+    }
+    all.vehicles += vehicles;
+    all.expected += (vehicles * (lit[to] - lit[from])) / (to - from);
+  }
+  return all;
+}
+
+function isFailure(run, link, [, from, to]) {
+  const queue = run.queue(link);
+  for (let moment = from; moment <= to; moment++) if (!queue[moment]) return false;
+  return true;
+}
+
+function signals(run, links, from, to) {
+  const keys = new Map(links.map((link) => [`${link.to} ${link.phase}`, link]));
+  const greens = [], cycles = [];
+  let failures = 0;
+  const unmarked = [...keys.values()].filter((link) => !data.nodes[link.to].phases[link.phase].skip);
+  for (const { to: node, phase } of keys.values()) {
+    const served = links.filter((link) => link.to === node && link.phase === phase), all = run.greensOf(node, phase);
+    all.forEach((green, at) => {
+      if (from < green[2] && green[2] <= to) {
+        greens.push(green[2] - green[1]);
+        if (served.some((link) => isFailure(run, link.number, green))) failures++;
+      }
+      const counts = !unmarked.length || !data.nodes[node].phases[phase].skip;
+      if (at && counts && from < green[1] && green[1] <= to) cycles.push(green[1] - all[at - 1][1]);
+    });
+  }
+  return { greens, cycles, failures };
+}
+
+// The measures of links together, as `./signal measures` takes them: docs/FORMATS.md, "Measures"
+function measures(run, links, from, to) {
+  const all = tally(run, links, from, to), queues = new Float64Array(to - from);
+  for (const link of links) {
+    const queue = run.queue(link.number);
+    for (let at = 0; at < queues.length; at++) queues[at] += queue[from + 1 + at];
+  }
+  queues.sort();
+  return {
+    vehicles: all.vehicles / 1000, delay: all.delay / 1000, each: divided(all.delay, all.vehicles), stopped: divided(all.stopped, all.vehicles),
+    onGreen: divided(all.onGreen, all.vehicles), ratio: divided(all.onGreen, all.expected),
+    queue: [50, 95, 100].map((part) => percentile(queues, part) / 1000), ...signals(run, links, from, to),
+  };
+}
+
+function came(run, from, to) {
+  return sum(data.links.filter((link) => link.from < 0).map((link) => run.entered[link.number][to] - run.entered[link.number][from])) / 1000;
+}
+
+// ---- Charts of time
+
+function steps(span, pixels, sizes) { return sizes.find((size) => (span / size) * pixels <= 1) ?? sizes[sizes.length - 1]; }
+
+class Chart {
+  constructor(place, high, most, label, window = [chosen.from, chosen.to]) {
+    this.place = find(place);
+    this.wide = this.place.clientWidth || 1100;
+    [this.high, this.top, this.bottom, this.most] = [high, 10, high - 34, most || 1];
+    [this.from, this.to] = window;
+    this.parts = [];
+    this.inner = [];
+    const size = steps(this.to - this.from, 74 / (this.wide - LEFT - RIGHT), [1, 2, 5, 10, 15, 30, 60, 120, 300, 600, 1200, 1800, 3600]);
+    for (let second = Math.ceil(this.from / size) * size; second <= this.to; second += size) {
+      this.parts.push(`<path d="M${this.x(second)} ${this.top}V${this.bottom}" stroke="#e4e4e4"/>`);
+      this.text(this.x(second), this.bottom + 14, clock(second), "middle");
+    }
+    this.text((LEFT + this.wide - RIGHT) / 2, high - 5, "minutes:seconds", "middle", "small");
+    if (label) this.parts.push(`<text class="small" transform="translate(14 ${(this.top + this.bottom) / 2}) rotate(-90)" text-anchor="middle">${escape(label)}</text>`);
+  }
+  x(second) { return +(LEFT + ((second - this.from) / (this.to - this.from)) * (this.wide - LEFT - RIGHT)).toFixed(1); }
+  y(value) { return +(this.bottom - (value / this.most) * (this.bottom - this.top)).toFixed(1); }
+  text(x, y, words, anchor, kind = "") { this.parts.push(`<text class="${kind}" x="${x}" y="${y}" text-anchor="${anchor}">${escape(words)}</text>`); }
+  upAxis() {
+    const size = steps(this.most, 26 / (this.bottom - this.top), [0.1, 0.2, 0.5, 1, 2, 5, 10, 20, 50, 100, 200, 500, 1000, 2000, 5000]);
+    for (let value = 0; value <= this.most * 1.0001; value += size) {
+      this.parts.push(`<path d="M${LEFT} ${this.y(value)}H${this.wide - RIGHT}" stroke="#eee"/>`);
+      this.text(LEFT - 6, this.y(value) + 4, +value.toFixed(1), "end");
+    }
+  }
+  path(way, colour, width = 1.6, more = "") { if (way) this.inner.push(`<path d="${way}" fill="none" stroke="${colour}" stroke-width="${width}" ${more}/>`); }
+  box(x, to, y, high, colour, title = "") {
+    this.inner.push(`<rect x="${x}" y="${y}" width="${Math.max(0, to - x).toFixed(1)}" height="${high}" fill="${colour}">${title ? `<title>${escape(title)}</title>` : ""}</rect>`);
+  }
+  // A line of steps through a list of values by moments; moments of one pixel are drawn as their greatest
+  series(values, colour, width = 1.6, more = "") {
+    const wide = Math.max(1, Math.floor((this.to - this.from) / (this.wide - LEFT - RIGHT)));
+    let way = "", last = null;
+    for (let moment = this.from; moment <= this.to; moment += wide) {
+      let value = values[moment];
+      for (let at = moment + 1; at < Math.min(moment + wide, this.to + 1); at++) value = Math.max(value, values[at]);
+      if (value === last) continue;
+      way += last === null ? `M${this.x(moment)} ${this.y(value)}` : `H${this.x(moment)}V${this.y(value)}`;
+      last = value;
+    }
+    this.path(`${way}H${this.x(this.to)}`, colour, width, more);
+  }
+  draw(after = "") {
+    const id = `cut-${this.place.id}`, box = `x="${LEFT}" y="0" width="${this.wide - LEFT - RIGHT}" height="${this.bottom + 1}"`;
+    this.place.innerHTML = `<svg viewBox="0 0 ${this.wide} ${this.high}" height="${this.high}"><clipPath id="${id}"><rect ${box}/></clipPath>
+      ${this.parts.join("")}<path d="M${LEFT} ${this.top}V${this.bottom}H${this.wide - RIGHT}" fill="none" stroke="#888"/>
+      <g clip-path="url(#${id})">${this.inner.join("")}</g>${after}</svg>`;
+  }
+}
+
+function keyOf(names, colours) { return names.map((name, at) => `<i style="background:${colours[at % colours.length]}"></i>${escape(name)}`).join(""); }
+
+function allQueues(run) {
+  return run.keep("all queues", () => {
+    const all = new Float64Array(END + 1);
+    for (const link of ending) run.queue(link.number).forEach((queue, moment) => { all[moment] += queue / 1000; });
+    return all;
+  });
+}
+
+function drawOverview() {
+  const most = Math.max(1, ...runs.map((run) => allQueues(run).reduce((a, b) => Math.max(a, b), 0)));
+  const chart = new Chart("overview", 120, most, "vehicles", [0, END]);
+  chart.upAxis();
+  runs.forEach((run, at) => chart.series(allQueues(run), SERIES[at % SERIES.length], at === chosen.report ? 2 : 1.2));
+  const [left, right] = [chart.x(chosen.from), chart.x(chosen.to)];
+  chart.draw(`<rect x="${left}" y="4" width="${right - left}" height="${chart.bottom - 4}" fill="#36c" fill-opacity=".10" stroke="#36c"/>`);
+}
+
+// ---- The street
+
+const ROOM = data.nodes.length > 12 ? 46 : 84;
+
+function mapScale(wide, high) {
+  const xs = data.nodes.map((node) => node.x), ys = data.nodes.map((node) => node.y);
+  const span = (list) => Math.max(...list) - Math.min(...list);
+  const scale = Math.min((wide - 2 * ROOM - 20) / (span(xs) || 1), (high - 2 * ROOM) / (span(ys) || 1), data.nodes.length === 1 ? 1 : Infinity);
+  const middle = (list) => (Math.max(...list) + Math.min(...list)) / 2;
+  return data.nodes.map((node) => [wide / 2 + (node.x - middle(xs)) * scale, high / 2 + (node.y - middle(ys)) * scale]);
+}
+
+// How long the longest text is that two names share
+function common(one, other) {
+  for (let size = Math.min(one.length, other.length); size; size--)
+    for (let at = 0; at + size <= one.length; at++) if (other.includes(one.slice(at, at + size))) return size;
+  return 0;
+}
+
+// The legs of a junction that lead out of the network: links in and a link out that are named alike and not joined by a turn
+function legsOf(node) {
+  const legs = data.links.filter((link) => link.to < 0 && link.from === node).map((leaves) => ({ leaves, enters: [] }));
+  for (const link of data.links.filter((each) => each.from < 0 && each.to === node)) {
+    const fits = (leg) => (leg.leaves && !link.turns.some(([exit, part]) => exit === leg.leaves.number && part) ? common(link.name, leg.leaves.name) : common(link.name, leg.leaves?.name ?? "") - 3);
+    const best = legs.reduce((one, other) => (one && fits(one) >= fits(other) ? one : other), undefined);
+    if (best && fits(best) >= 2) best.enters.push(link); else legs.push({ leaves: undefined, enters: [link] });
+  }
+  return legs;
+}
+
+// The exit that at least half of what comes on a link takes
+function straight(link) { return data.links[link.turns.find(([, part]) => part >= 500)?.[0]]; }
+
+// Directions for the legs of all junctions: opposite to where most of their vehicles go or come from, and far from what is there already
+function stubs(points) {
+  const apart = (one, other) => Math.abs(Math.atan2(Math.sin(one - other), Math.cos(one - other)));
+  return data.nodes.map((_, node) => {
+    const used = [], at = new Map();
+    for (const link of data.links.filter((each) => each.from >= 0 && each.to >= 0 && (each.from === node || each.to === node))) {
+      const other = points[link.from === node ? link.to : link.from], angle = Math.atan2(other[1] - points[node][1], other[0] - points[node][0]);
+      used.push(angle);
+      at.set(link, angle);
+    }
+    const legs = legsOf(node), lead = new Set(into[node].filter((link) => link.from >= 0));
+    for (const leg of legs) {
+      leg.enters.sort((one, other) => runs[0].entered[other.number][END] - runs[0].entered[one.number][END]);
+      lead.add(leg.enters[0]);
+      const from = leg.leaves && into[node].find((link) => lead.has(link) && at.has(link) && straight(link) === leg.leaves);
+      const to = leg.enters.slice(0, 1).map(straight).find((exit) => at.has(exit));
+      const wanted = from || to ? at.get(from ?? to) + Math.PI : used.length ? null : -Math.PI / 2;
+      const score = (angle) => Math.min(1.5, ...used.map((other) => apart(angle, other))) - (wanted === null ? 0 : 0.8 * apart(angle, wanted));
+      const free = Array.from({ length: 24 }, (_, place) => (place * Math.PI) / 12).filter((angle) => used.every((other) => apart(angle, other) > 0.25));
+      leg.angle = (free.length ? free : [0.13]).reduce((one, other) => (score(other) > score(one) + 1e-6 ? other : one));
+      used.push(leg.angle);
+      [...leg.enters, leg.leaves].filter(Boolean).forEach((link) => at.set(link, leg.angle));
+    }
+    return legs;
+  });
+}
+
+function arrow(link, [x1, y1], [x2, y2], run, isRoute, lane = 0) {
+  const length = Math.hypot(x2 - x1, y2 - y1) || 1, [ux, uy] = [(x2 - x1) / length, (y2 - y1) / length];
+  const shift = 5 + 8 * lane, room = 13;
+  const from = [x1 + ux * room - uy * shift, y1 + uy * room + ux * shift], to = [x2 - ux * room - uy * shift, y2 - uy * room + ux * shift];
+  const passed = run.left[link.number][chosen.to] - run.left[link.number][chosen.from], hourly = (passed * 3.6) / (chosen.to - chosen.from);
+  const found = link.to >= 0 ? measures(run, [link], chosen.from, chosen.to) : null, colour = found ? (level(found.each) ?? [0, "", "#bbb"])[2] : "#bbb";
+  const title = `${link.name}: ${Math.round(hourly)} vehicles an hour` + (found && found.each !== null ? `, ${found.each.toFixed(1)} s a vehicle (${level(found.each)[1]}), queue up to ${found.queue[2].toFixed(1)}` : "");
+  const way = `M${from.map((at) => at.toFixed(1)).join(" ")}L${to.map((at) => at.toFixed(1)).join(" ")}`, wide = 1.5 + Math.min(5, hourly / 250);
+  const tip = [to[0] - ux * 7 - uy * 3.5, to[1] - uy * 7 + ux * 3.5, to[0] - ux * 7 + uy * 3.5, to[1] - uy * 7 - ux * 3.5].map((at) => at.toFixed(1));
+  return `<g><title>${escape(title)}</title>${isRoute ? `<path d="${way}" stroke="#36c" stroke-opacity=".35" stroke-width="${wide + 7}"/>` : ""}
+    <path d="${way}" stroke="#555" stroke-width="${wide + 1}"/><path d="${way}" stroke="${colour}" stroke-width="${wide}"/>
+    <path d="M${to.map((at) => at.toFixed(1)).join(" ")}L${tip[0]} ${tip[1]}L${tip[2]} ${tip[3]}Z" fill="#333"/></g>`;
+}
+
+// The names at the far end of a leg: those of its links in on their side, that of its link out on the other
+function names([x, y], dx, dy, enters, leaves) {
+  const say = (words, left, top, anchor) => `<text class="small name-of" x="${left.toFixed(1)}" y="${top.toFixed(1)}" text-anchor="${anchor}">${escape(words)}</text>`;
+  const into = enters.map((link) => link.name).join(", "), out = leaves?.name ?? "";
+  if (Math.abs(dx) < 0.6) return say([into, out].filter(Boolean).join(" / "), x, y + dy * 12 + 4, "middle");
+  const side = dx < 0 ? 1 : -1, anchor = dx < 0 ? "end" : "start", lanes = 8 * Math.max(0, enters.length - 1);
+  return say(into, x + side * 12, y + side * (14 + lanes) + 4, anchor) + say(out, x + side * 12, y - side * 14 + 4, anchor);
+}
+
+function drawMap() {
+  const place = find("map"), wide = place.clientWidth || 600, flat = data.nodes.length > 1 && new Set(data.nodes.map((node) => Math.round(node.y))).size === 1;
+  const high = flat ? 190 : Math.min(wide, 560), points = mapScale(wide, high), run = runs[chosen.report], parts = [];
+  const route = chosen.route, isRoute = (link) => route.some((node, at) => at && ((link.from === route[at - 1] && link.to === node) || (link.to === route[at - 1] && link.from === node)));
+  for (const link of data.links.filter((each) => each.from >= 0 && each.to >= 0)) parts.push(arrow(link, points[link.from], points[link.to], run, isRoute(link)));
+  const reach = data.nodes.length === 1 ? 170 : data.nodes.length > 30 ? 34 : 50;
+  stubs(points).forEach((legs, node) => legs.forEach(({ angle, enters, leaves }) => {
+    const [dx, dy] = [Math.cos(angle), Math.sin(angle)], far = [points[node][0] + dx * reach, points[node][1] + dy * reach];
+    enters.forEach((link, lane) => parts.push(arrow(link, far, points[node], run, false, lane)));
+    if (leaves) parts.push(arrow(leaves, points[node], far, run, false));
+    if (data.nodes.length <= 12) parts.push(names(far, dx, dy, enters, leaves));
+  }));
+  data.nodes.forEach((node, number) => {
+    const found = measures(run, into[number], chosen.from, chosen.to), at = level(found.each), [x, y] = points[number];
+    const title = `${node.name}: ${fixed(found.each, 1)} s a vehicle, queue up to ${found.queue[2].toFixed(1)} vehicles`;
+    parts.push(`<g class="node" data-node="${number}"><title>${escape(title)}</title><circle cx="${x}" cy="${y}" r="11" fill="${at ? at[2] : "#ddd"}" stroke="${number === chosen.node ? "#36c" : "#333"}" stroke-width="${number === chosen.node ? 3.5 : 1}"/>
+      <text x="${x}" y="${y + 4}" text-anchor="middle" style="fill:${at && "AF".includes(at[1]) ? "#fff" : "#222"}">${at ? at[1] : ""}</text>
+      <text class="small name-of" ${data.nodes.length === 1 ? 'x="4" y="14"' : flat ? `x="${x}" y="${y - 17}" text-anchor="middle"` : `x="${x + 11}" y="${y - 12}"`}>${escape(node.name)}${data.nodes.length <= 12 ? ` ${fixed(found.each, 1)} s` : ""}</text></g>`);
+  });
+  place.innerHTML = `<svg viewBox="0 0 ${wide} ${high}" height="${high}" fill="none">${parts.join("")}</svg>`;
+}
+
+// ---- Tables
+
+function badge(delay) {
+  const at = level(delay);
+  return at ? `<span class="level" style="background:${at[2]};color:${"AF".includes(at[1]) ? "#fff" : "#222"}">${at[1]}</span>` : "-";
+}
+
+const spread = (list) => (list.length ? `${Math.round(sum(list) / list.length)} (${Math.min(...list)}-${Math.max(...list)})` : "-");
+
+const LINES = [
+  ["vehicles that came in", (m) => m.came.toFixed(1)],
+  ["delay a vehicle that came in, s", (m) => fixed(divided(m.delay, m.came), 1), (m) => divided(m.delay, m.came)],
+  ["delay at each stop line, s", (m) => `${fixed(m.each, 1)} ${badge(m.each)}`, (m) => m.each],
+  ["stopped, of those at a stop line", (m) => share(m.stopped), (m) => m.stopped],
+  ["all queues, 50 / 95 / most", (m) => m.queue.map((queue) => queue.toFixed(1)).join(" / "), (m) => m.queue[1]],
+  ["split failures", (m) => `${m.failures} of ${m.greens.length}`, (m) => divided(m.failures, m.greens.length)],
+  ["come on green", (m) => share(m.onGreen), (m) => (m.onGreen === null ? null : -m.onGreen)],
+  ["platoon ratio", (m) => fixed(m.ratio, 2), (m) => (m.ratio === null ? null : -m.ratio)],
+  ["greens, s: mean (from-to)", (m) => spread(m.greens)],
+  ["cycles, s: mean (from-to)", (m) => spread(m.cycles)],
+  ["plans that are none", (m) => m.none],
+];
+
+function noneOf(run) {
+  if (!run.none) return "-";
+  const inside = (round) => round * data.step >= chosen.from && round * data.step < chosen.to;
+  const rounds = Array.from({ length: END / data.step }, (_, round) => round).filter(inside).length;
+  return `${sum(run.none.map((list) => list.filter(inside).length))} of ${rounds * data.nodes.length}`;
+}
+
+function drawSides() {
+  const all = runs.map((run) => ({ ...measures(run, ending, chosen.from, chosen.to), came: came(run, chosen.from, chosen.to), none: noneOf(run) }));
+  const head = runs.map((run, at) => `<th style="color:${SERIES[at % SERIES.length]}">${escape(run.name)}</th>`).join("");
+  const rows = LINES.map(([label, say, rank]) => {
+    const ranks = rank ? all.map(rank).map((value) => value ?? Infinity) : [], best = Math.min(...ranks);
+    return `<tr><td>${label}</td>${all.map((each, at) => `<td class="${all.length > 1 && rank && ranks[at] === best ? "best" : ""}">${say(each)}</td>`).join("")}</tr>`;
+  });
+  find("sides").innerHTML = `<table><thead><tr><th></th>${head}</tr></thead><tbody>${rows.join("")}</tbody></table>`;
+}
+
+function drawTable() {
+  const isNodes = chosen.rows === "nodes";
+  const parts = isNodes ? data.nodes.map((node, number) => [node.name, into[number], number]) : ending.map((link) => [link.name, [link], link.to]);
+  const rows = parts.filter(([, links]) => links.length).map(([name, links, node]) => ({ name, node, all: runs.map((run) => measures(run, links, chosen.from, chosen.to)) }));
+  if (chosen.sort >= 0) rows.sort((one, other) => (other.all[chosen.sort].each ?? -1) - (one.all[chosen.sort].each ?? -1));
+  const isWide = runs.length < 3;
+  const cells = (m) => `<td>${fixed(m.each, 1)} ${badge(m.each)}</td><td>${m.queue[1].toFixed(1)}</td><td>${m.failures}/${m.greens.length}</td>${isWide ? `<td>${share(m.onGreen)}</td>` : ""}`;
+  const head = runs.map((run, at) => `<th colspan="${isWide ? 4 : 3}" class="over" data-sort="${at}" style="color:${SERIES[at % SERIES.length]}">${escape(run.name)}${chosen.sort === at ? " ▼" : ""}</th>`).join("");
+  const under = runs.map(() => `<th>delay, s</th><th>queue${isWide ? " 95" : ""}</th><th>fail${isWide ? "ures" : ""}</th>${isWide ? "<th>on green</th>" : ""}`).join("");
+  const lines = rows.map((row) => `<tr class="pick ${row.node === chosen.node ? "chosen" : ""}" data-node="${row.node}"><td>${escape(row.name)}</td>${row.all.map(cells).join("")}</tr>`);
+  find("table").innerHTML = `<table class="${isWide ? "" : "narrow"}"><thead><tr><th data-sort="-1">in order${chosen.sort < 0 ? " ▼" : ""}</th>${head}</tr><tr><td></td>${under}</tr></thead><tbody>${lines.join("")}</tbody></table>`;
+}
+
+// ---- Time and space
+
+const between = (one, other) => data.links.find((link) => link.from === one && link.to === other);
+
+// The way over one junction: the chosen link of it, or else the one that brings most; not that of another way
+function crossingOf(node, except) {
+  const weight = (link) => runs[chosen.report].entered[link.number][END], entries = into[node].filter((link) => link !== except?.entry);
+  const most = entries.reduce((one, other) => (one && weight(one) >= weight(other) ? one : other), undefined);
+  const entry = !except && data.links[chosen.link]?.to === node ? data.links[chosen.link] : most;
+  const turn = entry?.turns.reduce((one, other) => (other[1] > one[1] ? other : one));
+  return { entry, links: [], exit: turn && data.links[turn[0]] };
+}
+
+// The links along a route, from the entry that most of its vehicles come by to the exit that most of them take
+function chain(route, except = null) {
+  if (route.length === 1) return crossingOf(route[0], except);
+  const links = route.slice(1).map((node, at) => between(route[at], node));
+  const onward = links[0], entries = into[route[0]].filter((link) => link.from !== route[1]);
+  const shareOf = (link, exit) => sum(link.turns.filter(([turn]) => !exit || turn === exit.number).map(([, part]) => part));
+  const flow = (link) => shareOf(link, onward) * (1 + runs[chosen.report].entered[link.number][END]);
+  const entry = onward ? entries.reduce((one, other) => (one && flow(one) >= flow(other) ? one : other), undefined) : undefined;
+  const last = links[links.length - 1] ?? entry;
+  const exits = last ? last.turns.filter(([turn]) => data.links[turn].to !== route[route.length - 2] || data.links[turn].to < 0) : [];
+  const exit = exits.length ? data.links[exits.reduce((one, other) => (other[1] > one[1] ? other : one))[0]] : undefined;
+  return { entry, links, exit };
+}
+
+function heights(route) {
+  const ups = [0];
+  for (let at = 1; at < route.length; at++) {
+    const link = between(route[at - 1], route[at]) ?? between(route[at], route[at - 1]);
+    ups.push(ups[at - 1] + (link ? link.travel : 10));
+  }
+  return ups;
+}
+
+// When running totals come to an amount, looked for from a moment on; null where they never do
+function crossing(all, amount, from) {
+  let moment = from;
+  while (moment <= END && all[moment] < amount) moment++;
+  return moment > END ? null : [moment - 1 + (all[moment] > all[moment - 1] ? (amount - all[moment - 1]) / (all[moment] - all[moment - 1]) : 1), moment];
+}
+
+// The paths of whole vehicles on a link: free to the end of the queue, there to its turn, and over the line
+function paths(chart, run, link, low, high) {
+  const entered = run.entered[link.number], left = run.left[link.number], queue = run.queue(link.number), way = [];
+  const place = (part) => chart.y(low + (high - low) * part), travel = link.travel;
+  let [inAt, outAt] = [1, 1];
+  for (let amount = 500; amount <= entered[chosen.to]; amount += 1000) {
+    const came = crossing(entered, amount, inAt);
+    if (!came) break;
+    inAt = came[1];
+    const gone = crossing(left, amount, outAt);
+    if (gone) outAt = gone[1];
+    const [begin, reach, end] = [came[0], came[0] + travel, gone ? gone[0] : END + 1];
+    if (end < chosen.from || begin > chosen.to) continue;
+    const back = link.to < 0 ? 0 : Math.min(0.8 * travel, (0.5 * queue[Math.min(END, Math.floor(reach))]) / 1000);
+    const line = `M${chart.x(begin)} ${place(0)}`;
+    if (end - reach < 1.5) way.push(`${line}L${chart.x(Math.max(reach, end))} ${place(1)}`);
+    else way.push(`${line}L${chart.x(reach - back)} ${place(1 - back / travel)}H${chart.x(Math.max(reach - back, end - back))}${gone ? `L${chart.x(end)} ${place(1)}` : ""}`);
+  }
+  return way.join("");
+}
+
+function bars(chart, run, link, up, shift) {
+  if (!link) return;
+  const y = chart.y(up) + shift;
+  chart.box(chart.x(0), chart.x(END), y, 5, RED);
+  for (const [, from, to] of run.greensOf(link.to, link.phase)) if (to > chosen.from && from < chosen.to) chart.box(chart.x(from), chart.x(to), y, 5, GREEN, `${link.name}: green ${from} to ${to}`);
+}
+
+function drawSpace() {
+  const route = chosen.route, ups = heights(route), run = runs[chosen.report];
+  const forward = chain(route), backward = chosen.back ? chain([...route].reverse(), forward) : null;
+  const ends = [forward, backward].filter(Boolean), top = ups[ups.length - 1];
+  const below = Math.max(3, forward.entry?.travel ?? 0, backward?.exit?.travel ?? 0), above = Math.max(3, forward.exit?.travel ?? 0, backward?.entry?.travel ?? 0);
+  const high = Math.max(300, Math.min(780, 130 + route.length * 88)), chart = new Chart("space", high, below + top + above, "travel, in seconds");
+  const up = (place) => below + place;
+  ends.forEach(({ entry, links, exit }, way) => {
+    const at = (place) => up(way ? top - place : place), place = (node) => (way ? top - ups[route.length - 1 - node] : ups[node]), colour = SERIES[way];
+    const trail = (link, low, high) => { if (link) chart.path(paths(chart, run, link, at(low), at(high)), colour, chosen.to - chosen.from > 900 ? 0.55 : 0.9, 'stroke-opacity=".8"'); };
+    trail(entry, place(0) - (entry?.travel ?? 0), place(0));
+    links.forEach((link, number) => trail(link, place(number), place(number + 1)));
+    trail(exit, place(route.length - 1), place(route.length - 1) + (exit?.travel ?? 0));
+    [entry, ...links].forEach((link, number) => bars(chart, run, link, at(place(number)), way ? 1 : -6));
+  });
+  route.forEach((node, number) => chart.text(LEFT - 6, chart.y(up(ups[number])) + 4, data.nodes[node].name, "end"));
+  chart.draw();
+  const name = (node) => data.nodes[node].name;
+  const alone = route.length === 1;
+  const names = ends.map(({ entry, exit }, way) => alone ? `${entry?.name ?? ""} to ${exit?.name ?? ""}` : `from ${name(way ? route[route.length - 1] : route[0])} to ${name(way ? route[0] : route[route.length - 1])}`);
+  find("spacekey").innerHTML = `${keyOf(names, SERIES)}: a line for each vehicle on a link, level where it waits. <i style="background:${GREEN}"></i>green <i style="background:${RED}"></i>not green, above a junction's place for those who go up, below for those who go down.`;
+}
+
+// ---- One junction
+
+function drawQueues() {
+  const links = into[chosen.node], run = runs[chosen.report];
+  const lists = links.map((link) => run.queue(link.number)), window = (list) => list.subarray(chosen.from, chosen.to + 1).reduce((a, b) => Math.max(a, b), 0) / 1000;
+  const chart = new Chart("queues", 250, Math.max(1, ...lists.map(window)) * 1.05, "vehicles");
+  chart.upAxis();
+  lists.forEach((list, at) => chart.series(Array.from(list, (queue) => queue / 1000), SERIES[at % SERIES.length], 1.5, at >= SERIES.length ? 'stroke-dasharray="5 3"' : ""));
+  chart.draw();
+  find("queuekey").innerHTML = keyOf(links.map((link) => `${link.name} (phase ${link.phase})`), SERIES);
+}
+
+function drawSplits() {
+  const node = chosen.node, phases = data.nodes[node].phases, run = runs[chosen.report], greens = run.greens[node];
+  const first = Math.max(0, phases.findIndex((phase) => !phase.skip)), begins = greens.filter((green) => green[0] === first).map((green) => green[1]);
+  if (!begins.length || begins[0] > 0) begins.unshift(greens.length ? Math.min(0, greens[0][1]) : 0);
+  const cycles = begins.map((begin, at) => [begin, begins[at + 1] ?? Math.max(END, ...greens.map((green) => green[2]))]);
+  const seen = cycles.filter(([begin, end]) => end > chosen.from && begin < chosen.to), most = Math.max(1, ...seen.map(([begin, end]) => end - begin));
+  const chart = new Chart("splits", 250, most * 1.04, "seconds of the cycle");
+  chart.upAxis();
+  for (const [begin, end] of seen) {
+    const left = chart.x(begin) + 0.5, right = Math.max(left + 0.5, chart.x(end) - 0.5);
+    chart.box(left, right, chart.y(end - begin), chart.bottom - chart.y(end - begin), "#ddd");
+    for (const green of greens.filter(([, from]) => from >= begin && from < end)) {
+      const [phase, from, to] = green, failed = to <= END && phases[phase].links.some((link) => isFailure(run, link, green));
+      const y = chart.y(to - begin), high = +(chart.y(from - begin) - y).toFixed(1);
+      chart.box(left, right, y, high, SERIES[phase], `phase ${phase}: green ${from} to ${to}, ${to - from} s${failed ? ", ended with a queue since its begin" : ""}`);
+      if (failed) chart.inner.push(`<circle cx="${(left + right) / 2}" cy="${y + 5}" r="${Math.max(1.5, Math.min(3.4, (right - left) / 3))}" fill="#fff" stroke="#c00" stroke-width="1.6"/>`);
+    }
+  }
+  chart.draw();
+  find("splitkey").innerHTML = `${keyOf(phases.map((_, number) => `phase ${number}`), SERIES)} <i style="background:#ddd"></i>yellow and all red; a ring: split failure`;
+}
+
+function drawCoordination() {
+  const link = data.links[chosen.link], run = runs[chosen.report];
+  if (!link) return;
+  const greens = run.greensOf(link.to, link.phase), ends = [0, ...greens.map((green) => green[2])];
+  const cycle = (second) => { let at = 0; while (at + 1 < ends.length && ends[at + 1] <= second) at++; return at; };
+  const shown = greens.map((green, at) => [ends[at], green[1], green[2]]).filter(([from, , to]) => to > chosen.from && from < chosen.to);
+  const stretches = [...shown.map(([from, , to]) => to - from), Math.min(chosen.to, END) - ends[cycle(chosen.to)]];
+  const chart = new Chart("coordination", 270, Math.max(1, ...stretches) * 1.04, "seconds since the last green");
+  chart.upAxis();
+  for (const [from, begin, to] of shown) {
+    const x = chart.x(from), right = chart.x(to), y = chart.y(to - from);
+    chart.box(x, right, y, +(chart.y(begin - from) - y).toFixed(1), "#009e7322");
+    chart.path(`M${x} ${chart.y(begin - from)}H${right}`, GREEN, 2);
+    chart.path(`M${x} ${y}H${right}`, "#c0392b", 2);
+  }
+  const entered = run.entered[link.number];
+  let dots = "", from = 1;
+  for (let amount = 500; amount <= entered[END]; amount += 1000) {
+    const [time, at] = crossing(entered, amount, from), reach = time + link.travel;
+    from = at;
+    if (reach >= chosen.from && reach <= chosen.to && reach < END) dots += `M${chart.x(reach)} ${chart.y(reach - ends[cycle(reach)])}h0`;
+  }
+  chart.path(dots, "#222", 4, 'stroke-linecap="round" stroke-opacity=".7"');
+  chart.draw();
+}
+
+// ---- What is chosen
+
+function shortest(start, end) {
+  const best = data.nodes.map(() => Infinity), before = data.nodes.map(() => -1), open = new Set(data.nodes.keys());
+  best[start] = 0;
+  while (open.size) {
+    const node = [...open].reduce((one, other) => (best[other] < best[one] ? other : one));
+    open.delete(node);
+    if (node === end || best[node] === Infinity) break;
+    for (const link of data.links) {
+      if (link.from !== node || link.to < 0 || best[node] + link.travel >= best[link.to]) continue;
+      best[link.to] = best[node] + link.travel;
+      before[link.to] = node;
+    }
+  }
+  if (best[end] === Infinity) return null;
+  const route = [end];
+  while (route[0] !== start) route.unshift(before[route[0]]);
+  return route;
+}
+
+let later = 0;
+
+function drawSoon() {
+  cancelAnimationFrame(drawSoon.frame);
+  drawSoon.frame = requestAnimationFrame(() => { drawCharts(); clearTimeout(later); later = setTimeout(drawTables, 120); });
+}
+
+function drawCharts() {
+  find("from").value = chosen.from;
+  find("to").value = chosen.to;
+  find("node").value = chosen.node;
+  document.querySelectorAll(".name").forEach((place) => { place.textContent = data.nodes[chosen.node].name; });
+  document.querySelectorAll("#reports input").forEach((button, at) => { button.checked = at === chosen.report; });
+  drawOverview(); drawSpace(); drawQueues(); drawSplits(); drawCoordination();
+}
+
+function drawTables() { drawMap(); drawSides(); drawTable(); }
+
+function look(from, to) {
+  const span = Math.max(10, Math.min(END, Math.round(to - from)));
+  chosen.from = Math.max(0, Math.min(END - span, Math.round(from)));
+  chosen.to = Math.min(END, chosen.from + span);
+  drawSoon();
+}
+
+function chooseNode(node) {
+  chosen.node = node;
+  const links = into[node], run = runs[chosen.report];
+  find("link").innerHTML = links.map((link) => `<option value="${link.number}">${escape(link.name)}</option>`).join("");
+  if (!links.some((link) => link.number === chosen.link))
+    chosen.link = links.length ? links.reduce((one, other) => {
+      const weight = (link) => run.entered[link.number][END] * (link.from >= 0 ? 1000 : 1);
+      return weight(other) > weight(one) ? other : one;
+    }).number : -1;
+  find("link").value = chosen.link;
+}
+
+function chooseStreet(street) {
+  chosen.street = street;
+  chosen.route = data.streets[street];
+  find("street").value = street;
+  find("start").value = chosen.route[0];
+  find("end").value = chosen.route[chosen.route.length - 1];
+}
+
+function chooseRoute() {
+  const route = shortest(+find("start").value, +find("end").value);
+  if (route) { chosen.route = route; find("street").value = ""; drawCharts(); drawMap(); } else { chooseStreet(chosen.street); drawCharts(); }
+}
+
+function second(place, event) {
+  const box = place.getBoundingClientRect(), part = (event.clientX - box.left - LEFT) / (box.width - LEFT - RIGHT);
+  return place.id === "overview" ? part * END : chosen.from + part * (chosen.to - chosen.from);
+}
+
+function listen(place) {
+  let held = null;
+  place.addEventListener("wheel", (event) => {
+    event.preventDefault();
+    const at = second(place, event), factor = event.deltaY > 0 ? 1.25 : 0.8;
+    look(at - (at - chosen.from) * factor, at + (chosen.to - at) * factor);
+  }, { passive: false });
+  place.addEventListener("mousedown", (event) => { held = { x: event.clientX, from: chosen.from, to: chosen.to, at: second(place, event) }; event.preventDefault(); });
+  place.addEventListener("mousemove", (event) => {
+    const at = second(place, event);
+    if (at >= 0 && at <= END) find("read").textContent = `${Math.floor(at)} s = ${clock(Math.floor(at))}`;
+  });
+  window.addEventListener("mousemove", (event) => {
+    if (!held) return;
+    if (place.id === "overview") {
+      const at = second(place, event);
+      if (Math.abs(event.clientX - held.x) > 3) look(Math.min(at, held.at), Math.max(at, held.at));
+    } else {
+      const shift = ((held.x - event.clientX) / (place.clientWidth - LEFT - RIGHT)) * (held.to - held.from);
+      look(held.from + shift, held.to + shift);
+    }
+  });
+  window.addEventListener("mouseup", () => { held = null; });
+  place.addEventListener("dblclick", () => look(0, END));
+}
+
+function fill() {
+  document.title = data.title;
+  find("title").textContent = data.title;
+  find("about").textContent = data.about;
+  find("reports").innerHTML = runs.map((run, at) => `<label style="color:${SERIES[at % SERIES.length]}"><input type="radio" name="report"> <b>${escape(run.name)}</b></label>`).join("");
+  find("levels").innerHTML = `Level of service, seconds a vehicle: ${keyOf(LEVELS.map(([most, name]) => (most === Infinity ? `${name} more` : `${name} to ${most}`)), LEVELS.map((each) => each[2]))}; wider: more vehicles. Click a junction.`;
+  const nodes = data.nodes.map((node, at) => `<option value="${at}">${escape(node.name)}</option>`).join("");
+  for (const id of ["node", "start", "end"]) find(id).innerHTML = nodes;
+  find("street").innerHTML = data.streets.map((street, at) => `<option value="${at}">${escape(data.nodes[street[0]].name)}${street.length > 1 ? ` - ${escape(data.nodes[street[street.length - 1]].name)} (${street.length})` : ""}</option>`).join("");
+  const spans = [60, 300, 900, 1800].filter((span) => span < END);
+  find("spans").innerHTML = [...spans, END].map((span) => `<button data-span="${span}">${span === END ? "whole run" : `${span / 60} min`}</button>`).join(" ");
+}
+
+// Of the longest streets that on which most vehicles enter links
+function busiest() {
+  const long = data.streets.filter((street) => street.length === data.streets[0].length);
+  const flow = (street) => sum(street.map((node, at) => { const link = at ? between(street[at - 1], node) : null; return link ? runs[0].entered[link.number][END] : 0; }));
+  return long.indexOf(long.reduce((one, other) => (flow(other) > flow(one) ? other : one)));
+}
+
+function begin() {
+  const words = new URLSearchParams(location.hash.slice(1)), number = (key, most, usual) => Math.max(0, Math.min(most, words.has(key) ? +words.get(key) || 0 : usual));
+  fill();
+  chosen.report = number("report", runs.length - 1, 0);
+  [chosen.from, chosen.to] = [number("from", END - 10, 0), number("to", END, END)];
+  chooseStreet(number("street", data.streets.length - 1, busiest()));
+  const street = data.streets[chosen.street], named = data.nodes.findIndex((node) => node.name === words.get("node"));
+  chooseNode(named >= 0 ? named : street[Math.floor(street.length / 2)]);
+  ["overview", "space", "queues", "splits", "coordination"].forEach((id) => listen(find(id)));
+  document.querySelectorAll("#reports input").forEach((button, at) => button.addEventListener("change", () => { chosen.report = at; drawCharts(); drawTables(); }));
+  find("spans").addEventListener("click", (event) => { const span = +event.target.dataset.span; if (span) look((chosen.from + chosen.to - span) / 2, (chosen.from + chosen.to + span) / 2); });
+  for (const id of ["from", "to"]) find(id).addEventListener("change", () => look(+find("from").value, +find("to").value));
+  find("node").addEventListener("change", () => { chooseNode(+find("node").value); drawCharts(); drawTables(); });
+  for (const id of ["map", "table"]) find(id).addEventListener("click", (event) => {
+    const sort = event.target.closest("[data-sort]"), node = event.target.closest("[data-node]");
+    if (sort) { chosen.sort = +sort.dataset.sort; drawTable(); }
+    if (node) { chooseNode(+node.dataset.node); drawCharts(); drawTables(); }
+  });
+  find("link").addEventListener("change", () => { chosen.link = +find("link").value; drawCoordination(); drawSpace(); });
+  find("street").addEventListener("change", () => { chooseStreet(+find("street").value); drawCharts(); drawMap(); });
+  for (const id of ["start", "end"]) find(id).addEventListener("change", chooseRoute);
+  find("back").addEventListener("change", () => { chosen.back = find("back").checked; drawSpace(); });
+  find("rows").addEventListener("change", () => { chosen.rows = find("rows").value; drawTable(); });
+  window.addEventListener("resize", () => { drawCharts(); drawTables(); });
+  drawCharts();
+  drawTables();
+  document.body.dataset.ready = "yes";
+}
+
+begin();

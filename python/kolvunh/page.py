@@ -1,0 +1,134 @@
+"""A page for a browser that needs no network: a street and its reports side by side, in a window of time that the reader chooses.
+
+    python3 -m kolvunh.page NET ARR REPORT .. [--title TITLE] [--place NODE=X,Y ..]
+
+A REPORT may be written NAME=FILE; without a name it has that of its file. The street is laid out by its links' travel, or by the places of
+all nodes where they are given, x to the right and y up in any unit. Nothing here is proved.
+"""
+
+import argparse
+import json
+from collections.abc import Sequence
+from itertools import groupby, pairwise
+from pathlib import Path
+from typing import Any
+
+from .commands import end
+from .faults import Fault
+from .measures import Study, study_of
+from .networks import Network, read_network
+from .places import Places, places_of, streets_of
+from .records import counted, shown
+
+HERE = Path(__file__).parent
+
+
+def pairs_of(totals: list[int]) -> list[int]:
+    """Running totals as pairs: an amount, and for how many seconds it comes in each; what comes no more is left out."""
+    runs = [(amount, len(list(same))) for amount, same in groupby(after - before for before, after in pairwise(totals))]
+    if runs and not runs[-1][0]:
+        runs.pop()
+    return [number for run in runs for number in run]
+
+
+def report_data(name: str, study: Study) -> dict[str, Any]:
+    """What the page knows of a report: greens by node, rounds without a plan by node, and what entered and left each link."""
+    nodes, flows = study.network.nodes, study.flows.values()
+    greens = study.report.greens_of()
+    return {
+        "name": name,
+        "greens": [[[green.phase, green.begin, green.end] for green in greens.get(node.name, [])] for node in nodes],
+        "none": [
+            [plan.round for plan in study.report.plans if plan.node == node.name and not plan.is_found] for node in nodes
+        ] if study.report.plans else None,
+        "entered": [pairs_of(flow.entered) for flow in flows],
+        "left": [pairs_of(flow.left) for flow in flows],
+    }  # fmt: skip
+
+
+def network_data(network: Network, places: Places) -> dict[str, Any]:
+    """What the page knows of a network: its nodes with their places, its links, and streets, all by their numbers from 0."""
+    nodes = {node.name: number for number, node in enumerate(network.nodes)}
+    links = {link.name: number for number, link in enumerate(network.links)}
+    return {
+        "seconds": network.run.seconds,
+        "step": network.run.step,
+        "nodes": [
+            {
+                "name": node.name,
+                "x": round(places[node.name][0], 2),
+                "y": round(places[node.name][1], 2),
+                "phases": [{"skip": phase.skip, "links": [links[link] for link in phase.links]} for phase in node.phases],
+            }
+            for node in network.nodes
+        ],
+        "links": [
+            {
+                "name": link.name,
+                "from": nodes[link.start] if link.start else -1,
+                "to": nodes[link.end] if link.end else -1,
+                "travel": link.travel,
+                "sat": link.sat,
+                "phase": network.phase_of[link.name][1] if link.end else -1,
+                "turns": [[links[turn.exit], turn.share] for turn in link.turns],
+            }
+            for link in network.links
+        ],
+        "streets": [[nodes[node] for node in street] for street in streets_of(network)] or [[0]],
+    }
+
+
+def page_text(data: dict[str, Any]) -> str:
+    """The page with its data and its script inside."""
+    text = json.dumps(data, separators=(",", ":")).replace("<", "\\u003c")
+    page, script = ((HERE / name).read_text(encoding="utf-8") for name in ("page.html", "page.js"))
+    return page.replace("SCRIPT", script, 1).replace("DATA", text, 1)
+
+
+def named(words: str) -> tuple[str, str]:
+    """The name and the file of a report, from NAME=FILE or FILE."""
+    name, mark, file = words.partition("=")
+    return (name, file) if mark and not Path(words).exists() else (Path(words).stem, words)
+
+
+def place_of(words: str) -> tuple[str, tuple[float, float]]:
+    """The node and its place from NODE=X,Y; on the page y goes down."""
+    name, _, numbers = words.partition("=")
+    try:
+        x, y = map(float, numbers.split(","))
+    except ValueError:
+        raise argparse.ArgumentTypeError(f"{words!r} is not NODE=X,Y") from None
+    return name, (x, -y)
+
+
+def answer(words: Sequence[str] | None = None) -> str:
+    """What the command writes."""
+    parser = argparse.ArgumentParser(description=__doc__, formatter_class=argparse.RawDescriptionHelpFormatter)
+    parser.add_argument("network")
+    parser.add_argument("arrivals")
+    parser.add_argument("reports", nargs="+", metavar="REPORT", type=named)
+    parser.add_argument("--title", help="what the page is called (the name of the network's file)")
+    parser.add_argument("--place", type=place_of, action="append", default=[], metavar="NODE=X,Y", help="where a node is")
+    options = parser.parse_args(words)
+    network = read_network(options.network)
+    given = dict(options.place)
+    strange = set(given) ^ {node.name for node in network.nodes} if given else set()
+    if strange:
+        raise Fault(f"{options.network}: places are to be given for all nodes of the network and for no other: {shown(min(strange))}")
+    data = network_data(network, places_of(network, given))
+    data["reports"] = [report_data(name, study_of(network, options.arrivals, file)) for name, file in options.reports]
+    data["title"] = options.title or Path(options.network).stem
+    data["about"] = (
+        f"{Path(options.network).name} with {Path(options.arrivals).name}: {counted(len(network.nodes), 'junction')}, "
+        f"{counted(len(network.links), 'link')}, {network.run.seconds} seconds. Drawn from reports by tools that are not proved."
+    )
+    return page_text(data)
+
+
+def main() -> None:
+    """Runs the command by the words that the process was called with."""
+    end(lambda: print(answer(), end=""))
+
+
+if __name__ == "__main__":
+    main()
