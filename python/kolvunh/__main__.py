@@ -2,6 +2,9 @@
 
     check-input NET ARR       what each junction has to carry, and what in the two files may make trouble
     draw KIND FILES ..        greens as text; a street, queues or points as SVG
+    measures NET ARR REPORT   delay, level of service, queues, stops, split failures, arrivals on green: a table or CSV
+    page NET ARR REPORT ..    a page for a browser: reports side by side, time and space, queues, splits, coordination
+    summary NET ARR [REPORT]  a run in a dozen lines, in vehicles and seconds
     explain WORDS ..          calls the program by the words, and says of a refusal what is wrong and where
     sweep NET ARR ..          a network under several demands with several seeds
     to-sumo, from-sumo, sumo-loop, compare-sumo ..    beside SUMO: docs in tools/sumo/README.md
@@ -16,6 +19,9 @@ MODULES = {
     "check-input": "check_input",
     "draw": "draw",
     "explain": "explain.command",
+    "measures": "measures",
+    "page": "page",
+    "summary": "summary",
     "sweep": "sweep",
     "to-sumo": "sumo.to_sumo",
     "from-sumo": "sumo.from_sumo",
