@@ -1,7 +1,7 @@
 """Measures of a report, as traffic engineers take them: by movement, link, approach, node and network, over any interval of a run.
 
-    python3 -m kolvunh.measures NET ARR REPORT [--by KIND] [--from SECOND] [--to SECOND] [--every SECONDS] [--csv] [--queues QUEUES]
-                                               [--approach NAME=LINK,LINK ..]
+    ./signal measures NET ARR REPORT [--by KIND] [--from SECOND] [--to SECOND] [--every SECONDS] [--csv] [--queues QUEUES]
+                                      [--approach NAME=LINK,LINK ..]
 
 The vehicles are moved under the report's greens by the rules of the world, and compared with the report's totals; with `--queues` they are
 taken from what the command `queues` wrote. What each measure means, with its unit: docs/FORMATS.md, "Measures". Nothing here is proved.

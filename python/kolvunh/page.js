@@ -208,7 +208,7 @@ class Chart {
   }
 }
 
-function keyOf(names, colours) { return names.map((name, at) => `<i style="background:${colours[at % colours.length]}"></i>${escape(name)}`).join(""); }
+function keyOf(names, colours) { return names.map((name, at) => `<span><i style="background:${colours[at % colours.length]}"></i>${escape(name)}</span>`).join(" "); }
 
 function allQueues(run) {
   return run.keep("all queues", () => {
@@ -312,7 +312,7 @@ function names([x, y], dx, dy, enters, leaves) {
 
 function drawMap() {
   const place = find("map"), wide = place.clientWidth || 600, flat = data.nodes.length > 1 && new Set(data.nodes.map((node) => Math.round(node.y))).size === 1;
-  const high = flat ? 190 : Math.min(wide, 560), points = mapScale(wide, high), run = runs[chosen.report], parts = [];
+  const high = flat ? 190 : Math.min(wide, data.nodes.length === 1 ? 470 : 560), points = mapScale(wide, high), run = runs[chosen.report], parts = [];
   const route = chosen.route, isRoute = (link) => route.some((node, at) => at && ((link.from === route[at - 1] && link.to === node) || (link.to === route[at - 1] && link.from === node)));
   for (const link of data.links.filter((each) => each.from >= 0 && each.to >= 0)) parts.push(arrow(link, points[link.from], points[link.to], run, isRoute(link)));
   const reach = data.nodes.length === 1 ? 170 : data.nodes.length > 30 ? 34 : 50;

@@ -1,6 +1,6 @@
 """A page for a browser that needs no network: a street and its reports side by side, in a window of time that the reader chooses.
 
-    python3 -m kolvunh.page NET ARR REPORT .. [--title TITLE] [--place NODE=X,Y ..]
+    ./signal page NET ARR REPORT .. [--title TITLE] [--place NODE=X,Y ..]
 
 A REPORT may be written NAME=FILE; without a name it has that of its file. The street is laid out by its links' travel, or by the places of
 all nodes where they are given, x to the right and y up in any unit. Nothing here is proved.

@@ -1,4 +1,9 @@
-"""A run in a dozen lines for people, in vehicles and seconds: ./signal summary NET ARR [REPORT]. Nothing here is proved."""
+"""A run in a dozen lines for people, in vehicles and seconds.
+
+    ./signal summary NET ARR [REPORT]
+
+Without a report `turns` is run. The lines are from the measures of docs/FORMATS.md, "Measures". Nothing here is proved.
+"""
 
 import argparse
 from collections.abc import Sequence
@@ -75,7 +80,7 @@ def lines_of(network: Network, study: Study) -> list[tuple[str, str]]:
 
 def answer(words: Sequence[str] | None = None) -> str:
     """What the command writes."""
-    parser = argparse.ArgumentParser(description=__doc__)
+    parser = argparse.ArgumentParser(description=__doc__, formatter_class=argparse.RawDescriptionHelpFormatter)
     parser.add_argument("network")
     parser.add_argument("arrivals")
     parser.add_argument("report", nargs="?", help="a report of this network and these arrivals; without one `turns` is run")
