@@ -5,7 +5,11 @@ const data = JSON.parse(document.getElementById("data").textContent);
 const find = (id) => document.getElementById(id);
 const END = data.seconds, LEFT = 74, RIGHT = 24;
 const SERIES = ["#0072b2", "#d55e00", "#009e73", "#cc79a7", "#e69f00", "#56b4e9"];
-const LEVELS = [[10, "A", "#1a9850"], [20, "B", "#91cf60"], [35, "C", "#d9ef8b"], [55, "D", "#fee08b"], [80, "E", "#fc8d59"], [Infinity, "F", "#d73027"]];
+// Seconds a vehicle up to which a level of service goes, its name and its colour
+const LEVELS = [
+  [10, "A", "#1a9850"], [20, "B", "#91cf60"], [35, "C", "#d9ef8b"],
+  [55, "D", "#fee08b"], [80, "E", "#fc8d59"], [Infinity, "F", "#d73027"],
+];
 const GREEN = "#009e73", RED = "#e8a58f";
 const chosen = { report: 0, from: 0, to: END, node: 0, link: -1, street: 0, route: null, back: true, rows: "nodes", sort: -1 };
 
@@ -14,6 +18,7 @@ const clock = (second) => `${Math.floor(second / 60)}:${String(Math.round(second
 const level = (delay) => (delay === null ? null : LEVELS.find(([most]) => delay <= most));
 const fixed = (value, digits) => (value === null ? "-" : value.toFixed(digits));
 const share = (value) => (value === null ? "-" : `${Math.round(100 * value)} %`);
+const inkOn = (at) => ("AF".includes(at[1]) ? "#fff" : "#222");
 const divided = (amount, of) => (of ? amount / of : null);
 const sum = (values) => values.reduce((total, value) => total + value, 0);
 
@@ -143,14 +148,18 @@ function measures(run, links, from, to) {
   }
   queues.sort();
   return {
-    vehicles: all.vehicles / 1000, delay: all.delay / 1000, each: divided(all.delay, all.vehicles), stopped: divided(all.stopped, all.vehicles),
+    vehicles: all.vehicles / 1000,
+    delay: all.delay / 1000,
+    each: divided(all.delay, all.vehicles),
+    stopped: divided(all.stopped, all.vehicles),
     onGreen: divided(all.onGreen, all.vehicles), ratio: divided(all.onGreen, all.expected),
     queue: [50, 95, 100].map((part) => percentile(queues, part) / 1000), ...signals(run, links, from, to),
   };
 }
 
 function came(run, from, to) {
-  return sum(data.links.filter((link) => link.from < 0).map((link) => run.entered[link.number][to] - run.entered[link.number][from])) / 1000;
+  const entries = data.links.filter((link) => link.from < 0).map((link) => run.entered[link.number]);
+  return sum(entries.map((entered) => entered[to] - entered[from])) / 1000;
 }
 
 // ---- Charts of time
@@ -171,11 +180,14 @@ class Chart {
       this.text(this.x(second), this.bottom + 14, clock(second), "middle");
     }
     this.text((LEFT + this.wide - RIGHT) / 2, high - 5, "minutes:seconds", "middle", "small");
-    if (label) this.parts.push(`<text class="small" transform="translate(14 ${(this.top + this.bottom) / 2}) rotate(-90)" text-anchor="middle">${escape(label)}</text>`);
+    const turned = `translate(14 ${(this.top + this.bottom) / 2}) rotate(-90)`;
+    this.parts.push(`<text class="small" transform="${turned}" text-anchor="middle">${escape(label)}</text>`);
   }
   x(second) { return +(LEFT + ((second - this.from) / (this.to - this.from)) * (this.wide - LEFT - RIGHT)).toFixed(1); }
   y(value) { return +(this.bottom - (value / this.most) * (this.bottom - this.top)).toFixed(1); }
-  text(x, y, words, anchor, kind = "") { this.parts.push(`<text class="${kind}" x="${x}" y="${y}" text-anchor="${anchor}">${escape(words)}</text>`); }
+  text(x, y, words, anchor, kind = "") {
+    this.parts.push(`<text class="${kind}" x="${x}" y="${y}" text-anchor="${anchor}">${escape(words)}</text>`);
+  }
   upAxis() {
     const size = steps(this.most, 26 / (this.bottom - this.top), [0.1, 0.2, 0.5, 1, 2, 5, 10, 20, 50, 100, 200, 500, 1000, 2000, 5000]);
     for (let value = 0; value <= this.most * 1.0001; value += size) {
@@ -183,10 +195,14 @@ class Chart {
       this.text(LEFT - 6, this.y(value) + 4, +value.toFixed(1), "end");
     }
   }
-  path(way, colour, width = 1.6, more = "") { if (way) this.inner.push(`<path d="${way}" fill="none" stroke="${colour}" stroke-width="${width}" ${more}/>`); }
-  box(x, to, y, high, colour, title = "") {
-    this.inner.push(`<rect x="${x}" y="${y}" width="${Math.max(0, to - x).toFixed(1)}" height="${high}" fill="${colour}">${title ? `<title>${escape(title)}</title>` : ""}</rect>`);
+  path(way, colour, width = 1.6, more = "") {
+    if (way) this.inner.push(`<path d="${way}" fill="none" stroke="${colour}" stroke-width="${width}" ${more}/>`);
   }
+  box(x, to, y, high, colour, title = "") {
+    const size = `x="${x}" y="${y}" width="${Math.max(0, to - x).toFixed(1)}" height="${high}"`;
+    this.inner.push(`<rect ${size} fill="${colour}">${title ? `<title>${escape(title)}</title>` : ""}</rect>`);
+  }
+  ring(x, y, size) { this.inner.push(`<circle cx="${x}" cy="${y}" r="${size}" fill="#fff" stroke="#c00" stroke-width="1.6"/>`); }
   // A line of steps through a list of values by moments; moments of one pixel are drawn as their greatest
   series(values, colour, width = 1.6, more = "") {
     const wide = Math.max(1, Math.floor((this.to - this.from) / (this.wide - LEFT - RIGHT)));
@@ -202,13 +218,17 @@ class Chart {
   }
   draw(after = "") {
     const id = `cut-${this.place.id}`, box = `x="${LEFT}" y="0" width="${this.wide - LEFT - RIGHT}" height="${this.bottom + 1}"`;
-    this.place.innerHTML = `<svg viewBox="0 0 ${this.wide} ${this.high}" height="${this.high}"><clipPath id="${id}"><rect ${box}/></clipPath>
-      ${this.parts.join("")}<path d="M${LEFT} ${this.top}V${this.bottom}H${this.wide - RIGHT}" fill="none" stroke="#888"/>
+    this.place.innerHTML = `<svg viewBox="0 0 ${this.wide} ${this.high}" height="${this.high}">
+      <clipPath id="${id}"><rect ${box}/></clipPath>${this.parts.join("")}
+      <path d="M${LEFT} ${this.top}V${this.bottom}H${this.wide - RIGHT}" fill="none" stroke="#888"/>
       <g clip-path="url(#${id})">${this.inner.join("")}</g>${after}</svg>`;
   }
 }
 
-function keyOf(names, colours) { return names.map((name, at) => `<span><i style="background:${colours[at % colours.length]}"></i>${escape(name)}</span>`).join(" "); }
+function keyOf(names, colours) {
+  const part = (name, at) => `<span><i style="background:${colours[at % colours.length]}"></i>${escape(name)}</span>`;
+  return names.map(part).join(" ");
+}
 
 function allQueues(run) {
   return run.keep("all queues", () => {
@@ -234,7 +254,7 @@ const ROOM = data.nodes.length > 12 ? 46 : 84;
 function mapScale(wide, high) {
   const xs = data.nodes.map((node) => node.x), ys = data.nodes.map((node) => node.y);
   const span = (list) => Math.max(...list) - Math.min(...list);
-  const scale = Math.min((wide - 2 * ROOM - 20) / (span(xs) || 1), (high - 2 * ROOM) / (span(ys) || 1), data.nodes.length === 1 ? 1 : Infinity);
+  const scale = Math.min((wide - 2 * ROOM - 20) / (span(xs) || 1), (high - 2 * ROOM) / (span(ys) || 1));
   const middle = (list) => (Math.max(...list) + Math.min(...list)) / 2;
   return data.nodes.map((node) => [wide / 2 + (node.x - middle(xs)) * scale, high / 2 + (node.y - middle(ys)) * scale]);
 }
@@ -250,7 +270,8 @@ function common(one, other) {
 function legsOf(node) {
   const legs = data.links.filter((link) => link.to < 0 && link.from === node).map((leaves) => ({ leaves, enters: [] }));
   for (const link of data.links.filter((each) => each.from < 0 && each.to === node)) {
-    const fits = (leg) => (leg.leaves && !link.turns.some(([exit, part]) => exit === leg.leaves.number && part) ? common(link.name, leg.leaves.name) : common(link.name, leg.leaves?.name ?? "") - 3);
+    const turnsInto = (leaves) => !leaves || link.turns.some(([exit, part]) => exit === leaves.number && part);
+    const fits = ({ leaves }) => common(link.name, leaves?.name ?? "") - (turnsInto(leaves) ? 3 : 0);
     const best = legs.reduce((one, other) => (one && fits(one) >= fits(other) ? one : other), undefined);
     if (best && fits(best) >= 2) best.enters.push(link); else legs.push({ leaves: undefined, enters: [link] });
   }
@@ -266,7 +287,8 @@ function stubs(points) {
   return data.nodes.map((_, node) => {
     const used = [], at = new Map();
     for (const link of data.links.filter((each) => each.from >= 0 && each.to >= 0 && (each.from === node || each.to === node))) {
-      const other = points[link.from === node ? link.to : link.from], angle = Math.atan2(other[1] - points[node][1], other[0] - points[node][0]);
+      const other = points[link.from === node ? link.to : link.from];
+      const angle = Math.atan2(other[1] - points[node][1], other[0] - points[node][0]);
       used.push(angle);
       at.set(link, angle);
     }
@@ -277,8 +299,9 @@ function stubs(points) {
       const from = leg.leaves && into[node].find((link) => lead.has(link) && at.has(link) && straight(link) === leg.leaves);
       const to = leg.enters.slice(0, 1).map(straight).find((exit) => at.has(exit));
       const wanted = from || to ? at.get(from ?? to) + Math.PI : used.length ? null : -Math.PI / 2;
-      const score = (angle) => Math.min(1.5, ...used.map((other) => apart(angle, other))) - (wanted === null ? 0 : 0.8 * apart(angle, wanted));
-      const free = Array.from({ length: 24 }, (_, place) => (place * Math.PI) / 12).filter((angle) => used.every((other) => apart(angle, other) > 0.25));
+      const room = (angle) => Math.min(1.5, ...used.map((other) => apart(angle, other)));
+      const score = (angle) => room(angle) - (wanted === null ? 0 : 0.8 * apart(angle, wanted));
+      const free = Array.from({ length: 24 }, (_, place) => (place * Math.PI) / 12).filter((angle) => room(angle) > 0.25);
       leg.angle = (free.length ? free : [0.13]).reduce((one, other) => (score(other) > score(one) + 1e-6 ? other : one));
       used.push(leg.angle);
       [...leg.enters, leg.leaves].filter(Boolean).forEach((link) => at.set(link, leg.angle));
@@ -287,48 +310,69 @@ function stubs(points) {
   });
 }
 
+const short = (numbers) => numbers.map((number) => number.toFixed(1)).join(" ");
+
+// What stands on a link of the map for the pointer
+function titleOf(link, hourly, found) {
+  const passed = `${link.name}: ${Math.round(hourly)} vehicles an hour`;
+  if (!found || found.each === null) return passed;
+  return `${passed}, ${found.each.toFixed(1)} s a vehicle (${level(found.each)[1]}), queue up to ${found.queue[2].toFixed(1)}`;
+}
+
+// A link of the map as an arrow to the right of the line between two points; further ones between them are further to the right
 function arrow(link, [x1, y1], [x2, y2], run, isRoute, lane = 0) {
   const length = Math.hypot(x2 - x1, y2 - y1) || 1, [ux, uy] = [(x2 - x1) / length, (y2 - y1) / length];
   const shift = 5 + 8 * lane, room = 13;
-  const from = [x1 + ux * room - uy * shift, y1 + uy * room + ux * shift], to = [x2 - ux * room - uy * shift, y2 - uy * room + ux * shift];
-  const passed = run.left[link.number][chosen.to] - run.left[link.number][chosen.from], hourly = (passed * 3.6) / (chosen.to - chosen.from);
-  const found = link.to >= 0 ? measures(run, [link], chosen.from, chosen.to) : null, colour = found ? (level(found.each) ?? [0, "", "#bbb"])[2] : "#bbb";
-  const title = `${link.name}: ${Math.round(hourly)} vehicles an hour` + (found && found.each !== null ? `, ${found.each.toFixed(1)} s a vehicle (${level(found.each)[1]}), queue up to ${found.queue[2].toFixed(1)}` : "");
-  const way = `M${from.map((at) => at.toFixed(1)).join(" ")}L${to.map((at) => at.toFixed(1)).join(" ")}`, wide = 1.5 + Math.min(5, hourly / 250);
-  const tip = [to[0] - ux * 7 - uy * 3.5, to[1] - uy * 7 + ux * 3.5, to[0] - ux * 7 + uy * 3.5, to[1] - uy * 7 - ux * 3.5].map((at) => at.toFixed(1));
-  return `<g><title>${escape(title)}</title>${isRoute ? `<path d="${way}" stroke="#36c" stroke-opacity=".35" stroke-width="${wide + 7}"/>` : ""}
-    <path d="${way}" stroke="#555" stroke-width="${wide + 1}"/><path d="${way}" stroke="${colour}" stroke-width="${wide}"/>
-    <path d="M${to.map((at) => at.toFixed(1)).join(" ")}L${tip[0]} ${tip[1]}L${tip[2]} ${tip[3]}Z" fill="#333"/></g>`;
+  const from = [x1 + ux * room - uy * shift, y1 + uy * room + ux * shift];
+  const to = [x2 - ux * room - uy * shift, y2 - uy * room + ux * shift];
+  const passed = run.left[link.number][chosen.to] - run.left[link.number][chosen.from];
+  const hourly = (passed * 3.6) / (chosen.to - chosen.from), wide = 1.5 + Math.min(5, hourly / 250);
+  const found = link.to >= 0 ? measures(run, [link], chosen.from, chosen.to) : null;
+  const colour = found ? (level(found.each) ?? [0, "", "#bbb"])[2] : "#bbb";
+  const back = [to[0] - ux * 7, to[1] - uy * 7], way = `M${short(from)}L${short(to)}`;
+  const tip = `M${short(to)}L${short([back[0] - uy * 3.5, back[1] + ux * 3.5])}L${short([back[0] + uy * 3.5, back[1] - ux * 3.5])}Z`;
+  const halo = isRoute ? `<path d="${way}" stroke="#36c" stroke-opacity=".35" stroke-width="${wide + 7}"/>` : "";
+  return `<g><title>${escape(titleOf(link, hourly, found))}</title>${halo}<path d="${way}" stroke="#555" stroke-width="${wide + 1}"/>
+    <path d="${way}" stroke="${colour}" stroke-width="${wide}"/><path d="${tip}" fill="#333"/></g>`;
 }
 
 // The names at the far end of a leg: those of its links in on their side, that of its link out on the other
 function names([x, y], dx, dy, enters, leaves) {
-  const say = (words, left, top, anchor) => `<text class="small name-of" x="${left.toFixed(1)}" y="${top.toFixed(1)}" text-anchor="${anchor}">${escape(words)}</text>`;
+  const say = (words, left, top, anchor) =>
+    `<text class="small name-of" x="${left.toFixed(1)}" y="${top.toFixed(1)}" text-anchor="${anchor}">${escape(words)}</text>`;
   const into = enters.map((link) => link.name).join(", "), out = leaves?.name ?? "";
   if (Math.abs(dx) < 0.6) return say([into, out].filter(Boolean).join(" / "), x, y + dy * 12 + 4, "middle");
   const side = dx < 0 ? 1 : -1, anchor = dx < 0 ? "end" : "start", lanes = 8 * Math.max(0, enters.length - 1);
   return say(into, x + side * 12, y + side * (14 + lanes) + 4, anchor) + say(out, x + side * 12, y - side * 14 + 4, anchor);
 }
 
+function junction(node, number, [x, y], found, isFlat) {
+  const at = level(found.each), isChosen = number === chosen.node, delay = data.nodes.length <= 12 ? ` ${fixed(found.each, 1)} s` : "";
+  const title = `${node.name}: ${fixed(found.each, 1)} s a vehicle, queue up to ${found.queue[2].toFixed(1)} vehicles`;
+  const beside = isFlat ? `x="${x}" y="${y - 17}" text-anchor="middle"` : `x="${x + 11}" y="${y - 12}"`;
+  const rim = isChosen ? 'stroke="#36c" stroke-width="3.5"' : 'stroke="#333"';
+  return `<g class="node" data-node="${number}"><title>${escape(title)}</title>
+    <circle cx="${x}" cy="${y}" r="11" fill="${at ? at[2] : "#ddd"}" ${rim}/>
+    <text x="${x}" y="${y + 4}" text-anchor="middle" style="fill:${at ? inkOn(at) : "#222"}">${at ? at[1] : ""}</text>
+    <text class="small name-of" ${data.nodes.length === 1 ? 'x="4" y="14"' : beside}>${escape(node.name)}${delay}</text></g>`;
+}
+
 function drawMap() {
-  const place = find("map"), wide = place.clientWidth || 600, flat = data.nodes.length > 1 && new Set(data.nodes.map((node) => Math.round(node.y))).size === 1;
-  const high = flat ? 190 : Math.min(wide, data.nodes.length === 1 ? 470 : 560), points = mapScale(wide, high), run = runs[chosen.report], parts = [];
-  const route = chosen.route, isRoute = (link) => route.some((node, at) => at && ((link.from === route[at - 1] && link.to === node) || (link.to === route[at - 1] && link.from === node)));
-  for (const link of data.links.filter((each) => each.from >= 0 && each.to >= 0)) parts.push(arrow(link, points[link.from], points[link.to], run, isRoute(link)));
-  const reach = data.nodes.length === 1 ? 170 : data.nodes.length > 30 ? 34 : 50;
+  const place = find("map"), wide = place.clientWidth || 600, count = data.nodes.length, run = runs[chosen.report];
+  const isFlat = count > 1 && new Set(data.nodes.map((node) => Math.round(node.y))).size === 1;
+  const high = isFlat ? 190 : Math.min(wide, count === 1 ? 470 : 560), points = mapScale(wide, high), parts = [];
+  const steps = new Set(chosen.route.slice(1).flatMap((node, at) => [`${chosen.route[at]} ${node}`, `${node} ${chosen.route[at]}`]));
+  for (const link of data.links.filter((each) => each.from >= 0 && each.to >= 0))
+    parts.push(arrow(link, points[link.from], points[link.to], run, steps.has(`${link.from} ${link.to}`)));
+  const reach = count === 1 ? 170 : count > 30 ? 34 : 50;
   stubs(points).forEach((legs, node) => legs.forEach(({ angle, enters, leaves }) => {
     const [dx, dy] = [Math.cos(angle), Math.sin(angle)], far = [points[node][0] + dx * reach, points[node][1] + dy * reach];
     enters.forEach((link, lane) => parts.push(arrow(link, far, points[node], run, false, lane)));
     if (leaves) parts.push(arrow(leaves, points[node], far, run, false));
-    if (data.nodes.length <= 12) parts.push(names(far, dx, dy, enters, leaves));
+    if (count <= 12) parts.push(names(far, dx, dy, enters, leaves));
   }));
-  data.nodes.forEach((node, number) => {
-    const found = measures(run, into[number], chosen.from, chosen.to), at = level(found.each), [x, y] = points[number];
-    const title = `${node.name}: ${fixed(found.each, 1)} s a vehicle, queue up to ${found.queue[2].toFixed(1)} vehicles`;
-    parts.push(`<g class="node" data-node="${number}"><title>${escape(title)}</title><circle cx="${x}" cy="${y}" r="11" fill="${at ? at[2] : "#ddd"}" stroke="${number === chosen.node ? "#36c" : "#333"}" stroke-width="${number === chosen.node ? 3.5 : 1}"/>
-      <text x="${x}" y="${y + 4}" text-anchor="middle" style="fill:${at && "AF".includes(at[1]) ? "#fff" : "#222"}">${at ? at[1] : ""}</text>
-      <text class="small name-of" ${data.nodes.length === 1 ? 'x="4" y="14"' : flat ? `x="${x}" y="${y - 17}" text-anchor="middle"` : `x="${x + 11}" y="${y - 12}"`}>${escape(node.name)}${data.nodes.length <= 12 ? ` ${fixed(found.each, 1)} s` : ""}</text></g>`);
-  });
+  data.nodes.forEach((node, number) =>
+    parts.push(junction(node, number, points[number], measures(run, into[number], chosen.from, chosen.to), isFlat)));
   place.innerHTML = `<svg viewBox="0 0 ${wide} ${high}" height="${high}" fill="none">${parts.join("")}</svg>`;
 }
 
@@ -336,7 +380,7 @@ function drawMap() {
 
 function badge(delay) {
   const at = level(delay);
-  return at ? `<span class="level" style="background:${at[2]};color:${"AF".includes(at[1]) ? "#fff" : "#222"}">${at[1]}</span>` : "-";
+  return at ? `<span class="level" style="background:${at[2]};color:${inkOn(at)}">${at[1]}</span>` : "-";
 }
 
 const spread = (list) => (list.length ? `${Math.round(sum(list) / list.length)} (${Math.min(...list)}-${Math.max(...list)})` : "-");
@@ -363,26 +407,48 @@ function noneOf(run) {
 }
 
 function drawSides() {
-  const all = runs.map((run) => ({ ...measures(run, ending, chosen.from, chosen.to), came: came(run, chosen.from, chosen.to), none: noneOf(run) }));
+  const all = runs.map((run) => {
+    const found = measures(run, ending, chosen.from, chosen.to);
+    return { ...found, came: came(run, chosen.from, chosen.to), none: noneOf(run) };
+  });
   const head = runs.map((run, at) => `<th style="color:${SERIES[at % SERIES.length]}">${escape(run.name)}</th>`).join("");
   const rows = LINES.map(([label, say, rank]) => {
-    const ranks = rank ? all.map(rank).map((value) => value ?? Infinity) : [], best = Math.min(...ranks);
-    return `<tr><td>${label}</td>${all.map((each, at) => `<td class="${all.length > 1 && rank && ranks[at] === best ? "best" : ""}">${say(each)}</td>`).join("")}</tr>`;
+    const ranks = rank && all.length > 1 ? all.map((each) => rank(each) ?? Infinity) : [], best = Math.min(...ranks);
+    const cells = all.map((each, at) => `<td class="${ranks[at] === best ? "best" : ""}">${say(each)}</td>`);
+    return `<tr><td>${label}</td>${cells.join("")}</tr>`;
   });
   find("sides").innerHTML = `<table><thead><tr><th></th>${head}</tr></thead><tbody>${rows.join("")}</tbody></table>`;
 }
 
+// What there is a row for: a name, links, and the junction that a click chooses
+function partsOf() {
+  if (chosen.rows === "links") return ending.map((link) => [link.name, [link], link.to]);
+  return data.nodes.map((node, number) => [node.name, into[number], number]).filter(([, links]) => links.length);
+}
+
+// The columns of a report in the table, by how many reports there are
+const COLUMNS = [
+  ["delay, s", (m) => `${fixed(m.each, 1)} ${badge(m.each)}`],
+  [runs.length < 3 ? "queue 95" : "queue", (m) => m.queue[1].toFixed(1)],
+  [runs.length < 3 ? "failures" : "fail", (m) => `${m.failures}/${m.greens.length}`],
+  ...(runs.length < 3 ? [["on green", (m) => share(m.onGreen)]] : []),
+];
+
 function drawTable() {
-  const isNodes = chosen.rows === "nodes";
-  const parts = isNodes ? data.nodes.map((node, number) => [node.name, into[number], number]) : ending.map((link) => [link.name, [link], link.to]);
-  const rows = parts.filter(([, links]) => links.length).map(([name, links, node]) => ({ name, node, all: runs.map((run) => measures(run, links, chosen.from, chosen.to)) }));
+  const measured = (links) => runs.map((run) => measures(run, links, chosen.from, chosen.to));
+  const rows = partsOf().map(([name, links, node]) => ({ name, node, all: measured(links) }));
   if (chosen.sort >= 0) rows.sort((one, other) => (other.all[chosen.sort].each ?? -1) - (one.all[chosen.sort].each ?? -1));
-  const isWide = runs.length < 3;
-  const cells = (m) => `<td>${fixed(m.each, 1)} ${badge(m.each)}</td><td>${m.queue[1].toFixed(1)}</td><td>${m.failures}/${m.greens.length}</td>${isWide ? `<td>${share(m.onGreen)}</td>` : ""}`;
-  const head = runs.map((run, at) => `<th colspan="${isWide ? 4 : 3}" class="over" data-sort="${at}" style="color:${SERIES[at % SERIES.length]}">${escape(run.name)}${chosen.sort === at ? " ▼" : ""}</th>`).join("");
-  const under = runs.map(() => `<th>delay, s</th><th>queue${isWide ? " 95" : ""}</th><th>fail${isWide ? "ures" : ""}</th>${isWide ? "<th>on green</th>" : ""}`).join("");
-  const lines = rows.map((row) => `<tr class="pick ${row.node === chosen.node ? "chosen" : ""}" data-node="${row.node}"><td>${escape(row.name)}</td>${row.all.map(cells).join("")}</tr>`);
-  find("table").innerHTML = `<table class="${isWide ? "" : "narrow"}"><thead><tr><th data-sort="-1">in order${chosen.sort < 0 ? " ▼" : ""}</th>${head}</tr><tr><td></td>${under}</tr></thead><tbody>${lines.join("")}</tbody></table>`;
+  const mark = (place) => (chosen.sort === place ? " \u25bc" : ""), colour = (at) => `style="color:${SERIES[at % SERIES.length]}"`;
+  const wide = `colspan="${COLUMNS.length}" class="over"`;
+  const head = runs.map((run, at) => `<th ${wide} data-sort="${at}" ${colour(at)}>${escape(run.name)}${mark(at)}</th>`);
+  const under = runs.flatMap(() => COLUMNS.map(([label]) => `<th>${label}</th>`)).join("");
+  const lines = rows.map(({ name, node, all }) => {
+    const cells = all.flatMap((m) => COLUMNS.map(([, say]) => `<td>${say(m)}</td>`)).join("");
+    return `<tr class="pick ${node === chosen.node ? "chosen" : ""}" data-node="${node}"><td>${escape(name)}</td>${cells}</tr>`;
+  });
+  const top = `<tr><th data-sort="-1">in order${mark(-1)}</th>${head.join("")}</tr><tr><td></td>${under}</tr>`;
+  const kind = runs.length < 3 ? "" : "narrow";
+  find("table").innerHTML = `<table class="${kind}"><thead>${top}</thead><tbody>${lines.join("")}</tbody></table>`;
 }
 
 // ---- Time and space
@@ -425,7 +491,7 @@ function heights(route) {
 function crossing(all, amount, from) {
   let moment = from;
   while (moment <= END && all[moment] < amount) moment++;
-  return moment > END ? null : [moment - 1 + (all[moment] > all[moment - 1] ? (amount - all[moment - 1]) / (all[moment] - all[moment - 1]) : 1), moment];
+  return moment > END ? null : [moment - 1 + (amount - all[moment - 1]) / (all[moment] - all[moment - 1]), moment];
 }
 
 // The paths of whole vehicles on a link: free to the end of the queue, there to its turn, and over the line
@@ -444,7 +510,10 @@ function paths(chart, run, link, low, high) {
     const back = link.to < 0 ? 0 : Math.min(0.8 * travel, (0.5 * queue[Math.min(END, Math.floor(reach))]) / 1000);
     const line = `M${chart.x(begin)} ${place(0)}`;
     if (end - reach < 1.5) way.push(`${line}L${chart.x(Math.max(reach, end))} ${place(1)}`);
-    else way.push(`${line}L${chart.x(reach - back)} ${place(1 - back / travel)}H${chart.x(Math.max(reach - back, end - back))}${gone ? `L${chart.x(end)} ${place(1)}` : ""}`);
+    else {
+      const waits = `L${chart.x(reach - back)} ${place(1 - back / travel)}H${chart.x(Math.max(reach, end) - back)}`;
+      way.push(`${line}${waits}${gone ? `L${chart.x(end)} ${place(1)}` : ""}`);
+    }
   }
   return way.join("");
 }
@@ -453,19 +522,24 @@ function bars(chart, run, link, up, shift) {
   if (!link) return;
   const y = chart.y(up) + shift;
   chart.box(chart.x(0), chart.x(END), y, 5, RED);
-  for (const [, from, to] of run.greensOf(link.to, link.phase)) if (to > chosen.from && from < chosen.to) chart.box(chart.x(from), chart.x(to), y, 5, GREEN, `${link.name}: green ${from} to ${to}`);
+  for (const [, from, to] of run.greensOf(link.to, link.phase))
+    if (to > chosen.from && from < chosen.to) chart.box(chart.x(from), chart.x(to), y, 5, GREEN, `${link.name}: green ${from} to ${to}`);
 }
 
 function drawSpace() {
   const route = chosen.route, ups = heights(route), run = runs[chosen.report];
   const forward = chain(route), backward = chosen.back ? chain([...route].reverse(), forward) : null;
   const ends = [forward, backward].filter(Boolean), top = ups[ups.length - 1];
-  const below = Math.max(3, forward.entry?.travel ?? 0, backward?.exit?.travel ?? 0), above = Math.max(3, forward.exit?.travel ?? 0, backward?.entry?.travel ?? 0);
-  const high = Math.max(300, Math.min(780, 130 + route.length * 88)), chart = new Chart("space", high, below + top + above, "travel, in seconds");
+  const below = Math.max(3, forward.entry?.travel ?? 0, backward?.exit?.travel ?? 0);
+  const above = Math.max(3, forward.exit?.travel ?? 0, backward?.entry?.travel ?? 0);
+  const high = Math.max(300, Math.min(780, 130 + route.length * 88)), thin = chosen.to - chosen.from > 900 ? 0.55 : 0.9;
+  const chart = new Chart("space", high, below + top + above, "travel, in seconds");
   const up = (place) => below + place;
   ends.forEach(({ entry, links, exit }, way) => {
-    const at = (place) => up(way ? top - place : place), place = (node) => (way ? top - ups[route.length - 1 - node] : ups[node]), colour = SERIES[way];
-    const trail = (link, low, high) => { if (link) chart.path(paths(chart, run, link, at(low), at(high)), colour, chosen.to - chosen.from > 900 ? 0.55 : 0.9, 'stroke-opacity=".8"'); };
+    const at = (place) => up(way ? top - place : place), place = (node) => (way ? top - ups[route.length - 1 - node] : ups[node]);
+    const trail = (link, low, high) => {
+      if (link) chart.path(paths(chart, run, link, at(low), at(high)), SERIES[way], thin, 'stroke-opacity=".8"');
+    };
     trail(entry, place(0) - (entry?.travel ?? 0), place(0));
     links.forEach((link, number) => trail(link, place(number), place(number + 1)));
     trail(exit, place(route.length - 1), place(route.length - 1) + (exit?.travel ?? 0));
@@ -473,44 +547,55 @@ function drawSpace() {
   });
   route.forEach((node, number) => chart.text(LEFT - 6, chart.y(up(ups[number])) + 4, data.nodes[node].name, "end"));
   chart.draw();
-  const name = (node) => data.nodes[node].name;
-  const alone = route.length === 1;
-  const names = ends.map(({ entry, exit }, way) => alone ? `${entry?.name ?? ""} to ${exit?.name ?? ""}` : `from ${name(way ? route[route.length - 1] : route[0])} to ${name(way ? route[0] : route[route.length - 1])}`);
-  find("spacekey").innerHTML = `${keyOf(names, SERIES)}: a line for each vehicle on a link, level where it waits. <i style="background:${GREEN}"></i>green <i style="background:${RED}"></i>not green, above a junction's place for those who go up, below for those who go down.`;
+  const ways = ends.map(({ entry, exit }, way) => {
+    const [first, last] = way ? [route[route.length - 1], route[0]] : [route[0], route[route.length - 1]];
+    if (route.length === 1) return `${entry?.name ?? ""} to ${exit?.name ?? ""}`;
+    return `from ${data.nodes[first].name} to ${data.nodes[last].name}`;
+  });
+  find("spacekey").innerHTML = `${keyOf(ways, SERIES)}: a line for each vehicle on a link, level where it waits.
+    ${keyOf(["green", "not green"], [GREEN, RED])}, above a junction's place for those who go up, below for those who go down.`;
 }
 
 // ---- One junction
 
 function drawQueues() {
   const links = into[chosen.node], run = runs[chosen.report];
-  const lists = links.map((link) => run.queue(link.number)), window = (list) => list.subarray(chosen.from, chosen.to + 1).reduce((a, b) => Math.max(a, b), 0) / 1000;
-  const chart = new Chart("queues", 250, Math.max(1, ...lists.map(window)) * 1.05, "vehicles");
+  const lists = links.map((link) => Array.from(run.queue(link.number), (queue) => queue / 1000));
+  const most = (list) => list.slice(chosen.from, chosen.to + 1).reduce((a, b) => Math.max(a, b), 0);
+  const chart = new Chart("queues", 250, Math.max(1, ...lists.map(most)) * 1.05, "vehicles");
   chart.upAxis();
-  lists.forEach((list, at) => chart.series(Array.from(list, (queue) => queue / 1000), SERIES[at % SERIES.length], 1.5, at >= SERIES.length ? 'stroke-dasharray="5 3"' : ""));
+  lists.forEach((list, at) => chart.series(list, SERIES[at % SERIES.length], 1.5, at >= SERIES.length ? 'stroke-dasharray="5 3"' : ""));
   chart.draw();
   find("queuekey").innerHTML = keyOf(links.map((link) => `${link.name} (phase ${link.phase})`), SERIES);
 }
 
+// The cycles of a junction: from each begin of its first unmarked phase to the next
+function cyclesOf(node, greens) {
+  const first = Math.max(0, data.nodes[node].phases.findIndex((phase) => !phase.skip));
+  const begins = greens.filter((green) => green[0] === first).map((green) => green[1]);
+  if (!begins.length || begins[0] > 0) begins.unshift(0);
+  const end = Math.max(END, ...greens.map((green) => green[2]));
+  return begins.map((begin, at) => [begin, begins[at + 1] ?? end]);
+}
+
 function drawSplits() {
-  const node = chosen.node, phases = data.nodes[node].phases, run = runs[chosen.report], greens = run.greens[node];
-  const first = Math.max(0, phases.findIndex((phase) => !phase.skip)), begins = greens.filter((green) => green[0] === first).map((green) => green[1]);
-  if (!begins.length || begins[0] > 0) begins.unshift(greens.length ? Math.min(0, greens[0][1]) : 0);
-  const cycles = begins.map((begin, at) => [begin, begins[at + 1] ?? Math.max(END, ...greens.map((green) => green[2]))]);
-  const seen = cycles.filter(([begin, end]) => end > chosen.from && begin < chosen.to), most = Math.max(1, ...seen.map(([begin, end]) => end - begin));
-  const chart = new Chart("splits", 250, most * 1.04, "seconds of the cycle");
+  const phases = data.nodes[chosen.node].phases, run = runs[chosen.report], greens = run.greens[chosen.node];
+  const seen = cyclesOf(chosen.node, greens).filter(([begin, end]) => end > chosen.from && begin < chosen.to);
+  const chart = new Chart("splits", 250, Math.max(1, ...seen.map(([begin, end]) => end - begin)) * 1.04, "seconds of the cycle");
   chart.upAxis();
   for (const [begin, end] of seen) {
     const left = chart.x(begin) + 0.5, right = Math.max(left + 0.5, chart.x(end) - 0.5);
     chart.box(left, right, chart.y(end - begin), chart.bottom - chart.y(end - begin), "#ddd");
     for (const green of greens.filter(([, from]) => from >= begin && from < end)) {
       const [phase, from, to] = green, failed = to <= END && phases[phase].links.some((link) => isFailure(run, link, green));
-      const y = chart.y(to - begin), high = +(chart.y(from - begin) - y).toFixed(1);
-      chart.box(left, right, y, high, SERIES[phase], `phase ${phase}: green ${from} to ${to}, ${to - from} s${failed ? ", ended with a queue since its begin" : ""}`);
-      if (failed) chart.inner.push(`<circle cx="${(left + right) / 2}" cy="${y + 5}" r="${Math.max(1.5, Math.min(3.4, (right - left) / 3))}" fill="#fff" stroke="#c00" stroke-width="1.6"/>`);
+      const y = chart.y(to - begin), high = +(chart.y(from - begin) - y).toFixed(1), more = failed ? ", a split failure" : "";
+      chart.box(left, right, y, high, SERIES[phase], `phase ${phase}: green ${from} to ${to}, ${to - from} s${more}`);
+      if (failed) chart.ring((left + right) / 2, y + 5, Math.max(1.5, Math.min(3.4, (right - left) / 3)));
     }
   }
   chart.draw();
-  find("splitkey").innerHTML = `${keyOf(phases.map((_, number) => `phase ${number}`), SERIES)} <i style="background:#ddd"></i>yellow and all red; a ring: split failure`;
+  const names = [...phases.map((_, number) => `phase ${number}`), "yellow and all red"];
+  find("splitkey").innerHTML = `${keyOf(names, [...SERIES.slice(0, phases.length), "#ddd"])}; a ring: split failure`;
 }
 
 function drawCoordination() {
@@ -607,7 +692,12 @@ function chooseStreet(street) {
 
 function chooseRoute() {
   const route = shortest(+find("start").value, +find("end").value);
-  if (route) { chosen.route = route; find("street").value = ""; drawCharts(); drawMap(); } else { chooseStreet(chosen.street); drawCharts(); }
+  if (route) {
+    chosen.route = route;
+    find("street").value = "";
+  } else chooseStreet(chosen.street);
+  drawCharts();
+  drawMap();
 }
 
 function second(place, event) {
@@ -622,7 +712,10 @@ function listen(place) {
     const at = second(place, event), factor = event.deltaY > 0 ? 1.25 : 0.8;
     look(at - (at - chosen.from) * factor, at + (chosen.to - at) * factor);
   }, { passive: false });
-  place.addEventListener("mousedown", (event) => { held = { x: event.clientX, from: chosen.from, to: chosen.to, at: second(place, event) }; event.preventDefault(); });
+  place.addEventListener("mousedown", (event) => {
+    held = { x: event.clientX, from: chosen.from, to: chosen.to, at: second(place, event) };
+    event.preventDefault();
+  });
   place.addEventListener("mousemove", (event) => {
     const at = second(place, event);
     if (at >= 0 && at <= END) find("read").textContent = `${Math.floor(at)} s = ${clock(Math.floor(at))}`;
@@ -645,48 +738,81 @@ function fill() {
   document.title = data.title;
   find("title").textContent = data.title;
   find("about").textContent = data.about;
-  find("reports").innerHTML = runs.map((run, at) => `<label style="color:${SERIES[at % SERIES.length]}"><input type="radio" name="report"> <b>${escape(run.name)}</b></label>`).join("");
-  find("levels").innerHTML = `Level of service, seconds a vehicle: ${keyOf(LEVELS.map(([most, name]) => (most === Infinity ? `${name} more` : `${name} to ${most}`)), LEVELS.map((each) => each[2]))}; wider: more vehicles. Click a junction.`;
+  const radio = (run, at) =>
+    `<label style="color:${SERIES[at % SERIES.length]}"><input type="radio" name="report"> <b>${escape(run.name)}</b></label>`;
+  find("reports").innerHTML = runs.map(radio).join("");
+  const levels = LEVELS.map(([most, name]) => (most === Infinity ? `${name} more` : `${name} to ${most}`));
+  find("levels").innerHTML = `Level of service, seconds a vehicle: ${keyOf(levels, LEVELS.map((each) => each[2]))};
+    wider: more vehicles. Click a junction.`;
   const nodes = data.nodes.map((node, at) => `<option value="${at}">${escape(node.name)}</option>`).join("");
   for (const id of ["node", "start", "end"]) find(id).innerHTML = nodes;
-  find("street").innerHTML = data.streets.map((street, at) => `<option value="${at}">${escape(data.nodes[street[0]].name)}${street.length > 1 ? ` - ${escape(data.nodes[street[street.length - 1]].name)} (${street.length})` : ""}</option>`).join("");
+  const name = (node) => escape(data.nodes[node].name);
+  const street = (nodes) => (nodes.length > 1 ? `${name(nodes[0])} - ${name(nodes[nodes.length - 1])} (${nodes.length})` : name(nodes[0]));
+  find("street").innerHTML = data.streets.map((nodes, at) => `<option value="${at}">${street(nodes)}</option>`).join("");
   const spans = [60, 300, 900, 1800].filter((span) => span < END);
-  find("spans").innerHTML = [...spans, END].map((span) => `<button data-span="${span}">${span === END ? "whole run" : `${span / 60} min`}</button>`).join(" ");
+  const button = (span) => `<button data-span="${span}">${span === END ? "whole run" : `${span / 60} min`}</button>`;
+  find("spans").innerHTML = [...spans, END].map(button).join(" ");
 }
 
 // Of the longest streets that on which most vehicles enter links
 function busiest() {
   const long = data.streets.filter((street) => street.length === data.streets[0].length);
-  const flow = (street) => sum(street.map((node, at) => { const link = at ? between(street[at - 1], node) : null; return link ? runs[0].entered[link.number][END] : 0; }));
+  const links = (street) => street.slice(1).map((node, at) => between(street[at], node)).filter(Boolean);
+  const flow = (street) => sum(links(street).map((link) => runs[0].entered[link.number][END]));
   return long.indexOf(long.reduce((one, other) => (flow(other) > flow(one) ? other : one)));
 }
 
-function begin() {
-  const words = new URLSearchParams(location.hash.slice(1)), number = (key, most, usual) => Math.max(0, Math.min(most, words.has(key) ? +words.get(key) || 0 : usual));
-  fill();
+// What is chosen at first: as the address says behind its #, `from=600&to=900&report=1&node=second`, else the whole run
+function beginAsSaid() {
+  const words = new URLSearchParams(location.hash.slice(1));
+  const number = (key, most, usual) => Math.max(0, Math.min(most, words.has(key) ? Math.round(+words.get(key)) || 0 : usual));
   chosen.report = number("report", runs.length - 1, 0);
-  [chosen.from, chosen.to] = [number("from", END - 10, 0), number("to", END, END)];
+  chosen.from = number("from", END - 1, 0);
+  chosen.to = Math.max(chosen.from + 1, number("to", END, END));
   chooseStreet(number("street", data.streets.length - 1, busiest()));
   const street = data.streets[chosen.street], named = data.nodes.findIndex((node) => node.name === words.get("node"));
   chooseNode(named >= 0 ? named : street[Math.floor(street.length / 2)]);
-  ["overview", "space", "queues", "splits", "coordination"].forEach((id) => listen(find(id)));
-  document.querySelectorAll("#reports input").forEach((button, at) => button.addEventListener("change", () => { chosen.report = at; drawCharts(); drawTables(); }));
-  find("spans").addEventListener("click", (event) => { const span = +event.target.dataset.span; if (span) look((chosen.from + chosen.to - span) / 2, (chosen.from + chosen.to + span) / 2); });
-  for (const id of ["from", "to"]) find(id).addEventListener("change", () => look(+find("from").value, +find("to").value));
-  find("node").addEventListener("change", () => { chooseNode(+find("node").value); drawCharts(); drawTables(); });
-  for (const id of ["map", "table"]) find(id).addEventListener("click", (event) => {
-    const sort = event.target.closest("[data-sort]"), node = event.target.closest("[data-node]");
-    if (sort) { chosen.sort = +sort.dataset.sort; drawTable(); }
-    if (node) { chooseNode(+node.dataset.node); drawCharts(); drawTables(); }
-  });
-  find("link").addEventListener("change", () => { chosen.link = +find("link").value; drawCoordination(); drawSpace(); });
-  find("street").addEventListener("change", () => { chooseStreet(+find("street").value); drawCharts(); drawMap(); });
-  for (const id of ["start", "end"]) find(id).addEventListener("change", chooseRoute);
-  find("back").addEventListener("change", () => { chosen.back = find("back").checked; drawSpace(); });
-  find("rows").addEventListener("change", () => { chosen.rows = find("rows").value; drawTable(); });
-  window.addEventListener("resize", () => { drawCharts(); drawTables(); });
+}
+
+function drawAll() {
   drawCharts();
   drawTables();
+}
+
+// What happens where the reader does something with this part of the page
+function on(id, kind, act) { find(id).addEventListener(kind, act); }
+
+function click(event) {
+  const sort = event.target.closest("[data-sort]"), node = event.target.closest("[data-node]");
+  if (sort) {
+    chosen.sort = +sort.dataset.sort;
+    drawTable();
+  } else if (node) {
+    chooseNode(+node.dataset.node);
+    drawAll();
+  }
+}
+
+function begin() {
+  fill();
+  beginAsSaid();
+  ["overview", "space", "queues", "splits", "coordination"].forEach((id) => listen(find(id)));
+  document.querySelectorAll("#reports input").forEach((button, at) =>
+    button.addEventListener("change", () => { chosen.report = at; drawAll(); }));
+  on("spans", "click", (event) => {
+    const half = +event.target.dataset.span / 2, middle = (chosen.from + chosen.to) / 2;
+    if (half) look(middle - half, middle + half);
+  });
+  for (const id of ["from", "to"]) on(id, "change", () => look(+find("from").value, +find("to").value));
+  on("node", "change", () => { chooseNode(+find("node").value); drawAll(); });
+  for (const id of ["map", "table"]) on(id, "click", click);
+  on("link", "change", () => { chosen.link = +find("link").value; drawCoordination(); drawSpace(); });
+  on("street", "change", () => { chooseStreet(+find("street").value); drawCharts(); drawMap(); });
+  for (const id of ["start", "end"]) on(id, "change", chooseRoute);
+  on("back", "change", () => { chosen.back = find("back").checked; drawSpace(); });
+  on("rows", "change", () => { chosen.rows = find("rows").value; drawTable(); });
+  window.addEventListener("resize", drawAll);
+  drawAll();
   document.body.dataset.ready = "yes";
 }
 
