@@ -8,15 +8,18 @@
 `street` is a time-space diagram: time to the right, the street upwards, in the order of its nodes. Beside each node is what
 its signal shows to the street, red or green: above its place to those who go up, below to those who go down. With the
 queues that the command `queues` writes the lines between are what the links carry, else the begin and the end of each
-green. POINTS is a CSV with the header `series,x,y`; of points of one series with one x the mean is drawn, with a bar of one
-standard deviation to either side. Nothing here is proved.
+green. `--from SECOND` and `--to SECOND` draw a window of time, `--title WORDS` has words above the picture, and `greens --ruler`
+the seconds in a line above. POINTS is a CSV with the header `series,x,y`; of points of one series with one x the mean is drawn,
+with a bar of one standard deviation to either side. Nothing here is proved.
 """
 
 import argparse
 import itertools
+import math
 import statistics
 from collections import defaultdict
 from collections.abc import Iterable, Sequence
+from pathlib import Path
 from xml.sax.saxutils import escape
 
 from .commands import end as end_command
@@ -29,19 +32,22 @@ from .reports import Records, read_report
 Span = tuple[int, int]
 
 COLOURS = ("#0072b2", "#d55e00", "#009e73", "#cc79a7", "#e69f00", "#56b4e9")
+SECONDS = "seconds since the begin of the run"
 GREEN, RED = "#009e73", "#e8a58f"
 WIDE, HIGH, LEFT, RIGHT, TOP, BOTTOM = 960, 400, 90, 20, 46, 50
+WITHIN = 'clip-path="url(#within)"'
 
 
 class Chart:
-    """An SVG with axes from 0 to given bounds; x and y are in the units of the axes."""
+    """An SVG with an axis up from 0 and one across from `least_x`, to given bounds; x and y are in the units of the axes."""
 
-    def __init__(self, most_x: float, most_y: float, across: str, up: str) -> None:
-        self.most_x, self.most_y = most_x or 1, most_y or 1
+    def __init__(self, most_x: float, most_y: float, across: str, up: str, least_x: float = 0, title: str = "") -> None:
+        self.least_x, self.most_x, self.most_y = least_x, most_x if most_x > least_x else least_x + 1, most_y or 1
         self.parts: list[str] = []
         self.text(LEFT + self._width() / 2, HIGH - 10, across, "middle")
         self.text(LEFT, 16, up, "start")
-        for value in ticks(self.most_x):
+        self.text(WIDE - RIGHT, 16, title, "end")
+        for value in ticks(self.most_x, self.least_x):
             self.text(self.x(value), HIGH - BOTTOM + 18, value, "middle")
             self.parts.append(f'<path d="M{self.x(value):.1f} {TOP}V{HIGH - BOTTOM}" stroke="#ddd"/>')
 
@@ -50,7 +56,7 @@ class Chart:
 
     def x(self, value: float) -> float:
         """The place of a value across, in the units of the picture."""
-        return LEFT + value / self.most_x * self._width()
+        return LEFT + (value - self.least_x) / (self.most_x - self.least_x) * self._width()
 
     def y(self, value: float) -> float:
         """The place of a value up."""
@@ -70,12 +76,12 @@ class Chart:
         """A line through points in the units of the axes."""
         way = "L".join(f"{self.x(x):.1f} {self.y(y):.1f}" for x, y in points)
         self.parts.append(
-            f'<path d="M{way}" fill="none" stroke="{colour}" stroke-width="{width:.1f}" stroke-opacity="{opacity:.2f}"/>'
+            f'<path d="M{way}" fill="none" stroke="{colour}" stroke-width="{width:.1f}" stroke-opacity="{opacity:.2f}" {WITHIN}/>'
         )
 
     def box(self, x: float, to_x: float, y: float, shift: int, colour: str) -> None:
-        """A bar 6 high at a height, from one x to another, moved down by so much."""
-        at, to = self.x(x), self.x(to_x)
+        """A bar 6 high at a height, from one x to another as far as they are in the picture, moved down by so much."""
+        at, to = (self.x(min(max(place, self.least_x), self.most_x)) for place in (x, to_x))
         self.parts.append(f'<rect x="{at:.1f}" y="{self.y(y) + shift:.1f}" width="{to - at:.1f}" height="6" fill="{colour}"/>')
 
     def legend(self, names: Iterable[str]) -> None:
@@ -89,16 +95,35 @@ class Chart:
     def svg(self) -> str:
         """The picture."""
         head = f'<svg xmlns="http://www.w3.org/2000/svg" viewBox="0 0 {WIDE} {HIGH}" font-family="sans-serif" font-size="13">'
-        return "\n".join([head, '<rect width="100%" height="100%" fill="white"/>', *self.parts, "</svg>"])
+        field = f'<rect x="{LEFT}" y="{TOP}" width="{self._width()}" height="{HIGH - BOTTOM - TOP}"/>'
+        ground = ['<rect width="100%" height="100%" fill="white"/>', f'<clipPath id="within">{field}</clipPath>']
+        return "\n".join([head, *ground, *self.parts, "</svg>"])
 
 
-def ticks(most: float) -> list[float]:
-    """Round values from 0 up to the bound, at most eleven."""
-    step = next(size * 10**power for power in range(-6, 12) for size in (1, 2, 5) if most / (size * 10**power) <= 10)
-    return [
-        int(value) if value == int(value) else round(value, 6)
-        for value in (number * step for number in range(int(most / step + 1e-9) + 1))
-    ]
+def ticks(most: float, least: float = 0) -> list[float]:
+    """Round values between the bounds, at most eleven."""
+    span = most - least
+    step = next(size * 10**power for power in range(-6, 12) for size in (1, 2, 5) if span / (size * 10**power) <= 10)
+    values = (number * step for number in range(math.ceil(least / step - 1e-9), int(most / step + 1e-9) + 1))
+    return [int(value) if value == int(value) else round(value, 6) for value in values]
+
+
+def window_of(options: argparse.Namespace, end: int) -> Span:
+    """From which second to which is drawn, of a run that ends at a second."""
+    begin, last = options.begin, end if options.end is None else min(end, options.end)
+    if not 0 <= begin < last:
+        raise Fault(f"from second {begin} to {last} there is nothing to draw: the run goes from 0 to {end}")
+    return begin, last
+
+
+def ruler(wide: int, begin: int, end: int) -> list[str]:
+    """Two lines: the seconds in steps of ten, and a mark below each fifth second."""
+    numbers, marks = "", ""
+    for second in range(begin, end):
+        marks += "|" if second % 10 == 0 else "'" if second % 5 == 0 else " "
+        if second % 10 == 0:
+            numbers = f"{numbers:{second - begin}}{second}"
+    return [f"{'second':{wide + 2}} {numbers}".rstrip(), f"{'':{wide + 2}} {marks}".rstrip()]
 
 
 def report_of(options: argparse.Namespace, network: Network) -> Records:
@@ -121,13 +146,14 @@ def draw_greens(options: argparse.Namespace) -> str:
     network = read_network(options.network)
     greens = greens_of(report_of(options, network))
     wide, end = max(len(node.name) for node in network.nodes), network.run.seconds
-    lines = []
+    begin, last_shown = window_of(options, end)
+    lines = ruler(wide, begin, last_shown) if options.ruler else []
     for node in network.nodes:
         for phase in range(len(node.phases)):
             line = ["."] * end
             for first, last in greens[node.name, phase]:
                 line[first:last] = "#" * (min(last, end) - first)
-            lines.append(f"{node.name:{wide}} {phase} {''.join(line)}")
+            lines.append(f"{node.name:{wide}} {phase} {''.join(line[begin:last_shown])}")
     return "\n".join(lines)
 
 
@@ -198,7 +224,9 @@ def draw_street(options: argparse.Namespace) -> str:
     end, series = network.run.seconds, series_of(read_queues(options.queues)) if options.queues else None
     low, margin = min(metres), (max(metres) - min(metres)) / 12
     heights = [at - low + margin for at in metres]
-    chart = Chart(end, max(heights) + margin, "second", "")
+    begin, end = window_of(options, end)
+    title = options.title or f"{Path(options.report).name}, {nodes[0]} to {nodes[-1]}"
+    chart = Chart(end, max(heights) + margin, SECONDS, "metres", begin, title)
     chart.legend([f"{nodes[0]} to {nodes[-1]}", f"{nodes[-1]} to {nodes[0]}"])
     ways = [(way, place, street_phase(network, nodes, place, way)) for way in (1, -1) for place in range(len(nodes))]
     for way, place, phase in ways:
@@ -206,11 +234,13 @@ def draw_street(options: argparse.Namespace) -> str:
         link = link_between(network, nodes[place], nodes[onward]) if 0 <= onward < len(nodes) else None
         if link is not None:
             amounts = entries_of(series[link.name], link.travel, end) if series else edges_of(greens[phase], end, link.sat)
+            amounts = {second: amount for second, amount in amounts.items() if second + link.travel > begin}
             draw_platoons(chart, amounts, (heights[place], heights[onward]), link, COLOURS[0 if way == 1 else 1])
     for way, place, phase in ways:
         draw_signal(chart, greens[phase], heights[place], -7 if way == 1 else 1, end)
-    for name, height in zip(nodes, heights):
-        chart.text(LEFT - 8, chart.y(height) + 4, name, "end")
+    for name, height, at in zip(nodes, heights, metres):
+        chart.text(LEFT - 8, chart.y(height) - 2, name, "end")
+        chart.text(LEFT - 8, chart.y(height) + 12, f"{at:g} m", "end", "#777")
     return chart.svg()
 
 
@@ -224,7 +254,8 @@ def draw_signal(chart: Chart, rows: Sequence[Span], height: float, shift: int, e
     if rows:
         chart.box(0, end, height, shift, RED)
     for first, last in rows:
-        chart.box(min(first, end), min(last, end), height, shift, GREEN)
+        if first < end and last > chart.least_x:
+            chart.box(first, last, height, shift, GREEN)
 
 
 def draw_platoons(chart: Chart, amounts: dict[int, int], heights: tuple[float, float], link: Link, colour: str) -> None:
@@ -244,8 +275,9 @@ def draw_queues(options: argparse.Namespace) -> str:
         if link not in most:
             raise Fault(f"{options.queues}: there is no link {shown(link)}")
     links = options.links or [link for link in sorted(most, key=most.get, reverse=True)[: len(COLOURS)] if most[link]]
-    end = max((second for of_link in series.values() for second in of_link), default=1)
-    chart = Chart(end, max((most[link] / 1000 for link in links), default=1), "second", "vehicles in the queue")
+    begin, end = window_of(options, max((second for of_link in series.values() for second in of_link), default=1))
+    title = options.title or Path(options.queues).name
+    chart = Chart(end, max((most[link] / 1000 for link in links), default=1), SECONDS, "vehicles in the queue", begin, title)
     chart.up_axis()
     chart.legend(links)
     for link, colour in zip(links, itertools.cycle(COLOURS)):
@@ -276,7 +308,7 @@ def draw_points(options: argparse.Namespace) -> str:
     spread = {name: {x: statistics.stdev(ys) if len(ys) > 1 else 0 for x, ys in of.items()} for name, of in points.items()}
     most_x = max(x for of in points.values() for x in of)
     most_y = max(statistics.mean(ys) + spread[name][x] for name, of in points.items() for x, ys in of.items())
-    chart = Chart(most_x, most_y, options.across, options.up)
+    chart = Chart(most_x, most_y, options.across, options.up, title=options.title)
     chart.up_axis()
     chart.legend(points)
     for (name, of), colour in zip(points.items(), itertools.cycle(COLOURS)):
@@ -301,6 +333,13 @@ def parser_of() -> argparse.ArgumentParser:
         kind.set_defaults(draw=draw)
         for word in words:
             kind.add_argument(word)
+        if name == "greens":
+            kind.add_argument("--ruler", action="store_true", help="the seconds in a line above")
+        else:
+            kind.add_argument("--title", default="", help="words above the picture")
+        if name != "points":
+            kind.add_argument("--from", dest="begin", type=int, default=0, metavar="SECOND", help="where the window begins")
+            kind.add_argument("--to", dest="end", type=int, metavar="SECOND", help="up to where it goes")
         if name == "street":
             kind.add_argument("nodes", nargs="+", metavar="NODE=METRES")
             kind.add_argument("--queues")

@@ -6,7 +6,6 @@ import subprocess
 import sys
 import unittest
 import xml.etree.ElementTree as ElementTree
-from argparse import Namespace
 from unittest import mock
 
 from kolvunh import draw
@@ -25,6 +24,7 @@ QUEUES = """second,link,queue,on
 most,sa,1000,11
 most,ab,0,0
 """
+SVG = "http://www.w3.org/2000/svg"
 REPORT = "kind,round,node,x,y,z,w\ngreen,,first,0,0,23,\ngreen,,first,1,28,35,\ngreen,,second,0,0,130,\n"
 
 
@@ -34,21 +34,34 @@ class DrawTest(FilesTest):
         self.assertEqual(draw.entries_of(series["sa"], 10, 20), {0: 1000})
         self.assertEqual(draw.entries_of(series["ab"], 10, 20), {17: 500, 18: 500})
 
+    def drawn(self, *words):
+        options = draw.parser_of().parse_args([str(word) for word in words])
+        return options.draw(options)
+
     def test_greens(self):
-        text = draw.draw_greens(Namespace(network=EXAMPLES / "corridor.toml", report=self.file(REPORT, "report")))
-        self.assertEqual(text.splitlines()[1], "first  1 " + 28 * "." + 7 * "#" + 85 * ".")
+        files = EXAMPLES / "corridor.toml", self.file(REPORT, "report")
+        self.assertEqual(self.drawn("greens", *files).splitlines()[1], "first  1 " + 28 * "." + 7 * "#" + 85 * ".")
+        # From second 18 to 38: the ruler names the seconds 20 and 30 over their places, the third and the thirteenth.
+        lines = self.drawn("greens", *files, "--ruler", "--from", 18, "--to", 38).splitlines()
+        self.assertEqual(lines[:2], ["second     20        30", "           |    '    |    '"])
+        self.assertEqual(lines[2:4], ["first  0 #####" + 15 * ".", "first  1 " + 10 * "." + 7 * "#" + "..."])
 
     def test_pictures_are_xml(self):
-        queues = draw.draw_queues(Namespace(queues=self.file(QUEUES), links=[]))
-        nodes = ["first=0", "second=250"]
-        options = Namespace(network=EXAMPLES / "corridor.toml", report=self.file(REPORT, "report"), nodes=nodes, queues=None)
-        points = draw.draw_points(Namespace(points=self.file("series,x,y\na,1,2\na,1,4\n", "points"), across="x", up="y"))
-        for picture in (queues, draw.draw_street(options), points):
-            self.assertTrue(ElementTree.fromstring(picture).tag.endswith("svg"))
+        window = ("--from", 10, "--to", 19, "--title", "a & b")
+        queues = self.drawn("queues", self.file(QUEUES), *window)
+        street = self.drawn("street", EXAMPLES / "corridor.toml", self.file(REPORT, "report"), "first=0", "second=250", *window)
+        points = self.drawn("points", self.file("series,x,y\na,1,2\na,1,4\n", "points"), "--title", "a & b")
+        for picture in (queues, street, points):
+            root = ElementTree.fromstring(picture)
+            self.assertTrue(root.tag.endswith("svg"))
+            self.assertIn("a & b", [text.text for text in root.iter(f"{{{SVG}}}text")])
+        self.assertIn("250 m", street)
+        self.assertIn("seconds since the begin of the run", queues)
 
     def test_ticks(self):
         self.assertEqual(draw.ticks(4.5), [0, 0.5, 1, 1.5, 2, 2.5, 3, 3.5, 4, 4.5])
         self.assertEqual(draw.ticks(120)[-1], 120)
+        self.assertEqual(draw.ticks(480, 305), [320, 340, 360, 380, 400, 420, 440, 460, 480])
 
     def test_faults_in_one_line(self):
         net, report = EXAMPLES / "corridor.toml", self.file(REPORT, "report")
@@ -57,6 +70,7 @@ class DrawTest(FilesTest):
             (("greens", net, self.folder / "none"), "none: No such file or directory"),
             (("greens", net, other), "which the network has not: is it of another network?"),
             (("greens", report, report), "report: Expected '=' after a key in a key/value pair (at line 1, column 5)"),
+            (("greens", net, report, "--from", "120"), "from second 120 to 120 there is nothing to draw: the run goes from 0 to 120"),
             (("street", net, report, "first=0", "sixth=9"), '"sixth=9": the network has no node "sixth"'),
             (("street", net, report, "first=0", "second"), 'is no number of metres; the form is NODE=METRES'),
             (("queues", self.file(QUEUES, "queues"), "xx"), 'queues: there is no link "xx"'),
