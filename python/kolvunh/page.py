@@ -9,6 +9,7 @@ all nodes where they are given, x to the right and y up in any unit. Nothing her
 import argparse
 import json
 from collections.abc import Sequence
+from importlib import resources
 from itertools import groupby, pairwise
 from pathlib import Path
 from typing import Any
@@ -20,7 +21,10 @@ from .networks import Network, read_network
 from .places import Places, places_of, streets_of
 from .records import counted, shown
 
-HERE = Path(__file__).parent
+
+def part_of(name: str) -> str:
+    """The text of a file of this package."""
+    return resources.files(__package__).joinpath(name).read_text(encoding="utf-8")
 
 
 def pairs_of(totals: list[int]) -> list[int]:
@@ -81,7 +85,7 @@ def network_data(network: Network, places: Places) -> dict[str, Any]:
 def page_text(data: dict[str, Any]) -> str:
     """The page with its data and its script inside."""
     text = json.dumps(data, separators=(",", ":")).replace("<", "\\u003c")
-    page, script = ((HERE / name).read_text(encoding="utf-8") for name in ("page.html", "page.js"))
+    page, script = part_of("page.html"), part_of("page.js")
     return page.replace("SCRIPT", script, 1).replace("DATA", text, 1)
 
 

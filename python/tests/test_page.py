@@ -7,7 +7,6 @@ import subprocess
 import unittest
 from argparse import ArgumentTypeError
 from html import unescape
-from pathlib import Path
 
 from kolvunh import Fault, page, places
 from kolvunh.networks import read_network
@@ -91,4 +90,4 @@ class PageTest(FilesTest):
         self.assertEqual(found["delay at each stop line, s"], "7.5 A")
         self.assertEqual(found["all queues, 50 / 95 / most"], "0.0 / 1.0 / 1.0")
         self.assertEqual((found["come on green"], found["split failures"]), ("0 %", "0 of 1"))
-        self.assertEqual(Path(page.HERE, "page.js").read_text(encoding="utf-8").count("</script"), 0)
+        self.assertEqual(page.part_of("page.js").count("</script"), 0)
