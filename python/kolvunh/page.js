@@ -545,7 +545,11 @@ function drawSpace() {
     trail(exit, place(route.length - 1), place(route.length - 1) + (exit?.travel ?? 0));
     [entry, ...links].forEach((link, number) => bars(chart, run, link, at(place(number)), way ? 1 : -6));
   });
-  route.forEach((node, number) => chart.text(LEFT - 6, chart.y(up(ups[number])) + 4, data.nodes[node].name, "end"));
+  route.forEach((node, number) => {
+    const y = chart.y(up(ups[number]));
+    chart.text(LEFT - 6, y + 4, data.nodes[node].name, "end");
+    chart.text(LEFT - 6, y + 17, `${ups[number]} s`, "end", "small");
+  });
   chart.draw();
   const ways = ends.map(({ entry, exit }, way) => {
     const [first, last] = way ? [route[route.length - 1], route[0]] : [route[0], route[route.length - 1]];
