@@ -166,5 +166,5 @@ def require_totals(flows: dict[str, Flow], report: Records) -> None:
         if counted != (totals.entered, totals.left, totals.delay):
             raise Fault(
                 f"of link {shown(totals.link)} the report says {totals.entered},{totals.left},{totals.delay} and its vehicles come to "
-                f"{counted[0]},{counted[1]},{counted[2]}: is it a report of other arrivals?"
+                f"{counted[0]},{counted[1]},{counted[2]}: is it one of other arrivals?"
             )

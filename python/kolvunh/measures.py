@@ -280,18 +280,20 @@ def study_of(network: Network, arrivals: Place, report: Place, queues: Place | N
     """The study of a report; with a file of queues the vehicles are taken from there, else they are moved under the report's greens."""
     read = read_report(report)
     read.require_network(network, report)
-    if queues is not None:
-        return Study(network, read, flows_of_queues(network, read_queues(queues)))
-    rows = read_arrivals(arrivals)
-    strange = next((row.link for row in rows if network.link_named(row.link) is None), None)
-    if strange is not None:
-        raise Fault(f"{arrivals}: link {shown(strange)} is none of the network: is it a file of another one?")
-    flows = flows_of_greens(network, rows, read.greens)
+    flows = flows_of_queues(network, read_queues(queues)) if queues is not None else _moved(network, arrivals, read)
     try:
         require_totals(flows, read)
     except Fault as fault:
         raise Fault(f"{report}: {fault}") from None
     return Study(network, read, flows)
+
+
+def _moved(network: Network, arrivals: Place, read: Records) -> dict[str, Flow]:
+    rows = read_arrivals(arrivals)
+    strange = next((row.link for row in rows if network.link_named(row.link) is None), None)
+    if strange is not None:
+        raise Fault(f"{arrivals}: link {shown(strange)} is none of the network: is it a file of another one?")
+    return flows_of_greens(network, rows, read.greens)
 
 
 def csv_text(rows: Iterable[Measures]) -> str:

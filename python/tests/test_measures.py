@@ -113,6 +113,17 @@ class MeasuresTest(FilesTest):
         with self.assertRaisesRegex(Fault, "other arrivals"):
             self.study(HELD, "second,link,amount\n1,sa,1000\n")
 
+    def test_the_command(self) -> None:
+        files = [str(self.file(text, name)) for name, text in (("net", NETWORK), ("arr", ARRIVALS), ("report", HELD))]
+        queues = ["--queues", str(self.file(QUEUES, "queues"))]
+        self.assertEqual(measures.answer([*files, "--by", "all"]), measures.answer([*files, "--by", "all", *queues]))
+        rows = measures.answer([*files, "--by", "approach", "--approach", "east=sa", "--every", "10", "--csv"]).splitlines()
+        self.assertEqual([row[:19] for row in rows[1:]][::4], ["approach,east,0,10,", "approach,east,10,20"])
+        with self.assertRaisesRegex(Fault, "other arrivals"):
+            measures.answer([*files[:2], str(self.file(REPORT, "other")), *queues])
+        with self.assertRaisesRegex(Fault, '"east": its links'):
+            measures.answer([*files, "--by", "approach", "--approach", "east=sa,no"])
+
     def test_lost_seconds(self) -> None:
         # docs/RULES.md, "World": 1000 wait from second 10 on; with green from 12 the delay is 4500, with green from 10 it is 500.
         network = self.study(HELD).network
