@@ -110,8 +110,10 @@ one-order p (k ∷ s) [] counts a b = absurd (let some = a.0.some in omega (arit
 one-order p (k ∷ s) (j ∷ t) counts a b =
     let same : k ≡ j = one-next p counts k j a.0 b.0 in
     ap (λ xs. k ∷ xs) (one-order p s t (one_more counts k) a.1 (subst (λ i. GoesByArrival p (one_more counts i) t) (sym same) b.1)) ∙ ap (λ i. i ∷ t) same
+
 -- ---- its delay
 
+if-some : {X : Type 0} (P : X → Type 0) (o : Option X) (x : X) → o ≡ Some x → IfSome o P → P x
 if-some P o x e h = subst (λ o. IfSome o P) e h
 
 if-each : {X : Type 0} (P : X → Type 0) (o : Option X) → ((x : X) → o ≡ Some x → P x) → IfSome o P

@@ -22,6 +22,8 @@ use Rattle.scaled_arrivals.specs.Scaling.{IsScaled, entered, scaled_whole, share
 -- what is brought to a link in a second, where it is this one
 abbrev at_place : (link second l x : ℕ) → ℕ → ℕ
 at_place link second l x amount = cond ((link == l) && (second == x)) amount 0
+
+at-other : (link second l x amount : ℕ) → (link ≡ l → second ≡ x → ⊥) → at_place link second l x amount ≡ 0
 at-other link second l x amount other = elim (cases_Bool ((link == l) && (second == x))) [
   | inl t ↦ absurd (other (eqb-true link l (and_parts (eqb link l) (eqb second x) t).0) (eqb-true second x (and_parts (eqb link l) (eqb second x) t).1))
   | inr f ↦ ap (λ b. cond b amount 0) f
