@@ -10,7 +10,7 @@ use Rattle.net_numbers.specs.Numbers.{Net}
 use Rattle.net_simulator.specs.Counts.{counts_at, no_totals}
 use Rattle.net_simulator.specs.Flow.{Passed, passed_in, past_of}
 use Rattle.net_simulator.specs.Sums.{end_of_run, link_totals, totals}
-use Rattle.net_simulator.specs.Worlds.{Stands, WorldState, line_in, standing_by}
+use Rattle.net_simulator.specs.Worlds.{Stands, WorldState, line_in, standing_by, IsWorldOf}
 use Rattle.net_simulator.specs.declared.totals.LinkTotals.{LinkTotals}
 use Rattle.net_simulator.proofs.FlowLaws.{history-same}
 use Rattle.net_simulator.proofs.Passing.{stands-under}
@@ -26,6 +26,8 @@ use Rattle.actuated.specs.RunsSoFar.{AreNear, HavePlayed}
 use Rattle.actuated.specs.declared.records.ActRecord.{ActRecord}
 use Rattle.actuated.proofs.Acting.{more-acted, none-acted, one-round, same-before, time-for}
 use Rattle.actuated.proofs.LineLaws.{first-is-line, next-keeps}
+use Rattle.arrivals.specs.Amounts.{Amounts, AreArrivals}
+use Rattle.net_simulator.specs.Arriving.{arriving_of}
 
 -- ---- the rounds
 
@@ -60,6 +62,10 @@ module _ (net : Net) (network : IsNetwork net) (arriving : ℕ → ℕ → ℕ) 
     second = omega (arith, second, a.second, one-round net r);
     stands = stands;
   }
+
+-- the world of lines that have acted is one of the network
+pub played-world : (net : Net) (arrivals : Amounts) (r : ℕ) (lines : List (List Green)) (w : WorldState) → AreArrivals net arrivals → HavePlayed net (arriving_of arrivals) r lines w → IsWorldOf net w
+played-world net arrivals r lines w enter a = record { arrivals = arrivals; lines = line_in lines; enter = enter; stands = a.stands }
 
 -- ---- the record
 

@@ -1,16 +1,16 @@
 -- What a commit makes of an actor, and what the actor tells then.
-use Rattle.std.proofs.Common.{◌≡◌, ℕ, Bool, nat_le, List, [], ◌∷◌, ◌++◌, Option, None, Some, Contains, find, length, map, refl, sym, ap, subst, ◌∙◌, arith}
+use Rattle.std.proofs.Common.{◌≡◌, ℕ, Bool, nat_le, List, [], ◌∷◌, ◌++◌, Option, None, Some, Contains, find, length, map, refl, sym, ap, subst, ◌∙◌, arith, is_some}
 use Rattle.std.proofs.lemmas.Bool.{cond_both}
 use Rattle.std.proofs.lemmas.List.{append-nil, length-map}
-use Rattle.std.proofs.lemmas.List.Elements.{Contains-append_left, Contains-append_right, Contains-push}
+use Rattle.std.proofs.lemmas.List.Elements.{Contains-append_left, Contains-append_right, Contains-push, All-contains, All-contains_itself, All-filter}
 use Rattle.board_model.specs.declared.boards.Heard.{Heard}
 use Rattle.switch_rules.specs.Sequences.{AreNextServings, counts_of}
 use Rattle.switch_rules.specs.declared.Head.{Head}
 use Rattle.control_flow.specs.Greens.{GoesOn, IsContinued, IsLawful, head_at, spliced}
 use Rattle.control_flow.specs.declared.greens.Green.{Green}
 use Rattle.net_numbers.specs.Numbers.{Net}
-use Rattle.net_numbers.specs.Outline.{plan_at}
-use Rattle.road_net.specs.Network.{IsNetwork, heard_links, told_links}
+use Rattle.net_numbers.specs.Outline.{plan_at, link_at}
+use Rattle.road_net.specs.Network.{IsNetwork, heard_links, told_links, exit_links}
 use Rattle.clusters.specs.Sound.{cluster_lists}
 use Rattle.clusters.specs.Windows as windows
 use Rattle.clusters.specs.declared.vehicle_groups.Platoon.{Platoon}
@@ -53,6 +53,12 @@ find-in p [] x e = let impossible : Contains [] x = cc in impossible
 find-in p (y ∷ ys) x e = cond_both (p y) (Some y) (find p ys) (λ r. r ≡ Some x → Contains (y ∷ ys) x)
     (λ yes f. let same : y ≡ x = cc in subst (λ z. Contains (y ∷ ys) z) same (Contains-append_left (y ∷ []) ys y (Contains-push [] y)))
     (λ no f. Contains-append_right (y ∷ []) ys x (find-in p ys x f)) e
+
+-- a node tells on exit links
+pub told-exit : (net : Net) (n link : ℕ) → Contains (told_links net n) link → Contains (exit_links net n) link
+told-exit net n link there =
+    let exits : List ℕ = exit_links net n in
+    All-contains (Contains exits) (told_links net n) link (All-filter (λ l. is_some (link_at net l).to) (Contains exits) exits (All-contains_itself exits)) there
 
 -- the first link from a number on
 tells-some : (net : Net) (a : Acting) (first link : ℕ) (o : Option ℕ) → ((l : ℕ) → Contains (told_links net a.node) l → IsTelling net a l) → find (λ l. nat_le first l) (told_links net a.node) ≡ o → IsInRound net a (telling o)

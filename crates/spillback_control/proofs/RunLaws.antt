@@ -21,11 +21,13 @@ use Rattle.actuated.proofs.Acting.{more-acted, none-acted, one-round, same-befor
 use Rattle.actuated.proofs.LineLaws.{first-is-line, next-keeps}
 use Rattle.spillback_world.specs.Spilled.{spilled}
 use Rattle.spillback_world.specs.Storage.{past_in}
-use Rattle.spillback_world.specs.Worlds.{SpillState, Stands}
+use Rattle.spillback_world.specs.Worlds.{SpillState, Stands, IsWorldOf}
 use Rattle.spillback_world.specs.declared.totals.SpillTotals.{SpillTotals}
 use Rattle.spillback_world.proofs.Shown.{past-same, stands-under}
 use Rattle.spillback_control.specs.SpillRounds.{HaveSpilled}
 use Rattle.spillback_control.specs.SpillRuns.{IsActuatedIn, LastLinesShow, last_lines}
+use Rattle.arrivals.specs.Amounts.{Amounts, AreArrivals}
+use Rattle.net_simulator.specs.Arriving.{arriving_of}
 
 -- before the first round
 pub none-spilled : (net : Net) (arriving : ℕ → ℕ → ℕ) (store : ℕ → ℕ) (lines : List (List Green)) (w : SpillState) → AreFirstLines net (length net.node_names) lines → w.second ≡ 0
@@ -56,6 +58,10 @@ module _ (net : Net) (network : IsNetwork net) (arriving : ℕ → ℕ → ℕ) 
     second = omega (arith, second, a.second, one-round net r);
     stands = stands;
   }
+
+-- the world of lines that have acted is one of the network
+pub spilled-world : (net : Net) (arrivals : Amounts) (store : ℕ → ℕ) (r : ℕ) (lines : List (List Green)) (w : SpillState) → AreArrivals net arrivals → HaveSpilled net (arriving_of arrivals) store r lines w → IsWorldOf net w
+spilled-world net arrivals store r lines w enter a = record { arrivals = arrivals; store = store; lines = line_in lines; enter = enter; stands = a.stands }
 
 -- what is counted when all rounds are over
 pub ended : (net : Net) (arriving : ℕ → ℕ → ℕ) (store : ℕ → ℕ) (lines : List (List Green)) (w : SpillState) (t : SpillTotals) → HaveSpilled net arriving store net.run.rounds lines w → t ≡ w.totals → IsActuatedIn net arriving store t
