@@ -482,12 +482,19 @@ def is_in(key, place):
     return not isinstance(key, Library) and key.place == place
 
 
-def of_others(reading, definitions):
+def of_others(reading, house, definitions):
     """Sentences that say of which file a name is that these definitions cite and that more than one file defines."""
     every = {d.key for d in reading.definitions}
     names = [key.name for key in every]
     cited = dict.fromkeys(key for d in definitions for key in d.cites if key in every and names.count(key.name) > 1)
-    return "".join(f" Here `{key.name}` is that of {key.place}." for key in cited if key.place != definitions[0].key.place)
+    others = [key for key in cited if key.place != definitions[0].key.place]
+    return "".join(f" Here `{written_as(house, definitions, key)}` is that of {key.place}." for key in others)
+
+
+def written_as(house, definitions, key):
+    """A name as these definitions of one file write it: after the alias of its file, where they do so."""
+    names = [f"{alias}.{key.name}" for alias in house.file_of(definitions[0].key).aliases]
+    return next((name for name in names if any(name in line for d in definitions for line in d.lines)), key.name)
 
 
 def table_of_files(reading, house):
@@ -509,7 +516,7 @@ def sections_of(reading, house):
         file = house.file_of(key)
         yield from [f"### {number}. {place}", ""]
         cited = callers_of(reading, house, place)
-        yield from [sentence_of(file.head) + (f" Cited by {cited}." if cited else "") + of_others(reading, definitions), ""]
+        yield from [sentence_of(file.head) + (f" Cited by {cited}." if cited else "") + of_others(reading, house, definitions), ""]
         notes = [file.notes] if file.notes else []
         yield from fence("text", [*notes, *texts_of(definitions)])
 

@@ -125,6 +125,14 @@ class SmallTest(unittest.TestCase):
         self.assertIn("/// Goods.\npub struct Box {\n", page)
         self.assertNotIn("unused", page)
 
+    def test_names_of_two_files(self):
+        reading = self.reading()
+        top, size = (self.house.definition(definitions.find(self.house, name)) for name in ("Top", "low/Names.size"))
+        reading.files.append(("low/Names", [size]))
+        for written, said in (("names.size 2", "names.size"), ("size 2", "size")):
+            top.lines[1], top.cites = f"  pub pair_size : {written} ≡ 6", [size.key]
+            self.assertEqual(definitions.of_others(reading, self.house, [top]), f" Here `{said}` is that of low/Names.")
+
     def test_constructors(self):
         self.assertIn(definitions.find(self.house, "Choice"), self.house.definition(definitions.find(self.house, "choice_of")).cites)
 
