@@ -17,6 +17,7 @@ import re
 import sys
 from collections import deque
 from dataclasses import dataclass, field
+from itertools import groupby
 from pathlib import Path
 
 ROOT = Path(__file__).resolve().parents[1]
@@ -399,6 +400,18 @@ def spec_citations(house, key):
     return list(found)
 
 
+def as_comments_say(house, keys):
+    """Definitions of a file in their order, but those that share a comment in that of the file, of which it speaks, where none
+    of them cites another."""
+    for _, group in groupby(keys, lambda key: house.definition(key).comment):
+        group = list(group)
+        if any(other in group for key in group for other in house.definition(key).cites):
+            yield from group
+        else:
+            own = list(house.file_of(group[0]).definitions)
+            yield from sorted(group, key=lambda key: own.index(key.name))
+
+
 def reading_of(house, root, skip=()):
     """What is below a definition, in reading order."""
     all_below = below(house, [root])
@@ -416,7 +429,7 @@ def reading_of(house, root, skip=()):
     def within(place):
         own = list(house.file_of(by_file[place][0]).definitions.values())
         roots = [d.key for d in reversed(own) if d.key in cites]
-        return walk(roots, lambda key: [other for other in cites[key] if other.place == place])
+        return as_comments_say(house, walk(roots, lambda key: [other for other in cites[key] if other.place == place]))
 
     order = walk([root.place], file_citations)
     files = [(place, [house.definition(key) for key in within(place)]) for place in order]

@@ -53,6 +53,13 @@ pub data Choice : Type 0 where
 abbrev pub choice_of : ℕ → ℕ
 choice_of n = count First
 
+-- the least, and the greatest
+abbrev pub least : ℕ
+least = 0
+
+abbrev pub greatest : ℕ
+greatest = 9
+
 -- nobody cites it
 abbrev pub unused : ℕ
 unused = 0
@@ -107,6 +114,11 @@ class SmallTest(unittest.TestCase):
     def test_below(self):
         files = [(place, [d.key.name for d in own]) for place, own in self.reading().files]
         self.assertEqual(files, [("high/Facts", ["Top", "IsSmall"]), ("low/Base", ["Choice", "◌<+>◌", "pair_size", "size"])])
+
+    def test_order_of_a_comment(self):
+        for names, order in ((["greatest", "least"], ["least", "greatest"]), (["pair_size", "size"], ["pair_size", "size"])):
+            keys = [definitions.find(self.house, f"low/Base.{name}") for name in names]
+            self.assertEqual([key.name for key in definitions.as_comments_say(self.house, keys)], order)
 
     def test_types_and_libraries(self):
         reading = self.reading()
