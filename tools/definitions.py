@@ -553,7 +553,7 @@ def page_of(house, name, skip):
         page.append(f"{less[0]} of them, {less[1]} lines, only by way of {words}: files that have nothing else are marked *(skip)*.")
     page += ["", *table_of_files(reading, house), "", "## The definitions", "", *sections_of(reading, house)]
     if reading.types:
-        page += [f"## The data types: {len(reading.types)}", "", *types_of(reading)]
+        page += ["## The data types", "", f"{len(reading.types)}, by name.", "", *types_of(reading)]
     page += ["## Names of libraries, which are not followed", ""]
     for module in dict.fromkeys(word.module for word in reading.words):
         page.append(f"- {module}: " + ", ".join(f"`{word.name}`" for word in reading.words if word.module == module))
