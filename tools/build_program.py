@@ -26,7 +26,8 @@ import time
 from contextlib import contextmanager
 from pathlib import Path
 
-ROOT = Path(__file__).resolve().parent.parent
+from crates import ROOT, at_or_below, crate_lines, text_of
+
 PROGRAM = "signal_program"
 PROVED = ROOT / "crates" / PROGRAM / "out" / PROGRAM
 UNPROVED = ROOT / "out/unproved/signal"
@@ -49,37 +50,13 @@ def tell(text):
     print(f"signal: {text}", file=sys.stderr, flush=True)
 
 
-def crate_lines(text):
-    """The lines of crates.txt that name a crate, each with the name and what the crate depends on."""
-    lines = {}
-    for line in text.splitlines(keepends=True):
-        head, colon, rest = line.split("#")[0].partition(":")
-        if colon:
-            lines[head.split()[0]] = (line, rest.split())
-    return lines
-
-
-def at_or_below(name, lines):
-    """The crate and all crates of the repository that it is made of, lowest first."""
-    found = []
-
-    def visit(crate):
-        if crate in lines and crate not in found:
-            for low in lines[crate][1]:
-                visit(low)
-            found.append(crate)
-
-    visit(name)
-    return found
-
-
 def copy_to(place):
     """Copies the crates that the program is made of, as a repository of their own. Answers how many there are."""
     lines = crate_lines((ROOT / "crates.txt").read_text())
     crates = at_or_below(PROGRAM, lines)
     for crate in crates:
         shutil.copytree(ROOT / "crates" / crate, place / "crates" / crate, ignore=NOT_READ)
-    (place / "crates.txt").write_text("".join(lines[crate][0] for crate in crates))
+    (place / "crates.txt").write_text(text_of(crates, lines))
     shutil.copyfile(ROOT / "HANDLES", place / "HANDLES")
     return len(crates)
 

@@ -32,7 +32,8 @@ from collections import Counter, defaultdict
 from dataclasses import dataclass
 from pathlib import Path
 
-from wrong_bodies import ROOT, VERDICT, Malformed, Repository, run_check
+from crates import ROOT
+from wrong_bodies import VERDICT, Malformed, Repository, run_check
 
 TICKS = os.sysconf("SC_CLK_TCK")
 OWN, TESTS, EDITS = "own", "tests", "edits"
@@ -209,20 +210,13 @@ def main():
         parser.error("--functions takes no command")
     try:
         if options.functions:
-            sys.exit(0 if all([profile(*it) for it in named(options.functions)]) else 1)
+            repository = Repository(ROOT)
+            repository.require(options.functions)
+            sys.exit(0 if all([profile(repository, crate) for crate in options.functions]) else 1)
         sys.exit(watch(words[cut + 1 :] or ["rt", "ci"]))
     except (Malformed, OSError) as fault:
         print(f"gate_cost: {fault}", file=sys.stderr)
         sys.exit(2)
-
-
-def named(crates):
-    """The repository beside each of these crates."""
-    repository = Repository(ROOT)
-    for name in crates:
-        if name not in repository.lines:
-            raise Malformed(f"crates.txt has no crate {name}")
-    return [(repository, name) for name in crates]
 
 
 if __name__ == "__main__":

@@ -5,18 +5,18 @@ import unittest
 import gate_cost
 from gate_cost import Sample
 
-OWN_WORDS = ["/opt/rattle/bin/rattle", "build", "--crate-name", "roads", "src/lib.rt", "--jobs", "2", ""]
-TESTS_WORDS = ["/opt/rattle/bin/rattle", "build", "--crate-name", "roads", "src/lib.rt", "--test", ""]
+OWN_WORDS = ["/kit/bin/rattle", "build", "--crate-name", "roads", "src/lib.rt", "--jobs", "2", ""]
+TESTS_WORDS = ["/kit/bin/rattle", "build", "--crate-name", "roads", "src/lib.rt", "--test", ""]
 
 
 class GateCostTest(unittest.TestCase):
     def test_what_a_process_checks(self):
         self.assertTrue(gate_cost.checks(OWN_WORDS))
-        self.assertFalse(gate_cost.checks(["/opt/rattle/bin/rattle", "fmt", "--check", "src/lib.rt"]))
+        self.assertFalse(gate_cost.checks(["/kit/bin/rattle", "fmt", "--check", "src/lib.rt"]))
         self.assertFalse(gate_cost.checks(["python3", "build", "--crate-name", "roads"]))
-        own = gate_cost.sample_of(OWN_WORDS, "/work/signal/crates/roads", 3.0)
+        own = gate_cost.sample_of(OWN_WORDS, "/clone/crates/roads", 3.0)
         self.assertEqual(own, Sample("roads", "own", 2, 3.0, 3.0, 0.0))
-        self.assertEqual(gate_cost.sample_of(TESTS_WORDS, "/work/signal/crates/roads", 3.0).kind, "tests")
+        self.assertEqual(gate_cost.sample_of(TESTS_WORDS, "/clone/crates/roads", 3.0).kind, "tests")
         for folder in ("/tmp/rt-edit-17-abc", "/tmp/wrong-bodies-abc/crates/roads"):
             self.assertEqual(gate_cost.sample_of(OWN_WORDS, folder, 3.0).kind, "edits")
 

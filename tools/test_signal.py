@@ -7,7 +7,8 @@ import unittest
 from pathlib import Path
 from tempfile import TemporaryDirectory
 
-from build_program import Progress, at_or_below, crate_lines
+from build_program import Progress
+from crates import at_or_below, crate_lines
 
 ROOT = Path(__file__).resolve().parents[1]
 
@@ -60,7 +61,7 @@ class SignalTest(unittest.TestCase):
                 self.write(f"crates/{crate}/{part}/file", "")
         self.write("crates.txt", CRATES)
         self.write("HANDLES", "Handles allowed: none.\n")
-        for name in ("signal", "tools/help.txt", "tools/build_program.py"):
+        for name in ("signal", "tools/help.txt", "tools/build_program.py", "tools/crates.py"):
             (self.root / name).parent.mkdir(exist_ok=True)
             shutil.copy(ROOT / name, self.root / name)
         self.write("bin/rt", RT).chmod(0o755)
@@ -143,7 +144,7 @@ class SignalTest(unittest.TestCase):
 class CratesTest(unittest.TestCase):
     def test_order(self):
         lines = crate_lines(CRATES)
-        self.assertEqual(lines["beside"], ("beside: low\n", ["low"]))
+        self.assertEqual(lines["beside"], ("beside: low", ["low"]))
         self.assertEqual(at_or_below("signal_program", lines), ["low", "signal_program"])
 
     def test_progress(self):

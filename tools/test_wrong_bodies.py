@@ -214,8 +214,8 @@ class WrongBodiesTest(unittest.TestCase):
         root = self.crate.parent
         (root / "crates.txt").write_text("# low\nlow:\nlines may_wait=2: low csv\ntop: lines # high\n")
         repository = wrong_bodies.Repository(root)
-        self.assertEqual(repository.below("top"), {"lines", "low"})
-        self.assertEqual(repository.lines["lines"], "lines may_wait=2: low csv")
+        self.assertEqual(repository.below("top"), ["low", "lines"])
+        self.assertEqual(repository.lines["lines"], ("lines may_wait=2: low csv", ["low", "csv"]))
 
     def test_all_wrong_bodies_of_the_repository_can_be_applied(self):
         repository = wrong_bodies.Repository(wrong_bodies.ROOT)

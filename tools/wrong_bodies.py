@@ -38,7 +38,8 @@ from concurrent.futures import ThreadPoolExecutor
 from dataclasses import dataclass
 from pathlib import Path
 
-ROOT = Path(__file__).resolve().parent.parent
+from crates import ROOT, at_or_below, crate_lines, text_of
+
 FOLDERS = ("must-fail", "wrong-bodies")
 PARTS = ("src", "specs", "proofs")
 MEMORY_OF_A_JOB = 3_000_000_000
@@ -317,25 +318,23 @@ class Repository:
     """The crates that crates.txt lists, each with its line and those below it."""
 
     def __init__(self, root):
-        self.root, self.lines, self.uses = root, {}, {}
-        for line in (root / "crates.txt").read_text(encoding="utf-8").split("\n"):
-            words, _, uses = line.partition("#")[0].partition(":")
-            if words.strip():
-                name = words.split()[0]
-                self.lines[name], self.uses[name] = line, uses.replace(",", " ").split()
+        self.root = root
+        self.lines = crate_lines((root / "crates.txt").read_text(encoding="utf-8"))
         self.making = threading.Lock()
 
+    def require(self, names):
+        """Refuses the names of what is no crate."""
+        for name in names:
+            if name not in self.lines:
+                raise Malformed(f"crates.txt has no crate {name}")
+
     def folder(self, crate):
+        """The folder of a crate."""
         return self.root / "crates" / crate
 
     def below(self, crate):
-        """The crates below a crate, by name."""
-        found, left = set(), [crate]
-        while left:
-            names = {name for name in self.uses[left.pop()] if name in self.lines} - found
-            found |= names
-            left += names
-        return found
+        """The crates below a crate, lowest first."""
+        return at_or_below(crate, self.lines)[:-1]
 
     def edits(self, crate):
         """The wrong bodies of a crate, and what is wrong with those that can't be read."""
@@ -372,8 +371,8 @@ class Repository:
 
     def copy(self, crate, top):
         """Makes a repository of a crate and those below it, which are built as they are here; and answers the crate's folder."""
-        names = {crate, *self.below(crate)}
-        (top / "crates.txt").write_text("\n".join(self.lines[name] for name in sorted(names)) + "\n")
+        names = at_or_below(crate, self.lines)
+        (top / "crates.txt").write_text(text_of(names, self.lines))
         shutil.copy(self.root / "HANDLES", top)
         for name in names:
             for part in PARTS:
@@ -448,9 +447,7 @@ def all_tried(options):
     repository = Repository(ROOT)
     if shutil.which("rt") is None:
         raise Malformed("there is no rt, which checks crates")
-    for name in options.crates:
-        if name not in repository.lines:
-            raise Malformed(f"crates.txt has no crate {name}")
+    repository.require(options.crates)
     crates = [name for name in options.crates or repository.lines if any(repository.edits(name))]
     if not crates:
         raise Malformed("these crates have no wrong bodies")
