@@ -8,14 +8,13 @@ is not lost, where each green has its greatest length. The files are read as rig
 The status is 1 where there is a warning, and 2 where a file can't be read. Nothing here is proved.
 """
 
-import argparse
 import itertools
 from collections import defaultdict
 from collections.abc import Iterator, Sequence
 from dataclasses import dataclass
 
 from .arrivals import VEHICLE, Arrival, read_arrivals
-from .commands import end
+from .commands import Words, end
 from .faults import Fault
 from .networks import Link, Network, Node, Phase, read_network
 from .plans import PlanRow, read_plan
@@ -223,9 +222,7 @@ def load_lines(inputs: Inputs) -> list[str]:
 
 def work() -> int:
     """Writes the loads and the warnings."""
-    parser = argparse.ArgumentParser(
-        prog="./signal check-input", description=__doc__, formatter_class=argparse.RawDescriptionHelpFormatter
-    )
+    parser = Words(__doc__, prog="./signal check-input")
     parser.add_argument("network", metavar="NET")
     parser.add_argument("arrivals", metavar="ARR")
     parser.add_argument("plan", metavar="PLAN", nargs="?")

@@ -1,29 +1,50 @@
-"""How a command of this package ends: 0 where all is well, 1 where it found what it looked for, 2 where it can't be done."""
+"""How a command of this package reads its words, and how it ends: 0 where all is well, 1 where it found what it looked for, 2 where it can't
+be done."""
 
+import argparse
+import contextlib
 import os
 import sys
 from collections.abc import Callable
-from typing import NoReturn
+from typing import Any, NoReturn
 
 from .faults import Fault
+
+
+class Words(argparse.ArgumentParser):
+    """The words of a command. Those that are none of it end the process with one line on standard error, and status 2."""
+
+    def __init__(self, about: str | None = None, **how: Any) -> None:
+        super().__init__(description=about, formatter_class=argparse.RawDescriptionHelpFormatter, **how)
+
+    def error(self, message: str) -> NoReturn:
+        """Says what is wrong with the words."""
+        print(f"{self.prog}: {message}; call it with -h for its form", file=sys.stderr)
+        sys.exit(2)
 
 
 def end(work: Callable[[], int | None]) -> NoReturn:
     """Does the work of a command and ends with the status that it gives, or with 0. A fault is a line on standard error and status 2."""
     try:
+        if sys.stdout is None:
+            raise Fault("there is no standard output to write to")
         status = work() or 0
         sys.stdout.flush()
-    except BrokenPipeError:
-        os.dup2(os.open(os.devnull, os.O_WRONLY), sys.stdout.fileno())
-        _say("standard output was closed before all was written")
-        status = 2
     except (Fault, OSError) as fault:
-        _say(str(fault))
+        _say("standard output was closed before all was written" if isinstance(fault, BrokenPipeError) else str(fault))
+        _drop_output()
         status = 2
     except KeyboardInterrupt:
         status = 130
     sys.exit(status)
 
 
+def _drop_output() -> None:
+    """Leaves nothing for Python to write at the end of the process, where it would fail again."""
+    with contextlib.suppress(OSError, AttributeError):  # it may be no file, or none at all
+        os.dup2(os.open(os.devnull, os.O_WRONLY), sys.stdout.fileno())
+
+
 def _say(words: str) -> None:
+    """A line on standard error."""
     print(f"kolvunh: {words}", file=sys.stderr)

@@ -22,7 +22,7 @@ from collections.abc import Iterable, Sequence
 from pathlib import Path
 from xml.sax.saxutils import escape
 
-from .commands import end as end_command
+from .commands import Words, end as end_command
 from .faults import Fault
 from .networks import Link, Network, read_network
 from .queues import Queues, read_queues
@@ -319,9 +319,9 @@ def draw_points(options: argparse.Namespace) -> str:
     return chart.svg()
 
 
-def parser_of() -> argparse.ArgumentParser:
+def parser_of() -> Words:
     """The words of each kind of picture."""
-    parser = argparse.ArgumentParser(description=__doc__, formatter_class=argparse.RawDescriptionHelpFormatter)
+    parser = Words(__doc__)
     kinds = parser.add_subparsers(required=True)
     for name, draw, words in (
         ("greens", draw_greens, ("network", "report")),

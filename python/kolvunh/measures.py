@@ -18,7 +18,7 @@ from functools import cached_property
 from itertools import accumulate, pairwise
 
 from .arrivals import read_arrivals
-from .commands import end
+from .commands import Words, end
 from .faults import Fault
 from .flows import Flow, flows_of_greens, flows_of_queues, parts_of, require_totals
 from .networks import Network, read_network
@@ -352,9 +352,9 @@ def approach_of(words: str) -> tuple[str, list[str]]:
     return name, links.split(",")
 
 
-def parser() -> argparse.ArgumentParser:
+def parser() -> Words:
     """What the command takes."""
-    words = argparse.ArgumentParser(description=__doc__, formatter_class=argparse.RawDescriptionHelpFormatter)
+    words = Words(__doc__)
     for name in ("network", "arrivals", "report"):
         words.add_argument(name)
     words.add_argument("--by", choices=(*KINDS, "all"), default="node", help="what there is a row for (node)")
@@ -369,7 +369,10 @@ def parser() -> argparse.ArgumentParser:
 
 def answer(words: Sequence[str] | None = None) -> str:
     """What the command writes."""
-    options = parser().parse_args(words)
+    form = parser()
+    options = form.parse_args(words)
+    if options.approach and options.by not in ("approach", "all"):
+        form.error("--approach wants --by approach or --by all")
     study = study_of(read_network(options.network), options.arrivals, options.report, options.queues)
     kinds = KINDS if options.by == "all" else (options.by,)
     tables = [study.table(kind, options.begin, options.end, options.every, dict(options.approach)) for kind in kinds]

@@ -14,7 +14,7 @@ from itertools import groupby, pairwise
 from pathlib import Path
 from typing import Any
 
-from .commands import end
+from .commands import Words, end
 from .faults import Fault
 from .measures import Study, study_of
 from .networks import Network, read_network
@@ -107,7 +107,7 @@ def place_of(words: str) -> tuple[str, tuple[float, float]]:
 
 def answer(words: Sequence[str] | None = None) -> str:
     """What the command writes."""
-    parser = argparse.ArgumentParser(description=__doc__, formatter_class=argparse.RawDescriptionHelpFormatter)
+    parser = Words(__doc__)
     parser.add_argument("network")
     parser.add_argument("arrivals")
     parser.add_argument("reports", nargs="+", metavar="REPORT", type=named)

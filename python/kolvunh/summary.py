@@ -5,12 +5,11 @@
 Without a report `turns` is run. The lines are from the measures of docs/FORMATS.md, "Measures". Nothing here is proved.
 """
 
-import argparse
 from collections.abc import Sequence
 from pathlib import Path
 from tempfile import TemporaryDirectory
 
-from .commands import end
+from .commands import Words, end
 from .measures import VEHICLE, Measures, Study, quotient, study_of
 from .networks import Network, read_network
 from .programs import run
@@ -80,7 +79,7 @@ def lines_of(network: Network, study: Study) -> list[tuple[str, str]]:
 
 def answer(words: Sequence[str] | None = None) -> str:
     """What the command writes."""
-    parser = argparse.ArgumentParser(description=__doc__, formatter_class=argparse.RawDescriptionHelpFormatter)
+    parser = Words(__doc__)
     parser.add_argument("network")
     parser.add_argument("arrivals")
     parser.add_argument("report", nargs="?", help="a report of this network and these arrivals; without one `turns` is run")

@@ -22,7 +22,7 @@ from functools import partial
 from pathlib import Path
 
 from .arrivals import VEHICLE, Arrival, arrivals_text, read_arrivals
-from .commands import end
+from .commands import Words, end
 from .faults import Fault
 from .networks import read_network
 from .programs import built_program_words, run
@@ -65,7 +65,7 @@ def delay(options: argparse.Namespace, rates: dict[str, float], seconds: int, ta
 
 def options_of() -> argparse.Namespace:
     """The words of the command."""
-    parser = argparse.ArgumentParser(description=__doc__, formatter_class=argparse.RawDescriptionHelpFormatter)
+    parser = Words(__doc__)
     parser.add_argument("network", type=Path)
     parser.add_argument("arrivals", type=Path)
     parser.add_argument("--demands", type=float, nargs="+", default=[0.4, 0.6, 0.8, 1.0])

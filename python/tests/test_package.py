@@ -11,7 +11,7 @@ from unittest import mock
 
 from kolvunh.__main__ import MODULES
 
-from .worked import ROOT, FilesTest
+from .worked import EXAMPLES, ROOT, FilesTest
 
 PACKAGE = ROOT / "python"
 
@@ -57,3 +57,18 @@ class PackageTest(FilesTest):
                     importlib.import_module(f"kolvunh.{module}").main()
             self.assertEqual(ended.exception.code, 0, name)
             self.assertTrue(said.getvalue().startswith("usage:"), name)
+
+    def test_words_that_are_no_call_in_one_line(self):
+        for words in (("measures", "net"), ("page", "net", "arr"), ("summary",), ("check-input",), ("draw", "street"), ("sweep",)):
+            status, out, err = self.command(*words)
+            self.assertEqual((status, out, err.count("\n")), (2, "", 1), err)
+        said = self.command("measures", "net", "arr", "report", "--approach", "north=a")[2]
+        self.assertIn("--approach wants --by approach or --by all", said)
+
+    def test_output_that_cannot_be_written(self):
+        files = [EXAMPLES / "corridor.toml", EXAMPLES / "corridor.csv"]
+        for redirection, said in ((">/dev/full", "No space left on device"), (">&-", "there is no standard output")):
+            words = ["sh", "-c", f'"$@" {redirection}', "sh", sys.executable, "-I", "-B", PACKAGE, "check-input", *files]
+            run = subprocess.run(words, stderr=subprocess.PIPE, text=True, check=False)
+            self.assertEqual((run.returncode, run.stderr.count("\n")), (2, 1), run.stderr)
+            self.assertIn(said, run.stderr)

@@ -21,11 +21,9 @@ NETWORK = block("A worked network")
 ARRIVALS = block("Arrivals file")
 STORE = block("Store file")
 PLAN = block("Fixed plan")
-HISTORY = block("History file")
 REPORT = block("Report")
 QUEUES = block("Queues")
 STATE = block("State of a round")
-INSTANCE = block("Instance text")
 CERTIFICATE = block("Certificate text")
 
 

@@ -9,14 +9,14 @@ called again only where its line says what is wrong.
 import argparse
 import sys
 
-from ..commands import end
+from ..commands import Words, end
 from ..programs import program_words
 from . import explain, explained, refusal_of
 
 
 def options_of(arguments: list[str]) -> argparse.Namespace:
     """The options before the words; `--` may stand between them."""
-    parser = argparse.ArgumentParser(description=__doc__, formatter_class=argparse.RawDescriptionHelpFormatter, allow_abbrev=False)
+    parser = Words(__doc__, allow_abbrev=False)
     parser.add_argument("--program", help="the program; ./signal of the repository where it is left out")
     parser.add_argument("--status", type=int)
     parser.add_argument("words", nargs=argparse.REMAINDER)

@@ -9,7 +9,6 @@ nodes). A seed draws the turns of the vehicles and SUMO's drivers. The seconds i
 greens are counted. Nothing here is proved.
 """
 
-import argparse
 import shlex
 import statistics
 import subprocess
@@ -18,7 +17,7 @@ from concurrent.futures import ProcessPoolExecutor
 from functools import partial
 from pathlib import Path
 
-from ..commands import end
+from ..commands import Words, end
 from ..faults import Fault
 from ..programs import built_program_words
 from .layout import SUMO_HOME, read_greens, read_tables, read_places, vehicles
@@ -101,7 +100,7 @@ def row_of(name, results):
 
 def work() -> None:
     """Runs all, and writes the table."""
-    parser = argparse.ArgumentParser(description=__doc__, formatter_class=argparse.RawDescriptionHelpFormatter)
+    parser = Words(__doc__)
     for name in ("network", "places", "arrivals", "folder"):
         parser.add_argument(name, type=Path)
     parser.add_argument("--seeds", type=int, default=3)

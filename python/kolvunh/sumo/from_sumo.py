@@ -12,7 +12,6 @@ With --survey each signal has a line for each reason why it does not fit. The ex
 nothing is written then. Nothing here is proved.
 """
 
-import argparse
 import csv
 import heapq
 import itertools
@@ -21,7 +20,7 @@ import xml.etree.ElementTree as ElementTree
 from collections import Counter, defaultdict
 from pathlib import Path
 
-from ..commands import end
+from ..commands import Words, end
 from .layout import LANE_SAT, Junctions, read_greens, read_tables, state_at
 from .to_sumo import element, report_program
 
@@ -247,7 +246,7 @@ def report_programs(nodes, folder, greens):
 
 def work() -> int:
     """Writes the files, or says what does not fit."""
-    parser = argparse.ArgumentParser(description=__doc__, formatter_class=argparse.RawDescriptionHelpFormatter)
+    parser = Words(__doc__)
     parser.add_argument("network", type=Path)
     parser.add_argument("routes", type=Path, nargs="?")
     parser.add_argument("folder", type=Path, nargs="?")

@@ -8,7 +8,6 @@ compared with the greens that the program answered: the exit status is 1 where t
 as a report has them. Nothing here is proved.
 """
 
-import argparse
 import contextlib
 import csv
 import io
@@ -18,7 +17,7 @@ import sys
 from collections import Counter, defaultdict
 from pathlib import Path
 
-from ..commands import end
+from ..commands import Words, end
 from ..faults import Fault
 from ..programs import built_program_words
 from .layout import SPEED, SUMO_HOME, read_tables, read_places
@@ -144,7 +143,7 @@ def write_greens(path, lines):
 
 def work() -> int:
     """Runs the loop, and says how it went."""
-    parser = argparse.ArgumentParser(description=__doc__, formatter_class=argparse.RawDescriptionHelpFormatter)
+    parser = Words(__doc__)
     for name in ("network", "places", "arrivals", "folder"):
         parser.add_argument(name, type=Path)
     parser.add_argument("--seed", type=int, default=1)

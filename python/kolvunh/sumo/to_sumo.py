@@ -12,14 +12,13 @@ DIR/report.add.xml. Crossings in SUMO's network that the file does not declare a
 Nothing here is proved.
 """
 
-import argparse
 import itertools
 import subprocess
 import sys
 from pathlib import Path
 from xml.sax.saxutils import quoteattr
 
-from ..commands import end
+from ..commands import Words, end
 from ..faults import Fault
 from .layout import SPEED, Layout, Signals, read_greens, read_tables, read_places, vehicles
 
@@ -152,7 +151,7 @@ def convert(network, places, folder):
 
 def work() -> None:
     """Writes the files."""
-    parser = argparse.ArgumentParser(description=__doc__, formatter_class=argparse.RawDescriptionHelpFormatter)
+    parser = Words(__doc__)
     for name in ("network", "places", "folder"):
         parser.add_argument(name, type=Path)
     parser.add_argument("--arrivals", type=Path)
