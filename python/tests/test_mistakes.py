@@ -8,7 +8,7 @@ import unittest
 from concurrent.futures import ThreadPoolExecutor
 from pathlib import Path
 
-from kolvunh.explain import explained
+from kolvunh.explain import calls, explained
 
 from .worked import ROOT
 
@@ -35,11 +35,25 @@ class MistakesTest(unittest.TestCase):
         os.chdir(FOLDER)
 
     def test_what_is_said(self):
-        self.assertGreaterEqual(len(MISTAKES), 61)
+        self.assertGreaterEqual(len(MISTAKES), 100)
         for mistake in MISTAKES:
             with self.subTest(words=mistake["words"]):
                 said = explained(mistake["words"].split(), mistake["line"])
                 self.assertEqual("\n".join(said).replace(str(FOLDER), "FOLDER"), mistake["says"])
+
+    def test_words_of_the_script_alone(self):
+        for words, said in (
+            ("--build x", "--build has no word after it"),
+            ("explain turns", "explain is no command of the program"),
+            ("sumary x", 'no command "sumary" (is "summary" meant?)'),
+            ("--seed", 'no option "--seed"'),
+        ):
+            self.assertIn(said, explained(words.split(), "signal: usage")[0])
+
+    def test_forms_of_the_help(self):
+        sections = (ROOT / "tools/help.txt").read_text(encoding="utf-8").split("\n== ")[1:]
+        forms = {name: tuple(line.partition(" ")[2] for line in lines if line.split()[:1] == [name]) for name, *lines in map(str.splitlines, sections)}
+        self.assertEqual(forms, calls.FORMS | dict.fromkeys(calls.TOOLS, ()))
 
     def test_each_file_is_named(self):
         named = {word for mistake in MISTAKES for word in mistake["words"].split()}

@@ -51,7 +51,7 @@ class SignalScriptTest(FilesTest):
     def test_words_that_are_no_call(self):
         said = "signal: usage\nturns has 1 word after it, and the form is `turns NET ARR`\n"
         self.assertEqual(self.call("turns", "a"), (2, "", said))
-        self.assertEqual(self.call("explain", "turns", "a"), (2, "", said))
+        self.assertEqual(self.call("explain", "turns", "a"), (2, said, ""))
         self.assertEqual(self.call()[2].splitlines()[0], "signal: usage")
 
     def test_where_there_is_no_python(self):
@@ -69,11 +69,19 @@ class SignalScriptTest(FilesTest):
             self.write("status", str(status))
             self.assertEqual(self.call("plan", "status", input="in\n"), (status, "in\nno line feed", ""))
 
+    def redirected(self, words, redirection):
+        """How a shell runs ./signal with these words and a redirection."""
+        command = f"'{self.folder}/signal' {words} {redirection}"
+        return subprocess.run(["sh", "-c", command], cwd=self.folder, capture_output=True, text=True, timeout=30, check=False)
+
     def test_no_standard_input(self):
         self.write("status", "0")
-        command = f"'{self.folder}/signal' plan status <&-"
-        run = subprocess.run(["sh", "-c", command], cwd=self.folder, capture_output=True, text=True, timeout=30, check=False)
+        run = self.redirected("plan status", "<&-")
         self.assertEqual((run.returncode, run.stdout), (0, "no line feed"))
+
+    def test_no_standard_output(self):
+        run = self.redirected("upgrade refused_network.toml", ">&-")
+        self.assertEqual((run.returncode, run.stderr), (3, "signal: bad 1 nonsense 3\n"))
 
     def test_signals(self):
         for number in (signal.SIGTERM, signal.SIGINT, signal.SIGHUP):

@@ -6,6 +6,9 @@ from collections.abc import Sequence
 from ..records import counted, shown
 from .wording import meant, thousands
 
+# Words of ./signal alone, of which the program knows nothing: what they call, and those that have no word after them.
+TOOLS = ("check-input", "explain", "summary", "measures", "page")
+ALONE = ("--build", "--help", "-h", "help")
 NUMBER = re.compile(r"0|[1-9][0-9]*")
 FORMS: dict[str, tuple[str, ...]] = {
     "plan": ("FILE",),
@@ -61,9 +64,7 @@ def usage(words: Sequence[str]) -> list[str]:
         return ["no command is named; `./signal --help` lists them"]
     command = words[0]
     if command not in FORMS:
-        if command.startswith("-"):
-            return [f"there is no option {shown(command)}: the first word is a command, and `./signal --help` lists them"]
-        return [f"there is no command {shown(command)}{meant(command, FORMS)}: there are {', '.join(FORMS)}"]
+        return [no_command(words)]
     forms = " or ".join(f"`{command} {form}`" for form in FORMS[command])
     form = form_of(words)
     if not form:
@@ -74,6 +75,18 @@ def usage(words: Sequence[str]) -> list[str]:
     fault = next(filter(None, (number_fault(name, word) for name, word in words_of.items() if name in BOUNDS)), None)
     fault = fault or (factors_fault(*(int(words_of[name]) for name in ("FROM", "TO", "STEP"))) if command == "scale" else None)
     return [f"{fault}; the form is {forms}"] if fault else []
+
+
+def no_command(words: Sequence[str]) -> str:
+    """Why the first of the words is no command of the program."""
+    command, commands = words[0], (*FORMS, *TOOLS)
+    if command in ALONE and len(words) > 1:
+        return f"{command} has no word after it; `./signal COMMAND --help` explains a command"
+    if command in (*ALONE, *TOOLS):
+        return f"{command} is no command of the program: ./signal takes it as its first word"
+    if command.startswith("-"):
+        return f"there is no option {shown(command)}: the first word is a command, and `./signal --help` lists them"
+    return f"there is no command {shown(command)}{meant(command, commands)}: there are {', '.join(commands)}"
 
 
 def number_fault(name: str, word: str) -> str | None:

@@ -8,6 +8,7 @@ from typing import Any
 from ..records import shown
 
 _ORDINALS = ("first", "second", "third", "fourth", "fifth", "sixth", "seventh", "eighth", "ninth", "tenth")
+_ENDINGS = {1: "st", 2: "nd", 3: "rd"}
 
 
 def at(file: str, line: int | None, words: str) -> str:
@@ -37,7 +38,9 @@ def value(found: Any) -> str:
 
 def ordinal(place: int) -> str:
     """The word for a place, from 1."""
-    return _ORDINALS[place - 1] if 1 <= place <= len(_ORDINALS) else f"{place}th"
+    if 1 <= place <= len(_ORDINALS):
+        return _ORDINALS[place - 1]
+    return f"{place}{'th' if 10 < place % 100 < 20 else _ENDINGS.get(place % 10, 'th')}"
 
 
 def meant(name: object, names: Iterable[str]) -> str:
