@@ -220,7 +220,7 @@ def read_files(paths):
     folders = {path.parent for path in paths}
     if len(folders) > 1:
         raise Malformed("files of cases in several folders")
-    groups = {file.stem: sections(file) for file in sorted(beside)}
+    groups = {file.stem: sections(file) for file in sorted({*beside, *paths})}
     return {path.stem: read_group(groups, path.stem) for path in paths}
 
 
@@ -344,6 +344,8 @@ def pack(folder, to):
 def others(folder):
     """The files of cases in a folder that pack would make otherwise."""
     paths = sorted(Path(folder).glob("*.cases"))
+    if not paths:
+        raise Malformed(f"{folder} has no files of cases")
     made = written(read_files(paths))
     return [path for path in paths if made[path.stem] != path.read_bytes()]
 

@@ -131,6 +131,12 @@ class CasesTest(unittest.TestCase):
         with self.assertRaises(cases.Malformed):
             cases.pack(self.folders({"one": {"a": CAT}}), folder)
 
+    def test_files_that_are_not_there(self):
+        with self.assertRaises(cases.Malformed):
+            cases.others(self.folder())
+        with self.assertRaises(OSError):
+            cases.unpack([self.folder() / "none.cases"], self.folder())
+
     def test_recorded_cases_are_as_packed(self):
         self.assertEqual(cases.others(DATA), [])
 
