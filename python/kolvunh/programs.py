@@ -21,6 +21,7 @@ from .queues import Queues, queues_of
 from .reports import Records, records_of_report
 
 VARIABLE = "KOLVUNH_PROGRAM"
+NOTICE = "signal: this program is not proved"
 STATUSES = ("Done", "Rejected", "Usage", "BadInput", "ReadFault", "WriteFault", "NoMemory")
 
 
@@ -47,7 +48,8 @@ class Report:
     `status` is 0 where the work is done, 1 where a certificate or a report is rejected, else that of a refusal. `refusal` is then the
     program's line, and `explanation` has the lines on it. `text` is what was written to standard output. `tables` has what that says as
     lists of dataclasses, by name: `steps`, `plans`, `greens`, `links` and `totals` of a report; `changes` and `most` of queues; `totals`
-    of `compare`, `scale` and `spill`; what `decide`, `plan` and `grid` write. Other texts have no table.
+    of `compare`, `scale` and `spill`; what `decide`, `plan` and `grid` write. Other texts have no table. `notice` is the line with which
+    ./signal says that the program is not proved, None where it says nothing of it.
     """
 
     words: tuple[str, ...]
@@ -56,6 +58,7 @@ class Report:
     refusal: str | None = None
     explanation: tuple[str, ...] = ()
     tables: dict[str, list[Any]] = field(default_factory=dict)
+    notice: str | None = None
 
     def table(self, name: str) -> list[Any]:
         """The table of this name; a fault where there is none, with the refusal where the call was refused."""
@@ -108,7 +111,8 @@ def run(words: Iterable[str | os.PathLike[str]], program: Sequence[str] | None =
     refusal = next((line for line in lines if REFUSAL.fullmatch(line) or line == "signal: no memory"), None)
     explanation = tuple(explained(called, refusal)) if refusal else ()
     tables = _tables(called, ended.stdout) if ended.returncode == 0 else {}
-    return Report(called, ended.returncode, ended.stdout, refusal, explanation, tables)
+    notice = next((line for line in lines if line.startswith(NOTICE)), None)
+    return Report(called, ended.returncode, ended.stdout, refusal, explanation, tables, notice)
 
 
 def _tables(words: tuple[str, ...], text: str) -> dict[str, list[Any]]:

@@ -5,6 +5,7 @@
 Without a report `turns` is run. The lines are from the measures of docs/FORMATS.md, "Measures". Nothing here is proved.
 """
 
+import sys
 from collections.abc import Sequence
 from pathlib import Path
 from tempfile import TemporaryDirectory
@@ -22,8 +23,10 @@ def few(amount: float) -> str:
 
 
 def run_report(network: str, arrivals: str, report: Path) -> None:
-    """Runs the command `turns`, and keeps its report in a file."""
+    """Runs the command `turns`, and keeps its report in a file. That the program is not proved goes to standard error."""
     answer = run(["turns", network, arrivals])
+    if answer.notice:
+        print(answer.notice, file=sys.stderr)
     answer.require_answer()
     report.write_text(answer.text, encoding="utf-8")
 

@@ -74,7 +74,10 @@ def options_of() -> argparse.Namespace:
     parser.add_argument("--program", type=shlex.split, help="its words before the command; the built program if left out")
     parser.add_argument("--jobs", type=int, default=os.cpu_count())
     parser.add_argument("--part", default="0/1", metavar="K/N")
-    return parser.parse_args()
+    options = parser.parse_args()
+    if options.jobs < 1 or options.seeds < 1 or min(options.demands) < 0:
+        parser.error("--jobs and --seeds are above 0, and no demand is below it")
+    return options
 
 
 def part_of(word: str) -> tuple[int, int]:

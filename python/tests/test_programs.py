@@ -41,7 +41,7 @@ class ProgramsTest(FilesTest):
 
     def test_a_report(self):
         report = run(["turns", self.file(worked.REPORT)])
-        self.assertEqual((report.status, report.refusal, report.text), (0, None, worked.REPORT))
+        self.assertEqual((report.status, report.refusal, report.notice, report.text), (0, None, None, worked.REPORT))
         self.assertEqual(report.records.totals, Totals(1000, 0, 1000, 500))
         self.assertEqual(report.table("greens")[2], Green("b", 0, 0, 27))
         self.assertEqual({name: len(rows) for name, rows in report.tables.items()}, {"steps": 16, "plans": 8, "greens": 3, "links": 5, "totals": 1})
@@ -78,6 +78,7 @@ class ProgramsTest(FilesTest):
         wrong = self.file(worked.NETWORK.replace("share = 500 }, {", "share = 400 }, {"), "net.toml")
         report = run(["upgrade", wrong])
         self.assertEqual((report.status, report.refusal, report.tables), (3, "signal: bad 1 shares 2", {}))
+        self.assertEqual(report.notice, "signal: this program is not proved yet")
         said = f'{wrong}:58: link "ab": its turns sum to 400 + 500 = 900, and have to sum to 1000'
         self.assertEqual(report.explanation, (said,))
         with self.assertRaises(Fault) as raised:
