@@ -93,7 +93,7 @@ class Progress:
 
 
 @contextmanager
-def started(words, folder, **streams):
+def process(words, folder, **streams):
     """A process in a group of its own, which is ended at the end."""
     with subprocess.Popen(
         words, cwd=folder, stdin=subprocess.DEVNULL, start_new_session=True, **streams
@@ -115,7 +115,7 @@ def prove():
         tell(f"proving {progress.count} crates side by side; the first ones take some two minutes")
         how = {"stdout": subprocess.PIPE, "stderr": subprocess.STDOUT, "text": True}
         began = time.monotonic()
-        with started(["rt", "ci"], place, errors="replace", **how) as run:
+        with process(["rt", "ci"], place, errors="replace", **how) as run:
             for line in run.stdout:
                 told = progress.take(line)
                 if told is not None:
@@ -149,7 +149,7 @@ def compile_unproved():
         links.mkdir()
         how = {"stdout": subprocess.DEVNULL, "stderr": said}
         how["env"] = {**os.environ, "TMPDIR": str(folder)}
-        with started(["rt", "try", "--", *LONG_RUN], ROOT / "crates" / PROGRAM, **how) as run:
+        with process(["rt", "try", "--", *LONG_RUN], ROOT / "crates" / PROGRAM, **how) as run:
             while run.poll() is None and not any(links.iterdir()):
                 time.sleep(LOOKS)
                 link_executables(folder, links)

@@ -72,7 +72,7 @@ def is_plain(text):
     return PLAIN.fullmatch(text) is not None and not has_mark
 
 
-def escaped(text):
+def escaped_form(text):
     """The escaped form of a text."""
     text = text.decode(errors="surrogateescape")
     text = re.sub("[\0-\x08\x0b\x0c\x0e-\x1f\x7f\\\\\udc80-\udcff]", escape, text)
@@ -86,7 +86,7 @@ def escape(character):
     return rf"\x{ord(character[0]) % 256:02x}"
 
 
-def unescaped(text):
+def unescape(text):
     """The text of an escaped form."""
 
     def byte(found):
@@ -98,7 +98,7 @@ def unescaped(text):
     return ESCAPE.sub(byte, text)
 
 
-def folded(lines):
+def fold(lines):
     """Lines of which those that are as lines before them are named together, where that is shorter."""
     made, places, place = [], {}, 0
     while place < len(lines):
@@ -128,7 +128,7 @@ def best_copy(lines, place, alike):
     return best
 
 
-def unfolded(lines):
+def unfold(lines):
     """The lines that folded lines stand for."""
     made = []
     for line in lines:
@@ -170,8 +170,8 @@ def sections(path):
 
 def text_of(form, lines):
     """The text of a file that has its own lines."""
-    text = b"".join(line + b"\n" for line in unfolded(lines))
-    return unescaped(text) if form == "escaped" else text
+    text = b"".join(line + b"\n" for line in unfold(lines))
+    return unescape(text) if form == "escaped" else text
 
 
 def is_own(form):
@@ -262,16 +262,16 @@ def head_and_lines(path, text, owner, front):
         return f" first {len(text)} bytes of {owner[front[text]]}", []
     if owner.get(text, path) != path:
         return f" as {owner[text]}", []
-    form, text = ("", text) if is_plain(text) else (" escaped", escaped(text))
-    return form, folded(text.split(b"\n")[:-1])
+    form, text = ("", text) if is_plain(text) else (" escaped", escaped_form(text))
+    return form, fold(text.split(b"\n")[:-1])
 
 
-def written(groups):
+def texts_of(groups):
     """The files of cases of these groups."""
     groups = {group: in_order(groups[group]) for group in sorted(groups)}
     owner = owners(groups)
     front = fronts(owner)
-    return {group: written_group(group, cases, owner, front) for group, cases in groups.items()}
+    return {group: group_text(group, cases, owner, front) for group, cases in groups.items()}
 
 
 def in_order(cases):
@@ -282,7 +282,7 @@ def in_order(cases):
     }
 
 
-def written_group(group, cases, owner, front):
+def group_text(group, cases, owner, front):
     """The file of a group."""
     made = []
     for case, files in cases.items():
@@ -337,7 +337,7 @@ def pack(folder, to):
     others = [path for path in to.glob("*.cases") if path.stem not in groups]
     if others:
         raise Malformed(f"{others[0]} is there, and {folder} has no such group")
-    for group, text in written(groups).items():
+    for group, text in texts_of(groups).items():
         (to / f"{group}.cases").write_bytes(text)
 
 
@@ -346,7 +346,7 @@ def others(folder):
     paths = sorted(Path(folder).glob("*.cases"))
     if not paths:
         raise Malformed(f"{folder} has no files of cases")
-    made = written(read_files(paths))
+    made = texts_of(read_files(paths))
     return [path for path in paths if made[path.stem] != path.read_bytes()]
 
 

@@ -129,11 +129,11 @@ def watch(command):
     samples, begun, ended = {}, time.monotonic(), threading.Event()
     with subprocess.Popen(command, cwd=ROOT) as run:
 
-        def watched():
+        def look_on():
             while not ended.wait(0.5):
                 look(run.pid, samples, time.monotonic())
 
-        watcher = threading.Thread(target=watched)
+        watcher = threading.Thread(target=look_on)
         watcher.start()
         try:
             status = run.wait()

@@ -66,27 +66,27 @@ class CasesTest(unittest.TestCase):
 
     def test_escapes_give_the_text_back(self):
         for text in PLAIN[1:] + ODD:
-            written = cases.escaped(text)
+            written = cases.escaped_form(text)
             self.assertTrue(written.endswith(b"\n"))
-            self.assertEqual(cases.unescaped(written), text)
+            self.assertEqual(cases.unescape(written), text)
             self.assertFalse(any(line.startswith(cases.MARKS) for line in written.split(b"\n")))
 
     def test_a_backslash_alone_is_no_escape(self):
         with self.assertRaises(cases.Malformed):
-            cases.unescaped(b"\\q\n")
+            cases.unescape(b"\\q\n")
 
     def test_lines_that_come_again(self):
         lines = [b"first"] + [b"a line of some length"] * 2001 + [b"last"]
-        folded = cases.folded(lines)
+        folded = cases.fold(lines)
         self.assertEqual(folded, [*lines[:2], b"*** 2000 lines as 1 before", b"last"])
-        self.assertEqual(cases.unfolded(folded), lines)
+        self.assertEqual(cases.unfold(folded), lines)
         blocks = [b"least = 5", b"greatest = 30", b"wait = 120", b"links = [1]"] * 2
-        self.assertEqual(cases.folded(blocks), [*blocks[:4], b"*** 4 lines as 4 before"])
-        self.assertEqual(cases.folded([b"short"] * 2), [b"short"] * 2)
+        self.assertEqual(cases.fold(blocks), [*blocks[:4], b"*** 4 lines as 4 before"])
+        self.assertEqual(cases.fold([b"short"] * 2), [b"short"] * 2)
 
     def test_lines_before_the_first(self):
         with self.assertRaises(cases.Malformed):
-            cases.unfolded([b"a", b"*** 1 lines as 2 before"])
+            cases.unfold([b"a", b"*** 1 lines as 2 before"])
 
     def test_what_is_packed_comes_back(self):
         texts = {f"text{place}": text for place, text in enumerate(PLAIN + ODD)}

@@ -103,7 +103,7 @@ class WrongBodiesTest(unittest.TestCase):
         return [[it.path.stem for it in check] for check in checks], {it.path.stem: why for it, why in faults.items()}
 
     def outcomes(self, told, *edits):
-        found = wrong_bodies.outcomes({it: wrong_bodies.applied(it, self.crate, {})[1] for it in edits}, told)
+        found = wrong_bodies.outcomes({it: wrong_bodies.apply(it, self.crate, {})[1] for it in edits}, told)
         return found and {it.path.stem: said for it, said in found.items()}
 
     def test_an_edit_is_read(self):
@@ -157,7 +157,7 @@ class WrongBodiesTest(unittest.TestCase):
 
     def test_further_pairs_apply_to_what_the_earlier_ones_made(self):
         pairs = (("*digit > most", "*digit > least"), ("digit > least", "digit < least"))
-        texts, functions = wrong_bodies.applied(edit("two.edit", *pairs), self.crate, {})
+        texts, functions = wrong_bodies.apply(edit("two.edit", *pairs), self.crate, {})
         self.assertIn("if *digit < least {", texts["src/numbers.rt"])
         self.assertEqual(functions, {GREATEST})
 
@@ -205,7 +205,7 @@ class WrongBodiesTest(unittest.TestCase):
             checked.append("".join(texts.values()).count("digit < most"))
             return TOLD if len(checked) == 1 else TOLD.replace("is_even: no proof: e", "is_even: proved: e")
 
-        found = wrong_bodies.tried(self.crate, [LEAST, ALL_ODD], check)
+        found = wrong_bodies.try_edits(self.crate, [LEAST, ALL_ODD], check)
         self.assertEqual(checked, [1, 1, 0])
         self.assertEqual(found[LEAST], "refused")
         self.assertEqual(found[ALL_ODD], "another function fell too: lines::Line::greatest")

@@ -109,7 +109,7 @@ def edit_of(path):
     return Edit(path, tuple(pairs))
 
 
-def applied(edit, folder, texts):
+def apply(edit, folder, texts):
     """The texts of a crate's files with the edit, by path, and the functions that it changes; where there are texts, they
     stand for the files."""
     texts, functions = dict(texts), set()
@@ -144,25 +144,25 @@ def function_at(text, at, module):
     name = name_at(lines, at)
     if name is None:
         return None
-    owner = enclosing(lines, name, OWNER)
+    owner = enclosure_of(lines, name, OWNER)
     while owner is not None:
         head = head_of(lines, owner)
         if head[0] != "mod":
             return Function(module, FN.match(lines[name])[1], *head[1:])
         module += f"::{head[1]}"
-        owner = enclosing(lines, owner, OWNER)
+        owner = enclosure_of(lines, owner, OWNER)
     return Function(module, FN.match(lines[name])[1])
 
 
 def name_at(lines, at):
     """The line with the name of the outermost function around a line."""
-    found, above = None, at if FN.match(lines[at]) else enclosing(lines, at, FN)
+    found, above = None, at if FN.match(lines[at]) else enclosure_of(lines, at, FN)
     while above is not None:
-        found, above = above, enclosing(lines, above, FN)
+        found, above = above, enclosure_of(lines, above, FN)
     return found
 
 
-def enclosing(lines, at, form):
+def enclosure_of(lines, at, form):
     """The nearest line above of this form whose block is still open there: it is indented less than all since that close one."""
     limit = indent_of(lines[at])
     for place in range(at - 1, -1, -1):
@@ -212,7 +212,7 @@ def checks_of(edits, folder):
     checks, faults = [], {}
     for edit in edits:
         try:
-            functions = applied(edit, folder, {})[1]
+            functions = apply(edit, folder, {})[1]
         except Malformed as fault:
             faults[edit] = f"cannot be applied: {fault}"
             continue
@@ -240,7 +240,7 @@ def texts_of(edits, folder):
     """The texts of a crate's files with all these wrong bodies."""
     texts = {}
     for edit in edits:
-        texts = applied(edit, folder, texts)[0]
+        texts = apply(edit, folder, texts)[0]
     return texts
 
 
@@ -301,12 +301,12 @@ def unread(told):
     return f"NO VERDICT: {lines[-1]}"
 
 
-def tried(folder, edits, checked):
+def try_edits(folder, edits, run):
     """What comes of each wrong body of the crate in a folder; the call gives what a check with these texts prints."""
     checks, found = checks_of(edits, folder)
     while checks:
         check = checks.pop(0)
-        said = outcomes(check, checked(texts_of(check, folder)))
+        said = outcomes(check, run(texts_of(check, folder)))
         if said is None:
             checks = [{edit: functions} for edit, functions in check.items()] + checks
         else:
@@ -360,7 +360,7 @@ class Repository:
                 if run_check(self.folder(crate)).returncode:
                     raise Malformed("rt check does not prove its crate as it is")
 
-    def checked(self, crate, texts):
+    def check(self, crate, texts):
         """What `rt check` prints in a copy of a crate, with these texts in place of its own, and what was kept of it."""
         with tempfile.TemporaryDirectory(prefix="wrong-bodies-") as place:
             copy = self.copy(crate, Path(place))
@@ -417,12 +417,12 @@ def jobs_that_fit():
     return max(1, min(len(os.sched_getaffinity(0)), int(memory[1]) * 1024 // MEMORY_OF_A_JOB))
 
 
-def crate_tried(repository, crate):
+def try_crate(repository, crate):
     """What comes of each wrong body of a crate, in the order of their files."""
     edits, found = repository.edits(crate)
     try:
         repository.make_ready(crate)
-        found |= tried(repository.folder(crate), edits, lambda texts: repository.checked(crate, texts))
+        found |= try_edits(repository.folder(crate), edits, lambda texts: repository.check(crate, texts))
     except Malformed as fault:
         found |= {edit: f"not tried: {fault}" for edit in edits}
     return sorted(found.items(), key=lambda it: it[0].path)
@@ -436,13 +436,13 @@ def main():
     if options.jobs is not None and options.jobs < 1:
         parser.error("--jobs is above 0")
     try:
-        sys.exit(1 if all_tried(options) else 0)
+        sys.exit(1 if try_crates(options) else 0)
     except (Malformed, OSError) as fault:
         print(f"wrong_bodies: {fault}", file=sys.stderr)
         sys.exit(2)
 
 
-def all_tried(options):
+def try_crates(options):
     """Prints what comes of the wrong bodies of the crates, and answers how many are not refused."""
     repository = Repository(ROOT)
     if shutil.which("rt") is None:
@@ -454,7 +454,7 @@ def all_tried(options):
     count = missed = 0
     with ThreadPoolExecutor(options.jobs or jobs_that_fit()) as jobs:
         try:
-            for found in jobs.map(lambda crate: crate_tried(repository, crate), crates):
+            for found in jobs.map(lambda crate: try_crate(repository, crate), crates):
                 for edit, said in found:
                     count, missed = count + 1, missed + (said not in (REFUSED, LOST_NAME))
                     print(f"{edit.label}: {said}", flush=True)

@@ -18,7 +18,7 @@ from .commands import Words, end
 from .faults import Fault
 from .networks import Link, Network, Node, Phase, read_network
 from .plans import PlanRow, read_plan
-from .records import counted, shown
+from .records import plural, quote
 
 LANE_MOST, LANE_LEAST = 1000, 100  # thousandths of a vehicle a second that one lane hardly lets through, or hardly so few
 HOUR = 3600
@@ -42,7 +42,7 @@ def link_flows(network: Network, arrivals: Sequence[Arrival]) -> dict[str, float
     entering = dict.fromkeys((link.name for link in network.links), 0.0)
     for arrival in arrivals:
         if arrival.link not in entering:
-            raise Fault(f"the arrivals name link {shown(arrival.link)}, which the network has not: are they of another network?")
+            raise Fault(f"the arrivals name link {quote(arrival.link)}, which the network has not: are they of another network?")
         entering[arrival.link] += arrival.amount
     seconds = 1 + max((arrival.second for arrival in arrivals), default=0)
     flows = dict(entering)
@@ -112,7 +112,7 @@ def time_warnings(inputs: Inputs) -> Iterator[str]:
     if late:
         rounds = last // run.step + 1
         how = f"write rounds = {rounds} or more" if rounds <= 600 else f"a run has at most 600 rounds, {600 * run.step} seconds: take fewer arrivals"
-        words = f"{len(late)} of {counted(len(arrivals), 'row')} come at second {run.seconds}, the end of the run, or later, and never enter"
+        words = f"{len(late)} of {plural(len(arrivals), 'row')} come at second {run.seconds}, the end of the run, or later, and never enter"
         yield f"arrivals: {words}: {how}"
 
 
@@ -181,7 +181,7 @@ def plan_warnings(inputs: Inputs) -> Iterator[str]:
     phases: dict[str, tuple[Phase, ...]] = {node.name: node.phases for node in inputs.network.nodes}
     for row in inputs.plan:
         if row.node not in phases or row.phase >= len(phases[row.node]):
-            raise Fault(f"the fixed plan names phase {row.phase} of node {shown(row.node)}, which the network has not")
+            raise Fault(f"the fixed plan names phase {row.phase} of node {quote(row.node)}, which the network has not")
         phase = phases[row.node][row.phase]
         cycles[row.node] += row.green + phase.yellow + phase.clear
     told = set()

@@ -26,7 +26,7 @@ from .commands import Words, end as end_command
 from .faults import Fault
 from .networks import Link, Network, read_network
 from .queues import Queues, read_queues
-from .records import Place, rows_of, shown, text_of
+from .records import Place, quote, rows_of, text_of
 from .reports import Records, read_report
 
 Span = tuple[int, int]
@@ -206,11 +206,11 @@ def street_of(options: argparse.Namespace, network: Network) -> tuple[list[str],
     for pair in options.nodes:
         name, _, at = pair.partition("=")
         if network.node_named(name) is None:
-            raise Fault(f"{shown(pair)}: the network has no node {shown(name)}; the form is NODE=METRES")
+            raise Fault(f"{quote(pair)}: the network has no node {quote(name)}; the form is NODE=METRES")
         try:
             metres.append(float(at))
         except ValueError as fault:
-            raise Fault(f"{shown(pair)}: {shown(at)} is no number of metres; the form is NODE=METRES") from fault
+            raise Fault(f"{quote(pair)}: {quote(at)} is no number of metres; the form is NODE=METRES") from fault
         nodes.append(name)
     if len(nodes) < 2:
         raise Fault("a street has two nodes or more")
@@ -273,7 +273,7 @@ def draw_queues(options: argparse.Namespace) -> str:
     series, most = series_of(queues), {record.link: record.queue for record in queues.most}
     for link in options.links:
         if link not in most:
-            raise Fault(f"{options.queues}: there is no link {shown(link)}")
+            raise Fault(f"{options.queues}: there is no link {quote(link)}")
     links = options.links or [link for link in sorted(most, key=most.get, reverse=True)[: len(COLOURS)] if most[link]]
     begin, end = window_of(options, max((second for of_link in series.values() for second in of_link), default=1))
     title = options.title or Path(options.queues).name
@@ -295,7 +295,7 @@ def points_of(place: Place) -> dict[str, dict[float, list[float]]]:
         try:
             x, y = map(float, row.fields[1:])
         except ValueError as fault:
-            raise Fault(f"{place}:{row.line}: x and y have to be numbers, and are {shown(','.join(row.fields[1:]))}") from fault
+            raise Fault(f"{place}:{row.line}: x and y have to be numbers, and are {quote(','.join(row.fields[1:]))}") from fault
         points[row.fields[0]][x].append(y)
     if not points:
         raise Fault(f"{place}: there are no points")

@@ -14,7 +14,7 @@ from .arrivals import Arrival
 from .faults import Fault
 from .networks import Link, Network
 from .queues import Queues
-from .records import shown
+from .records import quote
 from .reports import Green, Records
 
 
@@ -165,6 +165,6 @@ def require_totals(flows: dict[str, Flow], report: Records) -> None:
         counted = flow.entered[-1], flow.left[-1], flow.delay
         if counted != (totals.entered, totals.left, totals.delay):
             raise Fault(
-                f"of link {shown(totals.link)} the report says {totals.entered},{totals.left},{totals.delay} and its vehicles come to "
+                f"of link {quote(totals.link)} the report says {totals.entered},{totals.left},{totals.delay} and its vehicles come to "
                 f"{counted[0]},{counted[1]},{counted[2]}: is it one of other arrivals?"
             )

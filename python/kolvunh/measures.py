@@ -23,7 +23,7 @@ from .faults import Fault
 from .flows import Flow, flows_of_greens, flows_of_queues, parts_of, require_totals
 from .networks import Network, read_network
 from .queues import read_queues
-from .records import Place, shown
+from .records import Place, quote
 from .reports import Green, Records, read_report
 
 # Highway Capacity Manual, signalized junctions: seconds a vehicle, at most
@@ -179,7 +179,7 @@ class Study:
         """Whether a queue stands at the end of a link from the begin of a green to its end."""
         return all(self.flows[link].queue[green.begin : green.end + 1])
 
-    def served(self, green: Green, links: Sequence[str]) -> list[str]:
+    def links_in_green(self, green: Green, links: Sequence[str]) -> list[str]:
         """Which of these links have green in the phase of a green."""
         return [link for link in links if self.phase_of(link) == (green.node, green.phase)]
 
@@ -210,12 +210,12 @@ class Study:
         queue = [sum(each) for each in zip(*(self.flows[link].queue[begin + 1 : end + 1] for link in links))]
         phases = sorted({self.phase_of(link) for link in links})
         greens = self.greens_in(phases, begin, end)
-        failures = sum(any(self.is_failure(link, green) for link in self.served(green, links)) for green in greens)
+        failures = sum(any(self.is_failure(link, green) for link in self.links_in_green(green, links)) for green in greens)
         lit, cycles = Lengths.of([green.seconds for green in greens]), Lengths.of(self.cycles_in(phases, begin, end))
         nodes = {node for node, _ in phases}
         plans = self.plans_in(nodes, begin, end) if kind in ("node", "network") else (None, None)
         each = quotient(tally.delay / VEHICLE, tally.vehicles / VEHICLE)
-        trips = self.entered(begin, end) if kind == "network" else 0
+        trips = self.entries(begin, end) if kind == "network" else 0
         return Measures(
             kind, name, begin, end,
             tally.vehicles / VEHICLE, tally.left / VEHICLE, tally.delay / VEHICLE, each, level_of(each), quotient(tally.delay, trips),
@@ -225,7 +225,7 @@ class Study:
             lit.mean, lit.least, lit.most, cycles.mean, cycles.least, cycles.most, *plans,
         )  # fmt: skip
 
-    def entered(self, begin: int, end: int) -> int:
+    def entries(self, begin: int, end: int) -> int:
         """What entered the network from outside in an interval, in thousandths of a vehicle."""
         flows = (flow for flow in self.flows.values() if flow.link.start is None)
         return sum(flow.entered[end] - flow.entered[begin] for flow in flows)
@@ -267,7 +267,7 @@ def approaches_of(network: Network, named: dict[str, list[str]]) -> dict[str, li
     for name, links in named.items():
         ends = {link.end for link in map(network.link_named, links) if link}
         if len(ends) != 1 or None in ends or any(network.link_named(link) is None for link in links):
-            raise Fault(f"approach {shown(name)}: its links have to be links of the network that end at one node")
+            raise Fault(f"approach {quote(name)}: its links have to be links of the network that end at one node")
     approaches: dict[str, list[str]] = {}
     for link in network.links:
         if link.end:
@@ -280,7 +280,7 @@ def study_of(network: Network, arrivals: Place, report: Place, queues: Place | N
     """The study of a report; with a file of queues the vehicles are taken from there, else they are moved under the report's greens."""
     read = read_report(report)
     read.require_network(network, report)
-    flows = flows_of_queues(network, read_queues(queues)) if queues is not None else _moved(network, arrivals, read)
+    flows = flows_of_queues(network, read_queues(queues)) if queues is not None else _flows_under(network, arrivals, read)
     try:
         require_totals(flows, read)
     except Fault as fault:
@@ -288,11 +288,11 @@ def study_of(network: Network, arrivals: Place, report: Place, queues: Place | N
     return Study(network, read, flows)
 
 
-def _moved(network: Network, arrivals: Place, read: Records) -> dict[str, Flow]:
+def _flows_under(network: Network, arrivals: Place, read: Records) -> dict[str, Flow]:
     rows = read_arrivals(arrivals)
     strange = next((row.link for row in rows if network.link_named(row.link) is None), None)
     if strange is not None:
-        raise Fault(f"{arrivals}: link {shown(strange)} is none of the network: is it a file of another one?")
+        raise Fault(f"{arrivals}: link {quote(strange)} is none of the network: is it a file of another one?")
     return flows_of_greens(network, rows, read.greens)
 
 

@@ -19,7 +19,7 @@ from .faults import Fault
 from .measures import Study, study_of
 from .networks import Network, read_network
 from .places import Places, places_of, streets_of
-from .records import counted, shown
+from .records import plural, quote
 
 
 def part_of(name: str) -> str:
@@ -89,7 +89,7 @@ def page_text(data: dict[str, Any]) -> str:
     return page.replace("SCRIPT", script, 1).replace("DATA", text, 1)
 
 
-def named(words: str) -> tuple[str, str]:
+def report_of(words: str) -> tuple[str, str]:
     """The name and the file of a report, from NAME=FILE or FILE."""
     name, mark, file = words.partition("=")
     return (name, file) if mark and not Path(words).exists() else (Path(words).stem, words)
@@ -110,7 +110,7 @@ def answer(words: Sequence[str] | None = None) -> str:
     parser = Words(__doc__)
     parser.add_argument("network")
     parser.add_argument("arrivals")
-    parser.add_argument("reports", nargs="+", metavar="REPORT", type=named)
+    parser.add_argument("reports", nargs="+", metavar="REPORT", type=report_of)
     parser.add_argument("--title", help="what the page is called (the name of the network's file)")
     parser.add_argument("--place", type=place_of, action="append", default=[], metavar="NODE=X,Y", help="where a node is")
     options = parser.parse_args(words)
@@ -118,13 +118,13 @@ def answer(words: Sequence[str] | None = None) -> str:
     given = dict(options.place)
     strange = set(given) ^ {node.name for node in network.nodes} if given else set()
     if strange:
-        raise Fault(f"{options.network}: places are to be given for all nodes of the network and for no other: {shown(min(strange))}")
+        raise Fault(f"{options.network}: places are to be given for all nodes of the network and for no other: {quote(min(strange))}")
     data = network_data(network, places_of(network, given))
     data["reports"] = [report_data(name, study_of(network, options.arrivals, file)) for name, file in options.reports]
     data["title"] = options.title or Path(options.network).stem
     data["about"] = (
-        f"{Path(options.network).name} with {Path(options.arrivals).name}: {counted(len(network.nodes), 'junction')}, "
-        f"{counted(len(network.links), 'link')}, {network.run.seconds} seconds. Drawn from reports by tools that are not proved."
+        f"{Path(options.network).name} with {Path(options.arrivals).name}: {plural(len(network.nodes), 'junction')}, "
+        f"{plural(len(network.links), 'link')}, {network.run.seconds} seconds. Drawn from reports by tools that are not proved."
     )
     return page_text(data)
 

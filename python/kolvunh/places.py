@@ -76,7 +76,7 @@ def _relax(places: list[complex], wanted: list[list[float]], weights: list[list[
     return moved
 
 
-def _turned(network: Network, places: dict[str, complex]) -> dict[str, complex]:
+def _turn_places(network: Network, places: dict[str, complex]) -> dict[str, complex]:
     """The same, turned so that most links go across or up, and the first node is to the left and above."""
     ways = [places[link.end] - places[link.start] for link in network.links if link.start and link.end]
     fourth = sum((way / abs(way)) ** 4 for way in ways if abs(way) > 1e-9)
@@ -103,7 +103,7 @@ def places_of(network: Network, given: Places | None = None) -> Places:
     places = _begin(names, distances)
     for _ in range(80):
         places = _relax(places, wanted, weights)
-    turned = _turned(network, dict(zip(names, places)))
+    turned = _turn_places(network, dict(zip(names, places)))
     return {name: (place.real, place.imag) for name, place in turned.items()}
 
 

@@ -14,7 +14,7 @@ from pathlib import Path
 from typing import Any
 
 from . import answers
-from .explain import REFUSAL, explained
+from .explain import REFUSAL, lines_on
 from .faults import Fault
 from .frames import frame_of
 from .queues import Queues, queues_of
@@ -109,7 +109,7 @@ def run(words: Iterable[str | os.PathLike[str]], program: Sequence[str] | None =
         raise Fault(f"the program ended with status {ended.returncode}: {last}")
     lines = ended.stderr.splitlines()
     refusal = next((line for line in lines if REFUSAL.fullmatch(line) or line == "signal: no memory"), None)
-    explanation = tuple(explained(called, refusal)) if refusal else ()
+    explanation = tuple(lines_on(called, refusal)) if refusal else ()
     tables = _tables(called, ended.stdout) if ended.returncode == 0 else {}
     notice = next((line for line in lines if line.startswith(NOTICE)), None)
     return Report(called, ended.returncode, ended.stdout, refusal, explanation, tables, notice)

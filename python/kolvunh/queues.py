@@ -4,7 +4,7 @@ from collections import defaultdict
 from dataclasses import dataclass, field
 
 from .faults import Fault
-from .records import Place, number_in, rows_of, shown, text_of
+from .records import Place, number_in, quote, rows_of, text_of
 
 HEADER = ("second", "link", "queue", "on")
 
@@ -53,7 +53,7 @@ def queues_of(place: Place, text: str) -> Queues:
     queues = Queues()
     for row in rows_of(place, text, HEADER):
         second, link, queue, last = row.fields
-        amount = number_in(place, row.line, f"the queue of {shown(link)}", queue)
+        amount = number_in(place, row.line, f"the queue of {quote(link)}", queue)
         other = number_in(place, row.line, "the last field", last)
         if second == "most":
             queues.most.append(Most(link, amount, other))

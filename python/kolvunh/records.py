@@ -45,27 +45,27 @@ def rows_of(place: Place, text: str, header: Sequence[str]) -> list[Record]:
     if first is None:
         raise Fault(f"{place}: the file is empty, and has to begin with {wanted}")
     if first.fields != list(header):
-        raise Fault(f"{place}:{first.line}: the header is {shown(','.join(first.fields))}, and has to be {wanted}")
+        raise Fault(f"{place}:{first.line}: the header is {quote(','.join(first.fields))}, and has to be {wanted}")
     rows = list(records)
     for row in rows:
         if len(row.fields) != len(header):
-            raise Fault(f"{place}:{row.line}: the row has {counted(len(row.fields), 'field')}, and has to have {len(header)}")
+            raise Fault(f"{place}:{row.line}: the row has {plural(len(row.fields), 'field')}, and has to have {len(header)}")
     return rows
 
 
 def number_in(place: Place, line: int, name: str, cell: str) -> int:
     """The whole number of a cell that has this name."""
     if not (cell.isascii() and cell.isdigit()):
-        raise Fault(f"{place}:{line}: {name} is {shown(cell)}, and has to be a whole number")
+        raise Fault(f"{place}:{line}: {name} is {quote(cell)}, and has to be a whole number")
     return int(cell)
 
 
-def shown(text: str) -> str:
+def quote(text: str) -> str:
     """A text of a file in quotes, on one line and not too long."""
     line = "".join(mark if mark.isprintable() else repr(mark)[1:-1] for mark in text[:61])
     return f'"{line if len(text) <= 60 else line[:57] + "..."}"'
 
 
-def counted(count: int, noun: str) -> str:
+def plural(count: int, noun: str) -> str:
     """`1 row`, `2 rows`."""
     return f"{count} {noun}{'' if count == 1 else 's'}"

@@ -9,7 +9,7 @@ from dataclasses import dataclass, field
 
 from .faults import Fault
 from .networks import Network
-from .records import Place, Record, number_in, rows_of, shown, text_of
+from .records import Place, Record, number_in, quote, rows_of, text_of
 
 HEADER = ("kind", "round", "node", "x", "y", "z", "w")
 
@@ -103,9 +103,9 @@ class Records:
         for green in self.greens:
             node = network.node_named(green.node)
             if node is None:
-                raise Fault(f"{place}: a green is of node {shown(green.node)}, which the network has not: is it of another network?")
+                raise Fault(f"{place}: a green is of node {quote(green.node)}, which the network has not: is it of another network?")
             if green.phase >= len(node.phases):
-                raise Fault(f"{place}: a green is of phase {green.phase} of node {shown(green.node)}, which has {len(node.phases)} phases")
+                raise Fault(f"{place}: a green is of phase {green.phase} of node {quote(green.node)}, which has {len(node.phases)} phases")
         here, there = [totals.link for totals in self.links], [link.name for link in network.links]
         if here and here != there:
             raise Fault(f"{place}: its links are not those of the network: is it a report of another network?")
@@ -122,7 +122,7 @@ def records_of_report(place: Place, text: str) -> Records:
     for row in rows_of(place, text, HEADER):
         kind = row.fields[0]
         if kind not in READERS:
-            raise Fault(f"{place}:{row.line}: the kind is {shown(kind)}, and has to be one of {', '.join(READERS)}")
+            raise Fault(f"{place}:{row.line}: the kind is {quote(kind)}, and has to be one of {', '.join(READERS)}")
         report[kind].append(READERS[kind](place, row))
     if len(report["total"]) > 1:
         raise Fault(f"{place}: there are {len(report['total'])} records `total`, and has to be one")
@@ -146,11 +146,11 @@ def _plan(place: Place, row: Record) -> Plan:
     versions = {}
     for pair in filter(None, used.split(";")):
         link, _, version = pair.rpartition("=")
-        versions[link] = number_in(place, row.line, f"version of {shown(link)}", version)
+        versions[link] = number_in(place, row.line, f"version of {quote(link)}", version)
     if found == "none":
         return Plan(turn, node, versions, None, ())
     if found != "plan":
-        raise Fault(f"{place}:{row.line}: y of a plan is {shown(found)}, and has to be `plan` or `none`")
+        raise Fault(f"{place}:{row.line}: y of a plan is {quote(found)}, and has to be `plan` or `none`")
     (cost,) = _numbers(place, row, delay=5)
     phases = tuple(number_in(place, row.line, "a phase of the sequence", phase) for phase in sequence)
     return Plan(turn, node, versions, cost, phases)

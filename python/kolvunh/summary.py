@@ -14,7 +14,7 @@ from .commands import Words, end
 from .measures import VEHICLE, Measures, Study, quotient, study_of
 from .networks import Network, read_network
 from .programs import run
-from .records import counted
+from .records import plural
 
 
 def few(amount: float) -> str:
@@ -50,7 +50,7 @@ def _lengths(row: Measures) -> str:
 
 
 def _vehicles(study: Study) -> str:
-    entered, flows = study.entered(0, study.end), study.flows.values()
+    entered, flows = study.entries(0, study.end), study.flows.values()
     left = sum(flow.left[-1] for flow in flows if flow.link.end is None)
     return f"{few(entered / VEHICLE)} came in, {few(left / VEHICLE)} left, {few((entered - left) / VEHICLE)} on the way at the end"
 
@@ -60,7 +60,7 @@ def lines_of(network: Network, study: Study) -> list[tuple[str, str]]:
     (whole,) = study.table("network")
     nodes, links, whole_run = study.table("node"), study.table("link"), network.run
     each, stopped = whole.delay_each or 0, quotient(whole.stopped, whole.vehicles) or 0
-    size = f"{counted(len(network.nodes), 'node')}, {counted(len(network.links), 'link')}"
+    size = f"{plural(len(network.nodes), 'node')}, {plural(len(network.links), 'link')}"
     lines = [
         ("network", f"{size}; {whole_run.seconds} s in rounds of {whole_run.step} s"),
         ("vehicles", _vehicles(study)),
@@ -71,7 +71,7 @@ def lines_of(network: Network, study: Study) -> list[tuple[str, str]]:
         ("queue", f"the longest: {_longest(links, study)}"),
         ("all queues", f"{few(whole.queue_50)} vehicles half of the time, {few(whole.queue_95)} or less in 95 of 100 seconds"),
         ("greens", _lengths(whole)),
-        ("failures", f"{whole.failures} of {counted(whole.greens, 'green')} ended with a queue that stood since the green began"),
+        ("failures", f"{whole.failures} of {plural(whole.greens, 'green')} ended with a queue that stood since the green began"),
         ("on green", f"{whole.on_green or 0:.0%} of the vehicles come on green, platoon ratio {whole.platoon_ratio or 0:.2f}"),
     ]
     if whole.plans is not None:

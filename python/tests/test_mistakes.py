@@ -8,7 +8,7 @@ import unittest
 from concurrent.futures import ThreadPoolExecutor
 from pathlib import Path
 
-from kolvunh.explain import calls, explained
+from kolvunh.explain import calls, lines_on
 
 from .worked import ROOT
 
@@ -38,7 +38,7 @@ class MistakesTest(unittest.TestCase):
         self.assertGreaterEqual(len(MISTAKES), 100)
         for mistake in MISTAKES:
             with self.subTest(words=mistake["words"]):
-                said = explained(mistake["words"].split(), mistake["line"])
+                said = lines_on(mistake["words"].split(), mistake["line"])
                 self.assertEqual("\n".join(said).replace(str(FOLDER), "FOLDER"), mistake["says"])
 
     def test_words_of_the_script_alone(self):
@@ -48,7 +48,7 @@ class MistakesTest(unittest.TestCase):
             ("sumary x", 'no command "sumary" (is "summary" meant?)'),
             ("--seed", 'no option "--seed"'),
         ):
-            self.assertIn(said, explained(words.split(), "signal: usage")[0])
+            self.assertIn(said, lines_on(words.split(), "signal: usage")[0])
 
     def test_forms_of_the_help(self):
         sections = (ROOT / "tools/help.txt").read_text(encoding="utf-8").split("\n== ")[1:]

@@ -12,7 +12,7 @@ from collections.abc import Sequence
 from pathlib import Path
 
 from ..arrivals import MOST_SUM, read_arrivals
-from ..records import counted, shown
+from ..records import plural, quote
 from .calls import KINDS, files_of, form_of, usage
 from .instances import instance_fault
 from .networks import NetworkFile, network_fault
@@ -24,18 +24,18 @@ MOST_BYTES = 100_663_296
 REFUSAL = re.compile(r"signal: (usage|bad .*|cannot read \d+|cannot write)")
 
 
-def explained(words: Sequence[str], line: str) -> list[str]:
+def lines_on(words: Sequence[str], line: str) -> list[str]:
     """One or two lines on a refusal of a call, by the line that the program wrote; none where nothing is found."""
     found = REFUSAL.fullmatch(line.strip())
     if found is None or not all(can_be_read_again(file) for _, file in files_of(words)):
         return []
     try:
-        return _explained(list(words), found[1].split())
+        return _lines_on_code(list(words), found[1].split())
     except Exception:  # a file that has changed, or is not as the code says: then nothing is known of it
         return []
 
 
-def _explained(words: list[str], said: list[str]) -> list[str]:
+def _lines_on_code(words: list[str], said: list[str]) -> list[str]:
     match said:
         case ["usage"]:
             return usage(words)
@@ -82,9 +82,9 @@ def unread(name: str, file: str) -> list[str]:
         return [at(file, None, "this file may not be read")] if not os.access(file, os.R_OK) else []
     folder = path.parent
     if not folder.is_dir():
-        return [at(file, None, f"there is no folder {shown(str(folder))}, seen from {shown(os.getcwd())}")]
+        return [at(file, None, f"there is no folder {quote(str(folder))}, seen from {quote(os.getcwd())}")]
     hint = meant(path.name, (other.name for other in folder.iterdir()))
-    return [at(file, None, f"there is no such file, seen from {shown(os.getcwd())}{hint}")]
+    return [at(file, None, f"there is no such file, seen from {quote(os.getcwd())}{hint}")]
 
 
 def bad_node(words: list[str]) -> list[str]:
@@ -96,7 +96,7 @@ def bad_node(words: list[str]) -> list[str]:
         return []
     hint = " (it is a link)" if word["NODE"] in net.names("link") else meant(word["NODE"], names)
     listed = ", ".join(names[:8]) + (" .." if len(names) > 8 else "")
-    return [at(word["NET"], None, f"the network has no node {shown(word['NODE'])}{hint}; its nodes are {listed}")]
+    return [at(word["NET"], None, f"the network has no node {quote(word['NODE'])}{hint}; its nodes are {listed}")]
 
 
 def bad_round(words: list[str]) -> list[str]:
@@ -104,7 +104,7 @@ def bad_round(words: list[str]) -> list[str]:
     word = dict(zip(form_of(words), words))
     net = NetworkFile(word["NET"])
     rounds = net.tables["run"]["rounds"]
-    words_of = f"ROUND is {word['ROUND']}, and the network has {counted(rounds, 'round')}: 0 to {rounds - 1}"
+    words_of = f"ROUND is {word['ROUND']}, and the network has {plural(rounds, 'round')}: 0 to {rounds - 1}"
     return [at(word["NET"], net.lines.line(("run", "rounds")), words_of)] if int(word["ROUND"]) >= rounds else []
 
 
@@ -138,10 +138,10 @@ def refusal_of(program: Sequence[str], words: Sequence[str]) -> tuple[int, str |
 def explain(program: Sequence[str], words: Sequence[str], status: int) -> list[str]:
     """The lines on a call that ended with this status. The call is made again where only its line says what is wrong."""
     if status == 2:
-        return explained(words, "signal: usage")
+        return lines_on(words, "signal: usage")
     if status == 5:
-        return explained(words, "signal: cannot write")
+        return lines_on(words, "signal: cannot write")
     if status not in (3, 4) or not all(can_be_read_again(file) for _, file in files_of(words)):
         return []  # a pipe that was read is empty now
     again, line = refusal_of(program, words)
-    return explained(words, line) if line is not None and again == status else []
+    return lines_on(words, line) if line is not None and again == status else []

@@ -3,7 +3,7 @@
 import re
 from collections.abc import Sequence
 
-from ..records import counted, shown
+from ..records import plural, quote
 from .wording import meant, thousands
 
 # Words of ./signal alone, of which the program knows nothing: what they call, and those that have no word after them.
@@ -69,8 +69,8 @@ def usage(words: Sequence[str]) -> list[str]:
     form = form_of(words)
     if not form:
         options = [word for word in words[1:] if word.startswith("-")]
-        hint = f"; there are no options, as {shown(options[0])}" if options else ""
-        return [f"{command} has {counted(len(words) - 1, 'word')} after it, and the form is {forms}{hint}"]
+        hint = f"; there are no options, as {quote(options[0])}" if options else ""
+        return [f"{command} has {plural(len(words) - 1, 'word')} after it, and the form is {forms}{hint}"]
     words_of = dict(zip(form[1:], words[1:]))
     fault = next(filter(None, (number_fault(name, word) for name, word in words_of.items() if name in BOUNDS)), None)
     fault = fault or (factors_fault(*(int(words_of[name]) for name in ("FROM", "TO", "STEP"))) if command == "scale" else None)
@@ -85,8 +85,8 @@ def no_command(words: Sequence[str]) -> str:
     if command in (*ALONE, *TOOLS):
         return f"{command} is no command of the program: ./signal takes it as its first word"
     if command.startswith("-"):
-        return f"there is no option {shown(command)}: the first word is a command, and `./signal --help` lists them"
-    return f"there is no command {shown(command)}{meant(command, commands)}: there are {', '.join(commands)}"
+        return f"there is no option {quote(command)}: the first word is a command, and `./signal --help` lists them"
+    return f"there is no command {quote(command)}{meant(command, commands)}: there are {', '.join(commands)}"
 
 
 def number_fault(name: str, word: str) -> str | None:
@@ -94,7 +94,7 @@ def number_fault(name: str, word: str) -> str | None:
     least, most = BOUNDS[name]
     if not NUMBER.fullmatch(word):
         zero = ", without a zero in front" if word.isdigit() else ""
-        return f"{name} is {shown(word)}, and has to be a whole number from 0 on{zero}"
+        return f"{name} is {quote(word)}, and has to be a whole number from 0 on{zero}"
     if not least <= int(word) <= most:
         return f"{name} is {word}, and has to be {least} to {thousands(most)}"
     return None

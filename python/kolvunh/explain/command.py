@@ -11,7 +11,7 @@ import sys
 
 from ..commands import Words, end
 from ..programs import program_words
-from . import explain, explained, refusal_of
+from . import explain, lines_on, refusal_of
 
 
 def options_of(arguments: list[str]) -> argparse.Namespace:
@@ -37,7 +37,7 @@ def work() -> int:
         return 0
     status, line = refusal_of(program, options.words)
     if line is not None:
-        print("\n".join([line, *explained(options.words, line)]))
+        print("\n".join([line, *lines_on(options.words, line)]))
     elif status == 0:
         print("nothing is refused")
     return status

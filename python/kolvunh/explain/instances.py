@@ -3,7 +3,7 @@
 import re
 from math import comb
 
-from ..records import counted, shown, text_of
+from ..records import plural, quote, text_of
 from .networks import BEGINS, HEADERS
 from .wording import at, thousands
 
@@ -177,7 +177,7 @@ def entry_fault(text: InstanceFile, place: int) -> list[str]:
     words = None
     for number, (count, clusters) in enumerate(zip(counts, text.clusters().values())):
         if count > len(clusters):
-            words = f"its count of phase {number} is {count}, and that phase has {counted(len(clusters), 'cluster')}"
+            words = f"its count of phase {number} is {count}, and that phase has {plural(len(clusters), 'cluster')}"
             break
     else:
         if phase >= text.phases:
@@ -217,9 +217,9 @@ def line_fault(text: InstanceFile, line: int, is_certificate: bool) -> list[str]
     if wanted is None:
         return []
     if wanted.startswith("nothing"):
-        return [text.say(line, f"{shown(found)}: {wanted}")]
+        return [text.say(line, f"{quote(found)}: {wanted}")]
     why = why_not(found, wanted) or why_not_here(text, line)
-    return [text.say(line, f"{shown(found)}: {wanted} is wanted here{why}")]
+    return [text.say(line, f"{quote(found)}: {wanted} is wanted here{why}")]
 
 
 def cut_short(text: InstanceFile, line: int, is_certificate: bool) -> list[str]:
@@ -233,7 +233,7 @@ def cut_short(text: InstanceFile, line: int, is_certificate: bool) -> list[str]:
         return [text.say(line, "the last line, `end`, has no line feed at its end")]
     if "\r" in text.rest:
         return [text.say(line, "lines end with a carriage return here, and have to end with a line feed alone")]
-    return [text.say(line, f"{shown(text.rest)}: {wanted} is wanted here, with a line feed at its end")] if wanted else []
+    return [text.say(line, f"{quote(text.rest)}: {wanted} is wanted here, with a line feed at its end")] if wanted else []
 
 
 def wanted_at(text: InstanceFile, line: int, is_certificate: bool) -> str | None:
@@ -292,7 +292,7 @@ def why_not(found: str, wanted: str) -> str:
             return f": {thousands(int(field))} is too great"
     form = next((form.split(" ") for form in re.findall(r"`([^`]*)`", wanted) if form.split(" ")[0] == fields[0]), None)
     if form and len(form) != len(fields) and fields[0] != "answer":
-        return f": it has {counted(len(fields), 'field')}, and has to have {len(form)}"
+        return f": it has {plural(len(fields), 'field')}, and has to have {len(form)}"
     return ""
 
 

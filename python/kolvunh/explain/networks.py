@@ -5,9 +5,9 @@ import tomllib
 from collections import Counter
 from typing import Any
 
-from ..records import counted, shown, text_of
+from ..records import plural, quote, text_of
 from ..toml_lines import Path, TomlLines
-from .wording import at, joined, meant, ordinal, thousands, value
+from .wording import at, enumeration, meant, ordinal, thousands, value
 
 MOST_WHOLE = 2**63 - 1
 NAME = re.compile(r"[a-z0-9_]{1,16}")
@@ -81,7 +81,7 @@ class NetworkFile:
             found = found[part]
         return found
 
-    def called(self, path: Path) -> str:
+    def name_of(self, path: Path) -> str:
         """A table in words: by its name where it has one, else by its place."""
         match path:
             case ():
@@ -89,18 +89,18 @@ class NetworkFile:
             case ("run",):
                 return "[run]"
             case ("node", node, "phase", phase):
-                return f"phase {phase} (the {ordinal(phase + 1)}) of {self.called(path[:2])}"
+                return f"phase {phase} (the {ordinal(phase + 1)}) of {self.name_of(path[:2])}"
             case ("link", link, "turn", turn):
                 exit = self._cell(path, "exit")
-                into = f" into {shown(exit)}" if exit is not None else ""
-                return f"turn {turn + 1} of {self.called(path[:2])}{into}"
+                into = f" into {quote(exit)}" if exit is not None else ""
+                return f"turn {turn + 1} of {self.name_of(path[:2])}{into}"
             case ("conflict", conflict):
                 a, b = self._cell(path, "a"), self._cell(path, "b")
-                between = f" of {shown(a)} and {shown(b)}" if a is not None and b is not None else ""
+                between = f" of {quote(a)} and {quote(b)}" if a is not None and b is not None else ""
                 return f"conflict {conflict + 1}{between}"
         kind, place = path
         name = self._cell(path, "name")
-        return f"{kind} {place + 1}" if name is None else f"{kind} {shown(name)}"
+        return f"{kind} {place + 1}" if name is None else f"{kind} {quote(name)}"
 
     def _cell(self, path: Path, key: str) -> str | None:
         table = self.table(path)
@@ -110,7 +110,7 @@ class NetworkFile:
     def say(self, path: Path, words: str, key: str | None = None) -> str:
         """A line on a table, at the line of the key where there is one."""
         line = self.lines.line(path if key is None else (*path, key))
-        return at(self.file, line, f"{self.called(path)}: {words}")
+        return at(self.file, line, f"{self.name_of(path)}: {words}")
 
     def names(self, kind: str) -> list[str]:
         """The names of the nodes or of the links."""
@@ -174,7 +174,7 @@ def _toml_fault(file: str, text: str, fault: str) -> list[str]:
     if newer is not None and newer <= line:
         return []
     why = next((words for begin, words in TOML_FAULTS.items() if fault.startswith(begin)), fault[: place.start()])
-    return [at(file, line, f"{shown(lines[line - 1].strip())} is no TOML: {why}")]
+    return [at(file, line, f"{quote(lines[line - 1].strip())} is no TOML: {why}")]
 
 
 # What Python's reader says of a text that is no TOML, in other words.
@@ -249,7 +249,7 @@ def _lacks(net: NetworkFile, key: str, is_newer: bool) -> str:
 
 def _further(section: str, key: str, known: dict[str, str]) -> str:
     """What a key is that a table may not have."""
-    words = f"there is no key {shown(key)} here"
+    words = f"there is no key {quote(key)} here"
     hint = meant(key, known)
     if not hint and section == "top" and key in ("phase", "turn"):
         hint = f" (write [[{'node' if key == 'phase' else 'link'}.{key}]])"
@@ -257,7 +257,7 @@ def _further(section: str, key: str, known: dict[str, str]) -> str:
         hint = " (a key of the whole file stands before its first [table])"
     homes = [home for home, (needed, others) in KEYS.items() if key in needed | others and home not in (section, "top")]
     if not hint and homes:
-        hint = f" (it is a key of a {joined(homes, 'or')})" if homes != ["run"] else " (it is a key of [run])"
+        hint = f" (it is a key of a {enumeration(homes, 'or')})" if homes != ["run"] else " (it is a key of [run])"
     return f"{words}{hint}; it may have {', '.join(known)}"
 
 
@@ -306,26 +306,26 @@ def _bound_faults(net: NetworkFile, section: str, table: dict[str, Any]):
     if section == "top":
         for key, least, most in (("node", 1, 64), ("link", 1, 320), ("conflict", 0, 1024)):
             if not least <= len(net.tables_of(key)) <= most:
-                yield key, f"there are {counted(len(net.tables_of(key)), key)}, and there have to be {least} to {most}"
+                yield key, f"there are {plural(len(net.tables_of(key)), key)}, and there have to be {least} to {most}"
         if table.get("version", 2) != 2:
             yield "version", f"version is {value(table['version'])}, and has to be 2"
     if "name" in table and not NAME.fullmatch(table["name"]):
-        yield "name", f"the name is {shown(table['name'])}, and has to be 1 to 16 characters out of a to z, 0 to 9 and _"
+        yield "name", f"the name is {quote(table['name'])}, and has to be 1 to 16 characters out of a to z, 0 to 9 and _"
     if section == "node":
         yield from _node_faults(table)
     for key, (least, most, unit) in BOUNDS.get(section, {}).items():
         if key in table:
             yield from _number_faults(table, key, least, most, unit)
     if section == "phase" and len(table["links"]) > LINKS_MOST:
-        yield "links", f"it names {counted(len(table['links']), 'link')}, and may name at most {LINKS_MOST}"
+        yield "links", f"it names {plural(len(table['links']), 'link')}, and may name at most {LINKS_MOST}"
     if section == "link" and len(table.get("turn", [])) > TURNS_MOST:
-        yield "turn", f"it has {counted(len(table['turn']), 'turn')}, and may have at most {TURNS_MOST}"
+        yield "turn", f"it has {plural(len(table['turn']), 'turn')}, and may have at most {TURNS_MOST}"
 
 
 def _node_faults(table: dict[str, Any]):
     count, marks = len(table["phase"]), sum(phase.get("skip", False) for phase in table["phase"])
     if not 2 <= count <= 4:
-        yield "phase", f"it has {counted(count, 'phase')}, and has to have 2 to 4"
+        yield "phase", f"it has {plural(count, 'phase')}, and has to have 2 to 4"
     elif count - marks < 2:
         yield "phase", f"{marks} of its {count} phases have skip = true, and at least two have to be without it"
 
@@ -368,8 +368,8 @@ def unknown(net: NetworkFile, section: str, item: str, sub: str) -> list[str]:
         known, other = (links, nodes) if kind == "link" else (nodes, links)
         if name not in known:
             hint = meant(name, known) or (f" (it is a {'node' if kind == 'link' else 'link'})" if name in other else "")
-            words = f"{key[0]} names {shown(name)}, and the file has no {kind} of this name{hint}"
-            return [at(net.file, net.lines.line((*path, *key)), f"{net.called(path)}: {words}")]
+            words = f"{key[0]} names {quote(name)}, and the file has no {kind} of this name{hint}"
+            return [at(net.file, net.lines.line((*path, *key)), f"{net.name_of(path)}: {words}")]
     return []
 
 
@@ -380,7 +380,7 @@ def ends(net: NetworkFile, item: str) -> list[str]:
     if "from" not in table and "to" not in table:
         return [net.say(path, "it has neither from nor to: a link begins or ends at a node, or both")]
     if table.get("from") == table.get("to"):
-        return [net.say(path, f"from and to are both {shown(table['to'])}: a link may not lead from a node to itself", "to")]
+        return [net.say(path, f"from and to are both {quote(table['to'])}: a link may not lead from a node to itself", "to")]
     return []
 
 
@@ -404,14 +404,14 @@ def shares(net: NetworkFile, item: str) -> list[str]:
         where: Path = (*path, "turn", place)
         if net.link(exit).get("from") != table["to"]:
             start = net.link(exit).get("from")
-            begins = f"which begins at {shown(start)}" if start is not None else "which enters the network"
-            words = f"its turns go into {shown(exit)}, {begins}, and have to go into links from {shown(table['to'])}"
-            return [at(net.file, net.lines.line(where), f"{net.called(path)}: {words}")]
+            begins = f"which begins at {quote(start)}" if start is not None else "which enters the network"
+            words = f"its turns go into {quote(exit)}, {begins}, and have to go into links from {quote(table['to'])}"
+            return [at(net.file, net.lines.line(where), f"{net.name_of(path)}: {words}")]
         if exit in exits[:place]:
-            return [at(net.file, net.lines.line(where), f"{net.called(path)}: two of its turns go into {shown(exit)}: join them")]
+            return [at(net.file, net.lines.line(where), f"{net.name_of(path)}: two of its turns go into {quote(exit)}: join them")]
     total = sum(turn["share"] for turn in turns)
     if not turns:
-        return [net.say(path, f"it ends at node {shown(table['to'])} and has no turn: its shares have to sum to 1000")]
+        return [net.say(path, f"it ends at node {quote(table['to'])} and has no turn: its shares have to sum to 1000")]
     if total == 1000:
         return []
     words = " + ".join(str(turn["share"]) for turn in turns) + f" = {total}" if len(turns) > 1 else f"{total}"
@@ -423,17 +423,17 @@ def phaseless(net: NetworkFile, item: str) -> list[str]:
     path: Path = ("link", int(item) - 1)
     table = net.table(path)
     name, homes = table["name"], net.homes(table["name"])
-    lines = joined([f"{net.called(home)} on line {net.lines.line((*home, 'links'))}" for home in dict.fromkeys(homes)] or [""])
+    lines = enumeration([f"{net.name_of(home)} on line {net.lines.line((*home, 'links'))}" for home in dict.fromkeys(homes)] or [""])
     if "to" not in table:
         return [net.say(path, f"it leaves the network and has no signal, and {lines} names it")] if homes else []
     node = table["to"]
     if not homes:
-        return [net.say(path, f"it ends at node {shown(node)}, and no phase of that node names it in links")]
+        return [net.say(path, f"it ends at node {quote(node)}, and no phase of that node names it in links")]
     if len(homes) > 1:
-        lines = lines if len(set(homes)) > 1 else f"in {net.called(homes[0])} on line {net.lines.line((*homes[0], 'links'))}"
+        lines = lines if len(set(homes)) > 1 else f"in {net.name_of(homes[0])} on line {net.lines.line((*homes[0], 'links'))}"
         return [net.say(path, f"it is named {len(homes)} times, {lines}; it has to be in one phase, once")]
     if net.table(homes[0][:2])["name"] != node:
-        return [net.say(path, f"it ends at node {shown(node)}, and {lines} names it: it has to be in a phase of {shown(node)}")]
+        return [net.say(path, f"it ends at node {quote(node)}, and {lines} names it: it has to be in a phase of {quote(node)}")]
     return []
 
 
@@ -450,16 +450,16 @@ def clash(net: NetworkFile, first: str, second: str) -> list[str]:
 def _clash_words(net: NetworkFile, a: str, b: str):
     """Why two links can be no conflict."""
     if a == b:
-        yield f"both are the link {shown(a)}"
+        yield f"both are the link {quote(a)}"
         return
     ends = [net.link(name).get("to") for name in (a, b)]
     if None in ends or ends[0] != ends[1]:
-        where = [f"{shown(name)} {f'ends at {shown(end)}' if end else 'leaves the network'}" for name, end in zip((a, b), ends)]
-        yield f"{joined(where)}: links in conflict end at one node"
+        where = [f"{quote(name)} {f'ends at {quote(end)}' if end else 'leaves the network'}" for name, end in zip((a, b), ends)]
+        yield f"{enumeration(where)}: links in conflict end at one node"
         return
     homes = [net.homes(name)[0] for name in (a, b)]
     if homes[0] == homes[1]:
-        yield f"both are in {net.called(homes[0])}: links in conflict are in two phases"
+        yield f"both are in {net.name_of(homes[0])}: links in conflict are in two phases"
 
 
 CODES = {

@@ -3,9 +3,9 @@
 from collections import Counter
 from collections.abc import Callable
 
-from ..records import Record, counted, records_of, shown, text_of
+from ..records import Record, plural, quote, records_of, text_of
 from .networks import BEGINS, HEADERS, NetworkFile, link_counts
-from .wording import at, joined, meant, ordinal, thousands
+from .wording import at, enumeration, meant, ordinal, thousands
 
 KINDS = ("step", "plan", "green", "link", "total")
 MOST_SUM, MOST_STORAGE, MOST_SECOND, MOST_AMOUNT, MOST_OFFSET = 2_000_000_000, 2_000_000_000, 17_999, 1_000_000, 17_999
@@ -48,7 +48,7 @@ class RecordFile:
 
     def say(self, number: int, words: str) -> str:
         """A line on a row."""
-        return at(self.file, self.row(number).line, f"row {number}, {shown(','.join(self.row(number).fields))}: {words}")
+        return at(self.file, self.row(number).line, f"row {number}, {quote(','.join(self.row(number).fields))}: {words}")
 
     def end(self, words: str) -> str:
         """A line on the end of the file."""
@@ -61,11 +61,11 @@ def number_fault(name: str, cell: str, digits: int | None = 10, bits: int | None
         return f"{name} is empty, and has to be a whole number"
     if not (cell.isascii() and cell.isdigit()):
         blank = " (blanks are not trimmed)" if cell != cell.strip() else ""
-        return f"{name} is {shown(cell)}, and has to be a whole number{blank}"
+        return f"{name} is {quote(cell)}, and has to be a whole number{blank}"
     if digits is not None and len(cell) > digits:
         return f"{name} has {len(cell)} digits, and may have at most {digits}"
     if bits is not None and cell[0] == "0" and cell != "0":
-        return f"{name} is {shown(cell)}, and may have no zero in front"
+        return f"{name} is {quote(cell)}, and may have no zero in front"
     if bits is not None and int(cell) > BITS[bits]:
         return f"{name} is {thousands(int(cell))}, and may be at most {thousands(BITS[bits])}"
     return None
@@ -94,7 +94,7 @@ def header_fault(rows: RecordFile) -> list[str]:
         hint = ": the columns are in another order"
     elif fields[0].strip().isdigit():
         hint = ": the header is missing"
-    return [at(rows.file, line, f"the file begins with {shown(found)}, and has to begin with the line {wanted}{hint}")]
+    return [at(rows.file, line, f"the file begins with {quote(found)}, and has to begin with the line {wanted}{hint}")]
 
 
 def form_fault(rows: RecordFile, number: int, cells: dict[int, tuple[str, int | None, int | None]]) -> list[str]:
@@ -103,7 +103,7 @@ def form_fault(rows: RecordFile, number: int, cells: dict[int, tuple[str, int | 
     if len(fields) != len(wanted.split(",")):
         count = len(wanted.split(","))
         hint = f": {wanted}" + ("; fields are divided by commas" if len(fields) == 1 else "")
-        return [rows.say(number, f"it has {counted(len(fields), 'field')}, and has to have {count}{hint}")]
+        return [rows.say(number, f"it has {plural(len(fields), 'field')}, and has to have {count}{hint}")]
     for place, (name, digits, bits) in cells.items():
         fault = number_fault(name, fields[place], digits, bits)
         if fault:
@@ -116,12 +116,12 @@ def link_fault(rows: RecordFile, number: int, name: str, enters: bool) -> list[s
     net = rows.net
     if name not in net.names("link"):
         node = " (it is a node)" if name in net.names("node") else meant(name, net.names("link"))
-        return [rows.say(number, f"the network has no link {shown(name)}{node}")]
+        return [rows.say(number, f"the network has no link {quote(name)}{node}")]
     start = net.link(name).get("from")
     if not enters or start is None:
         return []
     entries = [link["name"] for link in net.tables_of("link") if "from" not in link]
-    words = f"link {shown(name)} comes from node {shown(start)}; vehicles enter by links without `from`: {joined(entries[:8])}"
+    words = f"link {quote(name)} comes from node {quote(start)}; vehicles enter by links without `from`: {enumeration(entries[:8])}"
     return [rows.say(number, words + (" .." if len(entries) > 8 else ""))]
 
 
@@ -153,7 +153,7 @@ def store_fault(rows: RecordFile, code: str, number: int) -> list[str]:
         words = f"storage is {storage}, and has to be 1 to {thousands(MOST_STORAGE)} thousandths of a vehicle"
         return [rows.say(number, words)] if not 1 <= int(storage) <= MOST_STORAGE else []
     earlier = next((row for row in rows.rows[: number - 1] if row.fields[0] == link), None)
-    return [rows.say(number, f"link {shown(link)} has a row already, on line {earlier.line}")] if earlier else []
+    return [rows.say(number, f"link {quote(link)} has a row already, on line {earlier.line}")] if earlier else []
 
 
 def plan_fault(rows: RecordFile, code: str, number: int) -> list[str]:
@@ -164,14 +164,14 @@ def plan_fault(rows: RecordFile, code: str, number: int) -> list[str]:
     net = rows.net
     if code == "node":
         hint = " (it is a link)" if name in net.names("link") else meant(name, net.names("node"))
-        return [rows.say(number, f"the network has no node {shown(name)}{hint}")] if name not in net.names("node") else []
+        return [rows.say(number, f"the network has no node {quote(name)}{hint}")] if name not in net.names("node") else []
     if code == "phase":
-        words = f"{joined(next_phases(rows, number), 'or')} is wanted here: nodes in the order of the network, phases up the ring"
+        words = f"{enumeration(next_phases(rows, number), 'or')} is wanted here: nodes in the order of the network, phases up the ring"
         return [rows.say(number, words)]
     if code == "green":
         times = net.tables_of("node")[net.names("node").index(name)]["phase"][int(phase)]
         least, greatest = times["least"], times["greatest"]
-        words = f"green is {green}, and phase {int(phase)} of node {shown(name)} has least {least} and greatest {greatest}"
+        words = f"green is {green}, and phase {int(phase)} of node {quote(name)} has least {least} and greatest {greatest}"
         return [rows.say(number, words)] if not least <= int(green) <= greatest else []
     if int(offset) > MOST_OFFSET:
         return [rows.say(number, f"offset is {offset}, and has to be 0 to {thousands(MOST_OFFSET)}")]
@@ -203,13 +203,13 @@ def next_phases(rows: RecordFile, number: int) -> list[str]:
     else:
         before = rows.row(number - 1).fields
         found = phases_after(net, net.names("node").index(before[0]), int(before[1]))
-    return [f"phase {phase} of node {shown(net.names('node')[node])}" for node, phase in found] or ["no row more"]
+    return [f"phase {phase} of node {quote(net.names('node')[node])}" for node, phase in found] or ["no row more"]
 
 
 def plan_short(rows: RecordFile) -> list[str]:
     """A fixed plan that ends before each unmarked phase of each node had a row."""
-    wanted = joined(next_phases(rows, len(rows.rows) + 1), "or")
-    return [rows.end(f"the file ends here, after {counted(len(rows.rows), 'row')}, and a row of {wanted} is wanted next")]
+    wanted = enumeration(next_phases(rows, len(rows.rows) + 1), "or")
+    return [rows.end(f"the file ends here, after {plural(len(rows.rows), 'row')}, and a row of {wanted} is wanted next")]
 
 
 def history_fault(rows: RecordFile, code: str, number: int) -> list[str]:
@@ -220,14 +220,14 @@ def history_fault(rows: RecordFile, code: str, number: int) -> list[str]:
     name, net = fields[2], rows.net
     if code == "node":
         hint = " (it is a link)" if name in net.names("link") else meant(name, net.names("node"))
-        return [rows.say(number, f"a step of node {shown(name)}, which the network has not{hint}")] if name not in net.names("node") else []
+        return [rows.say(number, f"a step of node {quote(name)}, which the network has not{hint}")] if name not in net.names("node") else []
     counts, rounds = link_counts(net), net.tables["run"]["rounds"]
     if code == "extra":
-        words = f"a step after all {counted(rounds, 'round')} of the network are done, with {sum(counts.values())} steps each"
+        words = f"a step after all {plural(rounds, 'round')} of the network are done, with {sum(counts.values())} steps each"
         return [rows.say(number, words if counts else "the nodes of this network hear nobody, and a history of it has no step")]
     done, left = progress(rows, number - 1, counts)
-    words = f"node {shown(name)} has {counted(counts[name], 'board step')} a round, and has done all of round {done}"
-    return [rows.say(number, f"{words}; there {said_left(left)} left" if counts[name] else f"node {shown(name)} has no board step")]
+    words = f"node {quote(name)} has {plural(counts[name], 'board step')} a round, and has done all of round {done}"
+    return [rows.say(number, f"{words}; there {said_left(left)} left" if counts[name] else f"node {quote(name)} has no board step")]
 
 
 def progress(rows: RecordFile, count: int, counts: Counter[str]) -> tuple[int, Counter[str]]:
@@ -240,8 +240,8 @@ def progress(rows: RecordFile, count: int, counts: Counter[str]) -> tuple[int, C
 
 def said_left(left: Counter[str]) -> str:
     """`are 2 steps of node "a" and 1 of node "b"`."""
-    found = [f"{count} of node {shown(node)}" for node, count in left.items()]
-    return f"{'is' if sum(left.values()) == 1 else 'are'} {joined(found[:4])}{' ..' if len(found) > 4 else ''}"
+    found = [f"{count} of node {quote(node)}" for node, count in left.items()]
+    return f"{'is' if sum(left.values()) == 1 else 'are'} {enumeration(found[:4])}{' ..' if len(found) > 4 else ''}"
 
 
 def history_short(rows: RecordFile) -> list[str]:
@@ -251,14 +251,14 @@ def history_short(rows: RecordFile) -> list[str]:
     steps = sum(row.fields[0] == "step" for row in rows.rows)
     hint = "; a report of `actuate` or `fixed` has no steps and is no history" if steps == 0 and rows.rows else ""
     rounds = net.tables["run"]["rounds"]
-    words = f"the file ends here with {counted(steps, 'step')}, in round {done} of {rounds}, counted from 0: there {said_left(left)} left"
+    words = f"the file ends here with {plural(steps, 'step')}, in round {done} of {rounds}, counted from 0: there {said_left(left)} left"
     return [rows.end(words + hint)]
 
 
 def kind_fault(rows: RecordFile, number: int) -> list[str]:
     """A row whose kind is none of a report."""
     kind = rows.row(number).fields[0]
-    return [rows.say(number, f"the kind is {shown(kind)}, and has to be one of {joined(list(KINDS), 'or')}")] if kind not in KINDS else []
+    return [rows.say(number, f"the kind is {quote(kind)}, and has to be one of {enumeration(list(KINDS), 'or')}")] if kind not in KINDS else []
 
 
 def sheet_fault(rows: RecordFile, code: str, number: int) -> list[str]:
@@ -279,10 +279,10 @@ def sheet_fault(rows: RecordFile, code: str, number: int) -> list[str]:
     if fields[0] == "green":
         name = fields[2]
         hint = meant(name, net.names("node"))
-        words = f"a green of node {shown(name)}, which the network has not{hint}: is this a report of another network?"
+        words = f"a green of node {quote(name)}, which the network has not{hint}: is this a report of another network?"
         return [rows.say(number, words)] if name not in net.names("node") else []
     place = sum(row.fields[0] == "link" for row in rows.rows[: number - 1])
-    words = f"a link {shown(fields[3])}, and {shown(links[place])}, the {ordinal(place + 1)} of the network, is wanted here"
+    words = f"a link {quote(fields[3])}, and {quote(links[place])}, the {ordinal(place + 1)} of the network, is wanted here"
     hint = "" if fields[3] in links else ": is this a report of another network?"
     return [rows.say(number, words + hint)] if fields[3] != links[place] else []
 
@@ -293,7 +293,7 @@ def sheet_short(rows: RecordFile) -> list[str]:
     links = rows.net.names("link")
     missing = []
     if kinds["link"] < len(links):
-        missing.append(f"{kinds['link']} of {len(links)} links ({shown(links[kinds['link']])} is next)")
+        missing.append(f"{kinds['link']} of {len(links)} links ({quote(links[kinds['link']])} is next)")
     if not kinds["total"]:
         missing.append("no total")
     return [rows.end(f"the file ends here with {' and '.join(missing)}")] if missing else []

@@ -2,9 +2,9 @@
 
 from typing import Any
 
-from ..records import Record, counted, shown
+from ..records import Record, plural, quote
 from .records import RecordFile, form_fault, header_fault
-from .wording import joined, meant, thousands
+from .wording import enumeration, meant, thousands
 
 KINDS = ("now", "green", "queue", "coming", "version", "row", "plan")
 MOST_SECOND, MOST_AMOUNT, MOST_ROWS, MOST_SUM, MOST_NUMBER = 100_000, 80_000, 180, 2_000_000_000, 2**32 - 1
@@ -31,7 +31,7 @@ class StateFile(RecordFile):
         """The second in which the round begins."""
         return int(self.rows[0].fields[2])
 
-    def numbered(self) -> list[tuple[int, Record]]:
+    def numbers_and_rows(self) -> list[tuple[int, Record]]:
         """The rows with their numbers."""
         return list(enumerate(self.rows, 1))
 
@@ -39,7 +39,7 @@ class StateFile(RecordFile):
         """The numbers of the rows of a kind and name, and the numbers in them; each counts up to 4,294,967,295."""
         return [
             (number, [min(int(row.fields[place]), MOST_NUMBER) for place in CELLS[kind]])
-            for number, row in self.numbered()
+            for number, row in self.numbers_and_rows()
             if row.fields[:2] == [kind, name]
         ]
 
@@ -55,7 +55,7 @@ def row_fault(state: StateFile, number: int) -> list[str]:
         return found
     fields = state.row(number).fields
     if fields[0] not in KINDS:
-        return [state.say(number, f"the kind is {shown(fields[0])}, and has to be one of {joined(list(KINDS), 'or')}")]
+        return [state.say(number, f"the kind is {quote(fields[0])}, and has to be one of {enumeration(list(KINDS), 'or')}")]
     found = form_fault(state, number, CELLS[fields[0]])
     if not found and fields[0] == "green" and int(fields[2]) > 255:
         return [state.say(number, f"the phase is {fields[2]}, and has to be 0 to 255")]
@@ -68,15 +68,15 @@ def name_fault(state: StateFile, number: int) -> list[str]:
     net = state.net
     if kind == "green":
         hint = " (it is a link)" if name in net.names("link") else meant(name, net.names("node"))
-        return [state.say(number, f"the network has no node {shown(name)}{hint}")] if name not in net.names("node") else []
+        return [state.say(number, f"the network has no node {quote(name)}{hint}")] if name not in net.names("node") else []
     if name not in net.names("link"):
         hint = " (it is a node)" if name in net.names("node") else meant(name, net.names("link"))
-        return [state.say(number, f"the network has no link {shown(name)}{hint}")]
+        return [state.say(number, f"the network has no link {quote(name)}{hint}")]
     link = net.link(name)
     if "to" not in link:
-        return [state.say(number, f"link {shown(name)} leaves the network: {kind} is told of links that end at a node")]
+        return [state.say(number, f"link {quote(name)} leaves the network: {kind} is told of links that end at a node")]
     if kind in ("version", "row") and "from" not in link:
-        return [state.say(number, f"link {shown(name)} enters the network: {kind} is told of links from a node to a node")]
+        return [state.say(number, f"link {quote(name)} enters the network: {kind} is told of links from a node to a node")]
     return []
 
 
@@ -93,7 +93,7 @@ def time_fault(state: StateFile, number: int) -> list[str]:
         return [state.say(number, "`now` is told in the first row alone")]
     travel, second = state.net.link(fields[1])["travel"], int(fields[2])
     last = state.now + travel - 1
-    words = f"what comes on link {shown(fields[1])}, of travel {travel}, reaches its end in the seconds {state.now} to {last}"
+    words = f"what comes on link {quote(fields[1])}, of travel {travel}, reaches its end in the seconds {state.now} to {last}"
     return [state.say(number, words)] if not state.now <= second < state.now + travel else []
 
 
@@ -102,7 +102,7 @@ def sense_fault(state: StateFile, item: str) -> list[str]:
     name = state.net.names("link")[int(item) - 1]
     queues, coming = state.of("queue", name), state.of("coming", name)
     if len(queues) > 1:
-        return [state.say(queues[1][0], f"the queue of link {shown(name)} is told on {state.on(queues[0][0])} already")]
+        return [state.say(queues[1][0], f"the queue of link {quote(name)} is told on {state.on(queues[0][0])} already")]
     for (before, (earlier, _)), (number, (second, _)) in zip(coming, coming[1:]):
         if second <= earlier:
             words = f"second {second} comes after second {earlier} ({state.on(before)}): the seconds of a link rise"
@@ -116,16 +116,16 @@ def board_fault(state: StateFile, item: str) -> list[str]:
     versions, rows = state.of("version", name), state.of("row", name)
     done = state.now // state.run["step"]
     if len(versions) > 1:
-        return [state.say(versions[1][0], f"the version of link {shown(name)} is told on {state.on(versions[0][0])} already")]
+        return [state.say(versions[1][0], f"the version of link {quote(name)} is told on {state.on(versions[0][0])} already")]
     version = versions[0][1][0] if versions else 0
     if version > done + 1:
         words = f"the round that begins in second {state.now} is number {done}: a version is at most {done + 1} there"
         return [state.say(versions[0][0], words)]
     if version == 0 and rows:
-        words = f"link {shown(name)} has version 0, which has no rows" + ("" if versions else ": its `version` row is missing")
+        words = f"link {quote(name)} has version 0, which has no rows" + ("" if versions else ": its `version` row is missing")
         return [state.say(rows[0][0], words)]
     if len(rows) > MOST_ROWS:
-        return [state.say(rows[MOST_ROWS][0], f"link {shown(name)} has {counted(len(rows), 'row')}, and may have {MOST_ROWS}")]
+        return [state.say(rows[MOST_ROWS][0], f"link {quote(name)} has {plural(len(rows), 'row')}, and may have {MOST_ROWS}")]
     return forecast_fault(state, rows)
 
 
@@ -150,7 +150,7 @@ def line_fault(state: StateFile, item: str) -> list[str]:
         return [state.end("the file has no row after its header, and the first one has to be `now`")]
     greens, name, now = state.of("green", node["name"]), node["name"], state.now
     if not greens:
-        return [state.end(f"node {shown(name)} has no `green` row, and has to have one that ends after second {now}")]
+        return [state.end(f"node {quote(name)} has no `green` row, and has to have one that ends after second {now}")]
     before: list[int] | None = None
     for number, green in greens:
         words = green_words(node, green) or (before and follow_words(node, before, green))
@@ -159,9 +159,9 @@ def line_fault(state: StateFile, item: str) -> list[str]:
         before = green
     first, last = greens[0], greens[-1]
     if first[1][1] > now:
-        return [state.say(first[0], f"the first green of node {shown(name)} begins after the round, which begins in second {now}")]
+        return [state.say(first[0], f"the first green of node {quote(name)} begins after the round, which begins in second {now}")]
     if last[1][2] <= now:
-        return [state.say(last[0], f"the last green of node {shown(name)} has to end after second {now}, in which the round begins")]
+        return [state.say(last[0], f"the last green of node {quote(name)} has to end after second {now}, in which the round begins")]
     return []
 
 
@@ -169,10 +169,10 @@ def green_words(node: dict[str, Any], green: list[int]) -> str | None:
     """Why a row is no green of a node's plan."""
     phase, begin, end = green
     if phase >= len(node["phase"]):
-        return f"the phase is {phase}, and node {shown(node['name'])} has the phases 0 to {len(node['phase']) - 1}"
+        return f"the phase is {phase}, and node {quote(node['name'])} has the phases 0 to {len(node['phase']) - 1}"
     times = node["phase"][phase]
     if not times["least"] <= end - begin <= times["greatest"]:
-        bounds = f"least is {times['least']} and greatest {times['greatest']} in phase {phase} of node {shown(node['name'])}"
+        bounds = f"least is {times['least']} and greatest {times['greatest']} in phase {phase} of node {quote(node['name'])}"
         return f"the green lasts {end - begin} seconds, and {bounds}"
     return f"a green begins by second {thousands(MOST_SECOND)}" if begin > MOST_SECOND else None
 
@@ -197,7 +197,7 @@ def sum_fault(state: StateFile, item: str) -> list[str]:
     links = [link["name"] for link in state.net.tables_of("link") if link.get("to") == name]
     total = sum(numbers[0] for link in links for _, numbers in state.of("queue", link))
     total += sum(numbers[1] for link in links for _, numbers in state.of("coming", link))
-    words = f"queues and what comes on the links to node {shown(name)} add up to {thousands(total)}, and may to {thousands(MOST_SUM)}"
+    words = f"queues and what comes on the links to node {quote(name)} add up to {thousands(total)}, and may to {thousands(MOST_SUM)}"
     return [state.end(words)] if total > MOST_SUM else []
 
 

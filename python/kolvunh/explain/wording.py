@@ -5,7 +5,7 @@ from collections.abc import Iterable
 from datetime import date, datetime, time
 from typing import Any
 
-from ..records import shown
+from ..records import quote
 
 _ORDINALS = ("first", "second", "third", "fourth", "fifth", "sixth", "seventh", "eighth", "ninth", "tenth")
 _ENDINGS = {1: "st", 2: "nd", 3: "rd"}
@@ -22,7 +22,7 @@ def value(found: Any) -> str:
         case bool():
             return "true" if found else "false"
         case str():
-            return f"the text {shown(found)}"
+            return f"the text {quote(found)}"
         case int():
             return f"{found}" if abs(found) < 10**30 else "a number of more than 30 digits"
         case float():
@@ -46,10 +46,10 @@ def ordinal(place: int) -> str:
 def meant(name: object, names: Iterable[str]) -> str:
     """` (is "x" meant?)` where a name of these is much like this one, else nothing."""
     found = difflib.get_close_matches(str(name), list(names), 1, 0.7)
-    return f" (is {shown(found[0])} meant?)" if found else ""
+    return f" (is {quote(found[0])} meant?)" if found else ""
 
 
-def joined(words: list[str], last: str = "and") -> str:
+def enumeration(words: list[str], last: str = "and") -> str:
     """`a`, `a and b`, `a, b and c`."""
     return words[0] if len(words) == 1 else f"{', '.join(words[:-1])} {last} {words[-1]}"
 
