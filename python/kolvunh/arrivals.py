@@ -3,7 +3,9 @@
 from collections.abc import Iterable
 from dataclasses import dataclass
 
-from .records import Place, number_in, rows_of, text_of
+from .faults import Fault
+from .networks import Network
+from .records import Place, number_in, quote, rows_of, text_of
 
 HEADER = ("second", "link", "amount")
 VEHICLE = 1000  # thousandths: the amount of one vehicle
@@ -38,3 +40,10 @@ def arrivals_text(arrivals: Iterable[Arrival]) -> str:
     """The text of a file that has these arrivals."""
     rows = [",".join(HEADER), *(f"{arrival.second},{arrival.link},{arrival.amount}" for arrival in arrivals)]
     return "\n".join(rows) + "\n"
+
+
+def require_links(network: Network, place: Place, rows: Iterable[Arrival]) -> None:
+    """Raises a fault where the rows of arrivals, read from a place, name a link that the network has not."""
+    strange = next((row.link for row in rows if network.link_named(row.link) is None), None)
+    if strange is not None:
+        raise Fault(f"{place}: link {quote(strange)} is none of the network: is it a file of another one?")

@@ -13,7 +13,7 @@ from collections import defaultdict
 from collections.abc import Iterator, Sequence
 from dataclasses import dataclass
 
-from .arrivals import VEHICLE, Arrival, read_arrivals
+from .arrivals import VEHICLE, Arrival, read_arrivals, require_links
 from .commands import Words, end
 from .faults import Fault
 from .networks import Link, Network, Node, Phase, read_network
@@ -41,8 +41,6 @@ def link_flows(network: Network, arrivals: Sequence[Arrival]) -> dict[str, float
     """What comes to the end of each link, in thousandths of a vehicle a second, while vehicles enter."""
     entering = dict.fromkeys((link.name for link in network.links), 0.0)
     for arrival in arrivals:
-        if arrival.link not in entering:
-            raise Fault(f"the arrivals name link {quote(arrival.link)}, which the network has not: are they of another network?")
         entering[arrival.link] += arrival.amount
     seconds = 1 + max((arrival.second for arrival in arrivals), default=0)
     flows = dict(entering)
@@ -180,8 +178,6 @@ def plan_warnings(inputs: Inputs) -> Iterator[str]:
     cycles: dict[str, int] = defaultdict(int)
     phases: dict[str, tuple[Phase, ...]] = {node.name: node.phases for node in inputs.network.nodes}
     for row in inputs.plan:
-        if row.node not in phases or row.phase >= len(phases[row.node]):
-            raise Fault(f"the fixed plan names phase {row.phase} of node {quote(row.node)}, which the network has not")
         phase = phases[row.node][row.phase]
         cycles[row.node] += row.green + phase.yellow + phase.clear
     told = set()
@@ -190,7 +186,7 @@ def plan_warnings(inputs: Inputs) -> Iterator[str]:
         if link.start in cycles and link.end in cycles and cycles[link.start] != cycles[link.end] and pair not in told:
             told.add(pair)
             words = f"{link.start} has a cycle of {cycles[link.start]} seconds and its neighbour {link.end} one of {cycles[link.end]}"
-            yield f"fixed plan: {words}: their offsets mean nothing after the first; write greens that make them alike"
+            yield f"fixed plan: {words}: their offsets hold in the first cycle alone; write greens that make them alike"
 
 
 def warnings(inputs: Inputs) -> list[str]:
@@ -204,10 +200,20 @@ def warnings(inputs: Inputs) -> list[str]:
     return found
 
 
+def require_phases(network: Network, place: str, rows: Sequence[PlanRow]) -> None:
+    """Raises a fault where the rows of a fixed plan, read from a place, name a phase that the network has not."""
+    phases = {node.name: len(node.phases) for node in network.nodes}
+    strange = next((row for row in rows if row.phase >= phases.get(row.node, 0)), None)
+    if strange is not None:
+        raise Fault(f"{place}: the network has no phase {strange.phase} of node {quote(strange.node)}: is it a plan of another one?")
+
+
 def inputs_of(network: str, arrivals: str, plan: str | None = None) -> Inputs:
     """What is in the files."""
-    net, rows = read_network(network), read_arrivals(arrivals)
-    return Inputs(net, rows, link_flows(net, rows), read_plan(plan) if plan else ())
+    net, rows, greens = read_network(network), read_arrivals(arrivals), read_plan(plan) if plan else []
+    require_links(net, arrivals, rows)
+    require_phases(net, plan or "", greens)
+    return Inputs(net, rows, link_flows(net, rows), greens)
 
 
 def load_lines(inputs: Inputs) -> list[str]:

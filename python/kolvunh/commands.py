@@ -1,5 +1,5 @@
-"""How a command of this package reads its words, and how it ends: 0 where all is well, 1 where it found what it looked for, 2 where it can't
-be done."""
+"""How a command of this package reads its words, and how it ends: 0 where all is well, 1 where it found what it looked for, 2 where it
+can't be done."""
 
 import argparse
 import contextlib

@@ -17,7 +17,7 @@ from dataclasses import asdict, dataclass, fields
 from functools import cached_property
 from itertools import accumulate, pairwise
 
-from .arrivals import read_arrivals
+from .arrivals import read_arrivals, require_links
 from .commands import Words, end
 from .faults import Fault
 from .flows import Flow, flows_of_greens, flows_of_queues, parts_of, require_totals
@@ -290,9 +290,7 @@ def study_of(network: Network, arrivals: Place, report: Place, queues: Place | N
 
 def _flows_under(network: Network, arrivals: Place, read: Records) -> dict[str, Flow]:
     rows = read_arrivals(arrivals)
-    strange = next((row.link for row in rows if network.link_named(row.link) is None), None)
-    if strange is not None:
-        raise Fault(f"{arrivals}: link {quote(strange)} is none of the network: is it a file of another one?")
+    require_links(network, arrivals, rows)
     return flows_of_greens(network, rows, read.greens)
 
 

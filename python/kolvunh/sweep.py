@@ -21,7 +21,7 @@ from concurrent.futures import ThreadPoolExecutor
 from functools import partial
 from pathlib import Path
 
-from .arrivals import VEHICLE, Arrival, arrivals_text, read_arrivals
+from .arrivals import VEHICLE, Arrival, arrivals_text, read_arrivals, require_links
 from .commands import Words, end
 from .faults import Fault
 from .networks import read_network
@@ -93,10 +93,8 @@ def work() -> None:
     options = options_of()
     part, parts = part_of(options.part)
     options.program = options.program or built_program_words()
-    names, arrivals = {link.name for link in read_network(options.network).links}, read_arrivals(options.arrivals)
-    other = next((arrival.link for arrival in arrivals if arrival.link not in names), None)
-    if other is not None:
-        raise Fault(f"{options.arrivals}: link {other!r} is none of {options.network}")
+    arrivals = read_arrivals(options.arrivals)
+    require_links(read_network(options.network), options.arrivals, arrivals)
     tasks = list(itertools.product(options.demands, range(1, options.seeds + 1), options.commands))[part::parts]
     with ThreadPoolExecutor(options.jobs) as pool:
         delays = pool.map(partial(delay, options, *rates_of(arrivals)), tasks)

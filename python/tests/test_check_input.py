@@ -105,7 +105,8 @@ class CheckInputTest(FilesTest):
             ((net, self.folder / "none"), "none: No such file or directory"),
             ((arr, net), "arr: Expected '=' after a key in a key/value pair (at line 1, column 7)"),
             ((net, self.file("second,amount\n0,1\n", "short")), 'short:1: the header is "second,amount", and has to be second,link,amount'),
-            ((worked.EXAMPLES / "corridor.toml", arr), 'the arrivals name link "sa", which the network has not: are they of another network?'),
+            ((worked.EXAMPLES / "corridor.toml", arr), 'arr: link "sa" is none of the network: is it a file of another one?'),
+            ((net, arr, self.file(worked.PLAN.replace("b,1", "b,2"), "plan")), 'plan: the network has no phase 2 of node "b"'),
             ((self.file(QUIET.replace('links = ["sb"]', 'links = ["xx"]'), "odd"), arr), "this is no network that the program takes"),
         ):
             status, out, err = self.command(*words)
