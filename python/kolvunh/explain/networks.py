@@ -34,7 +34,7 @@ KEYS: dict[str, tuple[dict[str, str], dict[str, str]]] = {
     "turn": ({"exit": TEXT, "share": WHOLE}, {}),
     "conflict": ({"a": TEXT, "b": TEXT}, {}),
 }
-# The least and the greatest value of a key, and the unit; `Explanation` tests bounds between two keys.
+# The least and the greatest value of a key, and the unit; `_number_faults` has the bounds between two keys.
 BOUNDS: dict[str, dict[str, tuple[int, int, str]]] = {
     "run": {
         "step": (1, 30, "seconds"),
