@@ -7,7 +7,7 @@ ghost use Rattle.commands.specs.Commands.{Call, IsCall, IsOfControllers, IsOverN
 ghost use Rattle.commands.specs.Controllers.{AreFactors};
 
 use foundation::text::Text;
-use number_words::{number_u32, number_u64, number_within};
+use text_lines::{number_u32, number_u64, number_within};
 
 /// What the program can be told to do, with the further words.
 ///

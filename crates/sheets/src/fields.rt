@@ -2,7 +2,7 @@
 ghost use Rattle.std.specs.Prelude.{◌≡◌};
 ghost use Rattle.sheets.specs.Told.{number_in};
 
-use number_words::{number_u32, number_u64, number_within};
+use text_lines::{number_u32, number_u64, number_within};
 
 /// The number of 64 bits that a field is the text of.
 pub(crate) fn field_u64(field: &[u8]) -> Option<u64>

@@ -3,4 +3,5 @@ pub mod Feeds
 pub mod FirstLine
 pub mod LineLaws
 pub mod ManyLaws
+pub mod Numerals
 pub mod Units

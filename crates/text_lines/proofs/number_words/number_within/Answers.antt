@@ -1,7 +1,7 @@
 use Rattle.std.proofs.Common.{◌≡◌, sym, ◌∙◌, arith}
 use Rattle.std.proofs.lemmas.Fmt.{decimal_injective}
-use Rattle.number_words.proofs.number_within.Goals as goal
-use Rattle.number_words.proofs.number_within.Goals.{else-least-number-via-then-least-number+else-number-most, else-least-number-via-else-least-number}
+use Rattle.text_lines.proofs.number_words.number_within.Goals as goal
+use Rattle.text_lines.proofs.number_words.number_within.Goals.{else-least-number-via-then-least-number+else-number-most, else-least-number-via-else-least-number}
 
 pub returns-else-least-number-clause-none : goal.returns-else-least-number-clause-none
 returns-else-least-number-clause-none c = λ n low high spelled.

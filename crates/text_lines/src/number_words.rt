@@ -1,6 +1,4 @@
 //! Whole words that are numbers: the canonical decimals, read exactly.
-#![tactic(auto)]
-
 ghost use Rattle.std.specs.Prelude.{◌≡◌, ◌≢◌, ◌<◌, ◌≤◌, ◌^◌, ◌↔◌, ℕ, length, slice_index, IfSome, IfNone, IsTrue};
 ghost use Rattle.std.specs.Fmt.{decimal};
 

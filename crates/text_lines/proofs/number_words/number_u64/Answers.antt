@@ -1,6 +1,6 @@
 use Rattle.std.proofs.Common.{arith, sym, subst, ◌∙◌}
-use Rattle.number_words.proofs.Numerals.{IsPlain, not_parsed, parsed, plain}
-use Rattle.number_words.proofs.number_u64.Goals as goal
+use Rattle.text_lines.proofs.Numerals.{IsPlain, not_parsed, parsed, plain}
+use Rattle.text_lines.proofs.number_words.number_u64.Goals as goal
 
 pub returns-then-not-may_be_number-clause-none : goal.returns-then-not-may_be_number-clause-none
 returns-then-not-may_be_number-clause-none c n lt spelled =

@@ -1,6 +1,6 @@
 use Rattle.std.proofs.Common.{◌≡◌, sym, ◌∙◌, arith}
 use Rattle.std.proofs.lemmas.Fmt.{decimal_injective}
-use Rattle.number_words.proofs.number_u32.Goals as goal
+use Rattle.text_lines.proofs.number_words.number_u32.Goals as goal
 
 pub returns-else-number-lt4294967296-clause-none : goal.returns-else-number-lt4294967296-clause-none
 returns-else-number-lt4294967296-clause-none c n lt spelled =
