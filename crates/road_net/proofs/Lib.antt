@@ -4,6 +4,8 @@ pub mod Causes
 pub mod Ends
 pub mod FirstFaults
 pub mod Joining
+pub mod NamedLaws
+pub mod ReadingLaws
 pub mod Served
 pub mod Apart
 pub mod Everywhere

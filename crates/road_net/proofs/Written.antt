@@ -2,8 +2,8 @@
 use Rattle.std.proofs.Common.{◌≡◌, ℕ, List}
 use Rattle.net_draft.specs.declared.drafts.Draft.{Draft}
 use Rattle.net_numbers.specs.Numbers.{Net}
-use Rattle.net_names.specs.ByNames.{draft_by_names}
-use Rattle.net_names.proofs.NamedLaws.{named}
+use Rattle.road_net.specs.ByNames.{draft_by_names}
+use Rattle.road_net.proofs.NamedLaws.{named}
 use Rattle.net_text.specs.Written.{IsTextOfDraft}
 use Rattle.road_net.specs.Network.{IsNetwork, IsNetworkOf}
 use Rattle.road_net.specs.Upgrade.{IsUpgraded}

@@ -13,6 +13,7 @@ ghost use Rattle.road_net.specs.Network.{IsNetworkOf, IsNetworkText, IsCause};
 ghost use Rattle.road_net.specs.Stored.{IsStored, Drafts, Joins, Links, Passes};
 ghost use Rattle.road_net.specs.Upgrade.{IsUpgraded};
 
+mod by_names;
 mod joins;
 mod senses;
 mod splits;
@@ -363,6 +364,6 @@ fn parse_draft(alloc: Global, bytes: &[u8]) -> Result<Draft, NetFault>
 pub fn write_network(alloc: Global, net: &Network) -> Result<Vec<u8>, AllocError>
     ensures { IfOk result (λ bytes. IsUpgraded bytes.items net.now) }
 {
-    let draft = net_names::draft_by_names(alloc, &net.parts)?;
+    let draft = by_names::draft_by_names(alloc, &net.parts)?;
     net_text::draft_text(alloc, &draft)
 }

@@ -1,9 +1,9 @@
 use Rattle.std.proofs.Common.{◌≡◌, ◌<◌, [], length, get_or, map, ap, ◌∙◌, arith}
 use Rattle.std.proofs.lemmas.List.{get_or_default}
 use Rattle.std.proofs.lemmas.List.FromFn.{map-range_with_len_more}
-use Rattle.net_names.specs.ByNames as spec
-use Rattle.net_names.specs.ByNames.{name_in}
-use Rattle.net_names.proofs.phases_by_names.Goals as goal
+use Rattle.road_net.specs.ByNames as spec
+use Rattle.road_net.specs.ByNames.{name_in}
+use Rattle.road_net.proofs.by_names.phases_by_names.Goals as goal
 
 pub loop-k-preserved : goal.loop-k-preserved
 loop-k-preserved c =

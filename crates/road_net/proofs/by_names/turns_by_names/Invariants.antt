@@ -1,6 +1,6 @@
 use Rattle.std.proofs.Common.{◌≡◌, map, take}
-use Rattle.net_names.specs.ByNames as spec
-use Rattle.net_names.proofs.turns_by_names.Given as goal
+use Rattle.road_net.specs.ByNames as spec
+use Rattle.road_net.proofs.by_names.turns_by_names.Given as goal
 
 -- the drafts are those of the turns so far
 abbrev pub invariant-loop-turn : goal.invariant-loop-turn

@@ -15,8 +15,8 @@ use Rattle.net_numbers.specs.Numbers.{Net, AreDistinct, no_link, number_of, numb
 use Rattle.net_numbers.specs.Outline.{IsOutline, IsLink, AreTurns, ArePhaseLinks, link_at, turns_at, plan_at, phases_at}
 use Rattle.net_numbers.specs.Parts.{IsNetOf}
 use Rattle.net_numbers.proofs.DraftParts.{IsNumbered, number_of-own}
-use Rattle.net_names.specs.ByNames.{name_in, AreNumbers, phase_by_names, node_by_names, turn_by_names, link_by_names, conflict_by_names, draft_by_names}
-use Rattle.net_names.proofs.ReadingLaws.{each-range, each-own, map-range, All-range, count_by-map}
+use Rattle.road_net.specs.ByNames.{name_in, AreNumbers, phase_by_names, node_by_names, turn_by_names, link_by_names, conflict_by_names, draft_by_names}
+use Rattle.road_net.proofs.ReadingLaws.{each-range, each-own, map-range, All-range, count_by-map}
 
 module _ (names : List (List ℕ)) (differ : AreDistinct names) where
   -- numbers by their names

@@ -1,6 +1,6 @@
 use Rattle.std.proofs.Common.{◌≡◌, map, take}
-use Rattle.net_names.specs.ByNames as spec
-use Rattle.net_names.proofs.conflicts_by_names.Given as goal
+use Rattle.road_net.specs.ByNames as spec
+use Rattle.road_net.proofs.by_names.conflicts_by_names.Given as goal
 
 -- the drafts are those of the conflicts so far
 abbrev pub invariant-loop-conflict : goal.invariant-loop-conflict

@@ -1,6 +1,6 @@
 use Rattle.std.proofs.Common.{◌≡◌, map, take}
-use Rattle.net_names.specs.ByNames.{name_in}
-use Rattle.net_names.proofs.names_of.Given as goal
+use Rattle.road_net.specs.ByNames.{name_in}
+use Rattle.road_net.proofs.by_names.names_of.Given as goal
 
 -- the texts are the names of the numbers so far
 abbrev pub invariant-loop-number : goal.invariant-loop-number

@@ -1,4 +1,4 @@
--- The draft of a network by numbers.
+-- The draft of a network by numbers. No public clause names these definitions.
 use Rattle.std.specs.Prelude.{ℕ, ◌<◌, List, [], length, map, option_map, slice_index_or, All}
 use Rattle.std.specs.List.{range_with_len}
 use Rattle.phase_plan.specs.declared.Phase.{Phase}

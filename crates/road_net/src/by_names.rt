@@ -1,13 +1,11 @@
 //! The draft of a network by numbers: names stand for its numbers again.
-#![tactic(auto)]
-
 ghost use Rattle.std.specs.Prelude.{◌≡◌, ◌<◌, IfOk, IfSome, All, length, map, option_map};
 ghost use Rattle.std.specs.List.{range_with_len};
 ghost use Rattle.net_numbers.specs.Numbers.{Net};
 ghost use Rattle.net_numbers.specs.Outline.{IsOutline, link_at, plan_at, phases_at};
 ghost use Rattle.net_numbers.specs.Parts.{net_of};
-ghost use Rattle.net_names.specs.ByNames as spec;
-ghost use Rattle.net_names.specs.ByNames.{name_in, AreNumbers};
+ghost use Rattle.road_net.specs.ByNames as spec;
+ghost use Rattle.road_net.specs.ByNames.{name_in, AreNumbers};
 
 use foundation::items::Items;
 use foundation::text::Text;
@@ -17,10 +15,8 @@ use phase_plan::Phase;
 use std::alloc::{AllocError, Global};
 
 /// The draft that has the names of the network for its numbers, and every mark and weight. `Err`: out of memory.
-///
-/// docs/RULES.md, "Road network".
 #[tactic(auto, unfolding(crate::specs::ByNames::draft_by_names))]
-pub fn draft_by_names(alloc: Global, parts: &Parts) -> Result<Draft, AllocError>
+pub(crate) fn draft_by_names(alloc: Global, parts: &Parts) -> Result<Draft, AllocError>
     requires { IsOutline (net_of parts.now) }
     ensures { IfOk result (λ draft. draft ≡ spec.draft_by_names (net_of parts.now)) }
 {

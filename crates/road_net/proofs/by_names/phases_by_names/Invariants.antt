@@ -1,7 +1,7 @@
 use Rattle.std.proofs.Common.{◌≡◌, map}
 use Rattle.std.specs.List.{range_with_len}
-use Rattle.net_names.specs.ByNames as spec
-use Rattle.net_names.proofs.phases_by_names.Given as goal
+use Rattle.road_net.specs.ByNames as spec
+use Rattle.road_net.proofs.by_names.phases_by_names.Given as goal
 
 -- the phases so far
 abbrev pub invariant-loop-k : goal.invariant-loop-k

@@ -1,8 +1,8 @@
 use Rattle.std.proofs.Common.{◌≡◌, map}
 use Rattle.std.specs.List.{range_with_len}
-use Rattle.net_names.specs.ByNames as spec
+use Rattle.road_net.specs.ByNames as spec
 use Rattle.net_numbers.specs.Parts.{net_of}
-use Rattle.net_names.proofs.links_by_names.Given as goal
+use Rattle.road_net.proofs.by_names.links_by_names.Given as goal
 
 -- the links so far
 abbrev pub invariant-loop-l : goal.invariant-loop-l
