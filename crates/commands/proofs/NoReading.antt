@@ -1,6 +1,6 @@
 -- A fault other than `NoMemory` says that a text is read as nothing of its kind.
 use Rattle.std.proofs.Common.{◌≢◌, refl}
-use Rattle.net_draft.specs.Faults.{Unless}
+use Rattle.net_tables.specs.Faults.{Unless}
 use Rattle.net_draft.specs.declared.faults.NetFault.{NetFault}
 use Rattle.net_draft.specs.declared.faults.NetFault.TheVariants as net
 use Rattle.arrivals.specs.Faults as arrivals

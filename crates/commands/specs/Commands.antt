@@ -19,7 +19,7 @@ use Rattle.net_numbers.specs.Numbers.{number_of}
 use Rattle.net_simulator.specs.Sums.{end_of_run}
 use Rattle.net_simulator.specs.Worlds.{line_in}
 use Rattle.queue_series.specs.Series.{IsSeries}
-use Rattle.road_net.specs.Upgrade.{IsUpgraded}
+use Rattle.net_file.specs.Upgrade.{IsUpgraded}
 use Rattle.runs.specs.Runs.{arriving_by}
 use Rattle.scenario_gen.specs.Grids.{AreRounds}
 use Rattle.scenario_gen.specs.Layout.{IsSide}

@@ -8,7 +8,7 @@ use Rattle.dp_certificate.specs.Certificates.{Claim, IsCertificate}
 use Rattle.certificate_form.specs.Answers as cert
 use Rattle.net_draft.specs.declared.faults.NetFault.TheVariants as net
 use Rattle.net_numbers.specs.Numbers.{Net}
-use Rattle.road_net.specs.Network.{IsCause, IsNetworkText}
+use Rattle.net_file.specs.NetworkText.{IsCause, IsNetworkText}
 use Rattle.arrivals.specs.Amounts.{Amounts, entering}
 use Rattle.arrivals.specs.Texts as arrivals
 use Rattle.arrivals.specs.Texts.{IsArrivalText}

@@ -1,12 +1,8 @@
-//! The road network file: what is in it, by names, and how it is read.
+//! A road network by names, as it stands in its file, and the faults of such files.
 #![tactic(auto)]
 
 mod drafts;
 mod faults;
-mod forms;
-mod tables;
-mod values;
 
 pub use drafts::{Draft, DraftConflict, DraftLink, DraftNode, DraftPhase, DraftTurn, Run};
 pub use faults::{NetFault, Place, Section};
-pub use tables::{has_known_version, read_draft};

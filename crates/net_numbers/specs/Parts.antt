@@ -1,7 +1,7 @@
 -- The network of a draft by numbers, and what the fields of the code stand for.
 use Rattle.std.specs.Prelude.{◌≡◌, Some}
 use Rattle.net_draft.specs.declared.drafts.Draft.{Draft}
-use Rattle.net_numbers.specs.declared.numbering.Parts.{Parts}
+use Rattle.net_numbers.specs.declared.parts.Parts.{Parts}
 use Rattle.net_numbers.specs.Numbers.{Net, AreDistinct, numbered, node_names, link_names}
 
 -- the parts as a network

@@ -6,7 +6,7 @@ use Rattle.toml.specs.View.{view, items_view}
 use Rattle.toml.specs.declared.value.Value.{Value}
 use Rattle.toml.proofs.Views.{items_view-push}
 use Rattle.foundation.proofs.EachLaws.{each-push}
-use Rattle.net_draft.specs.Table.{list_of}
+use Rattle.net_tables.specs.Table.{list_of}
 use Rattle.net_text.specs.Written.{IsDataOf, AreItemsOf, HasItems, HasItemsIfAny}
 
 list_of-push : (ds : Items) (d : Data) → list_of (push_item ds d) ≡ list_of ds ++ d ∷ []

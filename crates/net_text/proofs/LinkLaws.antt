@@ -2,7 +2,7 @@
 use Rattle.std.proofs.Common.{◌≡◌, ℕ, ◌≤◌, codes, pos, true, List, Option, Some, None, option_map, refl, sym, subst, arith}
 use Rattle.toml.specs.Data.{Items, Members, no_members, integer, string, array, table, items_depth}
 use Rattle.net_draft.specs.declared.drafts.DraftLink.{DraftLink}
-use Rattle.net_draft.specs.Table.{LinkForm, only, number_at, text_at, optional_text_at, weight_at, optional_list_at, list_of, field_of, link_keys, link_form, link_of, turn_of}
+use Rattle.net_tables.specs.Table.{LinkForm, only, number_at, text_at, optional_text_at, weight_at, optional_list_at, list_of, field_of, link_keys, link_form, link_of, turn_of}
 use Rattle.net_text.specs.Members.{with_member, with_optional}
 use Rattle.net_text.specs.Written.{IsDataOf, IsFilledWith, HasNumber, HasItemsIfAny, items_if}
 use Rattle.net_text.proofs.PhaseLaws.{field-fits}

@@ -3,7 +3,7 @@ use Rattle.std.proofs.Common.{◌≡◌, ℕ, ◌<◌, ◌≤◌, ◌^◌, codes
 use Rattle.toml.specs.Data.{Items, Members, no_members, member, integer, boolean, array, table, as_str, items_depth}
 use Rattle.phase_plan.specs.declared.Phase.{Phase}
 use Rattle.net_draft.specs.declared.drafts.DraftPhase.{DraftPhase}
-use Rattle.net_draft.specs.Table.{field_of, only, number_at, flag_at, list_at, phase_keys, phase_form, phase_of}
+use Rattle.net_tables.specs.Table.{field_of, only, number_at, flag_at, list_at, phase_keys, phase_form, phase_of}
 use Rattle.net_text.specs.Members.{with_member}
 use Rattle.net_text.specs.Written.{IsDataOf, IsFilledWith, AreItemsOf, HasNumber, HasItems}
 

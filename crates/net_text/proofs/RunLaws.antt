@@ -2,7 +2,7 @@
 use Rattle.std.proofs.Common.{◌≡◌, ℕ, ◌<◌, ◌^◌, Bool, true, false, codes, pos, Option, Some, None, IfSome, option_map, refl, sym, ap, subst, arith}
 use Rattle.toml.specs.Data.{Members, no_members, member, integer, table}
 use Rattle.net_draft.specs.declared.drafts.Run.{Run}
-use Rattle.net_draft.specs.Table.{field_of, only, number_at, flag_at, optional_number_at, run_keys, run_of}
+use Rattle.net_tables.specs.Table.{field_of, only, number_at, flag_at, optional_number_at, run_keys, run_of}
 use Rattle.net_text.specs.Members.{with_optional}
 use Rattle.net_text.specs.Written.{IsDataOf, IsFilledWith, HasNumber, HasNumberIf, HasFlagIfTrue, flag_data, run_in}
 use Rattle.net_text.proofs.PhaseLaws.{field-fits}

@@ -4,7 +4,7 @@ use Rattle.toml.specs.Data.{Members, no_members, member, integer, string, array,
 use Rattle.net_draft.specs.declared.drafts.DraftNode.{DraftNode}
 use Rattle.net_draft.specs.declared.drafts.DraftTurn.{DraftTurn}
 use Rattle.net_draft.specs.declared.drafts.DraftConflict.{DraftConflict}
-use Rattle.net_draft.specs.Table.{only, number_at, text_at, list_at, phase_of, node_form, node_of, turn_of, conflict_of}
+use Rattle.net_tables.specs.Table.{only, number_at, text_at, list_at, phase_of, node_form, node_of, turn_of, conflict_of}
 use Rattle.net_text.specs.Members.{with_member}
 use Rattle.net_text.specs.Written.{IsDataOf, IsFilledWith, HasNumber, HasItems}
 use Rattle.net_text.proofs.PhaseLaws.{field-fits}

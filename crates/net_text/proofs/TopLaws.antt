@@ -8,7 +8,7 @@ use Rattle.foundation.proofs.ResultLaws.{same_Ok}
 use Rattle.toml.specs.Parse.{parse_document}
 use Rattle.toml.specs.Data.{Data, Items, Members, no_members, integer, array, as_table, get_member, depth, items_depth, members_depth}
 use Rattle.net_draft.specs.declared.drafts.Draft.{Draft}
-use Rattle.net_draft.specs.Table.{only, table_at, list_at, optional_number_at, optional_list_at, list_of, run_of, node_of, link_of, conflict_of, top_form, draft_of}
+use Rattle.net_tables.specs.Table.{only, table_at, list_at, optional_number_at, optional_list_at, list_of, run_of, node_of, link_of, conflict_of, top_form, draft_of}
 use Rattle.net_text.specs.Members.{with_member, with_optional}
 use Rattle.net_text.specs.Written.{AreMembersOf, HasNumber, HasData, HasItems, HasItemsIfAny, IsPrinted, items_if, run_in}
 

@@ -3,7 +3,7 @@ use Rattle.std.specs.Prelude.{◌≡◌, ℕ, ◌^◌, ◌<◌, ◌≤◌, Bool,
 use Rattle.toml.specs.Data.{Data, Items, no_items, Members, no_members, integer, boolean, string, array, table, as_table, depth, items_depth, members_depth, get_member}
 use Rattle.toml.specs.Parse.{parse_document}
 use Rattle.foundation.specs.Options.{◌>>=◌, each}
-use Rattle.net_draft.specs.Table.{list_of, run_of, draft_of, HasKnownVersion}
+use Rattle.net_tables.specs.Table.{list_of, run_of, draft_of, HasKnownVersion}
 use Rattle.net_draft.specs.declared.drafts.Run.{Run}
 use Rattle.net_draft.specs.declared.drafts.Draft.{Draft}
 use Rattle.net_text.specs.Members.{with_member, with_optional}

@@ -2,7 +2,7 @@
 ghost use Rattle.std.specs.Prelude.{ℕ, true, Option, OnOk, IfOk};
 ghost use Rattle.toml.specs.Data.{Data, as_str};
 ghost use Rattle.toml.specs.View.{view, table_view, items_view};
-ghost use Rattle.net_draft.specs.Table as spec;
+ghost use Rattle.net_tables.specs.Table as spec;
 ghost use Rattle.net_text.specs.Written.{IsDataOf, IsFilledWith, AreItemsOf, HasData, HasItems, HasItemsIfAny, run_in};
 
 use crate::puts::{

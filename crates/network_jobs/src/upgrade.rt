@@ -5,7 +5,7 @@ ghost use Rattle.commands.specs.Outcome.{Outcome};
 
 use commands::{Made, Refusal, Status, TextPlace, end, fetch_network};
 use outside_world::{Shelf, Sink};
-use road_net::write_network;
+use net_file::write_network;
 use std::alloc::Global;
 
 // The network in a file, as a file of version 2.

@@ -8,15 +8,15 @@ use Rattle.net_draft.specs.declared.faults.NetFault.TheVariants.{NoMemory, Ends,
 use Rattle.net_numbers.specs.declared.roads.Link.{Link}
 use Rattle.net_numbers.specs.declared.roads.Turn.{Turn}
 use Rattle.net_numbers.specs.Numbers.{Net, no_link}
-use Rattle.net_numbers.specs.declared.numbering.Parts.{Parts}
+use Rattle.net_numbers.specs.declared.parts.Parts.{Parts}
 use Rattle.net_numbers.specs.FirstFaults.{Refuses}
 use Rattle.net_numbers.specs.Parts.{net_of}
 use Rattle.road_net.specs.declared.NodeLinks.{NodeLinks}
 use Rattle.road_net.specs.FirstFaults.{IsJoinFault}
 use Rattle.road_net.specs.Stored.{TestsEach, clash_at, HasFewAt}
 use Rattle.road_net.specs.Joins.{HasEnds, HasEndsAt, HaveFewEntries, AreByNode, HasSharesAt, AreShared, IsPhasedAt, ArePhased, conflict_at, IsConflict, IsConflictAt}
-use Rattle.road_net.specs.Network.{IsJoined}
-use Rattle.road_net.specs.Stored.{Joins, Links, Passes}
+use Rattle.road_net.specs.Network.{IsJoined, Joins}
+use Rattle.road_net.specs.Stored.{Links, Passes}
 use Rattle.road_net.specs.declared.joins.Side.TheVariants.{To}
 use Rattle.road_net.proofs.Joining.{few-entries, crowded}
 

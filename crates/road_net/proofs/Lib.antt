@@ -1,11 +1,7 @@
 pub mod AtSide
-pub mod Building
-pub mod Causes
 pub mod Ends
 pub mod FirstFaults
 pub mod Joining
-pub mod NamedLaws
-pub mod ReadingLaws
 pub mod Served
 pub mod Apart
 pub mod Everywhere
@@ -13,4 +9,3 @@ pub mod PartsAtMost
 pub mod Serving
 pub mod Shares
 pub mod TotalLaws
-pub mod Written

@@ -1,21 +1,14 @@
--- Which network a draft and a text stand for, and what is true of every network.
-use Rattle.std.specs.Prelude.{◌≡◌, ◌≢◌, ℕ, ◌+◌, ◌<◌, ◌≤◌, ◌⊎◌, List, Some, IsSome, IsUtf8, length, filter, is_some, slice_index, All, AllPairs, Contains, None}
-use Rattle.toml.specs.Data.{Members}
-use Rattle.toml.specs.Parse.{parse_document}
-use Rattle.net_draft.specs.Table.{draft_of, HasKnownVersion}
-use Rattle.net_draft.specs.FirstShape.{IsShapeFault}
-use Rattle.net_draft.specs.declared.faults.Place.{Place}
-use Rattle.net_draft.specs.declared.faults.Section.TheVariants.{Top}
+-- Which network a draft stands for, and what is true of every network.
+use Rattle.std.specs.Prelude.{◌≡◌, ◌≢◌, ℕ, ◌+◌, ◌<◌, ◌≤◌, List, Some, Result, Ok, Err, length, filter, is_some, slice_index, All, AllPairs, Contains}
 use Rattle.net_draft.specs.declared.drafts.Draft.{Draft}
-use Rattle.net_draft.specs.declared.faults.NetFault.{NetFault}
-use Rattle.net_draft.specs.declared.faults.NetFault.TheVariants.{NoMemory, NotToml, Shape, Bound}
 use Rattle.road_net.specs.declared.joins.Side.TheVariants.{From, To}
 use Rattle.net_numbers.specs.Bounds.{IsBounded}
 use Rattle.net_numbers.specs.Numbers.{Net, AreDistinct, numbered, node_names, link_names}
 use Rattle.net_numbers.specs.Outline.{IsOutline, link_at, plan_at, phase_links_at}
-use Rattle.road_net.specs.FirstFaults.{IsDraftFault}
 use Rattle.road_net.specs.Joins as joins
 use Rattle.road_net.specs.Joins.{HasEnds, HaveFewEntries, AreShared, ArePhased, IsConflict}
+use Rattle.net_draft.specs.declared.faults.NetFault.{NetFault}
+use Rattle.net_numbers.specs.FirstFaults.{Refuses}
 
 -- How the parts of a network by numbers have to be joined, in the order in which it is tested.
 pub record IsJoined (net : Net) : Type 0 where
@@ -25,6 +18,11 @@ pub record IsJoined (net : Net) : Type 0 where
   pub phases : ArePhased net.links net.phase_links
   pub conflicts : All (IsConflict net.links) net.conflicts
 
+-- the network is that of the parts, where they are joined as they have to be
+abbrev pub Joins : Net → Result Net NetFault → Type 0
+Joins net (Ok network) = (network ≡ net) × IsJoined net
+Joins net (Err fault) = Refuses fault (¬ IsJoined net)
+
 -- The network of a draft, in the order in which it is tested: the draft is within its bounds, no two nodes and no two
 -- links have one name, the network is the draft with numbers for names, and its parts are joined as they have to be.
 pub record IsNetworkOf (d : Draft) (net : Net) : Type 0 where
@@ -33,54 +31,6 @@ pub record IsNetworkOf (d : Draft) (net : Net) : Type 0 where
   pub link_names : AreDistinct (link_names d)
   pub numbers : numbered d ≡ Some net
   pub joins : IsJoined net
-
--- the draft of a text: it is TOML, and its table stands for the draft and says no version but one that is known
-pub record IsDraftText (bytes : List ℕ) (draft : Draft) : Type 0 where
-  pub utf8 : IsUtf8 bytes
-  pub table : Members
-  pub toml : parse_document bytes ≡ Some table
-  pub form : draft_of table ≡ Some draft
-  pub version : HasKnownVersion table
-
--- the network of a text is that of its draft
-pub record IsNetworkText (bytes : List ℕ) (net : Net) : Type 0 where
-  pub draft : Draft
-  pub text : IsDraftText bytes draft
-  pub network : IsNetworkOf draft net
-
--- a text that is TOML, and whose table stands for no draft: the table at this place is the first at fault
-pub record HasNoDraft (bytes : List ℕ) (place : Place) : Type 0 where
-  pub utf8 : IsUtf8 bytes
-  pub table : Members
-  pub toml : parse_document bytes ≡ Some table
-  pub form : draft_of table ≡ None
-  pub first : IsShapeFault table place.part place.item place.sub
-
--- a text that is TOML, and whose table stands for a draft and says another version: this is a bound of the whole table, and
--- comes before those of the draft
-pub record HasOtherVersion (bytes : List ℕ) (place : Place) : Type 0 where
-  pub utf8 : IsUtf8 bytes
-  pub table : Members
-  pub toml : parse_document bytes ≡ Some table
-  pub form : IsSome (draft_of table)
-  pub version : ¬ HasKnownVersion table
-  pub first : place ≡ record { part = Top; item = 0; sub = 0 }
-
--- a text that has a draft, which stands for no network and has this fault
-pub record HasNoNetwork (bytes : List ℕ) (fault : NetFault) : Type 0 where
-  pub draft : Draft
-  pub text : IsDraftText bytes draft
-  pub network : (net : Net) → ¬ IsNetworkOf draft net
-  pub first : IsDraftFault draft fault
-
--- Why a text is refused: it is no UTF-8 or no TOML, or its table stands for no draft or says another version, or its draft
--- stands for no network.
-abbrev pub IsCause : List ℕ → NetFault → Type 0
-IsCause bytes NoMemory = Unit {0}
-IsCause bytes NotToml = IsUtf8 bytes → parse_document bytes ≡ None
-IsCause bytes (Shape place) = HasNoDraft bytes place
-IsCause bytes (Bound place) = HasOtherVersion bytes place ⊎ HasNoNetwork bytes (Bound place)
-IsCause bytes fault = HasNoNetwork bytes fault
 
 -- the links that end at a node, rising
 abbrev pub entry_links : Net → ℕ → List ℕ

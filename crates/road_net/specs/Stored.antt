@@ -1,19 +1,16 @@
 -- What the fields of the code stand for, and what its steps answer. No public clause names these words.
-use Rattle.std.specs.Prelude.{◌≡◌, ℕ, ◌<◌, ◌≤◌, List, [], None, Result, Ok, Err, IsUtf8, length, slice_index_or}
+use Rattle.std.specs.Prelude.{◌≡◌, ℕ, ◌<◌, ◌≤◌, List, [], Result, Ok, Err, length, slice_index_or}
 use Rattle.foundation.specs.Firsts.{IsFirstWithout}
-use Rattle.toml.specs.Parse.{parse_document}
 use Rattle.net_draft.specs.declared.faults.NetFault.{NetFault}
-use Rattle.net_draft.specs.declared.faults.NetFault.TheVariants.{NoMemory, NotToml, Shape, Bound, Clash}
-use Rattle.net_draft.specs.declared.drafts.Draft.{Draft}
-use Rattle.net_numbers.specs.declared.numbering.Parts.{Parts}
+use Rattle.net_draft.specs.declared.faults.NetFault.TheVariants.{NoMemory, Clash}
+use Rattle.net_numbers.specs.declared.parts.Parts.{Parts}
 use Rattle.road_net.specs.declared.NodeLinks.{NodeLinks}
 use Rattle.road_net.specs.declared.joins.Side.TheVariants.{From, To}
-use Rattle.net_numbers.specs.FirstFaults.{Refuses}
 use Rattle.net_numbers.specs.Numbers.{Net}
 use Rattle.net_numbers.specs.Parts.{net_of}
 use Rattle.road_net.specs.FirstFaults.{IsJoinFault}
 use Rattle.road_net.specs.Joins.{AreByNode, conflict_at}
-use Rattle.road_net.specs.Network.{IsNetwork, IsJoined, IsDraftText, HasNoDraft, HasOtherVersion}
+use Rattle.road_net.specs.Network.{IsNetwork, IsJoined}
 
 -- a network with the lists of links of each node
 pub record IsStored (parts : Parts) (entry_links exit_links : List (List ℕ)) : Type 0 where
@@ -30,20 +27,6 @@ Links parts (Err fault) = IsJoinFault (net_of parts) fault
 abbrev pub Passes : Net → Result (Unit {0}) NetFault → Type 0
 Passes net (Ok _) = IsJoined net
 Passes net (Err fault) = IsJoinFault net fault
-
--- the network is that of the parts, where they are joined as they have to be
-abbrev pub Joins : Net → Result Net NetFault → Type 0
-Joins net (Ok network) = (network ≡ net) × IsJoined net
-Joins net (Err fault) = Refuses fault (¬ IsJoined net)
-
--- the draft is that of the text; a fault says why it has none
-abbrev pub Drafts : List ℕ → Result Draft NetFault → Type 0
-Drafts bytes (Ok draft) = IsDraftText bytes draft
-Drafts bytes (Err NoMemory) = Unit {0}
-Drafts bytes (Err NotToml) = IsUtf8 bytes → parse_document bytes ≡ None
-Drafts bytes (Err (Shape place)) = HasNoDraft bytes place
-Drafts bytes (Err (Bound place)) = HasOtherVersion bytes place
-Drafts bytes (Err _) = ⊥
 
 -- A test of all numbers below the count answers Ok where the fact holds of each. A fault is out of memory, or the one that
 -- names the first number of which the fact does not hold.

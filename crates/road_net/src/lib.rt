@@ -1,19 +1,14 @@
 //! The road network: nodes with signals, links between them, and how vehicles turn from link to link.
 #![tactic(auto)]
 
-ghost use Rattle.std.specs.Prelude.{◌≡◌, ℕ, ◌<◌, ◌^◌, IfOk, IfErr, length};
-ghost use Rattle.net_draft.specs.Faults.{Unless};
-ghost use Rattle.net_numbers.specs.Numbers.{Net};
-ghost use Rattle.net_numbers.specs.FirstFaults.{Refuses};
+ghost use Rattle.std.specs.Prelude.{◌≡◌, ℕ, ◌<◌, IfErr, length};
 ghost use Rattle.net_numbers.specs.Outline.{IsOutline};
 ghost use Rattle.net_numbers.specs.Parts.{net_of};
-ghost use Rattle.road_net.specs.FirstFaults.{IsJoinFault, IsDraftFault};
+ghost use Rattle.road_net.specs.FirstFaults.{IsJoinFault};
 ghost use Rattle.road_net.specs.Joins.{AreByNode, HasEndsAt};
-ghost use Rattle.road_net.specs.Network.{IsNetworkOf, IsNetworkText, IsCause};
-ghost use Rattle.road_net.specs.Stored.{IsStored, Drafts, Joins, Links, Passes};
-ghost use Rattle.road_net.specs.Upgrade.{IsUpgraded};
+ghost use Rattle.road_net.specs.Network.{Joins};
+ghost use Rattle.road_net.specs.Stored.{IsStored, Links, Passes};
 
-mod by_names;
 mod joins;
 mod senses;
 mod splits;
@@ -25,12 +20,12 @@ pub use net_draft::{
     Draft, DraftConflict, DraftLink, DraftNode, DraftPhase, DraftTurn, NetFault, Place, Run,
     Section,
 };
-use net_numbers::{Parts, check_bounds, number_draft};
+use net_numbers::Parts;
 pub use net_numbers::{Link, Turn};
 use phase_plan::PhasePlan;
 pub use senses::{LinkSense, Sensed};
 pub use splits::{law_of_parts, part_of_turn};
-use std::alloc::{AllocError, Global};
+use std::alloc::Global;
 use std::marker::Model;
 
 /// A valid road network. Its nodes and links are numbered from 0 in the order of its file.
@@ -61,10 +56,19 @@ impl CrossesThreads for Network {}
 impl Network {
     ghost use Rattle.std.specs.Prelude.{◌≡◌, ◌≤◌, ◌<◌, ◌↔◌, Some, IsSome, IsNone, IfSome, Contains, sum_by, slice_get, length};
     ghost use Rattle.net_numbers.specs.Numbers.{number_of};
+    ghost use Rattle.net_numbers.specs.Parts.{net_of};
     ghost use Rattle.road_net.specs.Joins.{split_of, AreLinksAt, AreParts};
     ghost use Rattle.net_numbers.specs.Outline.{link_at, turns_at, plan_at, phases_at, phase_links_at, node_name_at, link_name_at};
     ghost use Rattle.road_net.specs.Network.{IsNetwork, entry_links, exit_links, AreApart};
     ghost use Rattle.road_net.specs.Totals.{total};
+
+    /// The parts that it was made of.
+    pub fn parts(&self) -> &Parts
+        ensures value { net_of result.now ≡ self.now }
+        ensures network { IsNetwork self.now }
+    {
+        &self.parts
+    }
 
     /// How the network is run.
     ///
@@ -230,28 +234,13 @@ impl Network {
     }
 }
 
-/// The network of a draft.
+/// The network of these parts, where they are joined as they must be.
 ///
-/// The fault is out of memory, or the first that is found when the whole draft is tested for bounds, then for
-/// names that come twice, for unknown names, for the ends of links, for crowded nodes, for shares, for phases
-/// and for conflicts. It is never `NotToml` or `Shape`.
+/// The fault is out of memory, or the first that is found when all parts are tested for the ends of links, then for crowded nodes, for
+/// shares, for phases and for conflicts.
 ///
 /// docs/RULES.md, "Road network".
-pub fn build(alloc: Global, draft: Draft) -> Result<Network, NetFault>
-    ensures ok { IfOk result (IsNetworkOf draft) }
-    ensures refused { IfErr result (λ fault. Refuses fault ((net : Net) → ¬ IsNetworkOf draft net)) }
-    ensures first { IfErr result (IsDraftFault draft) }
-{
-    check_bounds(&draft)?;
-    let parts = number_draft(alloc, &draft)?;
-    join_parts(alloc, parts)
-}
-
-/// The network of these parts, where they are joined as they must be. The fault is that of `node_links`.
-///
-/// The parts are tested by reference and become part of the network after all tests, since the proof of a function that
-/// owns them goes over all that they hold at each way out of it.
-fn join_parts(alloc: Global, parts: Parts) -> Result<Network, NetFault>
+pub fn join_parts(alloc: Global, parts: Parts) -> Result<Network, NetFault>
     requires { IsOutline (net_of parts) }
     ensures joins { Joins (net_of parts) result }
     ensures first { IfErr result (IsJoinFault (net_of parts)) }
@@ -309,61 +298,4 @@ fn check_joins(alloc: Global, parts: &Parts, entry: &[Items<u32>]) -> Result<(),
     joins::check_shares(links, parts.turns.as_slice())?;
     joins::check_phases(alloc, links, parts.phase_links.as_slice())?;
     joins::check_conflicts(links, parts.conflicts.as_slice())
-}
-
-/// The network of a text, which is read as TOML. The text has fewer than 2^32 bytes.
-///
-/// The fault is out of memory, `NotToml` where the text is no UTF-8 or no TOML, `Shape` of the first table that has
-/// not the form of its place, `Bound` of the whole table where it says a version other than 2, and else that of
-/// `build`.
-///
-/// docs/FORMATS.md, "Network file".
-pub fn read_network(alloc: Global, bytes: &[u8]) -> Result<Network, NetFault>
-    requires { length bytes.now < 2 ^ 32 }
-    ensures ok { IfOk result (IsNetworkText bytes.now) }
-    ensures refused { IfErr result (λ fault. Unless fault ((net : Net) → ¬ IsNetworkText bytes.now net)) }
-    ensures first { IfErr result (IsCause bytes.now) }
-{
-    let draft = parse_draft(alloc, bytes)?;
-    build(alloc, draft)
-}
-
-/// A version that is not known is a bound of the table of the whole file.
-const OTHER_VERSION: NetFault = NetFault::Bound(Place {
-    part: Section::Top,
-    item: 0,
-    sub: 0,
-});
-
-/// The draft of a text. The text's table is given back before the network is built.
-fn parse_draft(alloc: Global, bytes: &[u8]) -> Result<Draft, NetFault>
-    requires { length bytes.now < 2 ^ 32 }
-    ensures { Drafts bytes.now result }
-{
-    let table = match toml::de::table_from_slice(alloc, bytes) {
-        Ok(table) => table,
-        Err(error) => {
-            if error.is_memory() {
-                return Err(NetFault::NoMemory);
-            }
-            return Err(NetFault::NotToml);
-        }
-    };
-    let draft = net_draft::read_draft(alloc, &table)?;
-    if !net_draft::has_known_version(&table) {
-        return Err(OTHER_VERSION);
-    }
-    Ok(draft)
-}
-
-/// The network file of a network, of version 2: it has every mark and weight, and of what else may be absent `split`
-/// where it is true, `age`, `hold` and the ends of links where the network has them, and an array where it is not
-/// empty. What is read from it is this very network, with the same value of every accessor. `Err`: out of memory.
-///
-/// docs/FORMATS.md, "Network file".
-pub fn write_network(alloc: Global, net: &Network) -> Result<Vec<u8>, AllocError>
-    ensures { IfOk result (λ bytes. IsUpgraded bytes.items net.now) }
-{
-    let draft = by_names::draft_by_names(alloc, &net.parts)?;
-    net_text::draft_text(alloc, &draft)
 }

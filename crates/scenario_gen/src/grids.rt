@@ -10,7 +10,8 @@ ghost use Rattle.scenario_gen.specs.Layout.{IsSide};
 use crate::drafting::draft;
 use crate::drawing::rows;
 use arrivals::{Arrivals, RowFault};
-use road_net::{NetFault, Network, build};
+use net_build::build;
+use road_net::{NetFault, Network};
 use std::alloc::{AllocError, Global};
 
 /// A square grid, made from a number: a network with `side` nodes a side, 2 to 8, for `rounds` rounds, 1 to 600, and what

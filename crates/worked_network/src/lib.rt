@@ -1,7 +1,8 @@
 //! The worked network of docs/FORMATS.md for tests: its text, what enters it, and the network itself.
 #![tactic(auto)]
 
-use road_net::{NetFault, Network, read_network};
+use net_file::read_network;
+use road_net::{NetFault, Network};
 use std::alloc::{AllocError, Global};
 
 /// Two nodes, a 0 and b 1, for four rounds. The links by number: sa 0 enters at a, ab 1 leads from a to b and ba 2 back, sb 3 enters

@@ -1,7 +1,8 @@
 //! How amounts are split among the turns of a link.
 ghost use Rattle.std.specs.Prelude.{◌<◌, length};
 
-use road_net::{Network, read_network};
+use net_file::read_network;
+use road_net::Network;
 use std::alloc::Global;
 use std::test::Fail;
 use worked_network::NETWORK;

@@ -1,7 +1,8 @@
 //! What is written of a network.
 ghost use Rattle.std.specs.Prelude.{◌<◌, length};
 
-use road_net::{Network, read_network, write_network};
+use net_file::{read_network, write_network};
+use road_net::Network;
 use std::test::Fail;
 use worked_network::network;
 

@@ -1,5 +1,5 @@
 use Rattle.std.proofs.Common.{rules, sym, subst, List, ℕ}
-use Rattle.road_net.specs.Network.{IsCause, IsNetworkText}
+use Rattle.net_file.specs.NetworkText.{IsCause, IsNetworkText}
 use Rattle.commands.specs.Texts.{NetworkText}
 use Rattle.commands.specs.declared.bad_texts.BadText.TheVariants.{Network}
 use Rattle.commands.proofs.Fetching.{fetched-bad}

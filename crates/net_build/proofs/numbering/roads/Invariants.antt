@@ -1,0 +1,11 @@
+use Rattle.std.proofs.Common.{◌≡◌, Some, take}
+use Rattle.foundation.specs.Options.{each}
+use Rattle.net_numbers.specs.Numbers.{link_of, turns_of}
+use Rattle.net_build.proofs.numbering.roads.Given as goal
+
+-- the links so far, and the turns of each
+abbrev pub invariant-loop-index : goal.invariant-loop-index
+invariant-loop-index l = record {
+  roads : each (link_of l.names.nodes.now l.names.links.now l.names.phase_links.now) (take l.index l.links) ≡ Some l.roads.items;
+  turns : each (turns_of l.names.links.now) (take l.index l.links) ≡ Some l.lists.items;
+}

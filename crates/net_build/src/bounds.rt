@@ -1,0 +1,184 @@
+//! The bounds of what stands in a draft.
+ghost use Rattle.std.specs.Prelude.{◌≡◌, ◌≤◌, ◌↔◌, OnOk, IfErr, IsTrue, All, length, count_by};
+ghost use Rattle.foundation.specs.Firsts.{IsFirstAt, IsFirstNot, FromOne};
+ghost use Rattle.phase_plan.specs.Phases.{is_unmarked};
+ghost use Rattle.net_build.specs.Outcome.{Checks};
+ghost use Rattle.net_numbers.specs.FirstFaults.{IsNodeFault, IsLinkFault, FailsBounds, Refuses};
+ghost use Rattle.net_numbers.specs.Bounds.{IsNameByte, IsName, IsRun, HasCounts, HasNodeBounds, HasLinkBounds, IsBoundedPhase, IsBoundedNode, IsBoundedTurn, IsBoundedLink, IsBounded};
+
+use net_draft::{
+    Draft, DraftLink, DraftNode, DraftPhase, DraftTurn, NetFault, Place, Run, Section,
+};
+
+/// Tests the bounds of a draft. The fault is `Bound` at the first place where one does not hold.
+///
+/// docs/FORMATS.md, "Places and faults".
+pub fn check_bounds(draft: &Draft) -> Result<(), NetFault>
+    ensures ok { OnOk result (IsBounded draft.now) }
+    ensures refused { IfErr result (λ fault. Refuses fault (¬ IsBounded draft.now)) }
+    ensures first { IfErr result (FailsBounds draft.now) }
+{
+    if !has_counts(draft) {
+        return Err(bound(Section::Top, 0, 0));
+    }
+    if !is_run(&draft.run) {
+        return Err(bound(Section::Run, 0, 0));
+    }
+    check_nodes(draft.nodes.as_slice())?;
+    check_links(draft.links.as_slice())
+}
+
+/// The fault `Bound` at this place.
+fn bound(part: Section, item: u32, sub: u32) -> NetFault
+    ensures { result ≡ NetFault.Bound (record { part = part; item = item; sub = sub }) }
+{
+    NetFault::Bound(Place { part, item, sub })
+}
+
+/// Whether there are as many nodes, links and conflicts as there may be.
+fn has_counts(draft: &Draft) -> bool
+    ensures { IsTrue result ↔ HasCounts draft.now }
+{
+    (1..=64).contains(&draft.nodes.len())
+        && (1..=320).contains(&draft.links.len())
+        && draft.conflicts.len() <= 1024
+}
+
+/// Whether the numbers of the run are within their bounds.
+fn is_run(run: &Run) -> bool
+    ensures { IsTrue result ↔ IsRun run.now }
+{
+    (1..=30).contains(&run.step)
+        && (10..=180).contains(&run.look)
+        && run.step <= run.look
+        && run.gap <= 10
+        && (1..=600).contains(&run.rounds)
+        && run.age.is_none_or(|age| (1..=3600).contains(&age))
+        && run.hold.is_none_or(|hold| (1..=20).contains(&hold))
+}
+
+/// Tests each node, and names the first fault of the first that is out of its bounds.
+fn check_nodes(nodes: &[DraftNode]) -> Result<(), NetFault>
+    requires { length nodes.now ≤ 64 }
+    ensures { Checks (All IsBoundedNode nodes.now)
+        (λ place. FromOne
+        (IsFirstAt IsBoundedNode (λ n. IsNodeFault n place.part place.sub) nodes.now) place.item) result }
+{
+    for (index, node) in nodes.iter().enumerate() {
+        check_node(node, index as u32 + 1)?;
+    }
+    Ok(())
+}
+
+/// Tests a node, and then its phases.
+fn check_node(node: &DraftNode, item: u32) -> Result<(), NetFault>
+    ensures { Checks (IsBoundedNode node.now)
+        (λ place. (place.item ≡ item) × IsNodeFault node.now place.part place.sub) result }
+{
+    if !has_node_bounds(node) {
+        return Err(bound(Section::Node, item, 0));
+    }
+    check_phases(node.phases.as_slice(), item)
+}
+
+/// Whether the name and the number of phases of a node are as they may be, and at least two of them are unmarked.
+fn has_node_bounds(node: &DraftNode) -> bool
+    ensures { IsTrue result ↔ HasNodeBounds node.now }
+{
+    is_name(node.name.as_str())
+        && (2..=4).contains(&node.phases.len())
+        && count_unmarked(node.phases.as_slice()) >= 2
+}
+
+/// How many of the phases are unmarked.
+fn count_unmarked(phases: &[DraftPhase]) -> usize
+    ensures { result ≡ count_by (λ p. is_unmarked p.phase) phases.now }
+{
+    phases.iter().filter(|phase| !phase.phase.skip).count()
+}
+
+/// Tests each phase, and names the first that is out of its bounds.
+fn check_phases(phases: &[DraftPhase], item: u32) -> Result<(), NetFault>
+    requires { length phases.now ≤ 4 }
+    ensures { Checks (All IsBoundedPhase phases.now)
+        (λ place. (place.part ≡ Section.Phase) × (place.item ≡ item)
+        × FromOne (IsFirstNot IsBoundedPhase phases.now) place.sub) result }
+{
+    for (index, phase) in phases.iter().enumerate() {
+        if !is_bounded_phase(phase) {
+            return Err(bound(Section::Phase, item, index as u32 + 1));
+        }
+    }
+    Ok(())
+}
+
+/// Whether the times and the number of links of a phase are as they may be.
+fn is_bounded_phase(phase: &DraftPhase) -> bool
+    ensures { IsTrue result ↔ IsBoundedPhase phase.now }
+{
+    phase.phase.is_within_bounds() && phase.links.len() <= 16
+}
+
+/// Tests each link, and names the first fault of the first that is out of its bounds.
+fn check_links(links: &[DraftLink]) -> Result<(), NetFault>
+    requires { length links.now ≤ 320 }
+    ensures { Checks (All IsBoundedLink links.now)
+        (λ place. FromOne
+        (IsFirstAt IsBoundedLink (λ l. IsLinkFault l place.part place.sub) links.now) place.item) result }
+{
+    for (index, link) in links.iter().enumerate() {
+        check_link(link, index as u32 + 1)?;
+    }
+    Ok(())
+}
+
+/// Tests a link, and then its turns.
+fn check_link(link: &DraftLink, item: u32) -> Result<(), NetFault>
+    ensures { Checks (IsBoundedLink link.now)
+        (λ place. (place.item ≡ item) × IsLinkFault link.now place.part place.sub) result }
+{
+    if !has_link_bounds(link) {
+        return Err(bound(Section::Link, item, 0));
+    }
+    check_turns(link.turns.as_slice(), item)
+}
+
+/// Whether the name, the numbers and the number of turns of a link are as they may be.
+fn has_link_bounds(link: &DraftLink) -> bool
+    ensures { IsTrue result ↔ HasLinkBounds link.now }
+{
+    is_name(link.name.as_str())
+        && (1..=120).contains(&link.travel)
+        && (1..=5000).contains(&link.sat)
+        && (1..=20).contains(&link.weight)
+        && link.turns.len() <= 16
+}
+
+/// Tests each turn, and names the first that is out of its bounds.
+fn check_turns(turns: &[DraftTurn], item: u32) -> Result<(), NetFault>
+    requires { length turns.now ≤ 16 }
+    ensures { Checks (All IsBoundedTurn turns.now)
+        (λ place. (place.part ≡ Section.Turn) × (place.item ≡ item)
+        × FromOne (IsFirstNot IsBoundedTurn turns.now) place.sub) result }
+{
+    for (index, turn) in turns.iter().enumerate() {
+        if turn.share > 1000 {
+            return Err(bound(Section::Turn, item, index as u32 + 1));
+        }
+    }
+    Ok(())
+}
+
+/// Whether the text is a name.
+fn is_name(name: &str) -> bool
+    ensures { IsTrue result ↔ IsName name.now }
+{
+    (1..=16).contains(&name.len()) && name.as_bytes().iter().all(|byte| is_name_byte(*byte))
+}
+
+/// Whether a name may have the byte.
+fn is_name_byte(byte: u8) -> bool
+    ensures { IsTrue result ↔ IsNameByte byte }
+{
+    byte.is_ascii_lowercase() || byte.is_ascii_digit() || byte == b'_'
+}

@@ -1,5 +1,0 @@
-use Rattle.net_draft.proofs.PartLaws.{phase-by_fields}
-use Rattle.net_draft.proofs.forms.phase_form.Goals as goal
-
-pub returns : goal.returns
-returns c = rw (phase-by_fields c.args.complete _ _ _ c.in_ok-as_table.ensures c.in_ok-only_phase_keys.ensures) c.phase_fields.ensures

@@ -1,0 +1,5 @@
+pub mod Causes
+pub mod NamedLaws
+pub mod ReadingLaws
+pub mod Tables
+pub mod Written

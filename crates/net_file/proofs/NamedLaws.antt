@@ -1,0 +1,202 @@
+-- With numbers for its names, the draft of a network is that network.
+use Rattle.std.proofs.Common.{◌≡◌, ℕ, ◌<◌, List, [], length, get_or, map, All, Option, Some, None, IfSome, option_map, zero-add, refl, sym, subst, arith}
+use Rattle.std.proofs.lemmas.List.{length-map}
+use Rattle.std.proofs.lemmas.List.FromFn.{length-map-range_with_len}
+use Rattle.std.proofs.lemmas.List.Elements.{All-map}
+use Rattle.foundation.specs.Options.{each}
+use Rattle.phase_plan.specs.Phases.{IsPlan, is_unmarked, no_phase}
+use Rattle.net_draft.specs.declared.drafts.Draft.{Draft}
+use Rattle.net_draft.specs.declared.drafts.DraftNode.{DraftNode}
+use Rattle.net_draft.specs.declared.drafts.DraftPhase.{DraftPhase}
+use Rattle.net_draft.specs.declared.drafts.DraftLink.{DraftLink}
+use Rattle.net_numbers.specs.declared.roads.Turn.{Turn}
+use Rattle.net_numbers.specs.Bounds.{IsBounded, IsBoundedNode, IsBoundedPhase, IsBoundedLink, IsBoundedTurn}
+use Rattle.net_numbers.specs.Numbers.{Net, AreDistinct, no_link, number_of, number_if, plan_of, phases_of, link_of, turn_of, turns_of, conflict_of, roads_of, node_names, link_names, numbered}
+use Rattle.net_numbers.specs.Outline.{IsOutline, IsLink, AreTurns, ArePhaseLinks, link_at, turns_at, plan_at, phases_at}
+use Rattle.net_numbers.specs.Parts.{IsNetOf}
+use Rattle.net_numbers.proofs.DraftParts.{IsNumbered, number_of-own}
+use Rattle.net_file.specs.ByNames.{name_in, AreNumbers, phase_by_names, node_by_names, turn_by_names, link_by_names, conflict_by_names, draft_by_names}
+use Rattle.net_file.proofs.ReadingLaws.{each-range, each-own, map-range, All-range, count_by-map}
+
+module _ (names : List (List ℕ)) (differ : AreDistinct names) where
+  -- numbers by their names
+  numbers-own : (numbers : List ℕ) → AreNumbers names numbers → each (number_of names) (map (name_in names) numbers) ≡ Some numbers
+  numbers-own = each-own (λ n. n < length names) (number_of names) (name_in names) (number_of-own names differ)
+
+  number_if-own : (number : Option ℕ) → IfSome number (λ n. n < length names) → number_if names (option_map (name_in names) number) ≡ Some number
+  number_if-own None h = refl
+  number_if-own (Some n) h = rw (number_of-own names differ n h) refl
+
+  turn-own : (t : Turn) → t.exit < length names → turn_of names (turn_by_names names t) ≡ Some t
+  unfolding turn_of
+  turn-own t h = rw (number_of-own names differ t.exit h) refl
+
+  conflict-own : (c : ℕ × ℕ) → (c.0 < length names) × (c.1 < length names) → conflict_of names (conflict_by_names names c) ≡ Some c
+  unfolding conflict_of
+  conflict-own c h = rw (number_of-own names differ c.0 h.0, number_of-own names differ c.1 h.1) refl
+
+-- the network of a draft is made of its parts
+numbered-from : (d : Draft) (net : Net) → IsNumbered d net → numbered d ≡ Some net
+unfolding numbered roads_of
+numbered-from d net is =
+    rw (is.phase_links, is.links, is.turns, is.conflicts)
+    (λ i. Some (record { run = sym is.run i; node_names = sym is.nodes i; plans = sym is.plans i; phase_links = net.phase_links; link_names = sym is.names i; links = net.links; turns = net.turns; conflicts = net.conflicts }))
+
+module _ (net : Net) (ok : IsOutline net) where
+  -- the links of the phases of a node
+  lists-numbers : (n : ℕ) → n < length net.node_names → All (ArePhaseLinks (length net.link_names)) (phases_at net n)
+  lists-numbers n h = let inside : n < length net.phase_links = omega (arith, ok.phases_count) in ok.phase_links n [] inside
+
+  phase-own : (n k : ℕ) → n < length net.node_names → k < length (plan_at net n) → each (number_of net.link_names) (phase_by_names net.link_names (plan_at net n) (phases_at net n) k).links ≡ Some (get_or (phases_at net n) k [])
+  phase-own n k h below =
+      let inside : k < length (phases_at net n) = omega (arith, ok.phase_counts n h) in
+      numbers-own net.link_names ok.links_differ (get_or (phases_at net n) k []) (lists-numbers n h k [] inside).exist
+
+  phases-own : (n : ℕ) → n < length net.node_names → phases_of net.link_names (node_by_names net n) ≡ Some (phases_at net n)
+  unfolding node_by_names
+  phases-own n h = each-range (λ (p : DraftPhase). each (number_of net.link_names) p.links) (phase_by_names net.link_names (plan_at net n) (phases_at net n)) 0 (length (plan_at net n)) (phases_at net n) [] (ok.phase_counts n h) (λ k below. rw zero-add (phase-own n k h below))
+
+  -- the times of its phases
+  plan-own : (n : ℕ) → plan_of (node_by_names net n) ≡ plan_at net n
+  unfolding node_by_names
+  plan-own n = map-range (λ (p : DraftPhase). p.phase) (phase_by_names net.link_names (plan_at net n) (phases_at net n)) (length (plan_at net n)) (plan_at net n) no_phase refl (λ k below. refl)
+
+  node-name : (n : ℕ) → (node_by_names net n).name ≡ name_in net.node_names n
+  unfolding node_by_names
+  node-name n = refl
+
+  -- a link and its turns
+  road : (l : ℕ) → l < length net.link_names → IsLink (length net.node_names) (link_at net l)
+  road l h = let inside : l < length net.links = omega (arith, ok.road_count) in ok.links l no_link inside
+
+  link-name : (l : ℕ) → (link_by_names net l).name ≡ name_in net.link_names l
+  unfolding link_by_names
+  link-name l = refl
+
+  link-own : (l : ℕ) → l < length net.link_names → link_of net.node_names net.link_names net.phase_links (link_by_names net l) ≡ Some (link_at net l)
+  unfolding link_of link_by_names
+  link-own l h =
+      let inside : l < length net.links = omega (arith, ok.road_count) in
+      let its = link_at net l in
+      rw (number_if-own net.node_names ok.nodes_differ its.from (road l h).from, number_if-own net.node_names ok.nodes_differ its.to (road l h).to, number_of-own net.link_names ok.links_differ l h)
+      (λ i. Some (record { from = its.from; to = its.to; travel = its.travel; sat = its.sat; weight = its.weight; phase = sym (ok.phases l inside) i }))
+
+  turning : (l : ℕ) → l < length net.link_names → AreTurns (length net.link_names) (turns_at net l)
+  turning l h = let inside : l < length net.turns = omega (arith, ok.turn_count) in ok.turns l [] inside
+
+  turns-own : (l : ℕ) → l < length net.link_names → turns_of net.link_names (link_by_names net l) ≡ Some (turns_at net l)
+  unfolding link_by_names
+  turns-own l h = each-own (λ t. t.exit < length net.link_names) (turn_of net.link_names) (turn_by_names net.link_names) (turn-own net.link_names ok.links_differ) (turns_at net l) (turning l h).exits
+
+  -- the names of the draft
+  node_names-own : node_names (draft_by_names net) ≡ net.node_names
+  unfolding draft_by_names
+  node_names-own = map-range (λ (n : DraftNode). n.name) (node_by_names net) (length net.node_names) net.node_names [] refl (λ k h. node-name k)
+
+  link_names-own : link_names (draft_by_names net) ≡ net.link_names
+  unfolding draft_by_names
+  link_names-own = map-range (λ (l : DraftLink). l.name) (link_by_names net) (length net.link_names) net.link_names [] refl (λ k h. link-name k)
+
+  -- its parts by number
+  lists-own : each (phases_of net.link_names) (draft_by_names net).nodes ≡ Some net.phase_links
+  unfolding draft_by_names
+  lists-own = each-range (phases_of net.link_names) (node_by_names net) 0 (length net.node_names) net.phase_links [] ok.phases_count (λ k h. rw zero-add (phases-own k h))
+
+  plans-own : map plan_of (draft_by_names net).nodes ≡ net.plans
+  unfolding draft_by_names
+  plans-own = map-range plan_of (node_by_names net) (length net.node_names) net.plans [] ok.plan_count (λ k h. plan-own k)
+
+  links-own : each (link_of net.node_names net.link_names net.phase_links) (draft_by_names net).links ≡ Some net.links
+  unfolding draft_by_names
+  links-own = each-range (link_of net.node_names net.link_names net.phase_links) (link_by_names net) 0 (length net.link_names) net.links no_link ok.road_count (λ k h. rw zero-add (link-own k h))
+
+  all_turns-own : each (turns_of net.link_names) (draft_by_names net).links ≡ Some net.turns
+  unfolding draft_by_names
+  all_turns-own = each-range (turns_of net.link_names) (link_by_names net) 0 (length net.link_names) net.turns [] ok.turn_count (λ k h. rw zero-add (turns-own k h))
+
+  conflicts-own : each (conflict_of net.link_names) (draft_by_names net).conflicts ≡ Some net.conflicts
+  unfolding draft_by_names
+  conflicts-own = each-own (λ c. (c.0 < length net.link_names) × (c.1 < length net.link_names)) (conflict_of net.link_names) (conflict_by_names net.link_names) (conflict-own net.link_names ok.links_differ) net.conflicts ok.conflicts
+
+  run-own : (draft_by_names net).run ≡ net.run
+  unfolding draft_by_names
+  run-own = refl
+
+  parts-own : IsNumbered (draft_by_names net) net
+  parts-own =
+      let d = draft_by_names net in
+      let links : net.link_names ≡ link_names d = sym link_names-own in
+      let nodes : net.node_names ≡ node_names d = sym node_names-own in
+      record {
+        run = sym run-own;
+        nodes = nodes;
+        plans = sym plans-own;
+        phase_links = subst (λ (names : List (List ℕ)). each (phases_of names) d.nodes ≡ Some net.phase_links) links lists-own;
+        names = links;
+        links = subst (λ (names : List (List ℕ)). each (link_of names (link_names d) net.phase_links) d.links ≡ Some net.links) nodes (subst (λ (names : List (List ℕ)). each (link_of net.node_names names net.phase_links) d.links ≡ Some net.links) links links-own);
+        turns = subst (λ (names : List (List ℕ)). each (turns_of names) d.links ≡ Some net.turns) links all_turns-own;
+        conflicts = subst (λ (names : List (List ℕ)). each (conflict_of names) d.conflicts ≡ Some net.conflicts) links conflicts-own;
+      }
+
+  -- it is within the bounds of drafts
+  plan-ok : (n : ℕ) → n < length net.node_names → IsPlan (plan_at net n)
+  plan-ok n h = let inside : n < length net.plans = omega (arith, ok.plan_count) in ok.plans n [] inside
+
+  phase-bounded : (n k : ℕ) → n < length net.node_names → k < length (plan_at net n) → IsBoundedPhase (phase_by_names net.link_names (plan_at net n) (phases_at net n) k)
+  phase-bounded n k h below =
+      let inside : k < length (phases_at net n) = omega (arith, ok.phase_counts n h) in
+      record {
+        phase = (plan-ok n h).phases k no_phase below;
+        links = rw length-map (lists-numbers n h k [] inside).count;
+      }
+
+  phases-count : (n : ℕ) → length (node_by_names net n).phases ≡ length (plan_at net n)
+  unfolding node_by_names
+  phases-count n = length-map-range_with_len (phase_by_names net.link_names (plan_at net n) (phases_at net n)) 0 (length (plan_at net n))
+
+  phases-bounded : (n : ℕ) → n < length net.node_names → All IsBoundedPhase (node_by_names net n).phases
+  unfolding node_by_names
+  phases-bounded n h = All-range IsBoundedPhase (phase_by_names net.link_names (plan_at net n) (phases_at net n)) (length (plan_at net n)) (λ k below. phase-bounded n k h below)
+
+  node-bounded : (n : ℕ) → n < length net.node_names → IsBoundedNode (node_by_names net n)
+  node-bounded n h =
+      let plan = plan-ok n h in
+      record {
+        own = record {
+          name = rw (node-name n) (ok.node_names n [] h);
+          count = rw (phases-count n) plan.count;
+          ring = rw (← count_by-map is_unmarked (λ (p : DraftPhase). p.phase) (node_by_names net n).phases, plan-own n) plan.ring;
+        };
+        phases = phases-bounded n h;
+      }
+
+  link-bounded : (l : ℕ) → l < length net.link_names → IsBoundedLink (link_by_names net l)
+  unfolding link_by_names
+  link-bounded l h = record {
+    own = record { name = ok.link_names l [] h; travel = (road l h).travel; sat = (road l h).sat; weight = (road l h).weight; count = rw length-map (turning l h).count };
+    turns = All-map IsBoundedTurn (turn_by_names net.link_names) (turns_at net l) (turning l h).shares;
+  }
+
+  bounded : IsBounded (draft_by_names net)
+  unfolding draft_by_names
+  bounded = record {
+    counts = record {
+      nodes = rw (length-map-range_with_len (node_by_names net) 0 (length net.node_names)) ok.node_count;
+      links = rw (length-map-range_with_len (link_by_names net) 0 (length net.link_names)) ok.link_count;
+      conflicts = rw length-map ok.conflict_count;
+    };
+    run = ok.run;
+    nodes = All-range IsBoundedNode (node_by_names net) (length net.node_names) node-bounded;
+    links = All-range IsBoundedLink (link_by_names net) (length net.link_names) link-bounded;
+  }
+
+  -- The draft is within its bounds, and the network is the draft with numbers for names.
+  pub named : IsBounded (draft_by_names net) × IsNetOf (draft_by_names net) net
+  named = (
+    bounded,
+    record {
+      node_names = rw node_names-own ok.nodes_differ;
+      link_names = rw link_names-own ok.links_differ;
+      numbers = numbered-from (draft_by_names net) net parts-own;
+    },
+  )

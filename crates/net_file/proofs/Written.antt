@@ -1,0 +1,27 @@
+-- The text of a network's draft by names is a text of that network.
+use Rattle.std.proofs.Common.{◌≡◌, ℕ, List}
+use Rattle.net_draft.specs.declared.drafts.Draft.{Draft}
+use Rattle.net_numbers.specs.Numbers.{Net}
+use Rattle.net_file.specs.ByNames.{draft_by_names}
+use Rattle.net_file.proofs.NamedLaws.{named}
+use Rattle.net_text.specs.Written.{IsTextOfDraft}
+use Rattle.road_net.specs.Network.{IsNetwork, IsNetworkOf}
+use Rattle.net_file.specs.Upgrade.{IsUpgraded}
+
+-- the network is the one of its draft by names
+pub own-draft : (net : Net) → IsNetwork net → IsNetworkOf (draft_by_names net) net
+own-draft net is =
+    let (bounds, names) = named net is.outline in
+    record { bounds = bounds; node_names = names.node_names; link_names = names.link_names; numbers = names.numbers; joins = is.joins }
+
+pub upgraded : (bytes : List ℕ) (draft : Draft) (net : Net) → IsNetwork net → draft ≡ draft_by_names net → IsTextOfDraft bytes draft → IsUpgraded bytes net
+upgraded bytes draft net is same text = record {
+  network = record {
+    draft = draft;
+    text = record { utf8 = text.utf8; table = text.table; toml = text.toml; form = text.form; version = text.known };
+    network = rw same (own-draft net is);
+  };
+  table = text.table;
+  toml = text.toml;
+  version = text.version;
+}

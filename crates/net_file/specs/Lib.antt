@@ -1,0 +1,4 @@
+pub mod ByNames
+pub mod NetworkText
+pub mod Reading
+pub mod Upgrade

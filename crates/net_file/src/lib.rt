@@ -1,0 +1,7 @@
+//! The road network file: how a network is read from it, and written.
+#![tactic(auto)]
+
+mod by_names;
+mod files;
+
+pub use files::{read_network, write_network};

@@ -1,7 +1,0 @@
-use Rattle.std.proofs.Common.{All, take}
-use Rattle.net_numbers.specs.Bounds.{IsBoundedLink}
-use Rattle.net_numbers.proofs.bounds.check_links.Given as goal
-
--- the links so far are within their bounds
-abbrev pub invariant-loop-index : goal.invariant-loop-index
-invariant-loop-index l = All IsBoundedLink (take l.index l.links)

@@ -1,7 +1,0 @@
-use Rattle.std.proofs.Common.{All, take}
-use Rattle.net_numbers.specs.Bounds.{IsBoundedNode}
-use Rattle.net_numbers.proofs.bounds.check_nodes.Given as goal
-
--- the nodes so far are within their bounds
-abbrev pub invariant-loop-index : goal.invariant-loop-index
-invariant-loop-index l = All IsBoundedNode (take l.index l.nodes)

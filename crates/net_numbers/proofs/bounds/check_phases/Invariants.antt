@@ -1,7 +1,0 @@
-use Rattle.std.proofs.Common.{All, take}
-use Rattle.net_numbers.specs.Bounds.{IsBoundedPhase}
-use Rattle.net_numbers.proofs.bounds.check_phases.Given as goal
-
--- the phases so far are within their bounds
-abbrev pub invariant-loop-index : goal.invariant-loop-index
-invariant-loop-index l = All IsBoundedPhase (take l.index l.phases)

@@ -1,0 +1,80 @@
+-- A table that is read in groups of keys stands for the same as one that is read key by key.
+use Rattle.std.proofs.Common.{◌≡◌, Bool, false, Option, Some, None, refl}
+use Rattle.std.specs.Prelude.{codes}
+use Rattle.toml.specs.Data.{Data, Members, as_table}
+use Rattle.foundation.specs.Options.{◌>>=◌}
+use Rattle.phase_plan.specs.declared.Phase.{Phase}
+use Rattle.net_tables.specs.Parts.{numbers_at, optional_numbers_at, run_fields, phase_times, phase_fields, link_numbers, link_ends, link_fields}
+use Rattle.net_tables.specs.Table.{PhaseForm, LinkForm, only, run_keys, run_of, phase_keys, phase_form, link_keys, link_form, number_at, optional_number_at, flag_at, weight_at, text_at, optional_text_at, list_at, optional_list_at}
+use Rattle.net_draft.specs.declared.drafts.Run.{Run}
+
+-- two options one after the other, as one
+abbrev both : {X Y : Type 0} → Option X → Option Y → Option (X × Y)
+both a b = a >>= λ x. b >>= λ y. Some (x, y)
+
+-- three of them, the first two as one
+abbrev three : {X : Type 0} → Option X → Option X → Option X → Option (X × X × X)
+three a b c = both a b >>= λ p. c >>= λ z. Some (p.0, p.1, z)
+
+-- four options, another one and two more, in pairs
+pairs-run : {X Y Z W : Type 0} (a b c d : Option X) (e : Option Y) (f g : Option Z) (k : X → X → X → X → Y → Z → Z → W)
+    → (a >>= λ a. b >>= λ b. c >>= λ c. d >>= λ d. e >>= λ e. f >>= λ f. g >>= λ g. Some (k a b c d e f g))
+    ≡ (both a b >>= λ p. both c d >>= λ q. e >>= λ e. both f g >>= λ r. Some (k p.0 p.1 q.0 q.1 e r.0 r.1))
+pairs-run None b c d e f g k = refl
+pairs-run (Some a) None c d e f g k = refl
+pairs-run (Some a) (Some b) None d e f g k = refl
+pairs-run (Some a) (Some b) (Some c) None e f g k = refl
+pairs-run (Some a) (Some b) (Some c) (Some d) None f g k = refl
+pairs-run (Some a) (Some b) (Some c) (Some d) (Some e) None g k = refl
+pairs-run (Some a) (Some b) (Some c) (Some d) (Some e) (Some f) None k = refl
+pairs-run (Some a) (Some b) (Some c) (Some d) (Some e) (Some f) (Some g) k = refl
+
+-- six options and another one, in pairs as one, and then one more
+pairs-phase : {X Y Z P W : Type 0} (a b c d e f : Option X) (g : Option Y) (h : Option Z) (m : X → X → X → X → X → X → Y → P) (k : P → Z → W)
+    → (a >>= λ a. b >>= λ b. c >>= λ c. d >>= λ d. e >>= λ e. f >>= λ f. g >>= λ g. h >>= λ h. Some (k (m a b c d e f g) h))
+    ≡ ((both a b >>= λ p. both c d >>= λ q. both e f >>= λ r. g >>= λ g. Some (m p.0 p.1 q.0 q.1 r.0 r.1 g)) >>= λ x. h >>= λ h. Some (k x h))
+pairs-phase None b c d e f g h m k = refl
+pairs-phase (Some a) None c d e f g h m k = refl
+pairs-phase (Some a) (Some b) None d e f g h m k = refl
+pairs-phase (Some a) (Some b) (Some c) None e f g h m k = refl
+pairs-phase (Some a) (Some b) (Some c) (Some d) None f g h m k = refl
+pairs-phase (Some a) (Some b) (Some c) (Some d) (Some e) None g h m k = refl
+pairs-phase (Some a) (Some b) (Some c) (Some d) (Some e) (Some f) None h m k = refl
+pairs-phase (Some a) (Some b) (Some c) (Some d) (Some e) (Some f) (Some g) h m k = refl
+
+-- three options as one, and two as one, after one and before one
+pairs-link : {N X E T W : Type 0} (n : Option N) (a b w : Option X) (f t : Option E) (l : Option T) (k : N → X → X → X → E → E → T → W)
+    → (n >>= λ n. a >>= λ a. b >>= λ b. w >>= λ w. f >>= λ f. t >>= λ t. l >>= λ l. Some (k n a b w f t l))
+    ≡ (n >>= λ n. three a b w >>= λ m. both f t >>= λ e. l >>= λ l. Some (k n m.0 m.1 m.2 e.0 e.1 l))
+pairs-link None a b w f t l k = refl
+pairs-link (Some n) None b w f t l k = refl
+pairs-link (Some n) (Some a) None w f t l k = refl
+pairs-link (Some n) (Some a) (Some b) None f t l k = refl
+pairs-link (Some n) (Some a) (Some b) (Some w) None t l k = refl
+pairs-link (Some n) (Some a) (Some b) (Some w) (Some f) None l k = refl
+pairs-link (Some n) (Some a) (Some b) (Some w) (Some f) (Some t) l k = refl
+
+-- the run of a table that has its keys and no other
+pub run-by_fields : (ms inner : Members) → Some inner ≡ only run_keys ms → run_of ms ≡ run_fields inner
+unfolding run_of run_fields numbers_at optional_numbers_at
+run-by_fields ms inner is =
+    rw (← is)
+    (pairs-run (number_at (codes "step") inner) (number_at (codes "look") inner) (number_at (codes "gap") inner) (number_at (codes "rounds") inner) (flag_at false (codes "split") inner) (optional_number_at (codes "age") inner) (optional_number_at (codes "hold") inner)
+    (λ step look gap rounds split age hold. let run : Run = record { step = step; look = look; gap = gap; rounds = rounds; split = split; age = age; hold = hold } in run))
+
+-- the own form of a phase, in such a table
+pub phase-by_fields : (complete : Bool) (d : Data) (ms inner : Members) → Some ms ≡ as_table d → Some inner ≡ only phase_keys ms → phase_form complete d ≡ phase_fields complete inner
+unfolding phase_form phase_fields phase_times numbers_at
+phase-by_fields complete d ms inner table is =
+    rw (← table, ← is)
+    (pairs-phase (number_at (codes "least") inner) (number_at (codes "greatest") inner) (number_at (codes "yellow") inner) (number_at (codes "clear") inner) (number_at (codes "loss") inner) (number_at (codes "wait") inner) (flag_at complete (codes "skip") inner) (list_at (codes "links") inner)
+    (λ least greatest yellow clear loss wait skip. let phase : Phase = record { least = least; greatest = greatest; yellow = yellow; clear = clear; loss = loss; wait = wait; skip = skip } in phase)
+    (λ phase links. let form : PhaseForm = record { phase = phase; links = links } in form))
+
+-- the own form of a link, in such a table
+pub link-by_fields : (complete : Bool) (d : Data) (ms inner : Members) → Some ms ≡ as_table d → Some inner ≡ only link_keys ms → link_form complete d ≡ link_fields complete inner
+unfolding link_form link_fields link_numbers link_ends numbers_at
+link-by_fields complete d ms inner table is =
+    rw (← table, ← is)
+    (pairs-link (text_at (codes "name") inner) (number_at (codes "travel") inner) (number_at (codes "sat") inner) (weight_at complete (codes "weight") inner) (optional_text_at (codes "from") inner) (optional_text_at (codes "to") inner) (optional_list_at (codes "turn") inner)
+    (λ name travel sat weight from to turns. let form : LinkForm = record { name = name; from = from; to = to; travel = travel; sat = sat; weight = weight; turns = turns } in form))

@@ -1,0 +1,69 @@
+-- The keys of a table in the groups in which the reader takes them. No public clause names these words.
+use Rattle.std.specs.Prelude.{codes, ℕ, Bool, false, List, Option, Some}
+use Rattle.toml.specs.Data.{Members}
+use Rattle.foundation.specs.Options.{◌>>=◌}
+use Rattle.phase_plan.specs.declared.Phase.{Phase}
+use Rattle.net_tables.specs.Table.{PhaseForm, LinkForm, number_at, optional_number_at, flag_at, weight_at, text_at, optional_text_at, list_at, optional_list_at}
+use Rattle.net_draft.specs.declared.drafts.Run.{Run}
+
+-- the whole numbers at two keys
+unfoldable pub numbers_at : List ℕ → List ℕ → Members → Option (ℕ × ℕ)
+numbers_at first second ms = do
+  a ← number_at first ms
+  b ← number_at second ms
+  Some (a, b)
+
+-- the whole numbers at two keys that may be absent
+unfoldable pub optional_numbers_at : List ℕ → List ℕ → Members → Option (Option ℕ × Option ℕ)
+optional_numbers_at first second ms = do
+  a ← optional_number_at first ms
+  b ← optional_number_at second ms
+  Some (a, b)
+
+-- what a run has at its keys
+unfoldable pub run_fields : Members → Option Run
+run_fields ms = do
+  ahead ← numbers_at (codes "step") (codes "look") ms
+  course ← numbers_at (codes "gap") (codes "rounds") ms
+  split ← flag_at false (codes "split") ms
+  limits ← optional_numbers_at (codes "age") (codes "hold") ms
+  Some (record { step = ahead.0; look = ahead.1; gap = course.0; rounds = course.1; split = split; age = limits.0; hold = limits.1 })
+
+-- the times and the mark of a phase
+unfoldable pub phase_times : Bool → Members → Option Phase
+phase_times complete ms = do
+  green ← numbers_at (codes "least") (codes "greatest") ms
+  change ← numbers_at (codes "yellow") (codes "clear") ms
+  cost ← numbers_at (codes "loss") (codes "wait") ms
+  skip ← flag_at complete (codes "skip") ms
+  Some (record { least = green.0; greatest = green.1; yellow = change.0; clear = change.1; loss = cost.0; wait = cost.1; skip = skip })
+
+-- what a phase has at its keys
+unfoldable pub phase_fields : Bool → Members → Option PhaseForm
+phase_fields complete ms = do
+  phase ← phase_times complete ms
+  links ← list_at (codes "links") ms
+  Some (record { phase = phase; links = links })
+
+-- the numbers of a link
+unfoldable pub link_numbers : Bool → Members → Option (ℕ × ℕ × ℕ)
+link_numbers complete ms = do
+  flow ← numbers_at (codes "travel") (codes "sat") ms
+  weight ← weight_at complete (codes "weight") ms
+  Some (flow.0, flow.1, weight)
+
+-- the names of the nodes that a link comes from and ends at
+unfoldable pub link_ends : Members → Option (Option (List ℕ) × Option (List ℕ))
+link_ends ms = do
+  from ← optional_text_at (codes "from") ms
+  to ← optional_text_at (codes "to") ms
+  Some (from, to)
+
+-- what a link has at its keys
+unfoldable pub link_fields : Bool → Members → Option LinkForm
+link_fields complete ms = do
+  name ← text_at (codes "name") ms
+  numbers ← link_numbers complete ms
+  ends ← link_ends ms
+  turns ← optional_list_at (codes "turn") ms
+  Some (record { name = name; from = ends.0; to = ends.1; travel = numbers.0; sat = numbers.1; weight = numbers.2; turns = turns })

@@ -1,0 +1,34 @@
+-- The course of the reader: which element of an array is at fault, and at which place. No public clause names these words.
+use Rattle.std.specs.Prelude.{◌≡◌, ℕ, Bool, List, Option, None, IsSome}
+use Rattle.toml.specs.Data.{Data}
+use Rattle.foundation.specs.Firsts.{IsFirstAt}
+use Rattle.net_tables.specs.FirstShape.{ordinal, IsNodeFault, IsLinkFault}
+use Rattle.net_tables.specs.Table.{phase_of, turn_of, conflict_of}
+use Rattle.net_draft.specs.declared.faults.Section.TheVariants.{Phase, Turn, Conflict}
+use Rattle.net_draft.specs.declared.faults.Place.{Place}
+
+-- The elements of an array in the table of this item: the first that f does not read is at fault, by its number, at the named
+-- place.
+pub record IsFaultAmong {Y : Type 0} (f : Data → Option Y) (at_fault : ℕ → ℕ → Data → Place → Type 0) (item : ℕ) (ds : List Data) (named : Place) : Type 0 where
+  pub index : ℕ
+  pub first : IsFirstAt (λ d. IsSome (f d)) (λ d. at_fault item (ordinal index) d named) ds index
+
+-- the node with this number is at fault, or one of its phases
+abbrev pub IsNodeAtFault : Bool → ℕ → ℕ → Data → Place → Type 0
+IsNodeAtFault complete item number d named = (named.item ≡ number) × IsNodeFault complete d named.part named.sub
+
+-- the link with this number, or one of its turns
+abbrev pub IsLinkAtFault : Bool → ℕ → ℕ → Data → Place → Type 0
+IsLinkAtFault complete item number d named = (named.item ≡ number) × IsLinkFault complete d named.part named.sub
+
+-- the phase with this number, of the node with this item
+abbrev pub IsPhaseAtFault : Bool → ℕ → ℕ → Data → Place → Type 0
+IsPhaseAtFault complete item number d named = (named ≡ record { part = Phase; item = item; sub = number }) × (phase_of complete d ≡ None)
+
+-- the turn with this number, of the link with this item
+abbrev pub IsTurnAtFault : Bool → ℕ → ℕ → Data → Place → Type 0
+IsTurnAtFault complete item number d named = (named ≡ record { part = Turn; item = item; sub = number }) × (turn_of d ≡ None)
+
+-- the conflict with this number
+abbrev pub IsConflictAtFault : Bool → ℕ → ℕ → Data → Place → Type 0
+IsConflictAtFault complete item number d named = (named ≡ record { part = Conflict; item = number; sub = 0 }) × (conflict_of d ≡ None)

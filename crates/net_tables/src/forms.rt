@@ -1,0 +1,263 @@
+//! The tables of a network file as they stand: each with its keys and no other, each of its kind. The tables within a
+//! table are not yet read.
+ghost use Rattle.std.specs.Prelude.{◌≡◌, MatchOption, option_map, option_copied, map};
+ghost use Rattle.toml.specs.Data.{as_table};
+ghost use Rattle.toml.specs.View.{view, table_view};
+ghost use Rattle.net_tables.specs.Parts as parts;
+ghost use Rattle.net_tables.specs.Table as spec;
+
+use crate::values::{
+    flag_at, list_at, number_at, numbers_at, only, optional_list_at, optional_number_at,
+    optional_numbers_at, optional_text_at, table_at, text_at, weight_at,
+};
+use net_draft::Run;
+use phase_plan::Phase;
+use toml::{Table, Value};
+
+/// The table of the whole file.
+#[derive(Drop)]
+pub(crate) struct TopForm<'a> {
+    pub(crate) version: Option<u32>,
+    pub(crate) run: &'a Table,
+    pub(crate) nodes: &'a [Value],
+    pub(crate) links: &'a [Value],
+    pub(crate) conflicts: &'a [Value],
+}
+
+/// The own form of the whole file.
+#[tactic(auto, unfolding(crate::specs::Table::top_form))]
+pub(crate) fn top_form(table: &Table) -> Option<TopForm>
+    ensures { MatchOption result (spec.top_form (table_view table.now) ≡ None)
+        (λ top. spec.top_form (table_view table.now) ≡ Some (record {
+          version = top.version;
+          run = table_view top.run.now;
+          nodes = map view top.nodes.now;
+          links = map view top.links.now;
+          conflicts = map view top.conflicts.now;
+        })) }
+{
+    let keys = ["run", "node", "link", "conflict", "version"];
+    let table = only(table, &keys)?;
+    Some(TopForm {
+        version: optional_number_at(table, "version")?,
+        run: table_at(table, "run")?,
+        nodes: list_at(table, "node")?,
+        links: list_at(table, "link")?,
+        conflicts: optional_list_at(table, "conflict")?,
+    })
+}
+
+/// The run.
+#[tactic(auto, unfolding(crate::specs::Table::run_of))]
+pub(crate) fn run_of(table: &Table) -> Option<Run>
+    ensures { result ≡ spec.run_of (table_view table.now) }
+{
+    run_fields(only_run_keys(table)?)
+}
+
+/// What a run has at its keys.
+#[tactic(auto, unfolding(crate::specs::Parts::run_fields))]
+fn run_fields(table: &Table) -> Option<Run>
+    ensures { result ≡ parts.run_fields (table_view table.now) }
+{
+    let (step, look) = numbers_at(table, "step", "look")?;
+    let (gap, rounds) = numbers_at(table, "gap", "rounds")?;
+    let split = flag_at(table, "split", false)?;
+    let (age, hold) = optional_numbers_at(table, "age", "hold")?;
+    Some(Run {
+        step,
+        look,
+        gap,
+        rounds,
+        split,
+        age,
+        hold,
+    })
+}
+
+/// The table, where it has no key beside those of a run.
+#[tactic(auto, unfolding(crate::specs::Table::run_keys))]
+fn only_run_keys(table: &Table) -> Option<&Table>
+    ensures { option_map (λ table. table_view table.now) result ≡ spec.only spec.run_keys (table_view table.now) }
+{
+    let keys = ["step", "look", "gap", "rounds", "split", "age", "hold"];
+    only(table, &keys)
+}
+
+/// The own form of a node: its name and its phases.
+#[tactic(auto, unfolding(crate::specs::Table::node_form))]
+pub(crate) fn node_form(value: &Value) -> Option<(&str, &[Value])>
+    ensures { MatchOption result (spec.node_form (view value.now) ≡ None)
+        (λ node. spec.node_form (view value.now) ≡ Some (record { name = node.0.now; phases = map view node.1.now })) }
+{
+    let table = only(value.as_table()?, &["name", "phase"])?;
+    let name = text_at(table, "name")?;
+    let phases = list_at(table, "phase")?;
+    Some((name, phases))
+}
+
+/// The own form of a phase: its times and mark, and the names of its links. In a file that must be complete the mark is
+/// there.
+#[tactic(auto, unfolding(crate::specs::Table::phase_form))]
+pub(crate) fn phase_form(value: &Value, complete: bool) -> Option<(Phase, &[Value])>
+    ensures { MatchOption result (spec.phase_form complete (view value.now) ≡ None)
+        (λ form. spec.phase_form complete (view value.now)
+        ≡ Some (record { phase = form.0; links = map view form.1.now })) }
+{
+    phase_fields(only_phase_keys(value.as_table()?)?, complete)
+}
+
+/// What a phase has at its keys.
+#[tactic(auto, unfolding(crate::specs::Parts::phase_fields))]
+fn phase_fields(table: &Table, complete: bool) -> Option<(Phase, &[Value])>
+    ensures { MatchOption result (parts.phase_fields complete (table_view table.now) ≡ None)
+        (λ form. parts.phase_fields complete (table_view table.now)
+        ≡ Some (record { phase = form.0; links = map view form.1.now })) }
+{
+    let phase = phase_times(table, complete)?;
+    let links = list_at(table, "links")?;
+    Some((phase, links))
+}
+
+/// The times and the mark of a phase.
+#[tactic(auto, unfolding(crate::specs::Parts::phase_times))]
+fn phase_times(table: &Table, complete: bool) -> Option<Phase>
+    ensures { result ≡ parts.phase_times complete (table_view table.now) }
+{
+    let (least, greatest) = numbers_at(table, "least", "greatest")?;
+    let (yellow, clear) = numbers_at(table, "yellow", "clear")?;
+    let (loss, wait) = numbers_at(table, "loss", "wait")?;
+    let skip = flag_at(table, "skip", complete)?;
+    Some(Phase {
+        least,
+        greatest,
+        yellow,
+        clear,
+        loss,
+        wait,
+        skip,
+    })
+}
+
+/// The table, where it has no key beside those of a phase.
+#[tactic(auto, unfolding(crate::specs::Table::phase_keys))]
+fn only_phase_keys(table: &Table) -> Option<&Table>
+    ensures { option_map (λ table. table_view table.now) result ≡ spec.only spec.phase_keys (table_view table.now) }
+{
+    let keys = [
+        "least", "greatest", "yellow", "clear", "loss", "wait", "links", "skip",
+    ];
+    only(table, &keys)
+}
+
+/// A link.
+#[derive(Drop)]
+pub(crate) struct LinkForm<'a> {
+    pub(crate) name: &'a str,
+    pub(crate) from: Option<&'a str>,
+    pub(crate) to: Option<&'a str>,
+    pub(crate) travel: u32,
+    pub(crate) sat: u32,
+    pub(crate) weight: u32,
+    pub(crate) turns: &'a [Value],
+}
+
+/// The own form of a link. In a file that must be complete its weight is there.
+#[tactic(auto, unfolding(crate::specs::Table::link_form))]
+pub(crate) fn link_form(value: &Value, complete: bool) -> Option<LinkForm>
+    ensures { MatchOption result (spec.link_form complete (view value.now) ≡ None)
+        (λ link. spec.link_form complete (view value.now) ≡ Some (record {
+          name = link.name.now;
+          from = option_copied link.from;
+          to = option_copied link.to;
+          travel = link.travel;
+          sat = link.sat;
+          weight = link.weight;
+          turns = map view link.turns.now;
+        })) }
+{
+    link_fields(only_link_keys(value.as_table()?)?, complete)
+}
+
+/// What a link has at its keys.
+#[tactic(auto, unfolding(crate::specs::Parts::link_fields))]
+fn link_fields(table: &Table, complete: bool) -> Option<LinkForm>
+    ensures { MatchOption result (parts.link_fields complete (table_view table.now) ≡ None)
+        (λ link. parts.link_fields complete (table_view table.now) ≡ Some (record {
+          name = link.name.now;
+          from = option_copied link.from;
+          to = option_copied link.to;
+          travel = link.travel;
+          sat = link.sat;
+          weight = link.weight;
+          turns = map view link.turns.now;
+        })) }
+{
+    let name = text_at(table, "name")?;
+    let (travel, sat, weight) = link_numbers(table, complete)?;
+    let (from, to) = link_ends(table)?;
+    let turns = optional_list_at(table, "turn")?;
+    Some(LinkForm {
+        name,
+        from,
+        to,
+        travel,
+        sat,
+        weight,
+        turns,
+    })
+}
+
+/// The travel time, the saturation and the weight of a link.
+#[tactic(auto, unfolding(crate::specs::Parts::link_numbers))]
+fn link_numbers(table: &Table, complete: bool) -> Option<(u32, u32, u32)>
+    ensures { result ≡ parts.link_numbers complete (table_view table.now) }
+{
+    let (travel, sat) = numbers_at(table, "travel", "sat")?;
+    let weight = weight_at(table, "weight", complete)?;
+    Some((travel, sat, weight))
+}
+
+/// The names of the nodes that a link comes from and ends at.
+#[tactic(auto, unfolding(crate::specs::Parts::link_ends))]
+fn link_ends(table: &Table) -> Option<(Option<&str>, Option<&str>)>
+    ensures { option_map (λ ends. (option_copied ends.0, option_copied ends.1)) result
+        ≡ parts.link_ends (table_view table.now) }
+{
+    let from = optional_text_at(table, "from")?;
+    let to = optional_text_at(table, "to")?;
+    Some((from, to))
+}
+
+/// The table, where it has no key beside those of a link.
+#[tactic(auto, unfolding(crate::specs::Table::link_keys))]
+fn only_link_keys(table: &Table) -> Option<&Table>
+    ensures { option_map (λ table. table_view table.now) result ≡ spec.only spec.link_keys (table_view table.now) }
+{
+    let keys = ["name", "from", "to", "travel", "sat", "weight", "turn"];
+    only(table, &keys)
+}
+
+/// The own form of a turn: the name of its exit, and its share.
+#[tactic(auto, unfolding(crate::specs::Table::turn_of))]
+pub(crate) fn turn_form(value: &Value) -> Option<(&str, u32)>
+    ensures { MatchOption result (spec.turn_of (view value.now) ≡ None)
+        (λ turn. spec.turn_of (view value.now) ≡ Some (record { exit = turn.0.now; share = turn.1 })) }
+{
+    let table = only(value.as_table()?, &["exit", "share"])?;
+    let exit = text_at(table, "exit")?;
+    let share = number_at(table, "share")?;
+    Some((exit, share))
+}
+
+/// The own form of a conflict: the names of its links.
+#[tactic(auto, unfolding(crate::specs::Table::conflict_of))]
+pub(crate) fn conflict_form(value: &Value) -> Option<(&str, &str)>
+    ensures { MatchOption result (spec.conflict_of (view value.now) ≡ None)
+        (λ pair. spec.conflict_of (view value.now) ≡ Some (record { a = pair.0.now; b = pair.1.now })) }
+{
+    let table = only(value.as_table()?, &["a", "b"])?;
+    let a = text_at(table, "a")?;
+    let b = text_at(table, "b")?;
+    Some((a, b))
+}
