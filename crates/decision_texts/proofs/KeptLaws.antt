@@ -10,7 +10,7 @@ use Rattle.round_decisions.specs.Decisions.{board_after, plan_in}
 use Rattle.round_decisions.specs.Promises.{IsKeptDecision, IsKeptTurn}
 use Rattle.round_decisions.specs.declared.decisions.Decision.{Decision}
 use Rattle.round_decisions.specs.declared.decisions.NodeDecision.{NodeDecision}
-use Rattle.delay_report.proofs.WalkLaws.{used-exist}
+use Rattle.intersection_actor.proofs.UsedLinks.{used-exist}
 use Rattle.decision_texts.specs.DecisionTexts.{IsDecisionOf, IsNodeDecisionOf}
 
 module _ (net : Net) (network : IsNetwork net) (state : RoundState) (is : IsStateOf net state) where

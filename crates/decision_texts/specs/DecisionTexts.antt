@@ -4,7 +4,7 @@ use Rattle.std.specs.Fmt.{decimal}
 use Rattle.std.specs.List.{flat_map, join_with_byte, range_with_len}
 use Rattle.board_model.specs.declared.forecasts.Row.{Row}
 use Rattle.control_flow.specs.declared.greens.Green.{Green}
-use Rattle.delay_report.specs.Reports.{used_text}
+use Rattle.intersection_actor.specs.PlanFields.{used_text}
 use Rattle.intersection_actor.specs.declared.records.PlanRecord.{PlanRecord}
 use Rattle.intersection_actor.specs.declared.records.Used.{Used}
 use Rattle.net_numbers.specs.Numbers.{Net}

@@ -5,8 +5,7 @@ ghost use Rattle.world_records.specs.Written.{Adds};
 
 use control_flow::greens::{Green, Timeline};
 use csv::Writer;
-use delay_report::{phase_digits, used_text};
-use intersection_actor::PlanRecord;
+use intersection_actor::{PlanRecord, phase_digits, used_text};
 use road_net::Network;
 use round_decisions::rows_from;
 use schedule_meaning::Answer;

@@ -9,6 +9,7 @@ use Rattle.histories.specs.Steps.{board_steps}
 use Rattle.histories.specs.declared.steps.BoardStep.{BoardStep}
 use Rattle.histories.specs.declared.steps.BoardStep.TheVariants.{Read, Publish}
 use Rattle.intersection_actor.specs.Commits.{Commitment}
+use Rattle.intersection_actor.specs.PlanFields.{used_text}
 use Rattle.intersection_actor.specs.declared.records.PlanRecord.{PlanRecord}
 use Rattle.net_numbers.specs.Numbers.{Net}
 use Rattle.net_numbers.specs.Outline.{node_name_at}
@@ -30,7 +31,7 @@ use Rattle.sheets.specs.Written.{IsPassedOver, sheet_records}
 use Rattle.audit.specs.Audits.{IsClean, IsCleanText, past_under}
 use Rattle.audit.proofs.CleanTexts.{clean-text}
 use Rattle.world_records.specs.Records.{header, records_text}
-use Rattle.delay_report.specs.Reports.{answer_fields, plan_record, report_records, report_text, step_record, step_record_at, used_text}
+use Rattle.delay_report.specs.Reports.{answer_fields, plan_record, report_records, report_text, step_record, step_record_at}
 
 -- the records of steps and of plans are passed over
 step-over : (net : Net) (round node : ℕ) (versions : ℕ → ℕ) (step : BoardStep) → IsPassedOver (step_record net round node versions step)

@@ -3,5 +3,4 @@ pub mod EntryLaws
 pub mod RenderLaws
 pub mod ReportLaws
 pub mod TextLaws
-pub mod VersionLaws
 pub mod WalkLaws

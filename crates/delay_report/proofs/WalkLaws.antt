@@ -2,16 +2,13 @@
 use Rattle.std.proofs.Common.{◌≡◌, ℕ, ◌+◌, ◌/◌, ◌%◌, ◌<◌, ◌≤◌, cond, List, [], ◌∷◌, ◌++◌, length, get_or, take, drop, set, map, is_some, All, Vec, Global, ◌==◌, eq-eqb, ne_eqb, refl, sym, ap, ◌∙◌, subst, inl, inr, arith}
 use Rattle.std.proofs.lemmas.Bool.{cases_eq, cases_lt}
 use Rattle.std.proofs.lemmas.List.{get_or-map, get_or-set_same, get_or-set_other, get_or_default, length-map, length-set, length-take, map-append, take_more}
-use Rattle.std.proofs.lemmas.List.Elements.{All-append, All-filter, All-map, All-weaker}
+use Rattle.std.proofs.lemmas.List.Elements.{All-append, All-filter, All-map}
 use Rattle.std.proofs.lemmas.List.Sums.{count_by-le-length}
 use Rattle.std.proofs.lemmas.List.FromFn.{get_or-map-range_with_len, length-range_with_len, map-range_with_len_more}
 use Rattle.std.specs.List.{range_with_len}
 use Rattle.net_numbers.specs.Numbers.{Net}
 use Rattle.net_numbers.specs.Outline.{link_at}
-use Rattle.net_numbers.specs.declared.roads.Link.{Link}
-use Rattle.road_net.specs.Network.{IsNetwork, entry_links, exit_links, heard_links, told_links}
-use Rattle.road_net.specs.Joins.{links_of_node}
-use Rattle.road_net.proofs.AtSide.{links_of_node-are}
+use Rattle.road_net.specs.Network.{IsNetwork, exit_links, heard_links, told_links}
 use Rattle.histories.specs.Histories.{count, IsLawful, round_at, step_at, version_at}
 use Rattle.histories.specs.Steps.{board_steps, is_publish_of}
 use Rattle.histories.specs.declared.steps.BoardStep.{BoardStep}
@@ -23,14 +20,10 @@ use Rattle.histories.proofs.Prefixes.{beginning}
 use Rattle.histories.proofs.Rounds.{next}
 use Rattle.histories.proofs.StepLaws.{steps-beyond}
 use Rattle.histories.proofs.Versions.{version-more}
-use Rattle.intersection_actor.specs.declared.records.Used.{Used}
+use Rattle.intersection_actor.proofs.UsedLinks.{at-side, heard-exist, links-named}
 use Rattle.delay_report.specs.Reports.{step_record, step_record_at}
 use Rattle.delay_report.specs.Walks.{HasWalkedTo, link_of}
 use Rattle.delay_report.specs.declared.steps.Walk.{Walk}
-
--- the links at a side of a node are there
-at-side : (side : _) (node : ℕ) (links : List Link) → All (λ l. l < length links) (links_of_node side links node)
-at-side side node links = λ k d inside. ((links_of_node-are side node links).have k d inside).0
 
 -- the steps of one node more
 pub all-more : (f : ℕ → List BoardStep) (n : ℕ) (old new : List (Vec BoardStep Global)) (own : Vec BoardStep Global) → map (λ (v : Vec BoardStep Global). v.items) old ≡ map f (range_with_len 0 n) → new ≡ old ++ own ∷ [] → own.items ≡ f n
@@ -40,30 +33,14 @@ all-more f n old new own so_far is owned =
     ∙ sym (map-range_with_len_more f 0 n n (omega arith))
 
 module _ (net : Net) (network : IsNetwork net) (node : ℕ) where
-  named : (links : List ℕ) → All (λ l. l < length net.links) links → All (λ l. l < length net.link_names) links
-  named links exist = All-weaker (λ l. l < length net.links) (λ l. l < length net.link_names) (λ l below. omega (arith, below, network.outline.road_count)) links exist
-
-  entries-exist : All (λ l. l < length net.link_names) (entry_links net node)
-  entries-exist = named (entry_links net node) (search (at-side))
-
   exits-exist : All (λ l. l < length net.link_names) (exit_links net node)
-  exits-exist = named (exit_links net node) (search (at-side))
-
-  heard-exist : All (λ l. l < length net.link_names) (heard_links net node)
-  heard-exist = All-filter (λ l. is_some (link_at net l).from) (λ l. l < length net.link_names) (entry_links net node) entries-exist
-
-  -- the links of versions are there, where they are those on which the node hears another one
-  pub used-exist : (used : List Used) → map (λ (u : Used). u.link) used ≡ heard_links net node → All (λ (u : Used). u.link < length net.link_names) used
-  used-exist used are k d inside =
-      let at : get_or (map (λ (u : Used). u.link) used) k d.link ≡ (get_or used k d).link = get_or-map (λ (u : Used). u.link) used k d d.link inside in
-      let there : k < length (heard_links net node) = omega (arith, inside, length-map used (λ (u : Used). u.link), ap length are) in
-      subst (λ l. l < length net.link_names) (ap (λ ls. get_or ls k d.link) (sym are) ∙ at) (heard-exist k d.link there)
+  exits-exist = links-named net network (exit_links net node) (search (at-side))
 
   -- the links of a node's steps are there
   pub step-links : All (λ s. link_of s < length net.link_names) (board_steps net node)
   step-links =
       All-append (λ s. link_of s < length net.link_names) (map Read (heard_links net node)) (map Publish (told_links net node))
-      (All-map (λ s. link_of s < length net.link_names) Read (heard_links net node) heard-exist)
+      (All-map (λ s. link_of s < length net.link_names) Read (heard_links net node) (heard-exist net network node))
       (All-map (λ s. link_of s < length net.link_names) Publish (told_links net node) (All-filter (λ l. is_some (link_at net l).to) (λ l. l < length net.link_names) (exit_links net node) exits-exist))
 
   pub step-link : (k : ℕ) → k < length (board_steps net node) → link_of (get_or (board_steps net node) k (Read 0)) < length net.link_names

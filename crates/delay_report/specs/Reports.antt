@@ -6,8 +6,8 @@ use Rattle.histories.specs.Histories.{round_at, step_at, version_at}
 use Rattle.histories.specs.Steps.{board_steps}
 use Rattle.histories.specs.declared.steps.BoardStep.{BoardStep}
 use Rattle.histories.specs.declared.steps.BoardStep.TheVariants.{Read, Publish}
+use Rattle.intersection_actor.specs.PlanFields.{used_text}
 use Rattle.intersection_actor.specs.declared.records.PlanRecord.{PlanRecord}
-use Rattle.intersection_actor.specs.declared.records.Used.{Used}
 use Rattle.net_numbers.specs.Numbers.{Net}
 use Rattle.net_numbers.specs.Outline.{link_name_at, node_name_at}
 use Rattle.net_simulator.specs.Sums.{end_of_run}
@@ -27,10 +27,6 @@ step_record net round node versions (Publish link) = codes "step" ∷ decimal ro
 abbrev pub step_record_at : Net → List ℕ → ℕ → List (List ℕ)
 step_record_at net history place =
     step_record net (round_at (board_steps net) history place) (slice_index history place) (λ link. version_at (board_steps net) history link place) (step_at (board_steps net) history place)
-
--- a version that a plan used
-abbrev pub used_text : Net → Used → List ℕ
-used_text net used = link_name_at net used.link ++ 61 ∷ decimal used.version
 
 -- an answer: a plan with its delay and its phases one after another, or none
 abbrev pub answer_fields : Answer → List (List ℕ)

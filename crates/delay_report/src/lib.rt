@@ -10,6 +10,5 @@ mod steps;
 mod texts;
 
 pub use faults::HistoryFault;
-pub use plans::{phase_digits, used_text};
 pub use reports::{join_report, law_of_reports, render, render_outcome, render_steps};
 pub use texts::read_history;

@@ -6,3 +6,5 @@ pub mod RoundLaws
 pub mod ServedLaws
 pub mod SettleLaws
 pub mod TellLaws
+pub mod UsedLinks
+pub mod VersionLaws

@@ -2,9 +2,11 @@
 #![tactic(auto)]
 
 mod actors;
+mod plan_fields;
 mod planning;
 mod reads;
 mod records;
 
 pub use actors::Actor;
+pub use plan_fields::{phase_digits, used_text};
 pub use records::{PlanRecord, Used, Want};

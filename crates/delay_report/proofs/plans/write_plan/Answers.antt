@@ -1,4 +1,4 @@
-use Rattle.delay_report.proofs.WalkLaws.{used-exist}
+use Rattle.intersection_actor.proofs.UsedLinks.{used-exist}
 use Rattle.delay_report.proofs.plans.write_plan.Goals as goal
 
 pub used_text-requires : goal.used_text-requires
