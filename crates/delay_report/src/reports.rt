@@ -15,11 +15,10 @@ ghost use Rattle.delay_report.specs.Texts.{IsHistoryText};
 use crate::plans::write_plans;
 use crate::steps::write_steps;
 use histories::History;
-use line_reports::write_shown;
 use road_net::Network;
 use runs::RunRecord;
 use std::alloc::{AllocError, Global};
-use world_records::{finish, start, write_header};
+use world_records::{finish, start, write_header, write_shown};
 
 // The capacity for a step of a report, in bytes, so that the text seldom has to move as it grows: the record takes some 28, and what
 // follows the steps a third as much again.

@@ -1,7 +1,6 @@
 -- The parts of a report, one after another.
-use Rattle.std.proofs.Common.{◌≡◌, ℕ, [], ◌∷◌, length, map, Vec, subst}
+use Rattle.std.proofs.Common.{◌≡◌, ℕ, [], ◌∷◌, Vec}
 use Rattle.std.proofs.lemmas.List.Elements.{All-nil}
-use Rattle.std.specs.List.{flat_map, range_with_len}
 use Rattle.csv.specs.declared.writer.Writer.{Writer}
 use Rattle.net_simulator.specs.Sums.{AreFew, end_of_run}
 use Rattle.net_numbers.specs.Numbers.{Net}
@@ -9,21 +8,12 @@ use Rattle.road_net.specs.Network.{IsNetwork}
 use Rattle.sheets.specs.declared.sheet.Sheet.{Sheet}
 use Rattle.sheets.specs.Texts.{HasShape}
 use Rattle.sheets.specs.Written.{IsPassedOver}
-use Rattle.world_records.specs.Records.{green_records, header, link_record_of, shown_records, total_record}
+use Rattle.world_records.specs.Records.{header, shown_records}
 use Rattle.world_records.specs.Written.{Adds, HasWritten}
 use Rattle.world_records.proofs.WrittenLaws.{adds-then}
 use Rattle.audit.specs.Audits.{IsClean, IsCleanText}
 use Rattle.audit.proofs.CleanTexts.{clean-text}
 use Rattle.line_reports.specs.Reports.{line_text}
-
--- what is shown and counted
-pub shown-parts : {Z : Type 0} (net : Net) (s : Sheet) (end : ℕ) (o0 o1 o2 o3 : Writer (Vec ℕ Z)) → end ≡ end_of_run net
-    → Adds o0 o1 (flat_map (green_records net s.lines end) (range_with_len 0 (length net.node_names)))
-    → Adds o1 o2 (map (link_record_of net s.links) (range_with_len 0 (length net.link_names)))
-    → Adds o2 o3 (total_record s.totals ∷ []) → Adds o0 o3 (shown_records net s.lines s.links s.totals (end_of_run net))
-shown-parts net s end o0 o1 o2 o3 ends shown counted last =
-    let greens = subst (λ n. Adds o0 o1 (flat_map (green_records net s.lines n) (range_with_len 0 (length net.node_names)))) ends shown in
-    adds-then o0 o1 o3 _ _ greens (adds-then o1 o2 o3 _ _ counted last)
 
 -- with the header before it
 pub report-parts : {Z : Type 0} (net : Net) (s : Sheet) (o0 o1 o2 : Writer (Vec ℕ Z)) → HasWritten o0 [] → Adds o0 o1 (header ∷ [])

@@ -4,5 +4,5 @@
 mod reports;
 mod runs;
 
-pub use reports::{line_report, write_shown};
+pub use reports::line_report;
 pub use runs::{LineRun, list_totals, run_lines};

@@ -1,21 +1,17 @@
 //! The report of lines and totals.
 
-ghost use Rattle.std.specs.Prelude.{◌≡◌, ◌≤◌, ℕ, IfOk, OnOk};
+ghost use Rattle.std.specs.Prelude.{◌≡◌, ◌≤◌, ℕ, IfOk};
 ghost use Rattle.arrivals.specs.Rows.{most_of_all};
 ghost use Rattle.audit.specs.Audits.{IsClean, IsCleanText};
-ghost use Rattle.net_simulator.specs.Sums as sums;
 ghost use Rattle.net_simulator.specs.Sums.{arrived};
 ghost use Rattle.sheets.specs.Texts.{HasShape};
-ghost use Rattle.world_records.specs.Records.{shown_records};
-ghost use Rattle.world_records.specs.Written.{Adds};
 ghost use Rattle.line_reports.specs.Reports.{line_text};
 
 use control_flow::greens::Timeline;
-use csv::Writer;
-use net_simulator::{LinkTotals, Totals, end_of_run};
+use net_simulator::{LinkTotals, Totals};
 use road_net::Network;
 use std::alloc::{AllocError, Global};
-use world_records::{finish, start, write_greens, write_header, write_links, write_totals};
+use world_records::{finish, start, write_header, write_shown};
 
 /// The report of lines and totals: the header, the greens that begin before the end of the run, by node and time, the
 /// totals of each link, and all totals. It has no steps and no plans. There are a line for each node and totals of
@@ -43,24 +39,4 @@ pub fn line_report(
     write_header(&mut out)?;
     write_shown(net, lines, links, totals, &mut out)?;
     finish(out)
-}
-
-/// Writes what lines show and what was counted: the greens that begin before the end of the run, by node and time, the
-/// totals of each link, and all totals. There are a line for each node and totals of each link. `Err`: out of memory.
-///
-/// docs/FORMATS.md, "Report".
-pub fn write_shown(
-    net: &Network,
-    lines: &[Timeline],
-    links: &[LinkTotals],
-    totals: Totals,
-    out: &mut Writer<Vec<u8>>,
-) -> Result<(), AllocError>
-    requires { HasShape net.now (record { lines = lines.now; links = links.now; totals = totals }) }
-    ensures { OnOk result (Adds out.old out.new
-        (shown_records net.now lines.now links.now totals (sums.end_of_run net.now))) }
-{
-    write_greens(net, lines, end_of_run(net), out)?;
-    write_links(net, links, out)?;
-    write_totals(totals, out)
 }

@@ -1,3 +1,4 @@
 pub mod EntryLaws
 pub mod RecordLaws
+pub mod ShownLaws
 pub mod WrittenLaws

@@ -9,4 +9,4 @@ mod world;
 pub use digits::{Digits, digits_of};
 pub use entries::{is_header, seven_fields, write_header};
 pub use records::{finish, start, write_record};
-pub use world::{write_greens, write_links, write_totals};
+pub use world::write_shown;

@@ -1,22 +1,42 @@
 //! The records of what the signals showed and the world counted.
 ghost use Rattle.std.specs.Prelude.{◌≡◌, ◌<◌, [], ◌∷◌, OnOk, filter, if◌then◌else◌, length, map, nat_lt};
 ghost use Rattle.std.specs.List.{flat_map, range_with_len};
-ghost use Rattle.world_records.specs.Records.{green_record, green_records, link_record, link_record_of, total_record};
+ghost use Rattle.net_simulator.specs.Sums as sums;
+ghost use Rattle.world_records.specs.Records.{green_record, green_records, link_record, link_record_of, shown_records, total_record};
 ghost use Rattle.world_records.specs.Written.{Adds};
 
 use crate::digits::digits_of;
 use crate::records::write_record;
 use control_flow::greens::{Green, Timeline};
 use csv::Writer;
-use net_simulator::{LinkTotals, Totals};
+use net_simulator::{LinkTotals, Totals, end_of_run};
 use road_net::Network;
 use std::alloc::AllocError;
 
-/// Writes the records of the greens of each node's line that begin before second `end`, by node and time; a line for
-/// each node, by number. `Err`: out of memory.
+/// Writes what lines show and what was counted: the greens that begin before the end of the run, by node and time, the
+/// totals of each link, and all totals. There are a line for each node and totals of each link. `Err`: out of memory.
 ///
 /// docs/FORMATS.md, "Report".
-pub fn write_greens(
+pub fn write_shown(
+    net: &Network,
+    lines: &[Timeline],
+    links: &[LinkTotals],
+    totals: Totals,
+    out: &mut Writer<Vec<u8>>,
+) -> Result<(), AllocError>
+    requires lines { length lines.now ≡ length net.now.node_names }
+    requires links { length links.now ≡ length net.now.link_names }
+    ensures { OnOk result (Adds out.old out.new
+        (shown_records net.now lines.now links.now totals (sums.end_of_run net.now))) }
+{
+    write_greens(net, lines, end_of_run(net), out)?;
+    write_links(net, links, out)?;
+    write_totals(totals, out)
+}
+
+/// Writes the records of the greens of each node's line that begin before second `end`, by node and time; a line for
+/// each node, by number.
+fn write_greens(
     net: &Network,
     lines: &[Timeline],
     end: u32,
@@ -83,10 +103,8 @@ fn write_green(
     )
 }
 
-/// Writes the records of the totals of each link, by number. `Err`: out of memory.
-///
-/// docs/FORMATS.md, "Report".
-pub fn write_links(
+/// Writes the records of the totals of each link, by number.
+fn write_links(
     net: &Network,
     totals: &[LinkTotals],
     out: &mut Writer<Vec<u8>>,
@@ -129,10 +147,8 @@ fn write_link(
     )
 }
 
-/// Writes the record of all totals. `Err`: out of memory.
-///
-/// docs/FORMATS.md, "Report".
-pub fn write_totals(totals: Totals, out: &mut Writer<Vec<u8>>) -> Result<(), AllocError>
+/// Writes the record of all totals.
+fn write_totals(totals: Totals, out: &mut Writer<Vec<u8>>) -> Result<(), AllocError>
     ensures { OnOk result (Adds out.old out.new (total_record totals ∷ [])) }
 {
     let entered = digits_of(totals.entered);

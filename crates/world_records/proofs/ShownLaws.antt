@@ -1,0 +1,21 @@
+-- What is shown and counted, one part after another.
+use Rattle.std.proofs.Common.{◌≡◌, ℕ, List, [], ◌∷◌, length, map, Vec, subst}
+use Rattle.std.specs.List.{flat_map, range_with_len}
+use Rattle.csv.specs.declared.writer.Writer.{Writer}
+use Rattle.control_flow.specs.declared.greens.Green.{Green}
+use Rattle.net_numbers.specs.Numbers.{Net}
+use Rattle.net_simulator.specs.Sums.{end_of_run}
+use Rattle.net_simulator.specs.declared.totals.LinkTotals.{LinkTotals}
+use Rattle.net_simulator.specs.declared.totals.Totals.{Totals}
+use Rattle.world_records.specs.Records.{green_records, link_record_of, shown_records, total_record}
+use Rattle.world_records.specs.Written.{Adds}
+use Rattle.world_records.proofs.WrittenLaws.{adds-then}
+
+-- the greens, the totals of each link and all totals are what is shown and counted
+pub shown-parts : {Z : Type 0} (net : Net) (lines : List (List Green)) (links : List LinkTotals) (totals : Totals) (end : ℕ) (o0 o1 o2 o3 : Writer (Vec ℕ Z)) → end ≡ end_of_run net
+    → Adds o0 o1 (flat_map (green_records net lines end) (range_with_len 0 (length net.node_names)))
+    → Adds o1 o2 (map (link_record_of net links) (range_with_len 0 (length net.link_names)))
+    → Adds o2 o3 (total_record totals ∷ []) → Adds o0 o3 (shown_records net lines links totals (end_of_run net))
+shown-parts net lines links totals end o0 o1 o2 o3 ends shown counted last =
+    let greens = subst (λ n. Adds o0 o1 (flat_map (green_records net lines n) (range_with_len 0 (length net.node_names)))) ends shown in
+    adds-then o0 o1 o3 _ _ greens (adds-then o1 o2 o3 _ _ counted last)

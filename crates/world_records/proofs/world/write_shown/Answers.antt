@@ -1,0 +1,9 @@
+use Rattle.std.proofs.lemmas.Result.{on_ok_weaker}
+use Rattle.world_records.proofs.ShownLaws.{shown-parts}
+use Rattle.world_records.proofs.world.write_shown.Goals as goal
+
+pub returns : goal.returns
+returns c =
+    on_ok_weaker c.write_totals.result
+    (λ last. shown-parts c.args.net.now c.args.lines.now c.args.links.now c.args.totals c.end_of_run.result c.args.out.now c.write_greens.new.out c.write_links.new.out c.write_totals.new.out c.end_of_run.ensures.value c.in_ok-write_greens.ensures c.in_ok-write_links.ensures last)
+    c.write_totals.ensures
