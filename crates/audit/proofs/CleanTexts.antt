@@ -25,7 +25,8 @@ use Rattle.sheets.specs.Written.{AreToldCounts, AreToldSums, CanBeTold, IsPassed
 use Rattle.sheets.proofs.TextLaws.{one-sheet}
 use Rattle.sheets.proofs.WrittenLaws.{written-sheet}
 use Rattle.world_records.specs.Records.{header, records_text}
-use Rattle.audit.specs.Audits.{IsClean, IsCleanText, past_under}
+use Rattle.audit.specs.Audits.{IsClean, IsCleanText}
+use Rattle.net_simulator.specs.Shown.{past_under}
 use Rattle.audit.proofs.CutLaws.{cut-clean, cut-line}
 
 -- the greens of a plan that begin before a second can be told

@@ -15,7 +15,8 @@ use Rattle.net_simulator.specs.Worlds.{line_in, standing_by}
 use Rattle.net_simulator.proofs.FlowLaws.{history-same}
 use Rattle.sheets.specs.declared.sheet.Sheet.{Sheet}
 use Rattle.sheets.specs.Written.{begun_before, cut_at}
-use Rattle.audit.specs.Audits.{IsClean, past_under}
+use Rattle.audit.specs.Audits.{IsClean}
+use Rattle.net_simulator.specs.Shown.{past_under}
 
 -- no row of a lawful line begins before a second that its first row does not begin before
 late-none : (plan : List Phase) (end : ℕ) (row : Green) (rows : List Green) → IsLawful plan (row ∷ rows) → end ≤ row.from → begun_before end rows ≡ []

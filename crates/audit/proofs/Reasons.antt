@@ -15,7 +15,8 @@ use Rattle.net_simulator.specs.Sums.{end_of_run, link_totals, totals}
 use Rattle.net_simulator.specs.Worlds.{Stands, WorldState, line_in, standing_by}
 use Rattle.signal_safety.proofs.Lines.{plan-is}
 use Rattle.sheets.specs.declared.sheet.Sheet.{Sheet}
-use Rattle.audit.specs.Audits.{AllRows, AreLawful, FollowsAt, IsClean, IsGreenAt, IsLinkShown, IsWhy, all_shown, link_shown}
+use Rattle.audit.specs.Audits.{AllRows, AreLawful, FollowsAt, IsClean, IsGreenAt, IsLinkShown, IsWhy}
+use Rattle.net_simulator.specs.Shown.{all_shown, link_shown}
 use Rattle.audit.specs.declared.findings.AuditWhy.{AuditWhy}
 use Rattle.audit.specs.declared.findings.AuditWhy.TheVariants.{Span, Next, Link, Total}
 use Rattle.audit.specs.declared.findings.Finding.TheVariants.{Clean, Bad}

@@ -7,11 +7,8 @@ use Rattle.net_numbers.specs.Outline.{plan_at}
 use Rattle.control_flow.specs.Greens.{Follows, IsGreen, IsLawful, row_at}
 use Rattle.control_flow.specs.declared.greens.Green.{Green}
 use Rattle.net_simulator.specs.Counts.{counts_at}
-use Rattle.net_simulator.specs.Flow.{Passed, past_of}
-use Rattle.net_simulator.specs.Sums.{end_of_run, link_totals, totals}
-use Rattle.net_simulator.specs.Worlds.{line_in, standing_by}
-use Rattle.net_simulator.specs.declared.totals.LinkTotals.{LinkTotals}
-use Rattle.net_simulator.specs.declared.totals.Totals.{Totals}
+use Rattle.net_simulator.specs.Shown.{all_shown, link_shown}
+use Rattle.net_simulator.specs.Worlds.{line_in}
 use Rattle.sheets.specs.Texts.{IsSheetText}
 use Rattle.sheets.specs.declared.sheet.Sheet.{Sheet}
 use Rattle.audit.specs.declared.findings.AuditWhy.{AuditWhy}
@@ -20,17 +17,6 @@ use Rattle.audit.specs.declared.findings.Audited.{Audited}
 use Rattle.audit.specs.declared.findings.Audited.TheVariants as audited
 use Rattle.audit.specs.declared.findings.Finding.{Finding}
 use Rattle.audit.specs.declared.findings.Finding.TheVariants.{Clean, Bad}
-
--- what passes the links until then under these lines
-abbrev pub past_under : Net → (ℕ → ℕ → ℕ) → List (List Green) → ℕ → ℕ → Passed
-past_under net arriving lines = past_of net arriving (standing_by (line_in lines)) (end_of_run net)
-
--- what the world then has counted of a link, and of the whole network
-abbrev pub link_shown : Net → (ℕ → ℕ → ℕ) → List (List Green) → ℕ → LinkTotals
-link_shown net arriving lines l = link_totals net (past_under net arriving lines) (end_of_run net) l
-
-abbrev pub all_shown : Net → (ℕ → ℕ → ℕ) → List (List Green) → Totals
-all_shown net arriving lines = totals net arriving (past_under net arriving lines) (end_of_run net)
 
 -- each line is lawful for the plan of its node
 abbrev pub AreLawful : Net → List (List Green) → Type 0

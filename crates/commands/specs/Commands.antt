@@ -10,7 +10,8 @@ use Rattle.dp_certificate.specs.Whole.{IsWhole}
 use Rattle.pruned_dp.specs.Bounded.{IsBounded}
 use Rattle.certificate_form.specs.CertificateText.{certificate_text}
 use Rattle.audit.specs.Audits as audits
-use Rattle.audit.specs.Audits.{IsClean, past_under}
+use Rattle.audit.specs.Audits.{IsClean}
+use Rattle.net_simulator.specs.Shown.{past_under}
 use Rattle.audit.specs.declared.findings.AuditWhy.{AuditWhy}
 use Rattle.cert_checker.specs.Verdicts.{IsWhy}
 use Rattle.cert_checker.specs.declared.Why.{Why}

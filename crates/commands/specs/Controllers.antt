@@ -5,7 +5,8 @@ use Rattle.actuated.specs.ActRuns.{IsActRun, ShowsGreens}
 use Rattle.actuated.specs.Reports.{act_text}
 use Rattle.actuated.specs.declared.records.ActRecord.{ActRecord}
 use Rattle.arrivals.specs.Rows.{most_of_all}
-use Rattle.audit.specs.Audits.{AreLawful, IsClean, IsCleanText, all_shown}
+use Rattle.audit.specs.Audits.{AreLawful, IsClean, IsCleanText}
+use Rattle.net_simulator.specs.Shown.{all_shown}
 use Rattle.control_flow.specs.declared.greens.Green.{Green}
 use Rattle.fixed_plans.specs.Lines.{fixed_line}
 use Rattle.fixed_plans.specs.declared.rows.FixedRow.{FixedRow}

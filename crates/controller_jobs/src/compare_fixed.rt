@@ -1,7 +1,7 @@
 //! The command `compare NET ARR PLAN`.
 ghost use Rattle.std.specs.Prelude.{◌≡◌, IfOk};
 ghost use Rattle.arrivals.specs.Amounts.{AreArrivals, entering};
-ghost use Rattle.audit.specs.Audits.{all_shown};
+ghost use Rattle.net_simulator.specs.Shown.{all_shown};
 ghost use Rattle.commands.specs.Commands.{CompareFixed};
 ghost use Rattle.commands.specs.Controllers.{IsComparisonWith, fixed_timelines};
 ghost use Rattle.commands.specs.Ending.{Makes};

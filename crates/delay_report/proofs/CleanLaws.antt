@@ -28,7 +28,8 @@ use Rattle.sheets.specs.declared.sheet.Sheet.{Sheet}
 use Rattle.sheets.specs.Texts.{HasShape}
 use Rattle.sheets.specs.Told.{told}
 use Rattle.sheets.specs.Written.{IsPassedOver, sheet_records}
-use Rattle.audit.specs.Audits.{IsClean, IsCleanText, past_under}
+use Rattle.audit.specs.Audits.{IsClean, IsCleanText}
+use Rattle.net_simulator.specs.Shown.{past_under}
 use Rattle.audit.proofs.CleanTexts.{clean-text}
 use Rattle.world_records.specs.Records.{header, records_text}
 use Rattle.delay_report.specs.Reports.{answer_fields, plan_record, report_records, report_text, step_record, step_record_at}

@@ -14,7 +14,8 @@ use Rattle.net_simulator.specs.declared.totals.Totals.{Totals}
 use Rattle.net_simulator.proofs.Sums.{range-same}
 use Rattle.sheets.specs.declared.sheet.Sheet.{Sheet}
 use Rattle.sheets.specs.Texts.{HasShape}
-use Rattle.audit.specs.Audits.{AreLawful, IsClean, link_shown}
+use Rattle.audit.specs.Audits.{AreLawful, IsClean}
+use Rattle.net_simulator.specs.Shown.{link_shown}
 use Rattle.line_reports.specs.Runs.{shown_sheet}
 
 module _ (net : Net) (arriving : ℕ → ℕ → ℕ) (lines : List (List Green)) where

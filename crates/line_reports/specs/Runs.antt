@@ -3,7 +3,7 @@ use Rattle.std.specs.Prelude.{ℕ, List, length, map}
 use Rattle.std.specs.List.{range_with_len}
 use Rattle.control_flow.specs.declared.greens.Green.{Green}
 use Rattle.net_numbers.specs.Numbers.{Net}
-use Rattle.audit.specs.Audits.{all_shown, link_shown}
+use Rattle.net_simulator.specs.Shown.{all_shown, link_shown}
 use Rattle.sheets.specs.declared.sheet.Sheet.{Sheet}
 use Rattle.line_reports.specs.declared.runs.LineRun.{LineRun}
 

@@ -21,7 +21,7 @@ use Rattle.net_simulator.specs.declared.totals.LinkTotals.{LinkTotals}
 use Rattle.net_simulator.proofs.FlowLaws.{past-kept, past-none}
 use Rattle.net_simulator.proofs.Conserving.{left-entered}
 use Rattle.net_simulator.proofs.Passing.{sound-at, zeros}
-use Rattle.audit.specs.Audits.{past_under}
+use Rattle.net_simulator.specs.Shown.{past_under}
 use Rattle.world_records.specs.Written.{Adds, HasWritten}
 use Rattle.world_records.proofs.WrittenLaws.{adds-then}
 use Rattle.queue_series.specs.Series.{IsPeak, IsSeries, change_records, header, peak_record, second_records}

@@ -1,3 +1,3 @@
 pub mod Series
 pub mod Watches
-pub use Rattle.audit.specs.Audits
+pub use Rattle.net_simulator.specs.Shown

@@ -4,7 +4,8 @@ use Rattle.net_simulator.specs.Arriving.{arriving_of}
 use Rattle.net_simulator.specs.Sums.{end_of_run}
 use Rattle.net_simulator.specs.Worlds.{line_in}
 use Rattle.audit.specs.Safe.{IsSafe}
-use Rattle.audit.specs.Audits.{IfClean, IsClean, past_under}
+use Rattle.audit.specs.Audits.{IfClean, IsClean}
+use Rattle.net_simulator.specs.Shown.{past_under}
 use Rattle.audit.specs.declared.findings.Audited.{Audited}
 use Rattle.queue_series.specs.Series.{IsSeries}
 use Rattle.network_jobs.proofs.queues.queues.Goals as goal

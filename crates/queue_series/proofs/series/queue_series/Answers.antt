@@ -3,7 +3,7 @@ use Rattle.std.proofs.lemmas.Result.{IfOk-weaker}
 use Rattle.net_simulator.specs.Arriving.{arriving_of}
 use Rattle.net_simulator.specs.Sums.{end_of_run}
 use Rattle.world_records.specs.Written.{HasWritten}
-use Rattle.audit.specs.Audits.{past_under}
+use Rattle.net_simulator.specs.Shown.{past_under}
 use Rattle.queue_series.specs.Series.{IsSeries}
 use Rattle.queue_series.specs.Watches.{first_watch}
 use Rattle.queue_series.proofs.WatchLaws.{first-watches, series-is}

@@ -3,7 +3,7 @@ use Rattle.net_simulator.specs.Arriving.{arriving_of}
 use Rattle.net_simulator.specs.Sums.{end_of_run}
 use Rattle.world_records.specs.Written.{Adds}
 use Rattle.world_records.proofs.WrittenLaws.{adds-none, adds-part, adds-parts}
-use Rattle.audit.specs.Audits.{past_under}
+use Rattle.net_simulator.specs.Shown.{past_under}
 use Rattle.queue_series.specs.Series.{second_records}
 use Rattle.queue_series.specs.Watches.{AreWatches}
 use Rattle.queue_series.proofs.WatchLaws.{can-all, records-are, watches-next}

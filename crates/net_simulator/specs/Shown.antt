@@ -1,0 +1,20 @@
+-- What the world shows under given lines up to the end of the run.
+use Rattle.std.specs.Prelude.{ℕ, List}
+use Rattle.control_flow.specs.declared.greens.Green.{Green}
+use Rattle.net_numbers.specs.Numbers.{Net}
+use Rattle.net_simulator.specs.Flow.{Passed, past_of}
+use Rattle.net_simulator.specs.Sums.{end_of_run, link_totals, totals}
+use Rattle.net_simulator.specs.Worlds.{line_in, standing_by}
+use Rattle.net_simulator.specs.declared.totals.LinkTotals.{LinkTotals}
+use Rattle.net_simulator.specs.declared.totals.Totals.{Totals}
+
+-- what passes the links up to the end of the run under these lines
+abbrev pub past_under : Net → (ℕ → ℕ → ℕ) → List (List Green) → ℕ → ℕ → Passed
+past_under net arriving lines = past_of net arriving (standing_by (line_in lines)) (end_of_run net)
+
+-- what the world has counted of a link at the end of the run, and of the whole network, under these lines
+abbrev pub link_shown : Net → (ℕ → ℕ → ℕ) → List (List Green) → ℕ → LinkTotals
+link_shown net arriving lines l = link_totals net (past_under net arriving lines) (end_of_run net) l
+
+abbrev pub all_shown : Net → (ℕ → ℕ → ℕ) → List (List Green) → Totals
+all_shown net arriving lines = totals net arriving (past_under net arriving lines) (end_of_run net)
