@@ -9,11 +9,10 @@ ghost use Rattle.round_states.specs.States.{IsStateOf};
 ghost use Rattle.controller_jobs.specs.Nodes.{MissesNode};
 
 use commands::{Made, Named, Refusal, StateScene, Status, end, fetch_state_scene};
-use decision_texts::{decision_text, node_decision_text};
 use outside_world::{Shelf, Sink};
 use pruned_dp::BoundPlanner;
 use road_net::Network;
-use round_decisions::{decide, decide_node};
+use round_decisions::{decide, decide_node, decision_text, node_decision_text};
 use round_states::RoundState;
 use std::alloc::{AllocError, Global};
 

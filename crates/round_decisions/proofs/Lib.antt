@@ -1,4 +1,5 @@
 pub mod Boards
+pub mod DecisionTextLaws
 pub mod HearLaws
 pub mod KeptLaws
 pub mod LineLaws
@@ -7,3 +8,4 @@ pub mod PlayLaws
 pub mod RoundLaws
 pub mod TellLaws
 pub mod TurnPlaces
+pub mod WritableLaws

@@ -1,4 +1,4 @@
-use Rattle.decision_texts.proofs.KeptLaws.{decision-of}
+use Rattle.round_decisions.proofs.WritableLaws.{decision-of}
 use Rattle.controller_jobs.proofs.decide.decided_text.Goals as goal
 
 pub decision_text-requires : goal.decision_text-requires

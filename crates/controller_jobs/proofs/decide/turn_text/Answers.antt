@@ -1,4 +1,4 @@
-use Rattle.decision_texts.proofs.KeptLaws.{node-decision-of}
+use Rattle.round_decisions.proofs.WritableLaws.{node-decision-of}
 use Rattle.controller_jobs.proofs.decide.turn_text.Goals as goal
 
 pub node_decision_text-requires : goal.node_decision_text-requires

@@ -1,8 +1,0 @@
-use Rattle.std.proofs.Common.{map, take}
-use Rattle.decision_texts.specs.DecisionTexts.{row_record}
-use Rattle.world_records.specs.Written.{Adds}
-use Rattle.decision_texts.proofs.boards.write_rows.Given as goal
-
--- the records of the rows so far
-abbrev pub invariant-loop-row : goal.invariant-loop-row
-invariant-loop-row l = Adds l.fn.out l.out (map (row_record l.net l.link) (take l.row-index l.rows))

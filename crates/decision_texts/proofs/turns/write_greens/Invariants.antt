@@ -1,8 +1,0 @@
-use Rattle.std.proofs.Common.{map, take}
-use Rattle.decision_texts.specs.DecisionTexts.{green_record}
-use Rattle.world_records.specs.Written.{Adds}
-use Rattle.decision_texts.proofs.turns.write_greens.Given as goal
-
--- the records of the rows so far
-abbrev pub invariant-loop-green : goal.invariant-loop-green
-invariant-loop-green l = Adds l.fn.out l.out (map (green_record l.net l.node) (take l.green-index l.greens))
