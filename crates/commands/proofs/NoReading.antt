@@ -12,9 +12,9 @@ use Rattle.delay_report.specs.declared.faults.HistoryFault.TheVariants as histor
 use Rattle.sheets.specs.Faults as sheets
 use Rattle.sheets.specs.declared.faults.SheetFault.{SheetFault}
 use Rattle.sheets.specs.declared.faults.SheetFault.TheVariants as sheet
-use Rattle.stores.specs.Texts as stores
-use Rattle.stores.specs.declared.faults.StoreFault.{StoreFault}
-use Rattle.stores.specs.declared.faults.StoreFault.TheVariants as store
+use Rattle.spillback_world.specs.StoreTexts as stores
+use Rattle.spillback_world.specs.declared.store_faults.StoreFault.{StoreFault}
+use Rattle.spillback_world.specs.declared.store_faults.StoreFault.TheVariants as store
 use Rattle.fixed_plans.specs.Faults as plans
 use Rattle.fixed_plans.specs.declared.faults.FixedFault.{FixedFault}
 use Rattle.fixed_plans.specs.declared.faults.FixedFault.TheVariants as plan

@@ -22,8 +22,8 @@ use Rattle.delay_report.specs.declared.faults.HistoryFault.{HistoryFault}
 use Rattle.delay_report.specs.declared.faults.HistoryFault.TheVariants as history
 use Rattle.sheets.specs.declared.faults.SheetFault.{SheetFault}
 use Rattle.sheets.specs.declared.faults.SheetFault.TheVariants as sheet
-use Rattle.stores.specs.declared.faults.StoreFault.{StoreFault}
-use Rattle.stores.specs.declared.faults.StoreFault.TheVariants as store
+use Rattle.spillback_world.specs.declared.store_faults.StoreFault.{StoreFault}
+use Rattle.spillback_world.specs.declared.store_faults.StoreFault.TheVariants as store
 use Rattle.fixed_plans.specs.declared.faults.FixedFault.{FixedFault}
 use Rattle.fixed_plans.specs.declared.faults.FixedFault.TheVariants as fixed
 use Rattle.round_states.specs.declared.faults.StateFault.{StateFault}

@@ -27,9 +27,9 @@ use Rattle.sheets.specs.Faults.{IsSheetFault}
 use Rattle.sheets.specs.Texts.{IsSheetText}
 use Rattle.sheets.specs.declared.faults.SheetFault.TheVariants as sheet
 use Rattle.sheets.specs.declared.sheet.Sheet as sheets
-use Rattle.stores.specs.Texts as stores
-use Rattle.stores.specs.Texts.{IsStoreText}
-use Rattle.stores.specs.declared.faults.StoreFault.TheVariants as store
+use Rattle.spillback_world.specs.StoreTexts as stores
+use Rattle.spillback_world.specs.StoreTexts.{IsStoreText}
+use Rattle.spillback_world.specs.declared.store_faults.StoreFault.TheVariants as store
 use Rattle.commands.specs.Limits.{most_bytes}
 use Rattle.commands.specs.declared.bad_texts.BadText.{BadText}
 use Rattle.commands.specs.declared.bad_texts.BadText.TheVariants.{Long, Fault, Certificate, Network, Arrivals, History, Sheet, Store, FixedPlan, State}

@@ -17,8 +17,8 @@ use phase_plan::{Field, PlanFault};
 use round_states::StateFault;
 use schedule_meaning::{InstanceFault, TextFault};
 use sheets::SheetFault;
+use spillback_world::StoreFault;
 use std::alloc::AllocError;
-use stores::StoreFault;
 
 /// What is wrong with a text.
 ///

@@ -8,8 +8,8 @@ use delay_report::HistoryFault;
 use fixed_plans::FixedFault;
 use round_states::StateFault;
 use sheets::SheetFault;
+use spillback_world::StoreFault;
 use std::alloc::AllocError;
-use stores::StoreFault;
 
 /// Appends the code of a fault of arrivals.
 pub(crate) fn push_row_code(line: &mut Vec<u8>, fault: RowFault) -> Result<(), AllocError>

@@ -21,8 +21,8 @@ use outside_world::Shelf;
 use road_net::Network;
 use round_states::RoundState;
 use sheets::Sheet;
+use spillback_world::Store;
 use std::alloc::Global;
-use stores::Store;
 
 /// A network, and arrivals at it.
 #[derive(Drop)]

@@ -24,8 +24,8 @@ use road_net::Network;
 use round_states::{RoundState, StateFault, read_state};
 use schedule_meaning::{Instance, TextFault, read_instance};
 use sheets::{Sheet, SheetFault, read_sheet};
+use spillback_world::{Store, StoreFault, read_store};
 use std::alloc::Global;
-use stores::{Store, StoreFault, read_store};
 
 /// The greatest length of a text, in bytes.
 ///

@@ -17,9 +17,8 @@ use net_simulator::Lines;
 use outside_world::{Shelf, Sink};
 use road_net::Network;
 use spillback_control::spill_actuated;
-use spillback_world::{SpillTotals, spill_lines};
+use spillback_world::{SpillTotals, Store, spill_lines};
 use std::alloc::{AllocError, Global};
-use stores::Store;
 use text_lines::push_line;
 
 // What is counted in the world with a store under the last lines of the run of the turn order.

@@ -18,9 +18,8 @@ use control_flow::greens::Timeline;
 use net_simulator::Lines;
 use net_simulator::starts::zeros;
 use road_net::Network;
-use spillback_world::{SpillTotals, SpillWorld};
+use spillback_world::{SpillTotals, SpillWorld, Store};
 use std::alloc::{AllocError, Global};
-use stores::Store;
 
 /// What is counted of a network whose links hold what the store says, in its run under actuated control from second 0 up
 /// to the end of the last round: when a round begins, the timeline of each node goes on by what the node senses then of the

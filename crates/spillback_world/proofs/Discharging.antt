@@ -9,7 +9,7 @@ use Rattle.net_numbers.specs.Outline.{link_at, turns_at}
 use Rattle.road_net.specs.Joins.{split_of}
 use Rattle.road_net.proofs.Shares.{split-none}
 use Rattle.net_simulator.proofs.Turning.{no_turn}
-use Rattle.stores.specs.Rows.{IsStorage}
+use Rattle.spillback_world.specs.StoreRows.{IsStorage}
 use Rattle.spillback_world.specs.Filling.{fitting, room_of}
 use Rattle.spillback_world.specs.Steps.{AreHeld, HasDischarged, HaveDischarged, HaveLeft, HaveLinks, discharge_of, link_goes, only_at, opening_by}
 use Rattle.spillback_world.specs.Storage.{Opening, held_by, inward, next_goes}

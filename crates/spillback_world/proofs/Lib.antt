@@ -11,6 +11,9 @@ pub mod Setting
 pub mod Shown
 pub mod Sources
 pub mod Start
+pub mod StoreDraftLaws
+pub mod StoreFieldLaws
+pub mod StoreTextLaws
 pub mod Whole
 pub mod Within
 pub mod WorkedRows

@@ -9,7 +9,7 @@ use Rattle.net_simulator.specs.declared.totals.Totals.{Totals}
 use Rattle.spillback_world.specs.declared.totals.SpillTotals.{SpillTotals}
 use Rattle.spillback_world.specs.Spilled.{spilled}
 use Rattle.spillback_world.specs.Storage.{AreWithin, past_in}
-use Rattle.stores.specs.Rows.{most_of_link}
+use Rattle.spillback_world.specs.StoreRows.{most_of_link}
 
 -- what is counted in the first n seconds
 abbrev pub spilled_in : Net → Amounts → (ℕ → ℕ) → (ℕ → ℕ → Option (ℕ × ℕ)) → ℕ → SpillTotals

@@ -5,11 +5,11 @@ ghost use Rattle.net_numbers.specs.Outline.{turns_at};
 ghost use Rattle.road_net.specs.Joins.{split_of};
 ghost use Rattle.spillback_world.specs.Filling.{room_of};
 ghost use Rattle.spillback_world.specs.Steps.{AreHeld, HasDischarged, HaveDischarged, HaveLeft, HaveLinks, link_goes};
-ghost use Rattle.stores.specs.Rows.{IsStorage};
+ghost use Rattle.spillback_world.specs.StoreRows.{IsStorage};
 
 use crate::searches::allowed;
+use crate::store::Store;
 use road_net::{Network, part_of_turn};
-use stores::Store;
 
 /// Where links discharge: the network, how much its links can hold, and which of them may discharge in this second.
 #[derive(Drop)]

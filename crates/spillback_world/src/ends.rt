@@ -8,14 +8,14 @@ ghost use Rattle.net_simulator.specs.Rows.{cell};
 ghost use Rattle.net_simulator.specs.Sums.{outward};
 ghost use Rattle.road_net.specs.Totals.{total};
 ghost use Rattle.spillback_world.specs.Steps.{comes_of};
-ghost use Rattle.stores.specs.Rows.{IsStorage};
+ghost use Rattle.spillback_world.specs.StoreRows.{IsStorage};
 
 use crate::searches::room;
+use crate::store::Store;
 use arrivals::Arrivals;
 use net_simulator::link_seconds::{outward, waiting_amount};
 use net_simulator::rows;
 use road_net::Network;
-use stores::Store;
 
 /// What entered each link one travel time ago reaches its end: it joins the queue, and on a link that ends at no node all
 /// leaves the network. Tells how much leaves.

@@ -6,13 +6,13 @@ ghost use Rattle.net_simulator.specs.Sums.{end_of_run};
 ghost use Rattle.net_simulator.specs.Worlds.{line_in, standing_by};
 ghost use Rattle.spillback_world.specs.Laws.{AreAmple, spilled_in, unbounded_in};
 
+use crate::store::Store;
 use crate::totals::SpillTotals;
 use crate::worlds::SpillWorld;
 use arrivals::Arrivals;
 use net_simulator::{Lines, end_of_run};
 use road_net::Network;
 use std::alloc::{AllocError, Global};
-use stores::Store;
 
 /// What is counted of a network whose links hold what the store says, over its whole run under these timelines. Where every
 /// storage is 2,000,000,000, it is what `net_simulator::play` counts under them, and nothing waits outside.

@@ -5,8 +5,8 @@ ghost use Rattle.net_numbers.specs.Outline.{turns_at};
 ghost use Rattle.road_net.specs.Joins.{split_of};
 ghost use Rattle.spillback_world.specs.Filling.{fitting, has_room, room_of};
 
+use crate::store::Store;
 use road_net::{Network, part_of_turn};
-use stores::Store;
 
 /// How much more a link can hold.
 pub(crate) fn room(store: &Store, held: &[u32], link: u32) -> u32

@@ -17,6 +17,7 @@ use crate::amounts::{clear, sum};
 use crate::discharges::{Site, discharge, law_of_storages};
 use crate::ends::{Gate, let_in, reach_ends};
 use crate::signals::serve;
+use crate::store::Store;
 use crate::totals::SpillTotals;
 use arrivals::Arrivals;
 use control_flow::greens::Green;
@@ -29,7 +30,6 @@ use net_simulator::starts::{no_greens, zeros};
 use road_net::{Network, Sensed};
 use std::alloc::{AllocError, Global};
 use std::marker::Model;
-use stores::Store;
 
 /// What is kept of each link, in thousandths of a vehicle, and what a second needs.
 #[derive(Drop)]

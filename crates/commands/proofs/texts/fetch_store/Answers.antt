@@ -1,5 +1,5 @@
 use Rattle.std.proofs.Common.{rules, sym, subst, List, ℕ}
-use Rattle.stores.specs.Texts.{IsTextFault, IsStoreText}
+use Rattle.spillback_world.specs.StoreTexts.{IsTextFault, IsStoreText}
 use Rattle.commands.specs.Texts.{StoreText}
 use Rattle.commands.specs.declared.bad_texts.BadText.TheVariants.{Store}
 use Rattle.commands.proofs.Fetching.{fetched-bad}

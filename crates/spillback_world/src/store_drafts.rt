@@ -1,11 +1,11 @@
 //! A store that is being read.
 ghost use Rattle.std.specs.Prelude.{◌≡◌, ◌↔◌, IfOk, IsTrue, length};
 ghost use Rattle.road_net.specs.Network.{IsNetwork};
-ghost use Rattle.stores.specs.Drafts.{Adds, storages_of};
-ghost use Rattle.stores.specs.Rows.{IsStorage};
+ghost use Rattle.spillback_world.specs.StoreDrafts.{Adds, storages_of};
+ghost use Rattle.spillback_world.specs.StoreRows.{IsStorage};
 
-use crate::faults::StoreFault;
 use crate::store::Store;
+use crate::store_faults::StoreFault;
 use road_net::Network;
 use std::alloc::{AllocError, Global};
 
@@ -31,7 +31,7 @@ pub(crate) struct Draft {
 impl Draft {
     ghost use Rattle.std.specs.Prelude.{◌≡◌, ◌<◌, IfOk, None, length, replicate};
     ghost use Rattle.road_net.specs.Network.{IsNetwork};
-    ghost use Rattle.stores.specs.Drafts.{Adds, AreStorages, storages_of};
+    ghost use Rattle.spillback_world.specs.StoreDrafts.{Adds, AreStorages, storages_of};
 
     /// No row is read. `Err`: out of memory.
     pub(crate) fn new(alloc: Global, net: &Network) -> Result<Draft, AllocError>

@@ -4,11 +4,11 @@ use Rattle.foundation.specs.Options.{each}
 use Rattle.net_numbers.specs.Numbers.{Net, number_of}
 use Rattle.record_text.specs.Faults.{HasAfterHeader, IsFirstFault}
 use Rattle.record_text.specs.Records.{records_of}
-use Rattle.stores.specs.declared.drafts.StoreRow.{StoreRow}
-use Rattle.stores.specs.declared.faults.StoreFault.{StoreFault}
-use Rattle.stores.specs.declared.faults.StoreFault.TheVariants.{NoMemory, Header, Row, Link, Bound, Twice}
-use Rattle.stores.specs.Records.{header, told_of, row_of}
-use Rattle.stores.specs.Rows.{IsStorage, AreRows, IsStoreOf, link_of}
+use Rattle.spillback_world.specs.declared.store_drafts.StoreRow.{StoreRow}
+use Rattle.spillback_world.specs.declared.store_faults.StoreFault.{StoreFault}
+use Rattle.spillback_world.specs.declared.store_faults.StoreFault.TheVariants.{NoMemory, Header, Row, Link, Bound, Twice}
+use Rattle.spillback_world.specs.StoreRecords.{header, told_of, row_of}
+use Rattle.spillback_world.specs.StoreRows.{IsStorage, AreRows, IsStoreOf, link_of}
 
 -- The first of all records is the header, and the rows that the others tell are those of this store.
 pub record AreStoreRecords (net : Net) (all : List (List (List ℕ))) (store : List ℕ) : Type 0 where

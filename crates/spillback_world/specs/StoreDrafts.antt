@@ -2,13 +2,13 @@
 use Rattle.std.specs.Prelude.{◌≡◌, ℕ, ◌⊎◌, List, Option, None, Some, Result, Ok, Err, IsSome, IfSome, IsSomeAnd, All, length, map, unwrap_or, slice_index_or, slice_set}
 use Rattle.foundation.specs.Options.{each}
 use Rattle.net_numbers.specs.Numbers.{Net, number_of}
-use Rattle.stores.specs.declared.drafts.Draft.{Draft}
-use Rattle.stores.specs.declared.drafts.StoreRow.{StoreRow}
-use Rattle.stores.specs.declared.faults.StoreFault.{StoreFault}
-use Rattle.stores.specs.declared.faults.StoreFault.TheVariants.{Row, Link, Bound, Twice}
-use Rattle.stores.specs.Records.{told_of, row_of}
-use Rattle.stores.specs.Rows.{AreRows, IsStorage, most_of_link, storage_in}
-use Rattle.stores.specs.Texts.{IsAtBound}
+use Rattle.spillback_world.specs.declared.store_drafts.Draft.{Draft}
+use Rattle.spillback_world.specs.declared.store_drafts.StoreRow.{StoreRow}
+use Rattle.spillback_world.specs.declared.store_faults.StoreFault.{StoreFault}
+use Rattle.spillback_world.specs.declared.store_faults.StoreFault.TheVariants.{Row, Link, Bound, Twice}
+use Rattle.spillback_world.specs.StoreRecords.{told_of, row_of}
+use Rattle.spillback_world.specs.StoreRows.{AreRows, IsStorage, most_of_link, storage_in}
+use Rattle.spillback_world.specs.StoreTexts.{IsAtBound}
 
 -- each storage that there is is one
 abbrev pub AreStorages : List (Option ℕ) → Type 0

@@ -14,9 +14,9 @@ use Rattle.std.proofs.lemmas.Option.{none-some}
 use Rattle.std.proofs.Math.Seq.{get_or-append_seam}
 use Rattle.road_net.proofs.Serving.{list_any-found}
 use Rattle.net_numbers.specs.Numbers.{Net}
-use Rattle.stores.specs.declared.drafts.StoreRow.{StoreRow}
-use Rattle.stores.specs.Drafts.{AreStorages, IsDraftOf, draft_at, storages_of}
-use Rattle.stores.specs.Rows.{IsRow, IsStorage, IsStoreOf, has_link, link_of, most_of_link, storage_in, storage_of}
+use Rattle.spillback_world.specs.declared.store_drafts.StoreRow.{StoreRow}
+use Rattle.spillback_world.specs.StoreDrafts.{AreStorages, IsDraftOf, draft_at, storages_of}
+use Rattle.spillback_world.specs.StoreRows.{IsRow, IsStorage, IsStoreOf, has_link, link_of, most_of_link, storage_in, storage_of}
 
 eqb-same : (a b : ℕ) → a ≡ b → eqb a b ≡ true
 eqb-same a b same = elim (eqb_tells a b) [ inl p ↦ p.0 | inr q ↦ absurd (q.1 same) ]

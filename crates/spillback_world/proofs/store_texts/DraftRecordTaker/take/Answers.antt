@@ -1,7 +1,7 @@
 use Rattle.std.proofs.Common.{arith}
 use Rattle.csv.specs.Records.{fields_of}
-use Rattle.stores.proofs.TextLaws.{refused-row, row-exists, taken-more}
-use Rattle.stores.proofs.texts.DraftRecordTaker.take.Goals as goal
+use Rattle.spillback_world.proofs.StoreTextLaws.{refused-row, row-exists, taken-more}
+use Rattle.spillback_world.proofs.store_texts.DraftRecordTaker.take.Goals as goal
 
 pub add-requires : goal.add-requires
 add-requires c = omega (arith, row-exists c.args.net.now (fields_of c.args.row.now) c.in_ok-row.row c.in_ok-row.ensures, c.requires.come.1.draft.links)

@@ -1,6 +1,6 @@
 use Rattle.std.proofs.Common.{◌≡◌, take}
-use Rattle.stores.specs.Drafts.{storages_of}
-use Rattle.stores.proofs.drafts.Draft.end.Given as goal
+use Rattle.spillback_world.specs.StoreDrafts.{storages_of}
+use Rattle.spillback_world.proofs.store_drafts.Draft.end.Given as goal
 
 -- the storages so far are listed
 abbrev pub invariant-loop-storage : goal.invariant-loop-storage

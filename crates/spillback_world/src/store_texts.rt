@@ -1,11 +1,11 @@
 //! The file of a store.
 ghost use Rattle.std.specs.Prelude.{◌≡◌, ℕ, List, IfErr, IfOk, length};
-ghost use Rattle.stores.specs.Texts.{IsStoreText, IsTextFault, Refuses};
+ghost use Rattle.spillback_world.specs.StoreTexts.{IsStoreText, IsTextFault, Refuses};
 
-use crate::drafts::Draft;
-use crate::faults::StoreFault;
-use crate::fields::{is_header, read_row};
 use crate::store::Store;
+use crate::store_drafts::Draft;
+use crate::store_faults::StoreFault;
+use crate::store_fields::{is_header, read_row};
 use csv::ByteRecord;
 use record_text::{RecordTaker, take_records};
 use road_net::Network;
@@ -33,8 +33,8 @@ pub fn read_store(alloc: Global, bytes: &[u8], net: &Network) -> Result<Store, S
 }
 
 impl RecordTaker for Draft {
-    ghost use Rattle.stores.specs.Drafts.{StopsAt, Takes};
-    ghost use Rattle.stores.specs.Records as records;
+    ghost use Rattle.spillback_world.specs.StoreDrafts.{StopsAt, Takes};
+    ghost use Rattle.spillback_world.specs.StoreRecords as records;
 
     type Fault = StoreFault;
 

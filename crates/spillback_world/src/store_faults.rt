@@ -25,7 +25,7 @@ impl CrossesThreads for StoreFault {}
 
 impl From<AllocError> for StoreFault {
     ghost use Rattle.std.specs.Prelude.{◌≡◌};
-    ghost use Rattle.stores.specs.declared.faults.StoreFault.TheVariants.{NoMemory};
+    ghost use Rattle.spillback_world.specs.declared.store_faults.StoreFault.TheVariants.{NoMemory};
 
     ghost from_gives = { λ _ fault. fault ≡ NoMemory };
 
@@ -36,7 +36,7 @@ impl From<AllocError> for StoreFault {
 
 impl<T: Drop> From<AllocFailed<T>> for StoreFault {
     ghost use Rattle.std.specs.Prelude.{◌≡◌};
-    ghost use Rattle.stores.specs.declared.faults.StoreFault.TheVariants.{NoMemory};
+    ghost use Rattle.spillback_world.specs.declared.store_faults.StoreFault.TheVariants.{NoMemory};
 
     ghost from_gives = { λ _ fault. fault ≡ NoMemory };
 

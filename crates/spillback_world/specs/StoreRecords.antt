@@ -3,7 +3,7 @@ use Rattle.std.specs.Prelude.{codes, ℕ, List, [], ◌∷◌, Option, Some, Non
 use Rattle.foundation.specs.Options.{◌>>=◌}
 use Rattle.net_numbers.specs.Numbers.{Net, number_of}
 use Rattle.record_text.specs.Decimals.{number_of_digits}
-use Rattle.stores.specs.declared.drafts.StoreRow.{StoreRow}
+use Rattle.spillback_world.specs.declared.store_drafts.StoreRow.{StoreRow}
 
 -- the header
 abbrev pub header : List (List ℕ)

@@ -1,6 +1,6 @@
 use Rattle.std.proofs.Common.{arith}
-use Rattle.stores.proofs.FieldLaws.{field-missing, two-fields}
-use Rattle.stores.proofs.fields.two_fields.Goals as goal
+use Rattle.spillback_world.proofs.StoreFieldLaws.{field-missing, two-fields}
+use Rattle.spillback_world.proofs.store_fields.two_fields.Goals as goal
 
 pub returns-in_err-get : goal.returns-in_err-get
 returns-in_err-get c = absurd (field-missing _ 0 (omega (arith, c.len.ensures)) c.in_err-get.ensures.value)

@@ -12,15 +12,15 @@ use Rattle.record_text.specs.Faults.{HasAfterHeader}
 use Rattle.record_text.specs.Walks.{AreCounted, IsFaultAmong, OrMemory}
 use Rattle.record_text.proofs.FaultLaws.{one-after}
 use Rattle.record_text.proofs.WalkLaws.{fault-after}
-use Rattle.stores.specs.declared.drafts.Draft.{Draft}
-use Rattle.stores.specs.declared.drafts.StoreRow.{StoreRow}
-use Rattle.stores.specs.declared.faults.StoreFault.{StoreFault}
-use Rattle.stores.specs.declared.faults.StoreFault.TheVariants.{NoMemory, Header, Row, Link, Bound, Twice}
-use Rattle.stores.specs.Drafts.{Adds, HasTaken, IsRefused, StopsAt, Takes, storages_of}
-use Rattle.stores.specs.Records.{Told, told_of, row_of, header}
-use Rattle.stores.specs.Rows.{AreRows, IsRow, link_of}
-use Rattle.stores.specs.Texts.{AreFaulty, AreReadAs, AreStoreRecords, IsAtBound, IsAtTwice, IsFirst, Refuses}
-use Rattle.stores.proofs.DraftLaws.{draft-count, draft-more, draft-none, draft-store, has-row, not-twice}
+use Rattle.spillback_world.specs.declared.store_drafts.Draft.{Draft}
+use Rattle.spillback_world.specs.declared.store_drafts.StoreRow.{StoreRow}
+use Rattle.spillback_world.specs.declared.store_faults.StoreFault.{StoreFault}
+use Rattle.spillback_world.specs.declared.store_faults.StoreFault.TheVariants.{NoMemory, Header, Row, Link, Bound, Twice}
+use Rattle.spillback_world.specs.StoreDrafts.{Adds, HasTaken, IsRefused, StopsAt, Takes, storages_of}
+use Rattle.spillback_world.specs.StoreRecords.{Told, told_of, row_of, header}
+use Rattle.spillback_world.specs.StoreRows.{AreRows, IsRow, link_of}
+use Rattle.spillback_world.specs.StoreTexts.{AreFaulty, AreReadAs, AreStoreRecords, IsAtBound, IsAtTwice, IsFirst, Refuses}
+use Rattle.spillback_world.proofs.StoreDraftLaws.{draft-count, draft-more, draft-none, draft-store, has-row, not-twice}
 
 -- what a row was read from
 record IsToldBy (net : Net) (fields : List (List ℕ)) (r : StoreRow) : Type 0 where

@@ -14,7 +14,7 @@ pub struct Store {
 
 impl Model for Store {
     ghost use Rattle.std.specs.Prelude.{ℕ, List, All};
-    ghost use Rattle.stores.specs.Rows.{IsStorage};
+    ghost use Rattle.spillback_world.specs.StoreRows.{IsStorage};
 
     ghost Value = { List ℕ };
 
@@ -27,7 +27,7 @@ impl CrossesThreads for Store {}
 
 impl Store {
     ghost use Rattle.std.specs.Prelude.{◌≡◌, ◌<◌, All, length, slice_index};
-    ghost use Rattle.stores.specs.Rows.{IsStorage};
+    ghost use Rattle.spillback_world.specs.StoreRows.{IsStorage};
 
     /// The storages of links, by number.
     pub(crate) fn of_storages(storages: Vec<u32>) -> Store

@@ -2,11 +2,11 @@
 ghost use Rattle.std.specs.Prelude.{◌≡◌, ◌≢◌, ◌↔◌, [], ◌∷◌, None, Some, IsTrue, MatchOption, length};
 ghost use Rattle.csv.specs.Records.{fields_of};
 ghost use Rattle.road_net.specs.Network.{IsNetwork};
-ghost use Rattle.stores.specs.Drafts.{Reads};
-ghost use Rattle.stores.specs.Records.{header, told_of};
+ghost use Rattle.spillback_world.specs.StoreDrafts.{Reads};
+ghost use Rattle.spillback_world.specs.StoreRecords.{header, told_of};
 
-use crate::drafts::StoreRow;
-use crate::faults::StoreFault;
+use crate::store_drafts::StoreRow;
+use crate::store_faults::StoreFault;
 use csv::ByteRecord;
 use record_text::{digits, link_named};
 use road_net::Network;
@@ -22,7 +22,7 @@ pub(crate) fn is_header(row: &ByteRecord) -> bool
 }
 
 /// The row that a record tells, by the number of its link.
-#[tactic(auto, unfolding(crate::specs::Records::row_of))]
+#[tactic(auto, unfolding(crate::specs::StoreRecords::row_of))]
 pub(crate) fn read_row(net: &Network, row: &ByteRecord, number: u32) -> Result<StoreRow, StoreFault>
     requires { IsNetwork net.now }
     ensures { Reads net.now (fields_of row.now) number result }
@@ -37,7 +37,7 @@ pub(crate) fn read_row(net: &Network, row: &ByteRecord, number: u32) -> Result<S
 }
 
 /// The name of the link and the storage of a record.
-#[tactic(auto, unfolding(crate::specs::Records::told))]
+#[tactic(auto, unfolding(crate::specs::StoreRecords::told))]
 fn record_fields(row: &ByteRecord) -> Option<(&[u8], u32)>
     ensures { MatchOption result (told_of (fields_of row.now) ≡ None)
         (λ t. told_of (fields_of row.now) ≡ Some (record { name = t.0.now; storage = t.1 })) }

@@ -1,12 +1,12 @@
 use Rattle.std.proofs.lemmas.Result.{err_from_is_err_and, IfErr-weaker}
 use Rattle.record_text.specs.Records.{records_of}
 use Rattle.record_text.proofs.WalkLaws.{taken-after}
-use Rattle.stores.specs.Drafts.{Takes}
-use Rattle.stores.specs.Records.{header}
-use Rattle.stores.specs.Texts.{AreFaulty}
-use Rattle.stores.proofs.DraftLaws.{draft-storages}
-use Rattle.stores.proofs.TextLaws.{first-fault, records-refuse, taken-all, taken-few, taken-none}
-use Rattle.stores.proofs.texts.read_store.Goals as goal
+use Rattle.spillback_world.specs.StoreDrafts.{Takes}
+use Rattle.spillback_world.specs.StoreRecords.{header}
+use Rattle.spillback_world.specs.StoreTexts.{AreFaulty}
+use Rattle.spillback_world.proofs.StoreDraftLaws.{draft-storages}
+use Rattle.spillback_world.proofs.StoreTextLaws.{first-fault, records-refuse, taken-all, taken-few, taken-none}
+use Rattle.spillback_world.proofs.store_texts.read_store.Goals as goal
 
 pub take_records-requires-clause-few : goal.take_records-requires-clause-few
 take_records-requires-clause-few c = taken-few c.args.net.now (records_of c.args.bytes.now) c.in_ok-draft.ensures.network.outline.link_count.1

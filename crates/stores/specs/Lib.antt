@@ -1,4 +1,0 @@
-pub mod Drafts
-pub mod Records
-pub mod Rows
-pub mod Texts
