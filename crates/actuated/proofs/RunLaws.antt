@@ -19,7 +19,7 @@ use Rattle.signal_safety.specs.Rounds.{line_before, shown_by}
 use Rattle.signal_safety.specs.Safe.{IsSafe}
 use Rattle.signal_safety.proofs.Lines.{safe}
 use Rattle.signal_safety.proofs.Rounds.{AllKeep, shows, all-keep as lines-keep}
-use Rattle.sheets.specs.Texts.{HasShape}
+use Rattle.audit.specs.SheetTexts.{HasShape}
 use Rattle.actuated.specs.ActRuns.{IsActRun, ShowsGreens, first_line, past_by, sheet_of}
 use Rattle.actuated.specs.Rounds.{AreFirstLines, AreRenewed}
 use Rattle.actuated.specs.RunsSoFar.{AreNear, HavePlayed}

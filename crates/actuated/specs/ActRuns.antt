@@ -12,7 +12,7 @@ use Rattle.net_simulator.specs.Senses.{sense}
 use Rattle.net_simulator.specs.Sums.{end_of_run, link_totals, totals}
 use Rattle.net_simulator.specs.Worlds.{line_in}
 use Rattle.signal_safety.specs.Rounds.{line_before, shown_by}
-use Rattle.sheets.specs.declared.sheet.Sheet.{Sheet}
+use Rattle.audit.specs.declared.sheet.Sheet.{Sheet}
 use Rattle.actuated.specs.Calls.{act_line, calling}
 use Rattle.actuated.specs.declared.records.ActRecord.{ActRecord}
 

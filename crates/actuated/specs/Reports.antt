@@ -1,7 +1,7 @@
 -- The report of a run under actuated control.
 use Rattle.std.specs.Prelude.{ℕ, List}
 use Rattle.net_numbers.specs.Numbers.{Net}
-use Rattle.line_reports.specs.Reports.{line_text}
+use Rattle.audit.specs.LineReports.{line_text}
 use Rattle.actuated.specs.ActRuns.{sheet_of}
 use Rattle.actuated.specs.declared.records.ActRecord.{ActRecord}
 

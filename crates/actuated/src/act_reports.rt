@@ -4,12 +4,12 @@ ghost use Rattle.std.specs.Prelude.{◌≡◌, ◌≤◌, ℕ, IfOk};
 ghost use Rattle.arrivals.specs.Rows.{most_of_all};
 ghost use Rattle.audit.specs.Audits.{IsClean, IsCleanText};
 ghost use Rattle.net_simulator.specs.Sums.{arrived};
-ghost use Rattle.sheets.specs.Texts.{HasShape};
+ghost use Rattle.audit.specs.SheetTexts.{HasShape};
 ghost use Rattle.actuated.specs.ActRuns.{sheet_of};
 ghost use Rattle.actuated.specs.Reports.{act_text};
 
 use super::records::ActRecord;
-use line_reports::line_report;
+use audit::line_report;
 use road_net::Network;
 use std::alloc::{AllocError, Global};
 

@@ -19,11 +19,11 @@ use Rattle.net_simulator.proofs.Conserving.{left-entered}
 use Rattle.net_simulator.proofs.Passing.{delay-small, entered-small, gone-most, on-road-most, sound-at}
 use Rattle.net_simulator.proofs.Sums.{total-of}
 use Rattle.signal_safety.proofs.Lines.{plan-is}
-use Rattle.sheets.specs.declared.sheet.Sheet.{Sheet}
-use Rattle.sheets.specs.Texts.{HasShape, IsSheetText}
-use Rattle.sheets.specs.Written.{AreToldCounts, AreToldSums, CanBeTold, IsPassedOver, IsToldGreen, begun_before, cut_at, sheet_records}
-use Rattle.sheets.proofs.TextLaws.{one-sheet}
-use Rattle.sheets.proofs.WrittenLaws.{written-sheet}
+use Rattle.audit.specs.declared.sheet.Sheet.{Sheet}
+use Rattle.audit.specs.SheetTexts.{HasShape, IsSheetText}
+use Rattle.audit.specs.WrittenSheets.{AreToldCounts, AreToldSums, CanBeTold, IsPassedOver, IsToldGreen, begun_before, cut_at, sheet_records}
+use Rattle.audit.proofs.SheetTextLaws.{one-sheet}
+use Rattle.audit.proofs.WrittenSheetLaws.{written-sheet}
 use Rattle.world_records.specs.Records.{header, records_text}
 use Rattle.audit.specs.Audits.{IsClean, IsCleanText}
 use Rattle.net_simulator.specs.Shown.{past_under}

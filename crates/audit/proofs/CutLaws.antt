@@ -13,8 +13,8 @@ use Rattle.net_simulator.specs.Flow.{Passed, passed_in}
 use Rattle.net_simulator.specs.Sums.{end_of_run, link_totals, totals}
 use Rattle.net_simulator.specs.Worlds.{line_in, standing_by}
 use Rattle.net_simulator.proofs.FlowLaws.{history-same}
-use Rattle.sheets.specs.declared.sheet.Sheet.{Sheet}
-use Rattle.sheets.specs.Written.{begun_before, cut_at}
+use Rattle.audit.specs.declared.sheet.Sheet.{Sheet}
+use Rattle.audit.specs.WrittenSheets.{begun_before, cut_at}
 use Rattle.audit.specs.Audits.{IsClean}
 use Rattle.net_simulator.specs.Shown.{past_under}
 

@@ -1,3 +1,9 @@
 pub mod CleanTexts
 pub mod CutLaws
+mod LineReportLaws
+mod LineRunLaws
 mod Reasons
+pub mod SheetDraftLaws
+pub mod SheetFieldLaws
+pub mod SheetTextLaws
+pub mod WrittenSheetLaws

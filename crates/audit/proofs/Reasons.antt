@@ -14,7 +14,7 @@ use Rattle.net_simulator.specs.Flow.{past_of}
 use Rattle.net_simulator.specs.Sums.{end_of_run, link_totals, totals}
 use Rattle.net_simulator.specs.Worlds.{Stands, WorldState, line_in, standing_by}
 use Rattle.signal_safety.proofs.Lines.{plan-is}
-use Rattle.sheets.specs.declared.sheet.Sheet.{Sheet}
+use Rattle.audit.specs.declared.sheet.Sheet.{Sheet}
 use Rattle.audit.specs.Audits.{AllRows, AreLawful, FollowsAt, IsClean, IsGreenAt, IsLinkShown, IsWhy}
 use Rattle.net_simulator.specs.Shown.{all_shown, link_shown}
 use Rattle.audit.specs.declared.findings.AuditWhy.{AuditWhy}

@@ -9,8 +9,8 @@ use Rattle.control_flow.specs.declared.greens.Green.{Green}
 use Rattle.net_simulator.specs.Counts.{counts_at}
 use Rattle.net_simulator.specs.Shown.{all_shown, link_shown}
 use Rattle.net_simulator.specs.Worlds.{line_in}
-use Rattle.sheets.specs.Texts.{IsSheetText}
-use Rattle.sheets.specs.declared.sheet.Sheet.{Sheet}
+use Rattle.audit.specs.SheetTexts.{IsSheetText}
+use Rattle.audit.specs.declared.sheet.Sheet.{Sheet}
 use Rattle.audit.specs.declared.findings.AuditWhy.{AuditWhy}
 use Rattle.audit.specs.declared.findings.AuditWhy.TheVariants.{Span, Next, Link, Total}
 use Rattle.audit.specs.declared.findings.Audited.{Audited}

@@ -1,3 +1,10 @@
 pub mod Audits
+pub mod LineReports
+pub mod LineRuns
+pub mod SheetEntries
+pub mod SheetFaults
+pub mod SheetRecords
+pub mod SheetTexts
+pub mod WrittenSheets
 pub use Rattle.net_simulator.specs.Worlds
 pub use Rattle.signal_safety.specs.Safe

@@ -1,27 +1,41 @@
-//! Audits: whether a sheet, what a report says of greens and totals, is clean, and else the first reason why it is not.
+//! Sheets: what a report says that the signals of a network showed, and what its world counted, whoever wrote it. Audits: whether a
+//! sheet is clean, and else the first reason why it is not. Lines that are given: their run, which is clean, and the report of lines
+//! and totals.
 #![tactic(auto)]
 
 mod counts;
 mod findings;
+mod line_reports;
+mod line_runs;
 mod lines;
 mod rows;
+mod sheet;
+mod sheet_drafts;
+mod sheet_entries;
+mod sheet_faults;
+mod sheet_fields;
+mod sheet_texts;
 
 ghost use Rattle.std.specs.Prelude.{◌≡◌, ◌↔◌, ◌<◌, ◌^◌, All, IfOk, length};
 ghost use Rattle.arrivals.specs.Amounts.{AreArrivals};
 ghost use Rattle.audit.specs.Audits.{IfBad, IfClean, IfUnclean, IsClean, IsWhy};
 ghost use Rattle.net_simulator.specs.Arriving.{arriving_of};
 ghost use Rattle.net_simulator.specs.Worlds.{line_in};
-ghost use Rattle.sheets.specs.Texts.{HasShape};
+ghost use Rattle.audit.specs.SheetTexts.{HasShape};
 ghost use Rattle.signal_safety.specs.Safe.{IsSafe};
 
 use arrivals::Arrivals;
 use counts::compare;
 pub use findings::{AuditWhy, Audited, Finding};
 use foundation::items::Items;
+pub use line_reports::line_report;
+pub use line_runs::{LineRun, list_totals, run_lines};
 use lines::timelines;
 use road_net::Network;
 use rows::first_unlawful;
-use sheets::Sheet;
+pub use sheet::Sheet;
+pub use sheet_faults::SheetFault;
+pub use sheet_texts::read_sheet;
 use std::alloc::{AllocError, Global};
 
 /// Whether a sheet is clean: each of its lines is lawful for the plan of its node, and its totals are those that the

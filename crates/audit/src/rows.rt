@@ -2,17 +2,17 @@
 
 ghost use Rattle.std.specs.Prelude.{◌≡◌, ℕ, ◌<◌, ◌^◌, All, IfNone, IfSome, length};
 ghost use Rattle.audit.specs.Audits.{AllRows, AreLawful, FollowsAt, IsFirstRow, IsGreenAt, IsWhy};
-ghost use Rattle.sheets.specs.Texts.{HasShape};
+ghost use Rattle.audit.specs.SheetTexts.{HasShape};
 ghost use Rattle.foundation.specs.Firsts.{FromOne, IsFirstWithout};
 ghost use Rattle.road_net.specs.Network.{IsNetwork};
 
 use super::findings::AuditWhy;
+use crate::sheet::Sheet;
 use control_flow::greens::Green;
 use control_flow::{follows, is_green};
 use foundation::items::Items;
 use phase_plan::PhasePlan;
 use road_net::Network;
-use sheets::Sheet;
 
 /// Why the lines of a sheet are not lawful: its first row that is no green, or else the first that may not follow the
 /// one before it.

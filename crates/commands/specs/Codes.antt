@@ -20,8 +20,8 @@ use Rattle.arrivals.specs.declared.rows.RowFault.{RowFault}
 use Rattle.arrivals.specs.declared.rows.RowFault.TheVariants as row
 use Rattle.delay_report.specs.declared.faults.HistoryFault.{HistoryFault}
 use Rattle.delay_report.specs.declared.faults.HistoryFault.TheVariants as history
-use Rattle.sheets.specs.declared.faults.SheetFault.{SheetFault}
-use Rattle.sheets.specs.declared.faults.SheetFault.TheVariants as sheet
+use Rattle.audit.specs.declared.sheet_faults.SheetFault.{SheetFault}
+use Rattle.audit.specs.declared.sheet_faults.SheetFault.TheVariants as sheet
 use Rattle.spillback_world.specs.declared.store_faults.StoreFault.{StoreFault}
 use Rattle.spillback_world.specs.declared.store_faults.StoreFault.TheVariants as store
 use Rattle.fixed_plans.specs.declared.faults.FixedFault.{FixedFault}

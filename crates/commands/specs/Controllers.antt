@@ -11,15 +11,15 @@ use Rattle.control_flow.specs.declared.greens.Green.{Green}
 use Rattle.fixed_plans.specs.Lines.{fixed_line}
 use Rattle.fixed_plans.specs.declared.rows.FixedRow.{FixedRow}
 use Rattle.histories.specs.Histories.{turn_order}
-use Rattle.line_reports.specs.Reports.{line_text}
+use Rattle.audit.specs.LineReports.{line_text}
 use Rattle.net_numbers.specs.Numbers.{Net}
 use Rattle.net_simulator.specs.Worlds.{line_in}
 use Rattle.net_simulator.specs.declared.totals.Totals.{Totals}
 use Rattle.runs.specs.Runs.{arriving_by}
 use Rattle.runs.specs.declared.records.RunRecord.{RunRecord}
 use Rattle.scaled_arrivals.specs.Scaling.{IsScaled, greatest_factor, scaled_whole}
-use Rattle.sheets.specs.Texts.{HasShape}
-use Rattle.sheets.specs.declared.sheet.Sheet.{Sheet}
+use Rattle.audit.specs.SheetTexts.{HasShape}
+use Rattle.audit.specs.declared.sheet.Sheet.{Sheet}
 use Rattle.signal_safety.specs.Safe.{IsSafe}
 use Rattle.commands.specs.Headline.{IsRunOf}
 use Rattle.commands.specs.Summary.{scale_line, totals_line}

@@ -23,10 +23,10 @@ use Rattle.round_states.specs.Faults.{IsStateFault}
 use Rattle.round_states.specs.Texts.{IsStateText}
 use Rattle.round_states.specs.declared.faults.StateFault.TheVariants as state
 use Rattle.round_states.specs.declared.states.RoundState.{RoundState}
-use Rattle.sheets.specs.Faults.{IsSheetFault}
-use Rattle.sheets.specs.Texts.{IsSheetText}
-use Rattle.sheets.specs.declared.faults.SheetFault.TheVariants as sheet
-use Rattle.sheets.specs.declared.sheet.Sheet as sheets
+use Rattle.audit.specs.SheetFaults.{IsSheetFault}
+use Rattle.audit.specs.SheetTexts.{IsSheetText}
+use Rattle.audit.specs.declared.sheet_faults.SheetFault.TheVariants as sheet
+use Rattle.audit.specs.declared.sheet.Sheet as sheets
 use Rattle.spillback_world.specs.StoreTexts as stores
 use Rattle.spillback_world.specs.StoreTexts.{IsStoreText}
 use Rattle.spillback_world.specs.declared.store_faults.StoreFault.TheVariants as store

@@ -8,6 +8,7 @@ use super::record_codes::{
     push_store_code,
 };
 use arrivals::RowFault;
+use audit::SheetFault;
 use certificate_form::CertText;
 use delay_report::HistoryFault;
 use dp_certificate::CertFault;
@@ -16,7 +17,6 @@ use net_draft::{NetFault, Place, Section};
 use phase_plan::{Field, PlanFault};
 use round_states::StateFault;
 use schedule_meaning::{InstanceFault, TextFault};
-use sheets::SheetFault;
 use spillback_world::StoreFault;
 use std::alloc::AllocError;
 

@@ -4,10 +4,10 @@ ghost use Rattle.commands.specs.Codes.{fixed_code, history_code, row_code, sheet
 
 use super::pieces::push_one;
 use arrivals::RowFault;
+use audit::SheetFault;
 use delay_report::HistoryFault;
 use fixed_plans::FixedFault;
 use round_states::StateFault;
-use sheets::SheetFault;
 use spillback_world::StoreFault;
 use std::alloc::AllocError;
 

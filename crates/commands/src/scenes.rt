@@ -7,7 +7,7 @@ ghost use Rattle.fixed_plans.specs.Rows.{IsFixedPlan};
 ghost use Rattle.histories.specs.Histories.{IsLawful};
 ghost use Rattle.round_states.specs.States.{IsStateOf};
 ghost use Rattle.commands.specs.Texts.{AreIn, ArrivalsText, IsIn, NetworkText, Texts, history_texts, network_texts, plan_texts, sheet_texts, state_texts, store_texts};
-ghost use Rattle.sheets.specs.Texts.{HasShape};
+ghost use Rattle.audit.specs.SheetTexts.{HasShape};
 
 use super::refusals::{Refusal, TextPlace};
 use super::texts::{
@@ -15,12 +15,12 @@ use super::texts::{
     fetch_store,
 };
 use arrivals::Arrivals;
+use audit::Sheet;
 use fixed_plans::FixedPlan;
 use histories::History;
 use outside_world::Shelf;
 use road_net::Network;
 use round_states::RoundState;
-use sheets::Sheet;
 use spillback_world::Store;
 use std::alloc::Global;
 

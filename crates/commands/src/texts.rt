@@ -6,12 +6,13 @@ ghost use Rattle.histories.specs.Histories.{IsLawful};
 ghost use Rattle.round_states.specs.States.{IsStateOf};
 ghost use Rattle.commands.specs.Stops.{StopsAt};
 ghost use Rattle.commands.specs.Limits.{most_bytes};
-ghost use Rattle.sheets.specs.Texts.{HasShape};
+ghost use Rattle.audit.specs.SheetTexts.{HasShape};
 ghost use Rattle.commands.specs.Texts.{ArrivalsText, CertificateText, HistoryText, InstanceText, IsIn, Kind, NetworkText, PlanText, SheetText, StateText, StoreText, text_of};
 
 use super::bad_texts::BadText;
 use super::refusals::{Refusal, TextPlace};
 use arrivals::{Arrivals, RowFault, read_arrivals};
+use audit::{Sheet, SheetFault, read_sheet};
 use certificate_form::{CertText, read_certificate};
 use delay_report::{HistoryFault, read_history};
 use dp_certificate::Certificate;
@@ -23,7 +24,6 @@ use net_file::read_network;
 use road_net::Network;
 use round_states::{RoundState, StateFault, read_state};
 use schedule_meaning::{Instance, TextFault, read_instance};
-use sheets::{Sheet, SheetFault, read_sheet};
 use spillback_world::{Store, StoreFault, read_store};
 use std::alloc::Global;
 

@@ -5,7 +5,7 @@ ghost use Rattle.commands.specs.Commands.{Actuate};
 ghost use Rattle.commands.specs.Controllers.{IsActuatedReport, IsActuatedRun};
 ghost use Rattle.commands.specs.Ending.{Makes};
 ghost use Rattle.commands.specs.Outcome.{Outcome};
-ghost use Rattle.sheets.specs.Texts.{HasShape};
+ghost use Rattle.audit.specs.SheetTexts.{HasShape};
 ghost use Rattle.audit.specs.Audits.{IsClean};
 ghost use Rattle.actuated.specs.ActRuns.{sheet_of};
 ghost use Rattle.runs.specs.Runs.{arriving_by};

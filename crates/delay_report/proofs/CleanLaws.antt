@@ -24,10 +24,10 @@ use Rattle.runs.specs.Promises.{IsKeptRun}
 use Rattle.runs.specs.Runs.{arriving_by, past_by, line_before, shown_by}
 use Rattle.runs.specs.declared.records.RunRecord.{RunRecord}
 use Rattle.net_simulator.proofs.AtNodes.{past-at-nodes}
-use Rattle.sheets.specs.declared.sheet.Sheet.{Sheet}
-use Rattle.sheets.specs.Texts.{HasShape}
-use Rattle.sheets.specs.Told.{told}
-use Rattle.sheets.specs.Written.{IsPassedOver, sheet_records}
+use Rattle.audit.specs.declared.sheet.Sheet.{Sheet}
+use Rattle.audit.specs.SheetTexts.{HasShape}
+use Rattle.audit.specs.SheetRecords.{told}
+use Rattle.audit.specs.WrittenSheets.{IsPassedOver, sheet_records}
 use Rattle.audit.specs.Audits.{IsClean, IsCleanText}
 use Rattle.net_simulator.specs.Shown.{past_under}
 use Rattle.audit.proofs.CleanTexts.{clean-text}

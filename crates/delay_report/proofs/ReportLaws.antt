@@ -22,7 +22,7 @@ use Rattle.runs.specs.declared.records.RunRecord.{RunRecord}
 use Rattle.schedule_meaning.specs.declared.planners.Answer.{Answer}
 use Rattle.schedule_meaning.specs.declared.planners.Answer.TheVariants.{Plan, NoPlan}
 use Rattle.world_records.specs.Records.{green_record, green_records, header, link_record_of, total_record}
-use Rattle.sheets.proofs.WrittenLaws.{each-both}
+use Rattle.audit.proofs.WrittenSheetLaws.{each-both}
 use Rattle.delay_report.specs.Entries.{steps_of}
 use Rattle.delay_report.specs.Reports.{answer_fields, plan_record, report_records, report_text, step_record, step_record_at}
 use Rattle.delay_report.specs.Texts.{AreHistoryRecords, IsHistoryText}

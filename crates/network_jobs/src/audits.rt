@@ -3,7 +3,7 @@ ghost use Rattle.std.specs.Prelude.{◌≡◌, ◌∷◌, ◌++◌, ◌<◌, ◌
 ghost use Rattle.std.specs.Fmt.{decimal};
 ghost use Rattle.arrivals.specs.Amounts.{AreArrivals, entering};
 ghost use Rattle.net_numbers.specs.Outline.{node_name_at};
-ghost use Rattle.sheets.specs.Texts.{HasShape};
+ghost use Rattle.audit.specs.SheetTexts.{HasShape};
 ghost use Rattle.commands.specs.Commands.{Audit};
 ghost use Rattle.commands.specs.Ending.{IsMadeOf, Makes};
 ghost use Rattle.commands.specs.Outcome.{Outcome};
@@ -11,11 +11,10 @@ ghost use Rattle.commands.specs.Verdicts.{finding_text, unclean_line};
 ghost use Rattle.network_jobs.specs.Findings.{NamesPart};
 
 use arrivals::Arrivals;
-use audit::{AuditWhy, Finding, audit};
+use audit::{AuditWhy, Finding, Sheet, audit};
 use commands::{Made, Refusal, SheetScene, Status, end, fetch_sheet_scene, push_one};
 use outside_world::{Shelf, Sink};
 use road_net::Network;
-use sheets::Sheet;
 use std::alloc::{AllocError, Global};
 
 /// What is written for a sheet that is not clean. `Err`: out of memory.

@@ -1,19 +1,18 @@
 //! The command `queues NET ARR REPORT`.
 ghost use Rattle.std.specs.Prelude.{◌≡◌, ◌<◌, ◌^◌, List, ℕ, All, IfOk, length};
 ghost use Rattle.arrivals.specs.Amounts.{AreArrivals, entering};
-ghost use Rattle.sheets.specs.Texts.{HasShape};
+ghost use Rattle.audit.specs.SheetTexts.{HasShape};
 ghost use Rattle.commands.specs.Commands.{Queues};
 ghost use Rattle.commands.specs.Ending.{IsMadeOf, Makes};
 ghost use Rattle.commands.specs.Outcome.{Outcome};
 
 use super::audits::unclean_line;
 use arrivals::Arrivals;
-use audit::{Audited, audit_lines};
+use audit::{Audited, Sheet, audit_lines};
 use commands::{Made, Refusal, SheetScene, Status, end, fetch_sheet_scene};
 use outside_world::{Shelf, Sink};
 use queue_series::queue_series;
 use road_net::Network;
-use sheets::Sheet;
 use std::alloc::{AllocError, Global};
 
 // The queues under the greens of a clean sheet, or why it is not clean, whatever files it and the others stand in.

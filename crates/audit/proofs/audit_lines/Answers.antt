@@ -5,7 +5,7 @@ use Rattle.net_simulator.specs.Arriving.{arriving_of}
 use Rattle.net_simulator.specs.Worlds.{line_in}
 use Rattle.net_simulator.specs.declared.totals.LinkTotals.{LinkTotals}
 use Rattle.signal_safety.proofs.Lines.{safe}
-use Rattle.sheets.specs.declared.sheet.Sheet.{Sheet}
+use Rattle.audit.specs.declared.sheet.Sheet.{Sheet}
 use Rattle.audit.specs.Audits.{AreLawful, IfBad, IsClean, IsWhy}
 use Rattle.audit.specs.declared.findings.Finding.{Finding}
 use Rattle.audit.proofs.Reasons.{in-order, refutes}

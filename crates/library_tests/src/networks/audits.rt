@@ -3,12 +3,11 @@ ghost use Rattle.std.specs.Prelude.{◌≡◌, ◌<◌, ◌^◌, All, IfOk, leng
 ghost use Rattle.arrivals.specs.Amounts.{AreArrivals};
 
 use arrivals::{Arrivals, read_arrivals};
-use audit::{AuditWhy, Finding, audit};
+use audit::{AuditWhy, Finding, Sheet, audit, read_sheet};
 use control_flow::greens::Green;
 use foundation::items::Items;
 use net_simulator::{LinkTotals, Totals};
 use road_net::Network;
-use sheets::{Sheet, read_sheet};
 use std::alloc::{AllocError, Global};
 use std::test::Fail;
 use worked_network::{ONE_VEHICLE, network};

@@ -1,6 +1,6 @@
 use Rattle.std.proofs.Common.{rules, sym, subst, List, ℕ}
-use Rattle.sheets.specs.Faults.{IsSheetFault}
-use Rattle.sheets.specs.Texts.{IsSheetText}
+use Rattle.audit.specs.SheetFaults.{IsSheetFault}
+use Rattle.audit.specs.SheetTexts.{IsSheetText}
 use Rattle.commands.specs.Texts.{SheetText}
 use Rattle.commands.specs.declared.bad_texts.BadText.TheVariants.{Sheet}
 use Rattle.commands.proofs.Fetching.{fetched-bad}

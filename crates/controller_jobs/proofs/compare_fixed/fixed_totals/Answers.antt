@@ -1,5 +1,5 @@
 use Rattle.std.proofs.Common.{ap}
-use Rattle.sheets.specs.declared.sheet.Sheet.{Sheet}
+use Rattle.audit.specs.declared.sheet.Sheet.{Sheet}
 use Rattle.controller_jobs.proofs.compare_fixed.fixed_totals.Goals as goal
 
 pub returns : goal.returns

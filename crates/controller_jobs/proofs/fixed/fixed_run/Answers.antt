@@ -3,8 +3,8 @@ use Rattle.std.proofs.lemmas.Result.{IfOk-weaker}
 use Rattle.std.proofs.lemmas.List.FromFn.{length-map-range_with_len}
 use Rattle.arrivals.specs.Amounts.{entering}
 use Rattle.fixed_plans.specs.Lines.{fixed_line}
-use Rattle.line_reports.specs.Runs.{sheet_of, shown_sheet}
-use Rattle.line_reports.specs.declared.runs.LineRun.{LineRun}
+use Rattle.audit.specs.LineRuns.{sheet_of, shown_sheet}
+use Rattle.audit.specs.declared.line_runs.LineRun.{LineRun}
 use Rattle.runs.specs.Runs.{arriving_by}
 use Rattle.commands.specs.Controllers.{fixed_timelines}
 use Rattle.controller_jobs.proofs.fixed.fixed_run.Goals as goal

@@ -1,9 +1,9 @@
 use Rattle.std.proofs.Common.{ap}
 use Rattle.arrivals.specs.Amounts.{entering}
-use Rattle.line_reports.specs.Runs.{sheet_of}
+use Rattle.audit.specs.LineRuns.{sheet_of}
 use Rattle.net_simulator.proofs.Passing.{few-of}
 use Rattle.runs.specs.Runs.{arriving_by}
-use Rattle.sheets.specs.declared.sheet.Sheet.{Sheet}
+use Rattle.audit.specs.declared.sheet.Sheet.{Sheet}
 use Rattle.controller_jobs.proofs.fixed.report_fixed.Goals as goal
 
 pub returns : goal.returns

@@ -1,0 +1,26 @@
+-- The parts of a report, one after another.
+use Rattle.std.proofs.Common.{◌≡◌, ℕ, [], ◌∷◌, Vec}
+use Rattle.std.proofs.lemmas.List.Elements.{All-nil}
+use Rattle.csv.specs.declared.writer.Writer.{Writer}
+use Rattle.net_simulator.specs.Sums.{AreFew, end_of_run}
+use Rattle.net_numbers.specs.Numbers.{Net}
+use Rattle.road_net.specs.Network.{IsNetwork}
+use Rattle.audit.specs.declared.sheet.Sheet.{Sheet}
+use Rattle.audit.specs.SheetTexts.{HasShape}
+use Rattle.audit.specs.WrittenSheets.{IsPassedOver}
+use Rattle.world_records.specs.Records.{header, shown_records}
+use Rattle.world_records.specs.Written.{Adds, HasWritten}
+use Rattle.world_records.proofs.WrittenLaws.{adds-then}
+use Rattle.audit.specs.Audits.{IsClean, IsCleanText}
+use Rattle.audit.proofs.CleanTexts.{clean-text}
+use Rattle.audit.specs.LineReports.{line_text}
+
+-- with the header before it
+pub report-parts : {Z : Type 0} (net : Net) (s : Sheet) (o0 o1 o2 : Writer (Vec ℕ Z)) → HasWritten o0 [] → Adds o0 o1 (header ∷ [])
+    → Adds o1 o2 (shown_records net s.lines s.links s.totals (end_of_run net)) → HasWritten o2 (line_text net s)
+report-parts net s o0 o1 o2 begun first shown = (adds-then o0 o1 o2 _ _ first shown).adds [] begun
+
+-- the report of what is clean is read as a clean sheet
+pub report-clean : (net : Net) → IsNetwork net → (arriving : ℕ → ℕ → ℕ) → AreFew net arriving → (s : Sheet) → HasShape net s → IsClean net arriving s
+    → IsCleanText net arriving (line_text net s)
+report-clean net network arriving few s shape clean = clean-text net network arriving few s shape clean [] (All-nil IsPassedOver)

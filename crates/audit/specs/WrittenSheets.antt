@@ -1,0 +1,50 @@
+-- The records by which a sheet is told. No public clause names these definitions.
+use Rattle.std.specs.Prelude.{◌≡◌, ℕ, ◌<◌, ◌^◌, List, [], Some, All, filter, length, map, nat_lt, slice_index_or}
+use Rattle.control_flow.specs.declared.greens.Green.{Green}
+use Rattle.net_numbers.specs.Numbers.{Net}
+use Rattle.net_simulator.specs.Counts.{counts_at}
+use Rattle.net_simulator.specs.declared.totals.LinkTotals.{LinkTotals}
+use Rattle.net_simulator.specs.declared.totals.Totals.{Totals}
+use Rattle.world_records.specs.Records.{shown_records}
+use Rattle.audit.specs.declared.sheet.Sheet.{Sheet}
+use Rattle.audit.specs.SheetRecords.{Passed, told_of}
+
+-- a record that is passed over
+abbrev pub IsPassedOver : List (List ℕ) → Type 0
+IsPassedOver fields = told_of fields ≡ Some Passed
+
+-- the greens of a line that begin before a second, and the sheet with these alone
+abbrev pub begun_before : ℕ → List Green → List Green
+begun_before end rows = filter (λ green. nat_lt green.from end) rows
+
+abbrev pub cut_at : ℕ → Sheet → Sheet
+cut_at end s = record { lines = map (begun_before end) s.lines; links = s.links; totals = s.totals }
+
+-- the records of the greens that begin before a second, by node and time, of the totals of each link, and of all totals
+abbrev pub sheet_records : Net → ℕ → Sheet → List (List (List ℕ))
+sheet_records net end s = shown_records net s.lines s.links s.totals end
+
+-- numbers that a sheet can have: a phase is one of 8 bits, times are ones of 32, and totals ones of 64
+pub record IsToldGreen (green : Green) : Type 0 where
+  pub phase : green.phase < 2 ^ 8
+  pub from : green.from < 2 ^ 32
+  pub to : green.to < 2 ^ 32
+
+pub record AreToldCounts (totals : LinkTotals) : Type 0 where
+  pub entered : totals.entered < 2 ^ 64
+  pub left : totals.left < 2 ^ 64
+  pub delay : totals.delay < 2 ^ 64
+
+pub record AreToldSums (totals : Totals) : Type 0 where
+  pub entered : totals.entered < 2 ^ 64
+  pub left : totals.left < 2 ^ 64
+  pub on : totals.on < 2 ^ 64
+  pub delay : totals.delay < 2 ^ 64
+
+-- A sheet that can be told: it has a line for each node and totals of each link, and its numbers can be.
+pub record CanBeTold (net : Net) (s : Sheet) : Type 0 where
+  pub lines : length s.lines ≡ length net.node_names
+  pub links : length s.links ≡ length net.link_names
+  pub greens : (node : ℕ) → node < length net.node_names → All IsToldGreen (slice_index_or s.lines node [])
+  pub counts : (link : ℕ) → link < length net.link_names → AreToldCounts (counts_at s.links link)
+  pub totals : AreToldSums s.totals

@@ -1,0 +1,42 @@
+//! The report of lines and totals.
+
+ghost use Rattle.std.specs.Prelude.{◌≡◌, ◌≤◌, ℕ, IfOk};
+ghost use Rattle.arrivals.specs.Rows.{most_of_all};
+ghost use Rattle.audit.specs.Audits.{IsClean, IsCleanText};
+ghost use Rattle.net_simulator.specs.Sums.{arrived};
+ghost use Rattle.audit.specs.SheetTexts.{HasShape};
+ghost use Rattle.audit.specs.LineReports.{line_text};
+
+use control_flow::greens::Timeline;
+use net_simulator::{LinkTotals, Totals};
+use road_net::Network;
+use std::alloc::{AllocError, Global};
+use world_records::{finish, start, write_header, write_shown};
+
+/// The report of lines and totals: the header, the greens that begin before the end of the run, by node and time, the
+/// totals of each link, and all totals. It has no steps and no plans. There are a line for each node and totals of
+/// each link. Where what it says is clean for arrivals of at most 2,000,000,000 in all, the text is read as a clean
+/// sheet. `Err`: out of memory.
+///
+/// docs/FORMATS.md, "Report".
+pub fn line_report(
+    alloc: Global,
+    net: &Network,
+    lines: &[Timeline],
+    links: &[LinkTotals],
+    totals: Totals,
+) -> Result<Vec<u8>, AllocError>
+    requires { HasShape net.now (record { lines = lines.now; links = links.now; totals = totals }) }
+    ensures text { IfOk result (λ text. text.items
+        ≡ line_text net.now (record { lines = lines.now; links = links.now; totals = totals })) }
+    ensures clean { (arriving : ℕ → ℕ → ℕ) → ((n : ℕ) → arrived net.now arriving n ≤ most_of_all)
+        → IsClean net.now arriving (record { lines = lines.now; links = links.now; totals = totals })
+        → IfOk result (λ text. IsCleanText net.now arriving text.items) }
+{
+    // Called for its clause `network`.
+    let _nodes = net.nodes();
+    let mut out = start(Vec::new(alloc));
+    write_header(&mut out)?;
+    write_shown(net, lines, links, totals, &mut out)?;
+    finish(out)
+}

@@ -1,2 +1,0 @@
-mod ReportLaws
-mod RunLaws

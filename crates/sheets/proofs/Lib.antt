@@ -1,4 +1,0 @@
-pub mod DraftLaws
-pub mod FieldLaws
-pub mod TextLaws
-pub mod WrittenLaws

@@ -1,5 +1,0 @@
-pub mod Entries
-pub mod Faults
-pub mod Texts
-pub mod Told
-pub mod Written
