@@ -19,7 +19,7 @@ use Rattle.switch_rules.specs.declared.Head.{Head}
 use Rattle.actuated.specs.ActRuns.{AllAct, IsActRun, IsNextLine, calls_at, first_line}
 use Rattle.actuated.specs.Calls.{act_line}
 use Rattle.actuated.specs.RunsSoFar.{CountsAtNodes}
-use Rattle.actuated.specs.declared.records.ActRecord.{ActRecord}
+use Rattle.audit.specs.declared.line_runs.LineRun.{LineRun}
 
 -- a line has one next line
 next-one : (net : Net) (n node : ℕ) (past seen : ℕ → ℕ → Passed) → past ≡ seen → (old older next other : List Green) → old ≡ older
@@ -57,7 +57,7 @@ module _ (net : Net) (network : IsNetwork net) (under : (ℕ → ℕ → Option 
         (acts r n (omega arith) below) (also r n (omega arith) below))
   ]
 
-pub one-run : (net : Net) → IsNetwork net → (arriving : ℕ → ℕ → ℕ) (one other : ActRecord) → IsActRun net arriving one → IsActRun net arriving other → one ≡ other
+pub one-run : (net : Net) → IsNetwork net → (arriving : ℕ → ℕ → ℕ) (one other : LineRun) → IsActRun net arriving one → IsActRun net arriving other → one ≡ other
 one-run net network arriving one other a b = λ i. record { timelines = timelines i; links = links i; totals = all i }
   where
     before : (s n : ℕ) → s < net.run.rounds → n < length net.node_names → a.made s n ≡ b.made s n

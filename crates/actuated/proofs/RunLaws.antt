@@ -20,10 +20,11 @@ use Rattle.signal_safety.specs.Safe.{IsSafe}
 use Rattle.signal_safety.proofs.Lines.{safe}
 use Rattle.signal_safety.proofs.Rounds.{AllKeep, shows, all-keep as lines-keep}
 use Rattle.audit.specs.SheetTexts.{HasShape}
-use Rattle.actuated.specs.ActRuns.{IsActRun, ShowsGreens, first_line, past_by, sheet_of}
+use Rattle.audit.specs.LineRuns.{sheet_of}
+use Rattle.actuated.specs.ActRuns.{IsActRun, ShowsGreens, first_line, past_by}
 use Rattle.actuated.specs.Rounds.{AreFirstLines, AreRenewed}
 use Rattle.actuated.specs.RunsSoFar.{AreNear, HavePlayed}
-use Rattle.actuated.specs.declared.records.ActRecord.{ActRecord}
+use Rattle.audit.specs.declared.line_runs.LineRun.{LineRun}
 use Rattle.actuated.proofs.Acting.{more-acted, none-acted, one-round, same-before, time-for}
 use Rattle.actuated.proofs.LineLaws.{first-is-line, next-keeps}
 use Rattle.arrivals.specs.Amounts.{Amounts, AreArrivals}
@@ -69,7 +70,7 @@ played-world net arrivals r lines w enter a = record { arrivals = arrivals; line
 
 -- ---- the record
 
-module _ (net : Net) (network : IsNetwork net) (arriving : ℕ → ℕ → ℕ) (w : WorldState) (run : ActRecord) (a : HavePlayed net arriving net.run.rounds run.timelines w)
+module _ (net : Net) (network : IsNetwork net) (arriving : ℕ → ℕ → ℕ) (w : WorldState) (run : LineRun) (a : HavePlayed net arriving net.run.rounds run.timelines w)
     (links : run.links ≡ map (counts_at w.counts) (range_with_len 0 (length net.link_names))) (all : run.totals ≡ w.totals) where
   past-is : past_of net arriving (standing_by (line_in run.timelines)) (end_of_run net) ≡ past_by net arriving a.acted.made
   past-is = past-same net arriving (standing_by (line_in run.timelines)) (shown_by net a.acted.made) (end_of_run net) (λ x n less. a.acted.shown x n less)
@@ -108,7 +109,7 @@ module _ (net : Net) (network : IsNetwork net) (arriving : ℕ → ℕ → ℕ) 
 
 -- ---- what every run keeps
 
-module _ (net : Net) (network : IsNetwork net) (arriving : ℕ → ℕ → ℕ) (run : ActRecord) (is : IsActRun net arriving run) where
+module _ (net : Net) (network : IsNetwork net) (arriving : ℕ → ℕ → ℕ) (run : LineRun) (is : IsActRun net arriving run) where
   keep : AllKeep net (line_before (first_line net) is.made) net.run.rounds
   keep = lines-keep net network (line_before (first_line net) is.made) net.run.rounds (omega arith) (first-is-line net network)
       (λ r n less below early old. next-keeps net network n below (past_of net arriving (shown_by net is.made) (r * net.run.step)) (r * net.run.step) (line_before (first_line net) is.made r n) (is.made r n) early old (is.by.acts r n less below))
@@ -124,14 +125,14 @@ module _ (net : Net) (network : IsNetwork net) (arriving : ℕ → ℕ → ℕ) 
       ∙ shows net network (line_before (first_line net) is.made) net.run.rounds keep net.run.rounds (omega arith) second n below (div_below second net.run.step net.run.rounds network.outline.run.step.0 before)
 
 -- the record of lines that have acted in all rounds, and what it keeps
-pub record HasEnded (net : Net) (arriving : ℕ → ℕ → ℕ) (run : ActRecord) : Type 0 where
+pub record HasEnded (net : Net) (arriving : ℕ → ℕ → ℕ) (run : LineRun) : Type 0 where
   pub is_run : IsActRun net arriving run
   pub shape : HasShape net (sheet_of run)
   pub safe : IsSafe net (line_in run.timelines)
   pub greens : (is : IsActRun net arriving run) → ShowsGreens net is.made run
   pub clean : IsClean net arriving (sheet_of run)
 
-pub ended : (net : Net) → IsNetwork net → (arriving : ℕ → ℕ → ℕ) (w : WorldState) (run : ActRecord) (lines : List (List Green)) → run.timelines ≡ lines → HavePlayed net arriving net.run.rounds lines w
+pub ended : (net : Net) → IsNetwork net → (arriving : ℕ → ℕ → ℕ) (w : WorldState) (run : LineRun) (lines : List (List Green)) → run.timelines ≡ lines → HavePlayed net arriving net.run.rounds lines w
     → run.links ≡ map (counts_at w.counts) (range_with_len 0 (length net.link_names)) → run.totals ≡ w.totals → HasEnded net arriving run
 ended net network arriving w run lines are acted links all =
     let a : HavePlayed net arriving net.run.rounds run.timelines w = subst (λ (l : List (List Green)). HavePlayed net arriving net.run.rounds l w) (sym are) acted in

@@ -12,9 +12,8 @@ use Rattle.net_simulator.specs.Senses.{sense}
 use Rattle.net_simulator.specs.Sums.{end_of_run, link_totals, totals}
 use Rattle.net_simulator.specs.Worlds.{line_in}
 use Rattle.signal_safety.specs.Rounds.{line_before, shown_by}
-use Rattle.audit.specs.declared.sheet.Sheet.{Sheet}
+use Rattle.audit.specs.declared.line_runs.LineRun.{LineRun}
 use Rattle.actuated.specs.Calls.{act_line, calling}
-use Rattle.actuated.specs.declared.records.ActRecord.{ActRecord}
 
 -- Below, `made round node` is the line of a node in a round, and `under shown n` what passed the links in the first n seconds where
 -- the signals show this: in the world, `past_of net arriving`.
@@ -53,23 +52,19 @@ past_by net arriving made = past_of net arriving (shown_by net made) (end_of_run
 
 -- The record of a run, where `arriving second link` comes from outside: the nodes act in all rounds; it has the last line of each
 -- node, and what the world has counted of each link and in all when the last round is over.
-pub record IsActRunBy (net : Net) (arriving : ℕ → ℕ → ℕ) (made : ℕ → ℕ → List Green) (run : ActRecord) : Type 0 where
+pub record IsActRunBy (net : Net) (arriving : ℕ → ℕ → ℕ) (made : ℕ → ℕ → List Green) (run : LineRun) : Type 0 where
   pub acts : AllAct net (past_of net arriving) made net.run.rounds
   pub timelines : run.timelines ≡ map (line_before (first_line net) made net.run.rounds) (range_with_len 0 (length net.node_names))
   pub links : run.links ≡ map (link_totals net (past_by net arriving made) (end_of_run net)) (range_with_len 0 (length net.link_names))
   pub all : run.totals ≡ totals net arriving (past_by net arriving made) (end_of_run net)
 
 -- the record of the run of a network and arrivals
-pub record IsActRun (net : Net) (arriving : ℕ → ℕ → ℕ) (run : ActRecord) : Type 0 where
+pub record IsActRun (net : Net) (arriving : ℕ → ℕ → ℕ) (run : LineRun) : Type 0 where
   pub made : ℕ → ℕ → List Green
   pub by : IsActRunBy net arriving made run
 
 -- in each second of the run the last lines show the greens, with the same begin, by which the world moved
-abbrev pub ShowsGreens : Net → (ℕ → ℕ → List Green) → ActRecord → Type 0
+abbrev pub ShowsGreens : Net → (ℕ → ℕ → List Green) → LineRun → Type 0
 ShowsGreens net made run =
     (second node : ℕ) → second < end_of_run net → node < length net.node_names
     → standing (line_in run.timelines node) second ≡ shown_by net made second node
-
--- what a record says of greens and totals
-abbrev pub sheet_of : ActRecord → Sheet
-sheet_of run = record { lines = run.timelines; links = run.links; totals = run.totals }

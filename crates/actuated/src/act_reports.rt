@@ -4,8 +4,8 @@ ghost use Rattle.std.specs.Prelude.{◌≡◌, ◌≤◌, ℕ, IfOk};
 ghost use Rattle.arrivals.specs.Rows.{most_of_all};
 ghost use Rattle.audit.specs.Audits.{IsClean, IsCleanText};
 ghost use Rattle.net_simulator.specs.Sums.{arrived};
+ghost use Rattle.audit.specs.LineRuns.{sheet_of};
 ghost use Rattle.audit.specs.SheetTexts.{HasShape};
-ghost use Rattle.actuated.specs.ActRuns.{sheet_of};
 ghost use Rattle.actuated.specs.Reports.{act_text};
 
 use super::records::ActRecord;

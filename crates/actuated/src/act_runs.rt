@@ -7,10 +7,11 @@ ghost use Rattle.net_simulator.specs.Arriving.{arriving_of};
 ghost use Rattle.net_simulator.specs.Counts.{IsBalanced};
 ghost use Rattle.net_simulator.specs.Worlds.{line_in};
 ghost use Rattle.signal_safety.specs.Safe.{IsSafe};
+ghost use Rattle.audit.specs.LineRuns.{sheet_of};
 ghost use Rattle.audit.specs.SheetTexts.{HasShape};
-ghost use Rattle.actuated.specs.ActRuns.{IsActRun, ShowsGreens, sheet_of};
+ghost use Rattle.audit.specs.declared.line_runs.LineRun as spec;
+ghost use Rattle.actuated.specs.ActRuns.{IsActRun, ShowsGreens};
 ghost use Rattle.actuated.specs.RunsSoFar.{HavePlayed};
-ghost use Rattle.actuated.specs.declared.records.ActRecord as spec;
 
 use super::records::ActRecord;
 use super::renewing::{first_lines, renew_lines};
@@ -67,7 +68,7 @@ pub fn run_actuated(
 ///
 /// docs/RULES.md, "Actuated control".
 pub fn law_of_one_run(net: &Network)
-    ensures { (arriving : ℕ → ℕ → ℕ) (one other : spec.ActRecord)
+    ensures { (arriving : ℕ → ℕ → ℕ) (one other : spec.LineRun)
         → IsActRun net.now arriving one → IsActRun net.now arriving other → one ≡ other }
 {
     let _nodes = net.nodes();

@@ -1,21 +1,8 @@
 //! The record of a run.
 
-use control_flow::greens::Timeline;
-use foundation::items::Items;
-use foundation::threads::CrossesThreads;
-use net_simulator::{LinkTotals, Totals};
+use audit::LineRun;
 
-/// What a run leaves: what the signals showed, and what the world counted.
+/// What a run leaves: the timeline of each node after the last round, and what the world counted of each link and in all.
 ///
 /// docs/RULES.md, "Actuated control".
-#[derive(Drop)]
-pub struct ActRecord {
-    /// The timeline of each node after the last round.
-    pub timelines: Items<Timeline>,
-    /// What was counted of each link.
-    pub links: Items<LinkTotals>,
-    /// What was counted in all.
-    pub totals: Totals,
-}
-
-impl CrossesThreads for ActRecord {}
+pub type ActRecord = LineRun;

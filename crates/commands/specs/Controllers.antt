@@ -3,7 +3,7 @@ use Rattle.std.specs.Prelude.{◌≡◌, ℕ, ◌+◌, ◌-◌, ◌*◌, ◌/◌
 use Rattle.std.specs.List.{AllZip, concat, range_with_len}
 use Rattle.actuated.specs.ActRuns.{IsActRun, ShowsGreens}
 use Rattle.actuated.specs.Reports.{act_text}
-use Rattle.actuated.specs.declared.records.ActRecord.{ActRecord}
+use Rattle.audit.specs.declared.line_runs.LineRun.{LineRun}
 use Rattle.arrivals.specs.Rows.{most_of_all}
 use Rattle.audit.specs.Audits.{AreLawful, IsClean, IsCleanText}
 use Rattle.net_simulator.specs.Shown.{all_shown}
@@ -26,7 +26,7 @@ use Rattle.commands.specs.Summary.{scale_line, totals_line}
 
 -- The run of a network under actuated control, where this enters each link in each second: all last lines are lawful, the network is
 -- safe under them, and in each second of the run they show the greens, with the same begin, by which the world moved.
-pub record IsActuatedRun (net : Net) (enters : ℕ → ℕ → ℕ) (record_of_run : ActRecord) : Type 0 where
+pub record IsActuatedRun (net : Net) (enters : ℕ → ℕ → ℕ) (record_of_run : LineRun) : Type 0 where
   pub run : IsActRun net (arriving_by enters) record_of_run
   pub lawful : AreLawful net record_of_run.timelines
   pub safe : IsSafe net (line_in record_of_run.timelines)
@@ -34,7 +34,7 @@ pub record IsActuatedRun (net : Net) (enters : ℕ → ℕ → ℕ) (record_of_r
 
 -- the bytes are the report of such a run, and an audit finds nothing in them
 pub record IsActuatedReport (net : Net) (enters : ℕ → ℕ → ℕ) (bytes : List ℕ) : Type 0 where
-  pub run : ActRecord
+  pub run : LineRun
   pub runs : IsActuatedRun net enters run
   pub report : bytes ≡ act_text net run
   pub clean : IsCleanText net (arriving_by enters) bytes
@@ -47,7 +47,7 @@ pub record ArePlannedTotals (net : Net) (enters : ℕ → ℕ → ℕ) (totals :
 
 -- these are the totals of the run under actuated control
 pub record AreActuatedTotals (net : Net) (enters : ℕ → ℕ → ℕ) (totals : Totals) : Type 0 where
-  pub run : ActRecord
+  pub run : LineRun
   pub runs : IsActuatedRun net enters run
   pub are : totals ≡ run.totals
 

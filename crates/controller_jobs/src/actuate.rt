@@ -7,7 +7,7 @@ ghost use Rattle.commands.specs.Ending.{Makes};
 ghost use Rattle.commands.specs.Outcome.{Outcome};
 ghost use Rattle.audit.specs.SheetTexts.{HasShape};
 ghost use Rattle.audit.specs.Audits.{IsClean};
-ghost use Rattle.actuated.specs.ActRuns.{sheet_of};
+ghost use Rattle.audit.specs.LineRuns.{sheet_of};
 ghost use Rattle.runs.specs.Runs.{arriving_by};
 
 use actuated::{ActRecord, act_report, run_actuated};
