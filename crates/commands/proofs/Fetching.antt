@@ -5,8 +5,8 @@ use Rattle.outside_world.proofs.ShelfLemmas.{whole_file, long_file}
 use Rattle.commands.specs.Limits.{most_bytes}
 use Rattle.commands.specs.Stops.{StopsAt}
 use Rattle.commands.specs.Texts.{HasFault, IsBad, Kind, Reads, Said, text_of}
-use Rattle.commands.specs.declared.bad_texts.BadText.{BadText}
-use Rattle.commands.specs.declared.bad_texts.BadText.TheVariants.{Long}
+use Rattle.text_faults.specs.declared.bad_texts.BadText.{BadText}
+use Rattle.text_faults.specs.declared.bad_texts.BadText.TheVariants.{Long}
 use Rattle.commands.specs.declared.refusals.Refusal.TheVariants as refusal
 use Rattle.commands.specs.declared.refusals.TextPlace.{TextPlace}
 

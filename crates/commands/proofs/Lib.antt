@@ -1,4 +1,3 @@
-pub mod Calls
 pub mod Fetching
 pub mod Kept
 pub mod NoReading

@@ -13,7 +13,8 @@ use Rattle.commands.specs.declared.refusals.Refusal.{Refusal}
 use Rattle.commands.specs.declared.refusals.Refusal.TheVariants as refusal
 use Rattle.commands.specs.declared.status.Status.{Status}
 use Rattle.commands.specs.declared.status.Status.TheVariants.{Done, Rejected, BadInput, ReadFault, WriteFault, NoMemory}
-use Rattle.commands.specs.Commands.{Call, IsAgainst, IsMissing, IsRejectionOf, IsTextOf, MissesNothing, texts_of}
+use Rattle.command_words.specs.Calls.{Call}
+use Rattle.commands.specs.Commands.{IsAgainst, IsMissing, IsRejectionOf, IsTextOf, MissesNothing, texts_of}
 use Rattle.commands.specs.Ending.{Ends, EndsCertificate, Explains, Makes, MakesCertificate}
 use Rattle.commands.specs.Outcome.{IsBadInput, IsUnread, Outcome, Outside, Read}
 use Rattle.commands.specs.Refusals.{Says}

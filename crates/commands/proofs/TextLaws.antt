@@ -1,7 +1,7 @@
 -- What is so of the texts of a command.
 use Rattle.std.proofs.Common.{◌≡◌, ℕ, List, [], ◌∷◌, ◌++◌, length, Option, Some, None, IsSome, refl, sym, ap, subst, ◌∙◌, length-append, arith}
 use Rattle.outside_world.specs.Shelf.{Files, GainsLast}
-use Rattle.commands.specs.declared.bad_texts.BadText.{BadText}
+use Rattle.text_faults.specs.declared.bad_texts.BadText.{BadText}
 use Rattle.commands.specs.declared.refusals.TextPlace.{TextPlace}
 use Rattle.commands.specs.declared.refusals.TextPlace.TheVariants.{First, Second, Third}
 use Rattle.commands.specs.Texts.{AllSaid, AreIn, At, IsBad, IsIn, Kind, Next, NoMore, Reads, Said, Tells, TellsBad, Texts, text_of}

@@ -1,5 +1,5 @@
 -- What the commands write that run a network under other controllers than the planners, or under several.
-use Rattle.std.specs.Prelude.{◌≡◌, ℕ, ◌+◌, ◌-◌, ◌*◌, ◌/◌, ◌^◌, ◌<◌, ◌≤◌, List, ◌++◌, Contains, codes, length, map}
+use Rattle.std.specs.Prelude.{◌≡◌, ℕ, ◌+◌, ◌-◌, ◌*◌, ◌/◌, ◌<◌, List, ◌++◌, Contains, codes, length, map}
 use Rattle.std.specs.List.{AllZip, concat, range_with_len}
 use Rattle.actuated.specs.ActRuns.{IsActRun, ShowsGreens}
 use Rattle.actuated.specs.Reports.{act_text}
@@ -17,7 +17,7 @@ use Rattle.net_simulator.specs.Worlds.{line_in}
 use Rattle.net_simulator.specs.declared.totals.Totals.{Totals}
 use Rattle.runs.specs.Runs.{arriving_by}
 use Rattle.runs.specs.declared.records.RunRecord.{RunRecord}
-use Rattle.scaled_arrivals.specs.Scaling.{IsScaled, greatest_factor, scaled_whole}
+use Rattle.scaled_arrivals.specs.Scaling.{IsScaled, scaled_whole}
 use Rattle.audit.specs.SheetTexts.{HasShape}
 use Rattle.audit.specs.declared.sheet.Sheet.{Sheet}
 use Rattle.signal_safety.specs.Safe.{IsSafe}
@@ -87,14 +87,6 @@ pub record IsComparisonWith (net : Net) (enters : ℕ → ℕ → ℕ) (rows : L
 -- the factors from the first on, a step apart, up to the last
 abbrev pub factors : ℕ → ℕ → ℕ → List ℕ
 factors first last step = map (λ k. first + k * step) (range_with_len 0 ((last - first) / step + 1))
-
--- the words of a command may name these factors: there are at most 20
-pub record AreFactors (first last step : ℕ) : Type 0 where
-  pub ordered : first ≤ last
-  pub most : last ≤ greatest_factor
-  pub apart : 1 ≤ step
-  pub bits : step < 2 ^ 32
-  pub few : (last - first) / step < 20
 
 -- the line of a factor: what both runs have counted in all where the arrivals are scaled by it
 pub record IsScaleLine (net : Net) (enters : ℕ → ℕ → ℕ) (factor : ℕ) (bytes : List ℕ) : Type 0 where

@@ -4,7 +4,8 @@ use Rattle.outside_world.specs.Shelf.{ShelfState}
 use Rattle.outside_world.specs.Sink.{Breaks, Gains, SinkState}
 use Rattle.dp_certificate.specs.Certificates.{Claim}
 use Rattle.certificate_form.specs.CertificateText.{certificate_text}
-use Rattle.commands.specs.Commands.{Call, IsAgainst, IsRejectionOf, IsTextOf, MissesNothing, texts_of}
+use Rattle.command_words.specs.Calls.{Call}
+use Rattle.commands.specs.Commands.{IsAgainst, IsRejectionOf, IsTextOf, MissesNothing, texts_of}
 use Rattle.commands.specs.Outcome.{IsBadInput, Read}
 use Rattle.commands.specs.Refusals.{Refuses, Says}
 use Rattle.commands.specs.Stops.{StopsIn}

@@ -1,5 +1,4 @@
 pub mod Answers
-pub mod Codes
 pub mod Commands
 pub mod Controllers
 pub mod Ending

@@ -2,7 +2,8 @@
 use Rattle.std.specs.Prelude.{◌≡◌, ◌≢◌, ℕ, List, ◌⊎◌}
 use Rattle.outside_world.specs.Shelf.{Files, GainsLast, ShelfState}
 use Rattle.outside_world.specs.Sink.{Breaks, Gains, Rose, SinkState}
-use Rattle.commands.specs.Commands.{Call, IsAgainst, IsMissing, IsRejectionOf, IsTextOf, MissesNothing, texts_of}
+use Rattle.command_words.specs.Calls.{Call}
+use Rattle.commands.specs.Commands.{IsAgainst, IsMissing, IsRejectionOf, IsTextOf, MissesNothing, texts_of}
 use Rattle.commands.specs.Refusals.{Says}
 use Rattle.commands.specs.Texts.{AllSaid, AreIn, At, IsBad, Tells, TellsBad}
 use Rattle.commands.specs.declared.refusals.Named.{Named}

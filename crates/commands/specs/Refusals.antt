@@ -2,7 +2,7 @@
 use Rattle.std.specs.Prelude.{◌≡◌, ℕ, List, [], ◌∷◌, ◌++◌, ◌⊎◌, codes}
 use Rattle.std.specs.Fmt.{decimal}
 use Rattle.outside_world.specs.Sink.{Breaks, Gains, SinkState}
-use Rattle.commands.specs.Codes.{code_of}
+use Rattle.text_faults.specs.Codes.{code_of}
 use Rattle.commands.specs.declared.refusals.Named.{Named}
 use Rattle.commands.specs.declared.refusals.Named.TheVariants.{Factor, Node, Round}
 use Rattle.commands.specs.declared.refusals.TextPlace.{TextPlace}

@@ -31,8 +31,8 @@ use Rattle.spillback_world.specs.StoreTexts as stores
 use Rattle.spillback_world.specs.StoreTexts.{IsStoreText}
 use Rattle.spillback_world.specs.declared.store_faults.StoreFault.TheVariants as store
 use Rattle.commands.specs.Limits.{most_bytes}
-use Rattle.commands.specs.declared.bad_texts.BadText.{BadText}
-use Rattle.commands.specs.declared.bad_texts.BadText.TheVariants.{Long, Fault, Certificate, Network, Arrivals, History, Sheet, Store, FixedPlan, State}
+use Rattle.text_faults.specs.declared.bad_texts.BadText.{BadText}
+use Rattle.text_faults.specs.declared.bad_texts.BadText.TheVariants.{Long, Fault, Certificate, Network, Arrivals, History, Sheet, Store, FixedPlan, State}
 use Rattle.commands.specs.declared.refusals.TextPlace.{TextPlace}
 use Rattle.commands.specs.declared.refusals.TextPlace.TheVariants.{First, Second, Third}
 

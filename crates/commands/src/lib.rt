@@ -1,22 +1,17 @@
-//! The commands: their words; the texts that they read, fetched from a shelf; what is wrong with one; the run of a history; what they
-//! write, and how they end; and the refusals, each with its line and its status.
+//! What the commands share: the texts that they read, fetched from a shelf; the run of a history; what they write, and how they end; and
+//! the refusals, each with its line and its status.
 #![tactic(auto)]
 
-mod bad_texts;
 mod ending;
 mod kept_runs;
-mod pieces;
-mod record_codes;
 mod refusals;
 mod scenes;
 mod status;
 mod texts;
-mod words;
+mod totals;
 
-pub use bad_texts::BadText;
 pub use ending::{Made, end};
 pub use kept_runs::{kept_run, run_of_turns};
-pub use pieces::{push_one, push_totals, push_two};
 pub use refusals::{Named, Refusal, TextPlace, refuse};
 pub use scenes::{
     HistoryScene, PlanScene, Scene, SheetScene, StateScene, StoreScene, fetch_history_scene,
@@ -27,4 +22,4 @@ pub use texts::{
     fetch_arrivals, fetch_certificate, fetch_fixed_plan, fetch_history, fetch_instance,
     fetch_network, fetch_sheet, fetch_state, fetch_store,
 };
-pub use words::{Command, command_of};
+pub use totals::push_totals;

@@ -4,11 +4,10 @@ ghost use Rattle.commands.specs.Refusals.{Refuses};
 ghost use Rattle.commands.specs.Refusals.{Writes, line_of, missing_line, number_of, unread_line};
 ghost use Rattle.commands.specs.declared.refusals.Refusal.TheVariants as refusal;
 
-use super::bad_texts::{BadText, push_code};
-use super::pieces::push_one;
 use super::status::Status;
 use outside_world::Sink;
 use std::alloc::{AllocError, Global};
+use text_faults::{BadText, push_code, push_one};
 
 /// Which of a command's texts, in the order of its words.
 #[derive(Debug, Clone, Copy, PartialEq, Eq)]

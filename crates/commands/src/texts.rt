@@ -9,7 +9,6 @@ ghost use Rattle.commands.specs.Limits.{most_bytes};
 ghost use Rattle.audit.specs.SheetTexts.{HasShape};
 ghost use Rattle.commands.specs.Texts.{ArrivalsText, CertificateText, HistoryText, InstanceText, IsIn, Kind, NetworkText, PlanText, SheetText, StateText, StoreText, text_of};
 
-use super::bad_texts::BadText;
 use super::refusals::{Refusal, TextPlace};
 use arrivals::{Arrivals, RowFault, read_arrivals};
 use audit::{Sheet, SheetFault, read_sheet};
@@ -26,6 +25,7 @@ use round_states::{RoundState, StateFault, read_state};
 use schedule_meaning::{Instance, TextFault, read_instance};
 use spillback_world::{Store, StoreFault, read_store};
 use std::alloc::Global;
+use text_faults::BadText;
 
 /// The greatest length of a text, in bytes.
 ///

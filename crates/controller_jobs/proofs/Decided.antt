@@ -7,7 +7,8 @@ use Rattle.commands.specs.Texts.{IsIn, NetworkText, StateText}
 use Rattle.commands.specs.declared.refusals.Named.TheVariants.{Node, Round, Factor}
 use Rattle.commands.specs.declared.refusals.Refusal.{Refusal}
 use Rattle.commands.specs.declared.refusals.Refusal.TheVariants as refusal
-use Rattle.commands.specs.Commands.{DecideNode, MissesNothing}
+use Rattle.command_words.specs.Calls.{DecideNode}
+use Rattle.commands.specs.Commands.{MissesNothing}
 use Rattle.commands.specs.Ending.{Explains}
 use Rattle.controller_jobs.specs.Nodes.{MissesNode}
 

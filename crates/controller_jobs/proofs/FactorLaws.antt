@@ -9,7 +9,8 @@ use Rattle.arrivals.specs.Rows.{most_of_all}
 use Rattle.outside_world.specs.Shelf.{ShelfState}
 use Rattle.net_numbers.specs.Numbers.{Net}
 use Rattle.scaled_arrivals.specs.Scaling.{scaled_whole}
-use Rattle.commands.specs.Commands.{MissesNothing, Scale}
+use Rattle.command_words.specs.Calls.{Scale}
+use Rattle.commands.specs.Commands.{MissesNothing}
 use Rattle.commands.specs.Controllers.{BringTooMuch, IsScaleLine, IsScaleTable, factors}
 use Rattle.commands.specs.Ending.{Explains}
 use Rattle.commands.specs.Texts.{ArrivalsText, IsIn, NetworkText}

@@ -1,7 +1,7 @@
 //! The command `actuate NET ARR`.
 ghost use Rattle.std.specs.Prelude.{IfOk};
 ghost use Rattle.arrivals.specs.Amounts.{AreArrivals, entering};
-ghost use Rattle.commands.specs.Commands.{Actuate};
+ghost use Rattle.command_words.specs.Calls.{Actuate};
 ghost use Rattle.commands.specs.Controllers.{IsActuatedReport, IsActuatedRun};
 ghost use Rattle.commands.specs.Ending.{Makes};
 ghost use Rattle.commands.specs.Outcome.{Outcome};

@@ -1,7 +1,7 @@
 //! The command `compare NET ARR`.
 ghost use Rattle.std.specs.Prelude.{IfOk};
 ghost use Rattle.arrivals.specs.Amounts.{AreArrivals, entering};
-ghost use Rattle.commands.specs.Commands.{Compare};
+ghost use Rattle.command_words.specs.Calls.{Compare};
 ghost use Rattle.commands.specs.Controllers.{AreActuatedTotals, ArePlannedTotals, IsComparison};
 ghost use Rattle.commands.specs.Ending.{Makes};
 ghost use Rattle.commands.specs.Outcome.{Outcome};

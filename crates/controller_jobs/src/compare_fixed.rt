@@ -2,7 +2,7 @@
 ghost use Rattle.std.specs.Prelude.{◌≡◌, IfOk};
 ghost use Rattle.arrivals.specs.Amounts.{AreArrivals, entering};
 ghost use Rattle.net_simulator.specs.Shown.{all_shown};
-ghost use Rattle.commands.specs.Commands.{CompareFixed};
+ghost use Rattle.command_words.specs.Calls.{CompareFixed};
 ghost use Rattle.commands.specs.Controllers.{IsComparisonWith, fixed_timelines};
 ghost use Rattle.commands.specs.Ending.{Makes};
 ghost use Rattle.commands.specs.Outcome.{Outcome};

@@ -3,7 +3,7 @@ ghost use Rattle.std.specs.Prelude.{◌≡◌, ◌≤◌, ℕ, IfOk};
 ghost use Rattle.arrivals.specs.Amounts.{AreArrivals, entering};
 ghost use Rattle.arrivals.specs.Rows.{most_of_all};
 ghost use Rattle.audit.specs.Audits.{IsClean, IsCleanText};
-ghost use Rattle.commands.specs.Commands.{Fixed};
+ghost use Rattle.command_words.specs.Calls.{Fixed};
 ghost use Rattle.commands.specs.Controllers.{IsFixedReport, fixed_timelines};
 ghost use Rattle.commands.specs.Ending.{Makes};
 ghost use Rattle.commands.specs.Outcome.{Outcome};

@@ -3,8 +3,9 @@ ghost use Rattle.std.specs.Prelude.{◌≡◌, ◌+◌, ◌-◌, ◌*◌, ◌/�
 ghost use Rattle.std.specs.List.{join_with_byte};
 ghost use Rattle.arrivals.specs.Amounts.{AreArrivals, entering};
 ghost use Rattle.arrivals.specs.Rows.{most_of_all};
-ghost use Rattle.commands.specs.Commands.{Scale};
-ghost use Rattle.commands.specs.Controllers.{AreFactors, BringTooMuch, IsScaleTable, factors};
+ghost use Rattle.command_words.specs.Calls.{Scale};
+ghost use Rattle.command_words.specs.Factors.{AreFactors};
+ghost use Rattle.commands.specs.Controllers.{BringTooMuch, IsScaleTable, factors};
 ghost use Rattle.commands.specs.Ending.{Makes};
 ghost use Rattle.commands.specs.Outcome.{Outcome};
 ghost use Rattle.commands.specs.Summary.{scale_line, totals_words};
@@ -13,7 +14,7 @@ ghost use Rattle.controller_jobs.specs.Factors.{GainsScaleLine, RefusesFactor, R
 
 use super::compare::{actuated_totals, planned_totals};
 use arrivals::Arrivals;
-use commands::{Made, Named, Refusal, Status, end, fetch_scene, push_one};
+use commands::{Made, Named, Refusal, Status, end, fetch_scene};
 use net_simulator::Totals;
 use outside_world::{Shelf, Sink};
 use road_net::Network;

@@ -1,7 +1,7 @@
 //! The command `spill NET ARR STORE`.
 ghost use Rattle.std.specs.Prelude.{◌≡◌, ◌<◌, ◌++◌, IfOk, OnOk, length};
 ghost use Rattle.arrivals.specs.Amounts.{AreArrivals, entering};
-ghost use Rattle.commands.specs.Commands.{Spill};
+ghost use Rattle.command_words.specs.Calls.{Spill};
 ghost use Rattle.commands.specs.Ending.{Makes};
 ghost use Rattle.commands.specs.Headline.{IsRunOf};
 ghost use Rattle.commands.specs.Outcome.{Outcome};

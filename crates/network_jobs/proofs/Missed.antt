@@ -6,7 +6,8 @@ use Rattle.commands.specs.Texts.{ArrivalsText, HistoryText, IsIn, NetworkText}
 use Rattle.commands.specs.declared.refusals.Named.TheVariants.{Factor, Node, Round}
 use Rattle.commands.specs.declared.refusals.Refusal.{Refusal}
 use Rattle.commands.specs.declared.refusals.Refusal.TheVariants as refusal
-use Rattle.commands.specs.Commands.{Instance, MissesNothing}
+use Rattle.command_words.specs.Calls.{Instance}
+use Rattle.commands.specs.Commands.{MissesNothing}
 use Rattle.commands.specs.Ending.{Explains}
 use Rattle.network_jobs.specs.Missing.{Misses}
 

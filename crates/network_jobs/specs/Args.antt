@@ -1,5 +1,5 @@
 -- The command that the arguments of `instance` make.
-use Rattle.commands.specs.Commands.{Call, Instance}
+use Rattle.command_words.specs.Calls.{Call, Instance}
 use Rattle.network_jobs.specs.declared.instance.InstanceArgs.{InstanceArgs}
 
 -- the call of `instance` with these arguments

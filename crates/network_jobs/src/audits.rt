@@ -4,7 +4,7 @@ ghost use Rattle.std.specs.Fmt.{decimal};
 ghost use Rattle.arrivals.specs.Amounts.{AreArrivals, entering};
 ghost use Rattle.net_numbers.specs.Outline.{node_name_at};
 ghost use Rattle.audit.specs.SheetTexts.{HasShape};
-ghost use Rattle.commands.specs.Commands.{Audit};
+ghost use Rattle.command_words.specs.Calls.{Audit};
 ghost use Rattle.commands.specs.Ending.{IsMadeOf, Makes};
 ghost use Rattle.commands.specs.Outcome.{Outcome};
 ghost use Rattle.commands.specs.Verdicts.{finding_text, unclean_line};
@@ -12,7 +12,7 @@ ghost use Rattle.network_jobs.specs.Findings.{NamesPart};
 
 use arrivals::Arrivals;
 use audit::{AuditWhy, Finding, Sheet, audit};
-use commands::{Made, Refusal, SheetScene, Status, end, fetch_sheet_scene, push_one};
+use commands::{Made, Refusal, SheetScene, Status, end, fetch_sheet_scene};
 use outside_world::{Shelf, Sink};
 use road_net::Network;
 use std::alloc::{AllocError, Global};

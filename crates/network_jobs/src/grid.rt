@@ -3,7 +3,7 @@ ghost use Rattle.std.specs.Prelude.{IfOk};
 ghost use Rattle.outside_world.specs.Shelf.{ShelfState};
 ghost use Rattle.scenario_gen.specs.Grids.{AreRounds};
 ghost use Rattle.scenario_gen.specs.Layout.{IsSide};
-ghost use Rattle.commands.specs.Commands.{Grid};
+ghost use Rattle.command_words.specs.Calls.{Grid};
 ghost use Rattle.commands.specs.Ending.{Makes};
 ghost use Rattle.commands.specs.Headline.{IsGridSummary};
 ghost use Rattle.commands.specs.Outcome.{Outcome};

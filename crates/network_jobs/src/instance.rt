@@ -3,7 +3,7 @@ ghost use Rattle.std.specs.Prelude.{◌≡◌, ℕ, ◌<◌, List, IfErr, IfOk, 
 ghost use Rattle.arrivals.specs.Amounts.{AreArrivals, entering};
 ghost use Rattle.histories.specs.Histories.{IsLawful};
 ghost use Rattle.net_numbers.specs.Numbers.{number_of};
-ghost use Rattle.commands.specs.Commands.{Instance};
+ghost use Rattle.command_words.specs.Calls.{Instance};
 ghost use Rattle.commands.specs.Ending.{Makes};
 ghost use Rattle.commands.specs.Headline.{IsPlannedText};
 ghost use Rattle.commands.specs.Outcome.{Outcome};

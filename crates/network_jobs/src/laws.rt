@@ -3,7 +3,8 @@ ghost use Rattle.std.specs.Prelude.{◌≡◌, ℕ, List};
 ghost use Rattle.dp_certificate.specs.Certificates.{Claim};
 ghost use Rattle.schedule_meaning.specs.Instances.{Problem};
 ghost use Rattle.commands.specs.Texts.{AllSaid, HistoryText, InstanceText, IsTextFor, Reads};
-ghost use Rattle.commands.specs.Commands.{Certify, CertifyBound, Instance, IsAcceptedText, IsTextOf, Net, Replay, Turns, texts_of};
+ghost use Rattle.command_words.specs.Calls.{Certify, CertifyBound, Instance, Net, Replay, Turns};
+ghost use Rattle.commands.specs.Commands.{IsAcceptedText, IsTextOf, texts_of};
 ghost use Rattle.commands.specs.Headline.{AgreesWith};
 
 use delay_report::law_of_reports;

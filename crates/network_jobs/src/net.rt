@@ -1,5 +1,5 @@
 //! The command `net NET ARR`.
-ghost use Rattle.commands.specs.Commands.{Net};
+ghost use Rattle.command_words.specs.Calls.{Net};
 ghost use Rattle.commands.specs.Ending.{Makes};
 ghost use Rattle.commands.specs.Outcome.{Outcome};
 

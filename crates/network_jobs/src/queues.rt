@@ -2,7 +2,7 @@
 ghost use Rattle.std.specs.Prelude.{◌≡◌, ◌<◌, ◌^◌, List, ℕ, All, IfOk, length};
 ghost use Rattle.arrivals.specs.Amounts.{AreArrivals, entering};
 ghost use Rattle.audit.specs.SheetTexts.{HasShape};
-ghost use Rattle.commands.specs.Commands.{Queues};
+ghost use Rattle.command_words.specs.Calls.{Queues};
 ghost use Rattle.commands.specs.Ending.{IsMadeOf, Makes};
 ghost use Rattle.commands.specs.Outcome.{Outcome};
 

@@ -1,5 +1,5 @@
 //! The command `replay NET ARR HIST`.
-ghost use Rattle.commands.specs.Commands.{Replay};
+ghost use Rattle.command_words.specs.Calls.{Replay};
 ghost use Rattle.commands.specs.Ending.{Makes};
 ghost use Rattle.commands.specs.Outcome.{Outcome};
 

@@ -2,7 +2,7 @@
 ghost use Rattle.std.specs.Prelude.{IfOk};
 ghost use Rattle.arrivals.specs.Amounts.{AreArrivals, entering};
 ghost use Rattle.histories.specs.Histories as histories;
-ghost use Rattle.commands.specs.Commands.{Turns};
+ghost use Rattle.command_words.specs.Calls.{Turns};
 ghost use Rattle.commands.specs.Ending.{Makes};
 ghost use Rattle.commands.specs.Headline.{Headline};
 ghost use Rattle.commands.specs.Outcome.{Outcome};

@@ -1,5 +1,5 @@
 //! The command `upgrade NET`.
-ghost use Rattle.commands.specs.Commands.{Upgrade};
+ghost use Rattle.command_words.specs.Calls.{Upgrade};
 ghost use Rattle.commands.specs.Ending.{Makes};
 ghost use Rattle.commands.specs.Outcome.{Outcome};
 

@@ -1,16 +1,13 @@
 //! The top call: the arguments of the command line, and what is done.
 ghost use Rattle.std.specs.Prelude.{◌≡◌, ◌≢◌, ◌↔◌};
-ghost use Rattle.commands.specs.Commands.{Call, IsCall, IsOfControllers, IsWithin, call_of};
+ghost use Rattle.command_words.specs.Calls.{Call, IsCall, IsOfControllers, IsWithin, call_of};
 ghost use Rattle.commands.specs.Outcome.{Outcome};
 ghost use Rattle.commands.specs.Refusals.{Says};
 ghost use Rattle.commands.specs.declared.refusals.Refusal.TheVariants as refusal;
 
-use super::certify::{certify_bound_job, certify_job};
-use super::certify_par::certify_par_job;
-use super::check::check_job;
-use super::plan::plan_job;
 use board_model::Gate;
-use commands::{Command, Refusal, Status, command_of, refuse};
+use command_words::{Command, command_of};
+use commands::{Refusal, Status, refuse};
 use controller_jobs::{
     actuate_job, compare_fixed_job, compare_job, decide_job, decide_node_job, fixed_job, scale_job,
     spill_job,
@@ -20,6 +17,7 @@ use network_jobs::{
     audit_job, grid_job, instance_job, net_job, queues_job, replay_job, turns_job, upgrade_job,
 };
 use outside_world::{Shelf, Sink};
+use planner_jobs::{certify_bound_job, certify_job, certify_par_job, check_job, plan_job};
 use std::alloc::Global;
 use std::sync::Wait;
 use std::thread::Threads;

@@ -1,7 +1,7 @@
 use Rattle.std.proofs.Common.{rules, sym, subst, List, ℕ}
 use Rattle.arrivals.specs.Texts.{IsArrivalText, IsTextFault}
 use Rattle.commands.specs.Texts.{ArrivalsText}
-use Rattle.commands.specs.declared.bad_texts.BadText.TheVariants.{Arrivals}
+use Rattle.text_faults.specs.declared.bad_texts.BadText.TheVariants.{Arrivals}
 use Rattle.commands.proofs.Fetching.{fetched-bad}
 use Rattle.commands.proofs.NoReading.{no_arrivals}
 use Rattle.commands.proofs.texts.fetch_arrivals.Goals as goal

@@ -1,7 +1,7 @@
 use Rattle.std.proofs.Common.{rules, sym, subst, List, ℕ}
 use Rattle.fixed_plans.specs.Faults.{IsPlanFault, IsPlanText}
 use Rattle.commands.specs.Texts.{PlanText}
-use Rattle.commands.specs.declared.bad_texts.BadText.TheVariants.{FixedPlan}
+use Rattle.text_faults.specs.declared.bad_texts.BadText.TheVariants.{FixedPlan}
 use Rattle.commands.proofs.Fetching.{fetched-bad}
 use Rattle.commands.proofs.NoReading.{no_fixed_plan}
 use Rattle.commands.proofs.texts.fetch_fixed_plan.Goals as goal

@@ -2,7 +2,7 @@ use Rattle.std.proofs.Common.{rules, sym, subst, List, ℕ}
 use Rattle.delay_report.specs.Faults.{IsTextFault}
 use Rattle.delay_report.specs.Texts.{IsHistoryText}
 use Rattle.commands.specs.Texts.{HistoryText}
-use Rattle.commands.specs.declared.bad_texts.BadText.TheVariants.{History}
+use Rattle.text_faults.specs.declared.bad_texts.BadText.TheVariants.{History}
 use Rattle.commands.proofs.Fetching.{fetched-bad}
 use Rattle.commands.proofs.NoReading.{no_history}
 use Rattle.commands.proofs.texts.fetch_history.Goals as goal

@@ -1,7 +1,7 @@
 use Rattle.std.proofs.Common.{rules, sym, subst, List, ℕ}
 use Rattle.net_file.specs.NetworkText.{IsCause, IsNetworkText}
 use Rattle.commands.specs.Texts.{NetworkText}
-use Rattle.commands.specs.declared.bad_texts.BadText.TheVariants.{Network}
+use Rattle.text_faults.specs.declared.bad_texts.BadText.TheVariants.{Network}
 use Rattle.commands.proofs.Fetching.{fetched-bad}
 use Rattle.commands.proofs.NoReading.{no_network}
 use Rattle.commands.proofs.texts.fetch_network.Goals as goal

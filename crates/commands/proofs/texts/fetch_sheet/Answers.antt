@@ -2,7 +2,7 @@ use Rattle.std.proofs.Common.{rules, sym, subst, List, ℕ}
 use Rattle.audit.specs.SheetFaults.{IsSheetFault}
 use Rattle.audit.specs.SheetTexts.{IsSheetText}
 use Rattle.commands.specs.Texts.{SheetText}
-use Rattle.commands.specs.declared.bad_texts.BadText.TheVariants.{Sheet}
+use Rattle.text_faults.specs.declared.bad_texts.BadText.TheVariants.{Sheet}
 use Rattle.commands.proofs.Fetching.{fetched-bad}
 use Rattle.commands.proofs.NoReading.{no_sheet}
 use Rattle.commands.proofs.texts.fetch_sheet.Goals as goal

@@ -2,7 +2,7 @@ use Rattle.std.proofs.Common.{rules, sym, subst, List, ℕ}
 use Rattle.round_states.specs.Faults.{IsStateFault}
 use Rattle.round_states.specs.Texts.{IsStateText}
 use Rattle.commands.specs.Texts.{StateText}
-use Rattle.commands.specs.declared.bad_texts.BadText.TheVariants.{State}
+use Rattle.text_faults.specs.declared.bad_texts.BadText.TheVariants.{State}
 use Rattle.commands.proofs.Fetching.{fetched-bad}
 use Rattle.commands.proofs.NoReading.{no_state}
 use Rattle.commands.proofs.texts.fetch_state.Goals as goal

@@ -1,7 +1,7 @@
 use Rattle.std.proofs.Common.{rules, sym, subst, List, ℕ}
 use Rattle.spillback_world.specs.StoreTexts.{IsTextFault, IsStoreText}
 use Rattle.commands.specs.Texts.{StoreText}
-use Rattle.commands.specs.declared.bad_texts.BadText.TheVariants.{Store}
+use Rattle.text_faults.specs.declared.bad_texts.BadText.TheVariants.{Store}
 use Rattle.commands.proofs.Fetching.{fetched-bad}
 use Rattle.commands.proofs.NoReading.{no_store}
 use Rattle.commands.proofs.texts.fetch_store.Goals as goal

@@ -1,6 +1,6 @@
 use Rattle.arrivals.specs.Amounts.{entering}
 use Rattle.commands.specs.Texts.{NoMore}
-use Rattle.commands.specs.Commands.{Actuate}
+use Rattle.command_words.specs.Calls.{Actuate}
 use Rattle.commands.proofs.Outcomes.{failed}
 use Rattle.controller_jobs.proofs.actuate.actuate_files.Goals as goal
 

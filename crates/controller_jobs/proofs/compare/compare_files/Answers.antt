@@ -1,6 +1,6 @@
 use Rattle.arrivals.specs.Amounts.{entering}
 use Rattle.commands.specs.Texts.{NoMore}
-use Rattle.commands.specs.Commands.{Compare}
+use Rattle.command_words.specs.Calls.{Compare}
 use Rattle.commands.proofs.Outcomes.{failed}
 use Rattle.controller_jobs.proofs.compare.compare_files.Goals as goal
 

@@ -1,5 +1,5 @@
 use Rattle.arrivals.specs.Amounts.{entering}
-use Rattle.commands.specs.Commands.{CompareFixed}
+use Rattle.command_words.specs.Calls.{CompareFixed}
 use Rattle.commands.proofs.Outcomes.{failed}
 use Rattle.controller_jobs.proofs.compare_fixed.compare_fixed_files.Goals as goal
 

@@ -1,4 +1,4 @@
-use Rattle.commands.specs.Commands.{Decide}
+use Rattle.command_words.specs.Calls.{Decide}
 use Rattle.commands.proofs.Outcomes.{failed}
 use Rattle.controller_jobs.proofs.decide.decide_files.Goals as goal
 

@@ -1,4 +1,4 @@
-use Rattle.commands.specs.Commands.{DecideNode}
+use Rattle.command_words.specs.Calls.{DecideNode}
 use Rattle.commands.proofs.Outcomes.{failed, handed_on}
 use Rattle.controller_jobs.proofs.Decided.{missed, none_missed}
 use Rattle.controller_jobs.proofs.decide.decide_node_files.Goals as goal

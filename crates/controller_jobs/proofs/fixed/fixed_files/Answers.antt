@@ -1,5 +1,5 @@
 use Rattle.arrivals.specs.Amounts.{entering}
-use Rattle.commands.specs.Commands.{Fixed}
+use Rattle.command_words.specs.Calls.{Fixed}
 use Rattle.commands.proofs.Outcomes.{failed}
 use Rattle.controller_jobs.proofs.fixed.fixed_files.Goals as goal
 

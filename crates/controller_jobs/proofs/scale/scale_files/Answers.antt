@@ -1,5 +1,5 @@
 use Rattle.arrivals.specs.Amounts.{entering}
-use Rattle.commands.specs.Commands.{Scale}
+use Rattle.command_words.specs.Calls.{Scale}
 use Rattle.commands.specs.Texts.{NoMore}
 use Rattle.commands.proofs.Outcomes.{failed, handed_on}
 use Rattle.controller_jobs.proofs.FactorLaws.{none-missing, refused}

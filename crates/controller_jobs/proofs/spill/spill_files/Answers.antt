@@ -1,5 +1,5 @@
 use Rattle.arrivals.specs.Amounts.{entering}
-use Rattle.commands.specs.Commands.{Spill}
+use Rattle.command_words.specs.Calls.{Spill}
 use Rattle.commands.proofs.Outcomes.{failed}
 use Rattle.controller_jobs.proofs.spill.spill_files.Goals as goal
 

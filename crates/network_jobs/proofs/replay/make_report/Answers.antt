@@ -1,5 +1,5 @@
 use Rattle.arrivals.specs.Amounts.{entering}
-use Rattle.commands.specs.Commands.{Replay}
+use Rattle.command_words.specs.Calls.{Replay}
 use Rattle.commands.proofs.Outcomes.{failed}
 use Rattle.network_jobs.proofs.replay.make_report.Goals as goal
 

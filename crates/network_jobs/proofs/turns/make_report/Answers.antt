@@ -1,6 +1,6 @@
 use Rattle.arrivals.specs.Amounts.{entering}
 use Rattle.commands.specs.Texts.{NoMore}
-use Rattle.commands.specs.Commands.{Turns}
+use Rattle.command_words.specs.Calls.{Turns}
 use Rattle.commands.proofs.Outcomes.{failed}
 use Rattle.network_jobs.proofs.turns.make_report.Goals as goal
 

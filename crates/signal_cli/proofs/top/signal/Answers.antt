@@ -1,4 +1,4 @@
-use Rattle.commands.proofs.Calls.{one_call}
+use Rattle.command_words.proofs.Calls.{one_call}
 use Rattle.signal_cli.proofs.top.signal.Goals as goal
 
 pub returns-in-Some-clause-outcome : goal.returns-in-Some-clause-outcome

@@ -1,0 +1,6 @@
+use Rattle.std.proofs.Common.{refl}
+use Rattle.commands.proofs.Outcomes.{certificate_outcome}
+use Rattle.planner_jobs.proofs.certify.certify_job.Goals as goal
+
+pub returns : goal.returns
+returns g c = certificate_outcome _ _ _ _ _ (c.certificate_of_file-certificate.ensures.whole refl) c.deliver.ensures

@@ -1,0 +1,5 @@
+use Rattle.commands.proofs.Outcomes.{certificate_outcome}
+use Rattle.planner_jobs.proofs.certify_par.certify_par_job.Goals as goal
+
+pub returns : goal.returns
+returns g c = certificate_outcome _ _ _ _ _ c.certificate_of_file-certificate.ensures c.deliver.ensures

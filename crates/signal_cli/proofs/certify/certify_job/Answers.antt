@@ -1,6 +1,0 @@
-use Rattle.std.proofs.Common.{refl}
-use Rattle.commands.proofs.Outcomes.{certificate_outcome}
-use Rattle.signal_cli.proofs.certify.certify_job.Goals as goal
-
-pub returns : goal.returns
-returns g c = certificate_outcome _ _ _ _ _ (c.certificate_of_file-certificate.ensures.whole refl) c.deliver.ensures

@@ -1,5 +1,0 @@
-use Rattle.commands.proofs.Outcomes.{certificate_outcome}
-use Rattle.signal_cli.proofs.certify_par.certify_par_job.Goals as goal
-
-pub returns : goal.returns
-returns g c = certificate_outcome _ _ _ _ _ c.certificate_of_file-certificate.ensures c.deliver.ensures

@@ -1,4 +1,0 @@
-use Rattle.signal_cli.proofs.check.verdict_of.Given as goal
-
-abbrev pub ghosts-verdict_in_ledger : goal.ghosts-verdict_in_ledger
-ghosts-verdict_in_ledger a = record { name = a.blank.name; parts = a.blank.parts }
