@@ -20,6 +20,7 @@ use outside_world::{Shelf, Sink};
 use road_net::Network;
 use scaled_arrivals::{ScaleFault, scale};
 use std::alloc::{AllocError, Global};
+use text_faults::push_one;
 use text_lines::push_number;
 
 /// Factors in thousandths: from the first on, a step apart, up to the last.

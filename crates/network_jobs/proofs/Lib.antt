@@ -1,5 +1,4 @@
 pub mod Delays
-pub mod Findings
 pub mod Headlines
 pub mod Missed
 pub mod Planned

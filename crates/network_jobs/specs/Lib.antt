@@ -1,4 +1,3 @@
 pub mod Args
-pub mod Findings
 pub mod Merged
 pub mod Missing

@@ -1,28 +1,23 @@
 //! The commands over a network: the report of the turn order's run, that of a history's run, and that of a run in threads; the
-//! instance that a node planned in a run; the verdict on a report, and the queues under its greens; the summary of a run on a grid; and
-//! a network as a file of version 2.
+//! instance that a node planned in a run; the summary of a run on a grid; and a network as a file of version 2.
 #![tactic(auto)]
 
-mod audits;
 mod calls;
 mod grid;
 mod history_runs;
 mod instance;
 mod laws;
 mod net;
-mod queues;
 mod replay;
 mod rounds;
 mod summary;
 mod turns;
 mod upgrade;
 
-pub use audits::audit_job;
 pub use grid::grid_job;
 pub use instance::instance_job;
 pub use laws::{law_of_instances, law_of_replays};
 pub use net::net_job;
-pub use queues::queues_job;
 pub use replay::replay_job;
 pub use turns::turns_job;
 pub use upgrade::upgrade_job;

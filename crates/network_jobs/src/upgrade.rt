@@ -4,8 +4,8 @@ ghost use Rattle.commands.specs.Ending.{Makes};
 ghost use Rattle.commands.specs.Outcome.{Outcome};
 
 use commands::{Made, Refusal, Status, TextPlace, end, fetch_network};
-use outside_world::{Shelf, Sink};
 use net_file::write_network;
+use outside_world::{Shelf, Sink};
 use std::alloc::Global;
 
 // The network in a file, as a file of version 2.

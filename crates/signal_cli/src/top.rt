@@ -5,6 +5,7 @@ ghost use Rattle.commands.specs.Outcome.{Outcome};
 ghost use Rattle.commands.specs.Refusals.{Says};
 ghost use Rattle.commands.specs.declared.refusals.Refusal.TheVariants as refusal;
 
+use audit_jobs::{audit_job, queues_job};
 use board_model::Gate;
 use command_words::{Command, command_of};
 use commands::{Refusal, Status, refuse};
@@ -13,9 +14,7 @@ use controller_jobs::{
     spill_job,
 };
 use foundation::text::Text;
-use network_jobs::{
-    audit_job, grid_job, instance_job, net_job, queues_job, replay_job, turns_job, upgrade_job,
-};
+use network_jobs::{grid_job, instance_job, net_job, replay_job, turns_job, upgrade_job};
 use outside_world::{Shelf, Sink};
 use planner_jobs::{certify_bound_job, certify_job, certify_par_job, check_job, plan_job};
 use std::alloc::Global;

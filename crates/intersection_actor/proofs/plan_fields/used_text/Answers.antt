@@ -1,7 +1,7 @@
 use Rattle.std.proofs.Common.{get_or, ◌∙◌, ap, ◌++◌, arith}
 use Rattle.intersection_actor.specs.PlanFields as fields
 use Rattle.intersection_actor.proofs.VersionLaws.{joined-more}
-use Rattle.world_records.proofs.fields.used_text.Goals as goal
+use Rattle.intersection_actor.proofs.plan_fields.used_text.Goals as goal
 
 pub loop-place-preserved : goal.loop-place-preserved
 loop-place-preserved c =

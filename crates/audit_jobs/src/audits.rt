@@ -8,7 +8,7 @@ ghost use Rattle.command_words.specs.Calls.{Audit};
 ghost use Rattle.commands.specs.Ending.{IsMadeOf, Makes};
 ghost use Rattle.commands.specs.Outcome.{Outcome};
 ghost use Rattle.commands.specs.Verdicts.{finding_text, unclean_line};
-ghost use Rattle.network_jobs.specs.Findings.{NamesPart};
+ghost use Rattle.audit_jobs.specs.Findings.{NamesPart};
 
 use arrivals::Arrivals;
 use audit::{AuditWhy, Finding, Sheet, audit};
@@ -16,6 +16,7 @@ use commands::{Made, Refusal, SheetScene, Status, end, fetch_sheet_scene};
 use outside_world::{Shelf, Sink};
 use road_net::Network;
 use std::alloc::{AllocError, Global};
+use text_faults::push_one;
 
 /// What is written for a sheet that is not clean. `Err`: out of memory.
 pub(crate) fn unclean_line(

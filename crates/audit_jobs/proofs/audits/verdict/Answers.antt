@@ -1,5 +1,5 @@
 use Rattle.std.proofs.Common.{rules}
-use Rattle.network_jobs.proofs.audits.verdict.Goals as goal
+use Rattle.audit_jobs.proofs.audits.verdict.Goals as goal
 
 pub returns-in_ok-line-in-Clean : goal.returns-in_ok-line-in-Clean
 returns-in_ok-line-in-Clean c =

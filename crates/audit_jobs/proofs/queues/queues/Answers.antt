@@ -8,7 +8,7 @@ use Rattle.audit.specs.Audits.{IfClean, IsClean}
 use Rattle.net_simulator.specs.Shown.{past_under}
 use Rattle.audit.specs.declared.findings.Audited.{Audited}
 use Rattle.queue_series.specs.Series.{IsSeries}
-use Rattle.network_jobs.proofs.queues.queues.Goals as goal
+use Rattle.audit_jobs.proofs.queues.queues.Goals as goal
 
 pub returns-in_ok-text-in-Clean : goal.returns-in_ok-text-in-Clean
 returns-in_ok-text-in-Clean c =

@@ -5,7 +5,7 @@ use Rattle.audit.specs.declared.sheet.Sheet.{Sheet}
 use Rattle.audit.specs.Audits.{IsWhy}
 use Rattle.audit.specs.declared.findings.AuditWhy.{AuditWhy}
 use Rattle.audit.specs.declared.findings.AuditWhy.TheVariants.{Span, Next, Link, Total}
-use Rattle.network_jobs.specs.Findings.{NamesPart}
+use Rattle.audit_jobs.specs.Findings.{NamesPart}
 
 pub names_part : (net : Net) (arriving : ℕ → ℕ → ℕ) (sheet : Sheet) (why : AuditWhy) → IsWhy net arriving sheet why → NamesPart net why
 names_part net arriving sheet (Span node row) is = is.least.below
