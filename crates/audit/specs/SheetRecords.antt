@@ -50,7 +50,8 @@ sums_told x y z w = do
 abbrev pub is_passed_over : List ℕ → Bool
 is_passed_over kind = bytes_eq kind (codes "step") || bytes_eq kind (codes "plan")
 
--- what the fields of a record tell that are read, by its kind
+-- What the fields of a record tell a sheet, by its kind: of a green the green of a node, of a link and in all the totals, and
+-- nothing of a board step or a plan. None where the kind is another one, or a number is not written as it has to be.
 unfoldable pub told : List ℕ → List ℕ → List ℕ → List ℕ → List ℕ → List ℕ → Option Told
 told kind node x y z w =
     if bytes_eq kind (codes "green")
@@ -59,7 +60,8 @@ told kind node x y z w =
     then counts_told x y z w
     else (if bytes_eq kind (codes "total") then sums_told x y z w else (if is_passed_over kind then Some Passed else None)))
 
--- a record has seven fields
+-- what a record, as the list of its fields, tells a sheet; none where it does not have seven fields, or these are of no record of a
+-- report
 abbrev pub told_of : List (List ℕ) → Option Told
 told_of (kind ∷ round ∷ node ∷ x ∷ y ∷ z ∷ w ∷ []) = told kind node x y z w
 told_of _ = None

@@ -11,20 +11,22 @@ use Rattle.world_records.specs.Records.{header}
 use Rattle.audit.specs.declared.sheet.Sheet.{Sheet}
 use Rattle.audit.specs.SheetRecords.{Counts, Shows, Sums, Told, told_of}
 
--- the green that is told of the node of this name; the name of the link of which totals are told, and these; and the totals of
--- the whole network
+-- the green that is told of the node of this name; none where something else is told
 abbrev pub green_of : List ℕ → Told → Option Green
 green_of node (Shows name green) = if bytes_eq name node then Some green else None
 green_of node _ = None
 
+-- the name of the link of which totals are told; none where something else is told
 abbrev pub link_of : Told → Option (List ℕ)
 link_of (Counts link totals) = Some link
 link_of _ = None
 
+-- the totals that are told of a link; none where something else is told
 abbrev pub counts_of : Told → Option LinkTotals
 counts_of (Counts link totals) = Some totals
 counts_of _ = None
 
+-- the totals that are told of the whole network; none where something else is told
 abbrev pub sums_of : Told → Option Totals
 sums_of (Sums totals) = Some totals
 sums_of _ = None

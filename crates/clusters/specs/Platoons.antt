@@ -12,7 +12,8 @@ use Rattle.clusters.specs.Cuts.{IsCutBy, first_of, last_of}
 use Rattle.clusters.specs.Inflow.{leaving}
 pub use Rattle.clusters.specs.Streams.{part_of}
 
--- what leaves each of these links
+-- the streams of these links, in their order: each is the number of the link with what leaves it in each second that a planning
+-- looks ahead, in thousandths of a vehicle, if it is green throughout
 abbrev pub streams_of : Net → Sensed → List Heard → List ℕ → List Part
 streams_of net sensed heard links = map (λ l. record { link = l; amounts = leaving net sensed heard l }) links
 
@@ -42,7 +43,9 @@ platoon_within load now streams first end =
 abbrev pub platoon_of : (Part → ℕ) → ℕ → List Part → List ℕ → Platoon
 platoon_of load now streams run = platoon_within load now streams (first_of run) (last_of run + 1)
 
--- the platoons are those of the runs into which what the streams bring together is cut, with a span for the runs of each second
+-- The platoons of a phase, by what its streams bring together in each of `look` seconds from second `now` on. This is cut into runs
+-- of seconds, with at most `gap` empty ones between neighbours of a run and at most `span x` seconds in one that begins in second x
+-- from `now`; each run makes a platoon. `load part` is what a part of a platoon counts in its load.
 pub record ArePlatoonsBy (load : Part → ℕ) (gap : ℕ) (span : ℕ → ℕ) (now look : ℕ) (streams : List Part) (platoons : List Platoon) : Type 0 where
   pub runs : List (List ℕ)
   pub cut : IsCutBy gap span (together streams look) runs

@@ -1,4 +1,4 @@
--- What planning and forecasting ask of platoons.
+-- The clusters of platoons, and what planning and forecasting ask of platoons.
 use Rattle.std.specs.Prelude.{◌≡◌, ℕ, ◌<◌, ◌≤◌, List, All, length, map, sum}
 use Rattle.switch_rules.specs.Bounds.{most_clusters, most_orders}
 use Rattle.switch_rules.specs.Orders.{orders}
@@ -29,10 +29,11 @@ pub record AreOfNode (net : Net) (node now : ℕ) (lists : List (List Platoon)) 
   pub count : length lists ≡ length (plan_at net node)
   pub each : (k : ℕ) → k < length lists → All (IsPlatoon net now (phase_links_at net node k)) (platoons_at lists k)
 
--- the clusters of platoons
+-- the clusters of the platoons of one phase: of each platoon what planning sees
 abbrev pub clusters_of : List Platoon → List Cluster
 clusters_of list = map (λ p. p.cluster) list
 
+-- the clusters of the platoons of a node, phase by phase
 abbrev pub cluster_lists : List (List Platoon) → List (List Cluster)
 cluster_lists lists = map clusters_of lists
 

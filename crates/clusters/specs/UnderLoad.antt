@@ -47,7 +47,8 @@ with_first_held None at list = list
 with_first_held (Some hold) at [] = []
 with_first_held (Some hold) at (p ∷ ps) = (if nat_le p.cluster.arr at then with_held_load hold p else p) ∷ ps
 
--- the platoons of phase k, where the standing green can serve the first at once and it counts as often as the network asks
+-- The platoons of phase k, with the load of the first multiplied by the network's `hold`, up to 20 times its size, where its phase
+-- is green in the head and it has arrived by the second from which that green is free.
 abbrev pub held_in : Net → Head → ℕ → List Platoon → List Platoon
 held_in net head k list = if k == head.phase then with_first_held net.run.hold head.at list else list
 

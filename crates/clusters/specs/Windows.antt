@@ -38,7 +38,8 @@ pub record IsLongest (lists : List (List Platoon)) (counts : List ℕ) : Type 0 
   pub small : ArePlannableCounts counts
   pub longest : (more : List ℕ) → IsFront lists more → ArePlannableCounts more → sum more ≤ sum counts
 
--- The window is the longest front that can be planned at once, phase by phase; the others wait.
+-- The window: of all platoons, in the order of their arrival, as many of the first as can be planned at once, divided by phase. The
+-- others wait, and are counted.
 pub record IsWindow (lists : List (List Platoon)) (window : Window) : Type 0 where
   pub longest : IsLongest lists (counts_of window.lists)
   pub taken : (k : ℕ) → platoons_at window.lists k ≡ take (slice_index (counts_of window.lists) k) (platoons_at lists k)

@@ -18,16 +18,18 @@ use Rattle.schedule_meaning.specs.declared.planners.Answer.TheVariants.{Plan, No
 use Rattle.commands.specs.Texts.{HistoryText, InstanceText, Reads, IsTextFor}
 use Rattle.commands.specs.Summary.{summary_text}
 
--- The run of a lawful history, where this enters each link in each second. Whatever order the intersections' board steps take in
--- it: every plan that was committed names the versions of its neighbours' forecasts that it used, none older than one that its
--- intersection had seen; its weighted delay is the least of all feasible sequences of exactly the clusters of the window, made
--- from those versions and from what its own detectors told; there is no plan only where no sequence is feasible; links in conflict
--- are never green together; and every signal interval keeps its bounds.
+-- The record is that of the run of a lawful history, where `enters link second` is what enters a link from outside in a second, in
+-- thousandths of a vehicle. In whatever order the nodes do their board steps in a round, it keeps this: each plan names the
+-- versions of its neighbours' forecasts that it used, none older than one that an earlier plan of its node used; its instance has
+-- exactly the clusters of the node's window, made from just those versions and from what the node sensed; no sequence of that
+-- instance has less weighted delay, and there is no plan only where no sequence is feasible; links in conflict are never green
+-- together; and every green keeps its bounds.
 pub record IsRunOf (net : Net) (enters : ℕ → ℕ → ℕ) (history : List ℕ) (run : RunRecord) : Type 0 where
   pub lawful : IsLawful net history
   pub kept : IsKeptRun net enters history run
 
 -- The bytes are the report of the run of this history, and the text of one sheet, which is clean: an audit finds nothing in it.
+-- `enters link second` is what enters a link from outside in a second, in thousandths of a vehicle.
 pub record Headline (net : Net) (enters : ℕ → ℕ → ℕ) (history : List ℕ) (bytes : List ℕ) : Type 0 where
   pub run : RunRecord
   pub runs : IsRunOf net enters history run

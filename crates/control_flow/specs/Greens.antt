@@ -117,12 +117,13 @@ abbrev pub Joins : List Green → List Green → Type 0
 Joins old [] = Unit {0}
 Joins old (first ∷ rest) = HasRow old first.phase first.from
 
--- the timeline's rows up to the first that does not begin before a second
+-- the rows of a timeline before the first that does not begin before this second
 abbrev pub rows_before : List Green → ℕ → List Green
 rows_before [] second = []
 rows_before (row ∷ rows) second = if nat_lt row.from second then row ∷ rows_before rows second else []
 
--- a timeline whose rows from the begin of another one's first row on are replaced by that one
+-- a timeline continued by another one: the rows of `old` up to the first that does not begin before the first row of the other one,
+-- and then the rows of that; where it has none, `old` as it is
 abbrev pub spliced : List Green → List Green → List Green
 spliced old [] = old
 spliced old (row ∷ rows) = rows_before old row.from ++ row ∷ rows

@@ -95,7 +95,8 @@ line_of plan head (k ∷ ks) (s ∷ ss) until =
     if s.kept then line_of plan (head_after k s) ks ss until
     else left_for plan head (last_end plan head k s.green) (passed_numbers plan head.phase k) ++ line_of plan (head_after k s) ks ss until
 
--- the timeline with no plan: the green of the head ends as soon as it may, and then the ring turns in the same way
+-- the timeline from a head with no plan: its green ends as early as it may, and then the ring turns, with a green of least length
+-- for each unmarked phase, until a green ends after second `until`
 abbrev pub rotation_of : List Phase → Head → ℕ → List Green
 rotation_of plan head until = turned plan (is_unmarked_at plan) head (earliest_end plan head) until
 

@@ -23,7 +23,7 @@ abbrev pub step_record : Net → ℕ → ℕ → (ℕ → ℕ) → BoardStep →
 step_record net round node versions (Read link) = codes "step" ∷ decimal round ∷ node_name_at net node ∷ codes "read" ∷ link_name_at net link ∷ decimal (versions link) ∷ [] ∷ []
 step_record net round node versions (Publish link) = codes "step" ∷ decimal round ∷ node_name_at net node ∷ codes "publish" ∷ link_name_at net link ∷ decimal (versions link + 1) ∷ [] ∷ []
 
--- that of the step at a place of a history
+-- the record of the board step at a place of a history
 abbrev pub step_record_at : Net → List ℕ → ℕ → List (List ℕ)
 step_record_at net history place =
     step_record net (round_at (board_steps net) history place) (slice_index history place) (λ link. version_at (board_steps net) history link place) (step_at (board_steps net) history place)
@@ -41,7 +41,8 @@ plan_record net plan = codes "plan" ∷ decimal plan.round ∷ node_name_at net 
 abbrev pub steps_records : Net → List ℕ → List (List (List ℕ))
 steps_records net history = header ∷ map (step_record_at net history) (range_with_len 0 (length history))
 
--- those of the outcome of a run: the plans by round and node; the greens by node and time; the links; and all totals
+-- the records of the outcome of a run: the plans by round and node; the greens by node and time; the totals of each link; and the
+-- totals of the whole network
 abbrev pub outcome_records : Net → RunRecord → List (List (List ℕ))
 outcome_records net run =
     map (plan_record net) run.plans ++ shown_records net run.timelines run.links run.totals (end_of_run net)

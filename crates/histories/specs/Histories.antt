@@ -24,7 +24,7 @@ pub record IsEntry (history : List ℕ) (node before place : ℕ) : Type 0 where
 abbrev pub turns : (ℕ → List BoardStep) → ℕ → List ℕ
 turns steps nodes = flat_map (λ node. replicate (length (steps node)) node) (range_with_len 0 nodes)
 
--- Each node has these steps in a round.
+-- `steps node` are the board steps that a node does in each round, in their order.
 module _ (steps : ℕ → List BoardStep) where
   -- each node as often as it has steps in a round, in any order
   abbrev pub IsRound : List ℕ → Type 0
@@ -51,10 +51,11 @@ module _ (steps : ℕ → List BoardStep) where
   abbrev pub CanGoOn : ℕ → List ℕ → Type 0
   CanGoOn rounds history = (rest : List ℕ) × HasRounds rounds (history ++ rest)
 
-  -- the round of a place, and the step there: each node does its steps in their order, round by round
+  -- the round of a place of a history, from 0: how often the node there has done all its steps of a round before the place
   abbrev pub round_at : List ℕ → ℕ → ℕ
   round_at history place = earlier history place / length (steps (slice_index history place))
 
+  -- the board step at a place of a history: the node there does its steps in their order, round after round
   abbrev pub step_at : List ℕ → ℕ → BoardStep
   step_at history place =
       let own = steps (slice_index history place) in

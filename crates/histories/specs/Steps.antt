@@ -11,11 +11,12 @@ use Rattle.histories.specs.declared.steps.BoardStep.TheVariants.{Read, Publish}
 abbrev pub board_steps : Net → ℕ → List BoardStep
 board_steps net node = map Read (heard_links net node) ++ map Publish (told_links net node)
 
--- whether a step publishes on the link, and whether it reads the link
+-- whether a board step is a publishing on the link with this number
 abbrev pub is_publish_of : ℕ → BoardStep → Bool
 is_publish_of link (Read read) = false
 is_publish_of link (Publish published) = published == link
 
+-- whether a board step is a reading of the link with this number
 abbrev pub is_read_of : ℕ → BoardStep → Bool
 is_read_of link (Read read) = read == link
 is_read_of link (Publish published) = false

@@ -11,7 +11,7 @@ use Rattle.net_numbers.specs.Numbers.{Net, AreDistinct, no_link, phase_of}
 abbrev pub link_at : Net → ℕ → Link
 link_at net l = slice_index_or net.links l no_link
 
--- its turns
+-- the turns at the end of a link
 abbrev pub turns_at : Net → ℕ → List Turn
 turns_at net l = slice_index_or net.turns l []
 
@@ -19,11 +19,11 @@ turns_at net l = slice_index_or net.turns l []
 abbrev pub plan_at : Net → ℕ → List Phase
 plan_at net n = slice_index_or net.plans n []
 
--- the links of each of its phases
+-- the links of each phase of a node, phase by phase
 abbrev pub phases_at : Net → ℕ → List (List ℕ)
 phases_at net n = slice_index_or net.phase_links n []
 
--- the links of one of its phases
+-- the links of phase k of a node
 abbrev pub phase_links_at : Net → ℕ → ℕ → List ℕ
 phase_links_at net n k = slice_index_or (phases_at net n) k []
 

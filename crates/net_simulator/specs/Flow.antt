@@ -34,7 +34,8 @@ queue net past n l = reached net past n l - (past n l).left
 abbrev pub waiting : Net → (ℕ → ℕ → Passed) → ℕ → ℕ → ℕ
 waiting net past x l = reached net past (x + 1) l - (past x l).left
 
--- whether a second is lost at the begin of a green since `from`, where this queue was there before it
+-- whether second x is lost to the start-up in a green that began in second `from`: it is one of the first `loss` seconds of the
+-- green, and the queue as the green began, `before`, was not empty
 abbrev pub is_lost : ℕ → ℕ → ℕ → ℕ → Bool
 is_lost loss from x before = nat_lt x (from + loss) && nat_lt 0 before
 
@@ -60,11 +61,15 @@ entered_in net arriving shown past x l = arriving l + total (λ k. split_of (tur
 abbrev pub passing : Net → (ℕ → ℕ) → (ℕ → Option (ℕ × ℕ)) → (ℕ → ℕ → Passed) → ℕ → ℕ → Passed
 passing net arriving shown past x l = record { entered = (past x l).entered + entered_in net arriving shown past x l; left = (past x l).left + discharged net shown past x l }
 
--- a further row after those of the first x seconds
+-- The rows of what passed the links in the first 0, 1, .., x seconds, and one more, for the first x + 1 seconds. `arriving l` is
+-- what enters link l from outside in second x, and `shown node` the phase that is green at a node then, and the begin of that
+-- green.
 abbrev pub longer : Net → (ℕ → ℕ) → (ℕ → Option (ℕ × ℕ)) → ℕ → List (List Passed) → List (List Passed)
 longer net arriving shown x history = history ++ map (passing net arriving shown (passed_in history) x) (range_with_len 0 (length net.link_names)) ∷ []
 
--- the rows of the first 0, 1, .., n seconds, where `arriving x l` comes from outside and `shown x node` is green
+-- What passed the links in the first 0, 1, .., n seconds: a row for each of these numbers, with a place for each link; the row for
+-- 0 seconds is empty. `arriving x l` is what enters link l from outside in second x, in thousandths of a vehicle; `shown x node` is
+-- the phase that is green at a node in second x, and the second in which that green began.
 unfoldable pub history : Net → (ℕ → ℕ → ℕ) → (ℕ → ℕ → Option (ℕ × ℕ)) → ℕ → List (List Passed)
 history net arriving shown zero = [] ∷ []
 history net arriving shown (suc x) = longer net (arriving x) (shown x) x (history net arriving shown x)

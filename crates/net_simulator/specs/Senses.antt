@@ -8,7 +8,8 @@ use Rattle.road_net.specs.declared.senses.Sensed.{Sensed}
 use Rattle.road_net.specs.Network.{entry_links}
 use Rattle.net_simulator.specs.Flow.{Passed, queue}
 
--- what reaches the end of a link in i seconds from second n: what entered it one travel time before
+-- what reaches the end of link l in second n + i, in thousandths of a vehicle: what entered the link its time of travel before;
+-- `past m l` is what passed it in the first m seconds
 abbrev pub coming : Net → (ℕ → ℕ → Passed) → ℕ → ℕ → ℕ → ℕ
 coming net past n l i = (past (n + i + 1 - (link_at net l).travel) l).entered - (past (n + i - (link_at net l).travel) l).entered
 

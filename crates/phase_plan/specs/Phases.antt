@@ -56,7 +56,8 @@ is_unmarked_at plan k = is_unmarked (phase_at plan k)
 abbrev pub between : List Phase → ℕ → ℕ → List ℕ
 between plan s j = if nat_lt s j then range_with_len (s + 1) (j - (s + 1)) else range_with_len (s + 1) (length plan - (s + 1)) ++ range_with_len 0 j
 
--- those between at which the ring stops, where it stops by this test
+-- the numbers of the phases strictly between s and j, going up the ring from s, at which the ring stops by this test; of all others
+-- where j is s
 abbrev pub stops_between : List Phase → (ℕ → Bool) → ℕ → ℕ → List ℕ
 stops_between plan stops s j = filter stops (between plan s j)
 

@@ -19,8 +19,9 @@ pub record IsOfPlace (net : Net) (history : List ℕ) (place : ℕ) (plan : Plan
   pub node : plan.node ≡ slice_index history place
   pub round : plan.round ≡ round_at (board_steps net) history place
 
--- A plan names the versions that it used: one for each link on which its node hears another one, in their order; and at each place
--- where the node reads a link in the round of the plan, the plan names the version that the link has there.
+-- A plan's record names the versions that it used: one for each entry link of its node that comes from a node, in the order of the
+-- links' numbers. Wherever the node reads a link in the round of the plan, it is the version that the link has at that place of the
+-- history: how often it was published before.
 pub record NamesVersions (net : Net) (history : List ℕ) (plan : PlanRecord) : Type 0 where
   pub links : map (λ (u : Used). u.link) plan.used ≡ heard_links net plan.node
   pub versions : (place link : ℕ) → place < length history → IsOfPlace net history place plan → step_at (board_steps net) history place ≡ Read link

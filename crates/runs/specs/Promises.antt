@@ -16,13 +16,16 @@ use Rattle.runs.specs.declared.records.RunRecord.{RunRecord}
 abbrev pub last_line : RunRecord → ℕ → List Green
 last_line run node = slice_index_or run.timelines node []
 
--- What a run keeps, where `made round node` is the commit of a node in a round:
--- every plan names the versions of its neighbours' forecasts that it used;
--- none is older than one that the node had seen;
--- its instance is made from just those versions and from what its node sensed;
--- no sequence of that instance has less delay, and there is no plan only where no sequence is feasible;
--- the last lines are lawful, no two links in conflict are ever green together, and in each second of the run the last lines show
--- the greens, with the same begin, by which the world moved.
+-- What the record of a run keeps, by the names of the fields; `enters link second` is what enters a link from outside in a second,
+-- in thousandths of a vehicle, and `made round node` is the commit of a node in a round.
+-- `named`: every plan names the versions of its neighbours' forecasts that it used;
+-- `newer`: none of them is older than one that an earlier plan of its node used;
+-- `planned`: the instance of every plan is made from just those versions and from what its node sensed;
+-- `least`: no sequence of that instance has less delay than the plan, and there is no plan only where no sequence is feasible;
+-- `lawful`, `safe`: the timelines of the nodes after the last round are lawful, and no two links in conflict are ever green
+-- together;
+-- `greens`: in each second of the run these timelines show the same phase green, since the same second, as those by which the
+-- vehicles moved.
 pub record KeepsPromises (net : Net) (enters : ℕ → ℕ → ℕ) (history : List ℕ) (made : ℕ → ℕ → Commitment) (run : RunRecord) : Type 0 where
   pub named : All (NamesVersions net history) run.plans
   pub newer : NeverOlder run.plans

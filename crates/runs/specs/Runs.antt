@@ -23,8 +23,9 @@ use Rattle.outflow.specs.Outflow.{departures, told_forecast}
 use Rattle.road_net.specs.declared.senses.Sensed.{Sensed}
 use Rattle.runs.specs.declared.records.RunRecord.{RunRecord}
 
--- Below, `enters link second` is what enters a link in a second, `made round node` is the commit of a node in a round, and
--- `heard round node` what the node has heard in it.
+-- In this file `enters link second` is what enters a link from outside in a second, in thousandths of a vehicle; `made round node`
+-- is the commit of a node in a round, and `heard round node` what it has read of the boards before: a version of each link, with
+-- its forecast.
 
 -- the line of a node before a round: at first the ring turns from second 0, and then it is that of the commit of the round before
 abbrev pub line_before : Net → (ℕ → ℕ → Commitment) → ℕ → ℕ → List Green
@@ -39,7 +40,7 @@ shown_by net made x node = standing (made (x / net.run.step) node).line x
 abbrev pub arriving_by : (ℕ → ℕ → ℕ) → ℕ → ℕ → ℕ
 arriving_by enters second link = enters link second
 
--- what passed the links in the first n seconds, under these lines
+-- what passed the links in the first n seconds, where the signals show the timelines of the nodes' commits
 abbrev pub past_by : Net → (ℕ → ℕ → ℕ) → (ℕ → ℕ → Commitment) → ℕ → ℕ → ℕ → Passed
 past_by net enters made n = past_of net (arriving_by enters) (shown_by net made) n
 
@@ -51,8 +52,8 @@ sensed_in net enters made round node = sense net (past_by net enters made (round
 abbrev pub told_in : Net → ℕ → ℕ → Commitment → List Row
 told_in net round link c = told_forecast net link (round * net.run.step) (departures c.window.lists (counts_of c.window.lists) (phases_of c.answer) c.served)
 
--- the forecast of a version of a link: version 0 is the empty one, and each next version is told by the commit of one round more
--- of the node that publishes on the link
+-- the forecast of a version of a link: version 0 is the empty one, and version k + 1 is what the commit in round k of the node that
+-- publishes on the link tells
 abbrev pub forecast_at : Net → (ℕ → ℕ → Commitment) → ℕ → ℕ → List Row
 forecast_at net made link zero = []
 forecast_at net made link (suc round) = told_in net round link (made round (publisher net link))
@@ -71,10 +72,11 @@ pub record Commits (net : Net) (enters : ℕ → ℕ → ℕ) (heard : ℕ → �
 abbrev pub AllCommit : Net → (ℕ → ℕ → ℕ) → (ℕ → ℕ → List Heard) → (ℕ → ℕ → Commitment) → ℕ → Type 0
 AllCommit net enters heard made rounds = (round node : ℕ) → round < rounds → node < length net.node_names → Commits net enters heard made round node
 
--- the plan records of a round by node, and those of the first `rounds` rounds, one after another
+-- the plan records of a round, one for each node, in the order of the nodes
 abbrev pub plans_in : Net → (ℕ → ℕ → List Heard) → (ℕ → ℕ → Commitment) → ℕ → List PlanRecord
 plans_in net heard made round = map (λ node. record_of node round (heard round node) (made round node)) (range_with_len 0 (length net.node_names))
 
+-- the plan records of the first `rounds` rounds, round after round, and in each by node
 abbrev pub plans_of : Net → (ℕ → ℕ → List Heard) → (ℕ → ℕ → Commitment) → ℕ → List PlanRecord
 plans_of net heard made rounds = flat_map (plans_in net heard made) (range_with_len 0 rounds)
 

@@ -16,8 +16,8 @@ pub record IsGreenOf (net : Net) (lines : ℕ → List Green) (link : ℕ) (row 
 abbrev pub times_of : Net → ℕ → Phase
 times_of net link = phase_at (plan_at net (unwrap_or (link_at net link).to 0)) (link_at net link).phase
 
--- of the greens of two links one that does not begin before a green of the other begins after that one's end, and after the
--- yellow and all-red of that other link's phase
+-- Where a green of link `b` begins no earlier than one of link `a`, it begins after the end of that one and after the yellow and
+-- the all-red that follow it; `lines node` is the timeline of a node.
 abbrev pub BeginsAfter : Net → (ℕ → List Green) → ℕ → ℕ → Type 0
 BeginsAfter net lines a b = (early late : Green) → IsGreenOf net lines a early → IsGreenOf net lines b late → early.from ≤ late.from
     → early.to + (times_of net a).yellow + (times_of net a).clear ≤ late.from
@@ -29,6 +29,7 @@ pub record AreSafe (net : Net) (lines : ℕ → List Green) (pair : ℕ × ℕ) 
   pub first : BeginsAfter net lines pair.0 pair.1
   pub second : BeginsAfter net lines pair.1 pair.0
 
--- the network is safe: the links of each conflict are
+-- The signals are safe under these timelines, `lines node` for each node: the two links of each conflict of the network are safe
+-- from each other.
 abbrev pub IsSafe : Net → (ℕ → List Green) → Type 0
 IsSafe net lines = All (AreSafe net lines) net.conflicts

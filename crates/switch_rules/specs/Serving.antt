@@ -27,7 +27,8 @@ pub record IsCluster (c : Cluster) : Type 0 where
 abbrev pub start_in_green : Phase → Head → Cluster → ℕ
 start_in_green p head c = if head.fresh && nat_le c.arr head.at then max head.at (head.since + p.loss) else max c.arr head.at
 
--- the green goes on for a cluster of its own phase that ends within the greatest green
+-- whether the green of the head goes on for a cluster of phase j, whose times are `p`: it is a green of this phase, and the
+-- cluster, where it is served in it, ends within its greatest duration
 abbrev pub goes_on : Phase → Head → ℕ → Cluster → Bool
 goes_on p head j c = (j == head.phase) && nat_le (start_in_green p head c + c.len) (head.since + p.greatest)
 
@@ -50,7 +51,8 @@ served_from p j c green start kept =
 abbrev pub served_anew : Phase → ℕ → Cluster → ℕ → Result (Served × Head) Unfit
 served_anew p j c earliest = if nat_le c.arr earliest then served_from p j c earliest (earliest + p.loss) false else served_from p j c c.arr c.arr false
 
--- a cluster of phase j served from a head: in the green that stands where that goes on, and else in a new one
+-- a cluster of phase j served from a head, and the next head, or why it is unfit: in the green of the head where that goes on, and
+-- else in a new one
 abbrev pub serving : List Phase → Head → ℕ → Cluster → Result (Served × Head) Unfit
 serving plan head j c =
     let p = phase_at plan j in

@@ -17,7 +17,7 @@ header = codes "kind" ∷ codes "round" ∷ codes "node" ∷ codes "x" ∷ codes
 abbrev pub green_record : Net → ℕ → Green → List (List ℕ)
 green_record net node green = codes "green" ∷ [] ∷ node_name_at net node ∷ decimal green.phase ∷ decimal green.from ∷ decimal green.to ∷ [] ∷ []
 
--- those of the greens of a node's line that begin before a second, where these are the lines of the nodes
+-- the records of the greens of a node that begin before second `end`, out of the timelines of all nodes in their order
 abbrev pub green_records : Net → List (List Green) → ℕ → ℕ → List (List (List ℕ))
 green_records net lines end node = map (green_record net node) (filter (λ green. nat_lt green.from end) (slice_index_or lines node []))
 
@@ -29,7 +29,7 @@ no_totals = record { entered = 0; left = 0; delay = 0 }
 abbrev pub link_record : Net → ℕ → LinkTotals → List (List ℕ)
 link_record net link totals = codes "link" ∷ [] ∷ [] ∷ link_name_at net link ∷ decimal totals.entered ∷ decimal totals.left ∷ decimal totals.delay ∷ []
 
--- that of a link, where these are the totals of the links
+-- the record of a link's totals, out of the totals of all links in their order
 abbrev pub link_record_of : Net → List LinkTotals → ℕ → List (List ℕ)
 link_record_of net links link = link_record net link (slice_index_or links link no_totals)
 
