@@ -1,5 +1,6 @@
 """Tests of tools/wrong_bodies.py: python3 -m unittest discover tools"""
 
+import shutil
 import unittest
 from pathlib import Path
 from tempfile import TemporaryDirectory
@@ -216,6 +217,57 @@ class WrongBodiesTest(unittest.TestCase):
         repository = wrong_bodies.Repository(root)
         self.assertEqual(repository.below("top"), ["low", "lines"])
         self.assertEqual(repository.lines["lines"], ("lines may_wait=2: low csv", ["low", "csv"]))
+
+    def test_what_rt_ci_says(self):
+        told = "rt: must-fail lines/{}.edit: {}\n".format
+        is_refused, lost = "refused, as it must be", " (only because a proof file names what the edit took away): b"
+        lines = [
+            told("a", f"{is_refused}: note: src/numbers.rt:41:5: it is not proved"),
+            told("b", is_refused + lost),
+            told("c", f"{is_refused} (only by a limit of the prover): c"),
+            told("d", "NOT REFUSED: the crate is still proved with this edit"),
+            told("e", "BAD EDIT: it changes nothing"),
+        ]
+        found = wrong_bodies.tried_in("".join(["rt: lines is kept\n", *lines, "3 passed, 1 failed\n"]))
+        self.assertEqual(
+            [found["lines", f"{name}.edit"] for name in "abcde"],
+            [
+                wrong_bodies.REFUSED,
+                wrong_bodies.LOST_NAME,
+                "NO VERDICT (only by a limit of the prover): c",
+                wrong_bodies.NOT_REFUSED,
+                "BAD EDIT: it changes nothing",
+            ],
+        )
+
+    def small_repository(self):
+        """A repository of the crate `lines`, with a wrong body in each folder, and one below it."""
+        root = self.crate.parent
+        (root / "crates").mkdir()
+        self.crate = self.crate.rename(root / "crates/lines")
+        (root / "crates/low/src").mkdir(parents=True)
+        (root / "crates/low/src/lib.rt").write_text("//! Low.\n")
+        (root / "crates.txt").write_text("low:\nlines: low\n")
+        (root / "HANDLES").write_text("Handles allowed: none.\n")
+        for folder, name in (("must-fail", "least"), ("wrong-bodies", "all_odd")):
+            (self.crate / folder).mkdir()
+            (self.crate / folder / f"{name}.edit").write_text("file: src/numbers.rt\nold: most\nnew: least\n")
+        return wrong_bodies.Repository(root)
+
+    def test_rt_ci_is_given_all_wrong_bodies(self):
+        repository = self.small_repository()
+        with TemporaryDirectory() as place:
+            repository.copy_for_ci(["lines"], Path(place))
+            files = sorted(str(it.relative_to(place)) for it in Path(place).rglob("*") if it.is_file())
+        must_fail = [f"crates/lines/must-fail/{name}.edit" for name in ("all_odd", "least")]
+        sources = ["crates/lines/src/numbers.rt", "crates/low/src/lib.rt"]
+        self.assertEqual(files, ["HANDLES", "crates.txt", *must_fail, *sources])
+
+    def test_rt_ci_is_given_no_two_wrong_bodies_of_one_name(self):
+        repository = self.small_repository()
+        shutil.copy(self.crate / "must-fail/least.edit", self.crate / "wrong-bodies")
+        with TemporaryDirectory() as place:
+            self.assertRaises(wrong_bodies.Malformed, repository.copy_for_ci, ["lines"], Path(place))
 
     def test_all_wrong_bodies_of_the_repository_can_be_applied(self):
         repository = wrong_bodies.Repository(wrong_bodies.ROOT)

@@ -1,7 +1,7 @@
 #!/usr/bin/env python3
 """Tries the wrong bodies of crates: the check has to refuse each of them.
 
-    tools/wrong_bodies.py [--jobs N] [CRATE ..]
+    tools/wrong_bodies.py [--jobs N | --kept] [CRATE ..]
 
 A wrong body is a file NAME.edit in crates/CRATE/must-fail/, which `rt ci` tries too, or in
 crates/CRATE/wrong-bodies/, which is tried here alone. It has a line `file: src/FILE` and then
@@ -20,6 +20,12 @@ nothing of a crate, or a library below it is not built, `rt check` is run in the
 first, which takes as long as it takes there, and keeps its work in out/ as ever. Nothing else is
 written outside a temporary folder. --jobs says how many crates are tried side by side; if it is
 left out, as many as there are processors, and 3 GB of free memory for each.
+
+With --kept all is done by `rt ci`, over the proofs that it kept of the crates below: no library is
+built by `rt check`. It is run on a copy of these crates in which all their wrong bodies are in
+must-fail/. So each of these crates is proved once more, and each wrong body is tried in a check of
+its own, which says that the crate is refused, and not which function. What `rt ci` tried of the same
+files, here or in the gate, it does not try again.
 
 For each wrong body a line says `refused`, or what went wrong; the last one is `N wrong bodies, M
 not refused`. The exit status is 0 where M is 0, 1 where it is not, and 2 where there are none, or
@@ -51,6 +57,7 @@ FN = re.compile(r"\s*(?:pub(?:\([^)]*\))? )?(?:const |unsafe |extern \"C\" )*fn 
 OWNER = re.compile(r"\s*(?:pub(?:\([^)]*\))? )?(?:unsafe )?(impl|trait|mod)\b")
 VERDICT = re.compile(r"(?m)^fn (\S+): (proved|not proved|no proof|could not tell)(?:: )?(.*)$")
 LOST = re.compile(r"has no field|is not in scope|has no `|was not admitted")
+TRIED = re.compile(r"(?m)^rt: must-fail (\w+)/(\S+): (refused|NOT REFUSED|BAD EDIT|NOT TRIED)(.*)$")
 
 
 class Malformed(Exception):
@@ -314,6 +321,20 @@ def try_edits(folder, edits, run):
     return found
 
 
+def tried_in(told):
+    """What a run of `rt ci` says of each wrong body, by its crate and the name of its file."""
+    return {(crate, name): said_by_ci(how, why) for crate, name, how, why in TRIED.findall(told)}
+
+
+def said_by_ci(how, why):
+    """What is said here of a wrong body of which `rt ci` says this."""
+    if how == "refused" and "(only because a proof file names" in why:
+        return LOST_NAME
+    if how == "refused" and "(only by a limit" in why:
+        return f"NO VERDICT{why.removeprefix(', as it must be')}"
+    return {"refused": REFUSED, "NOT REFUSED": NOT_REFUSED}.get(how, f"{how}{why}")
+
+
 class Repository:
     """The crates that crates.txt lists, each with its line and those below it."""
 
@@ -371,16 +392,32 @@ class Repository:
 
     def copy(self, crate, top):
         """Makes a repository of a crate and those below it, which are built as they are here; and answers the crate's folder."""
-        names = at_or_below(crate, self.lines)
+        for name in self.copy_texts([crate], top):
+            if name != crate:
+                link_tree(self.folder(name) / "out/rlib", top / "crates" / name / "out/rlib")
+        return top / "crates" / crate
+
+    def copy_texts(self, crates, top):
+        """Makes a repository of these crates and those below them, of which nothing is built; and answers the names of all."""
+        names = list(dict.fromkeys(name for crate in crates for name in at_or_below(crate, self.lines)))
         (top / "crates.txt").write_text(text_of(names, self.lines))
         shutil.copy(self.root / "HANDLES", top)
         for name in names:
             for part in PARTS:
                 if (self.folder(name) / part).is_dir():
                     shutil.copytree(self.folder(name) / part, top / "crates" / name / part)
-            if name != crate:
-                link_tree(self.folder(name) / "out/rlib", top / "crates" / name / "out/rlib")
-        return top / "crates" / crate
+        return names
+
+    def copy_for_ci(self, crates, top):
+        """Makes a repository of these crates and those below them, in which all wrong bodies of these are such as `rt ci` tries."""
+        self.copy_texts(crates, top)
+        for crate in crates:
+            folder = top / "crates" / crate / "must-fail"
+            folder.mkdir()
+            for edit in self.edits(crate)[0]:
+                if (folder / edit.path.name).exists():
+                    raise Malformed(f"two wrong bodies of {crate} are named {edit.path.name}")
+                shutil.copy(edit.path, folder)
 
 
 def is_newer(stamp, folder):
@@ -406,7 +443,11 @@ def link_tree(folder, to):
 
 def run_check(folder):
     """How `rt check` in a crate's folder ended, and all that it printed."""
-    words = ["rt", "check", "--jobs", "1"]
+    return run_here(["rt", "check", "--jobs", "1"], folder)
+
+
+def run_here(words, folder):
+    """How a command in a folder ended, and all that it printed."""
     streams = {"stdin": subprocess.DEVNULL, "stdout": subprocess.PIPE, "stderr": subprocess.STDOUT}
     return subprocess.run(words, cwd=folder, errors="replace", check=False, **streams)
 
@@ -430,7 +471,9 @@ def try_crate(repository, crate):
 
 def main():
     parser = argparse.ArgumentParser(description=__doc__, formatter_class=argparse.RawDescriptionHelpFormatter)
-    parser.add_argument("--jobs", type=int, metavar="N", help="crates side by side")
+    how = parser.add_mutually_exclusive_group()
+    how.add_argument("--jobs", type=int, metavar="N", help="crates side by side")
+    how.add_argument("--kept", action="store_true", help="by rt ci, over what it kept")
     parser.add_argument("crates", nargs="*", metavar="CRATE", help="those whose wrong bodies are tried; all, if none is named")
     options = parser.parse_args()
     if options.jobs is not None and options.jobs < 1:
@@ -440,6 +483,30 @@ def main():
     except (Malformed, OSError) as fault:
         print(f"wrong_bodies: {fault}", file=sys.stderr)
         sys.exit(2)
+
+
+def try_kept(repository, crates):
+    """What `rt ci` says of each wrong body of the crates, in the order of their files."""
+    with tempfile.TemporaryDirectory(prefix="wrong-bodies-") as place:
+        repository.copy_for_ci(crates, Path(place))
+        print(f"rt ci, which says at its end what came of the wrong bodies of {len(crates)} crates", flush=True)
+        told = run_here(["rt", "ci", *crates], Path(place)).stdout
+    tried, last = tried_in(told), told.strip().split("\n")[-1]
+    for crate in crates:
+        edits, found = repository.edits(crate)
+        for edit in edits:
+            found[edit] = tried.get((crate, edit.path.name), f"not tried: rt ci says nothing of it, and at its end: {last}")
+        yield sorted(found.items(), key=lambda it: it[0].path)
+
+
+def try_checked(repository, crates, number):
+    """What comes of each wrong body of the crates, in the order of their files; so many crates are tried side by side."""
+    with ThreadPoolExecutor(number) as jobs:
+        try:
+            yield from jobs.map(lambda crate: try_crate(repository, crate), crates)
+        except BaseException:
+            jobs.shutdown(cancel_futures=True)
+            raise
 
 
 def try_crates(options):
@@ -452,15 +519,11 @@ def try_crates(options):
     if not crates:
         raise Malformed("these crates have no wrong bodies")
     count = missed = 0
-    with ThreadPoolExecutor(options.jobs or jobs_that_fit()) as jobs:
-        try:
-            for found in jobs.map(lambda crate: try_crate(repository, crate), crates):
-                for edit, said in found:
-                    count, missed = count + 1, missed + (said not in (REFUSED, LOST_NAME))
-                    print(f"{edit.label}: {said}", flush=True)
-        except BaseException:
-            jobs.shutdown(cancel_futures=True)
-            raise
+    tried = try_kept(repository, crates) if options.kept else try_checked(repository, crates, options.jobs or jobs_that_fit())
+    for found in tried:
+        for edit, said in found:
+            count, missed = count + 1, missed + (said not in (REFUSED, LOST_NAME))
+            print(f"{edit.label}: {said}", flush=True)
     print(f"{count} wrong bodies, {missed} not refused")
     return missed
 
