@@ -8,13 +8,14 @@ use Rattle.net_simulator.specs.Worlds.{line_in, standing_by}
 use Rattle.net_simulator.specs.declared.totals.LinkTotals.{LinkTotals}
 use Rattle.net_simulator.specs.declared.totals.Totals.{Totals}
 
--- what passes the links up to the end of the run under these lines
+-- what passes the links up to the end of the run, where the signals show these timelines, one for each node
 abbrev pub past_under : Net → (ℕ → ℕ → ℕ) → List (List Green) → ℕ → ℕ → Passed
 past_under net arriving lines = past_of net arriving (standing_by (line_in lines)) (end_of_run net)
 
--- what the world has counted of a link at the end of the run, and of the whole network, under these lines
+-- the totals of link l at the end of the run, where the signals show these timelines, one for each node
 abbrev pub link_shown : Net → (ℕ → ℕ → ℕ) → List (List Green) → ℕ → LinkTotals
 link_shown net arriving lines l = link_totals net (past_under net arriving lines) (end_of_run net) l
 
+-- the totals of the whole network at the end of the run, where the signals show these timelines, one for each node
 abbrev pub all_shown : Net → (ℕ → ℕ → ℕ) → List (List Green) → Totals
 all_shown net arriving lines = totals net arriving (past_under net arriving lines) (end_of_run net)
