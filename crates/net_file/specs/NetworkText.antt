@@ -1,5 +1,5 @@
 -- Which network a text stands for, and why a text is refused.
-use Rattle.std.specs.Prelude.{◌≡◌, ℕ, ◌⊎◌, List, Some, IsSome, IsUtf8, None, Result, Ok, Err}
+use Rattle.std.specs.Prelude.{◌≡◌, ℕ, ◌⊎◌, List, Some, IsSome, IsUtf8, None}
 use Rattle.toml.specs.Data.{Members}
 use Rattle.toml.specs.Parse.{parse_document}
 use Rattle.net_draft.specs.declared.faults.Place.{Place}
