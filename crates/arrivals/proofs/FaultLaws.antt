@@ -3,9 +3,10 @@ use Rattle.std.proofs.Common.{◌≡◌, ℕ, ◌+◌, ◌<◌, ◌≤◌, List,
 use Rattle.std.proofs.lemmas.List.Sums.{sum_by-append, sum_by-cons}
 use Rattle.std.proofs.lemmas.Option.{same_Some}
 use Rattle.foundation.specs.Options.{each}
-use Rattle.foundation.proofs.EachLaws.{each-append, each-cons, each-self}
+use Rattle.foundation.proofs.EachLaws.{each-self}
 use Rattle.foundation.proofs.ListLaws.{All-middle, split-at}
 use Rattle.net_numbers.specs.Numbers.{Net}
+use Rattle.record_text.proofs.FaultLaws.{cut-at}
 use Rattle.arrivals.specs.declared.rows.ArrivalRow.{ArrivalRow}
 use Rattle.arrivals.specs.declared.rows.RowFault.{RowFault}
 use Rattle.arrivals.specs.declared.rows.RowFault.TheVariants.{NoMemory, Link, Bound, Sum}
@@ -19,10 +20,7 @@ pub refuses : {X : Type 0} (read : X → Option ArrivalRow) (net : Net) (all : L
     → ((rows : List ArrivalRow) (r : ArrivalRow) (x : X) → at_fault rows x → read x ≡ Some r → IsRow net r → sum_by amount_of rows + r.amount ≤ most_of_all → ⊥)
     → (rows : List ArrivalRow) → each read all ≡ Some rows → AreRows net rows → ⊥
 refuses read net all n at_fault first clash rows reads are =
-    let (front, back, reads_front, reads_back, joined) = each-append read first.before (first.here ∷ first.after) rows (rw first.are at reads) in
-    let (r, rest, is, others, tail) = each-cons read first.here first.after back reads_back in
-    let same : front ≡ first.so_far = same_Some front first.so_far (sym reads_front ∙ first.reads.reads) in
-    let whole : rows ≡ first.so_far ++ r ∷ rest = joined ∙ ap (λ l. l ++ back) same ∙ ap (λ l. first.so_far ++ l) tail in
+    let (r, rest, is, whole) = cut-at read first.before first.after first.here rows first.so_far (rw first.are at reads) first.reads.reads in
     let sums = ap (sum_by amount_of) whole ∙ sum_by-append amount_of first.so_far (r ∷ rest) in
     clash first.so_far r first.here first.faulty is (All-middle (IsRow net) first.so_far rest r (rw whole at are.each)) (omega (arith, sums, sum_by-cons amount_of r rest, are.few))
 

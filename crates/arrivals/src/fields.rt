@@ -1,26 +1,14 @@
 //! The row that a record tells.
-ghost use Rattle.std.specs.Prelude.{◌≡◌, ◌≢◌, ◌↔◌, [], ◌∷◌, None, Some, IsTrue, MatchOption, length};
+ghost use Rattle.std.specs.Prelude.{◌≡◌, ◌≢◌, [], ◌∷◌, None, Some, MatchOption, length};
 ghost use Rattle.csv.specs.Records.{fields_of};
 ghost use Rattle.road_net.specs.Network.{IsNetwork};
-ghost use Rattle.arrivals.specs.Records.{header, told_of};
+ghost use Rattle.arrivals.specs.Records.{told_of};
 ghost use Rattle.arrivals.specs.Stored.{Reads};
 
 use crate::rows::{ArrivalRow, RowFault};
 use csv::ByteRecord;
-use record_text::{digits, link_named};
+use record_text::{digits, field, link_named};
 use road_net::Network;
-
-/// Whether the record is the header.
-pub(crate) fn is_header(row: &ByteRecord) -> bool
-    ensures { IsTrue result ↔ (fields_of row.now ≡ header) }
-{
-    match three_fields(row) {
-        Some((second, link, amount)) => second == b"second".as_slice()
-            && link == b"link".as_slice()
-            && amount == b"amount".as_slice(),
-        None => false,
-    }
-}
 
 /// The row that a record tells, by the number of its link.
 #[tactic(auto, unfolding(crate::specs::Records::row_of))]
@@ -61,5 +49,5 @@ fn three_fields(row: &ByteRecord) -> Option<(&[u8], &[u8], &[u8])>
     if row.len() != 3 {
         return None;
     }
-    Some((row.get(0)?, row.get(1)?, row.get(2)?))
+    Some((field(row, 0), field(row, 1), field(row, 2)))
 }

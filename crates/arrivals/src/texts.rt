@@ -5,10 +5,10 @@ ghost use Rattle.arrivals.specs.Faults.{Refuses};
 ghost use Rattle.arrivals.specs.Texts.{IsArrivalText, IsTextFault};
 
 use crate::amounts::Arrivals;
-use crate::fields::{is_header, read_row};
+use crate::fields::read_row;
 use crate::rows::RowFault;
 use csv::ByteRecord;
-use record_text::{RecordTaker, take_records};
+use record_text::{RecordTaker, is_record, take_records};
 use road_net::Network;
 use std::alloc::Global;
 
@@ -46,7 +46,7 @@ impl RecordTaker for Arrivals {
     ghost at_fault = { IsRefused };
 
     fn is_header(row: &ByteRecord) -> bool {
-        is_header(row)
+        is_record(row, &[b"second", b"link", b"amount"])
     }
 
     fn take(
