@@ -1,7 +1,6 @@
 -- The fields of a record.
-use Rattle.std.proofs.Common.{◌≡◌, ◌≢◌, ℕ, ◌<◌, List, [], ◌∷◌, length, Some, None, refl, sym, arith}
+use Rattle.std.proofs.Common.{◌≡◌, ◌≢◌, ℕ, List, [], ◌∷◌, length, Some, None, refl, arith}
 use Rattle.csv.specs.Records.{field_at}
-use Rattle.csv.proofs.RecordFacts.{field-there}
 use Rattle.fixed_plans.specs.Records.{told_of}
 
 -- four fields that were read one after another are all of them
@@ -22,7 +21,3 @@ told_of-none (x ∷ y ∷ []) other = refl
 told_of-none (x ∷ y ∷ z ∷ []) other = refl
 told_of-none (x ∷ y ∷ z ∷ w ∷ []) other = absurd (other (omega arith))
 told_of-none (x ∷ y ∷ z ∷ w ∷ v ∷ more) other = refl
-
--- a field that is not there
-pub field-missing : (fs : List (List ℕ)) (i : ℕ) → i < length fs → None ≡ field_at fs i → ⊥
-field-missing fs i h none = field-there fs i h (sym none)

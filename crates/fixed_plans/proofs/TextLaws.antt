@@ -2,7 +2,7 @@
 use Rattle.std.proofs.Common.{◌≡◌, ℕ, ◌<◌, ◌≤◌, List, [], ◌∷◌, ◌++◌, length, Option, Some, None, IfSome, IsSomeAnd, IfErr, OnOk, Result, Ok, Err, sym, ap, ◌∙◌, subst, inl, inr, arith}
 use Rattle.std.proofs.lemmas.Option.{same_Some, none-some}
 use Rattle.foundation.specs.Options.{each, ◌>>=◌}
-use Rattle.foundation.proofs.EachLaws.{each-append, each-cons, each-length, each-push}
+use Rattle.foundation.proofs.EachLaws.{each-length, each-push}
 use Rattle.foundation.proofs.OptionLaws.{and-at, and-some, bind-some}
 use Rattle.net_numbers.specs.Numbers.{Net, number_of}
 use Rattle.net_numbers.specs.Outline.{plan_at}
@@ -10,7 +10,7 @@ use Rattle.net_numbers.proofs.DraftParts.{number_of-within}
 use Rattle.road_net.specs.Network.{IsNetwork}
 use Rattle.record_text.specs.Faults.{HasAfterHeader}
 use Rattle.record_text.specs.Walks.{AreCounted, IsFaultAmong, OrMemory}
-use Rattle.record_text.proofs.FaultLaws.{one-after}
+use Rattle.record_text.proofs.FaultLaws.{cut-at, one-after}
 use Rattle.record_text.proofs.WalkLaws.{fault-after}
 use Rattle.fixed_plans.specs.declared.drafts.Draft.{Draft}
 use Rattle.fixed_plans.specs.declared.faults.FixedFault.{FixedFault}
@@ -134,10 +134,7 @@ module _ (net : Net) (records : List (List (List ℕ))) (rows : List FixedRow) (
   -- the row of the record at fault is lawful after those before it
   cut : (n : ℕ) (at_fault : List FixedRow → List (List ℕ) → Type 0) (first : IsFirst net records n at_fault) → (r : FixedRow) × (row_of net first.here ≡ Some r) × IsRow net (last_of None first.so_far) r
   cut n at_fault first =
-      let (front, rest, reads_front, reads_rest, whole) = each-append (row_of net) first.before (first.here ∷ first.after) rows (rw first.are at reads-all) in
-      let (r, back, told, behind, tail) = each-cons (row_of net) first.here first.after rest reads_rest in
-      let same : front ≡ first.so_far = same_Some front first.so_far (sym reads_front ∙ first.reads.reads) in
-      let all : rows ≡ first.so_far ++ r ∷ back = whole ∙ ap (λ l. l ++ rest) same ∙ ap (λ l. first.so_far ++ l) tail in
+      let (r, back, told, all) = cut-at (row_of net) first.before first.after first.here rows first.so_far (rw first.are at reads-all) first.reads.reads in
       (r, told, row-amid net None first.so_far r back (subst (AreRowsAfter net None) all is.is.each))
 
   -- records with a fault have no plan

@@ -1,28 +1,15 @@
 //! The row that a record tells.
-ghost use Rattle.std.specs.Prelude.{◌≡◌, ◌≢◌, ◌↔◌, [], ◌∷◌, None, Some, IsTrue, MatchOption, length};
+ghost use Rattle.std.specs.Prelude.{◌≡◌, ◌≢◌, [], ◌∷◌, None, Some, MatchOption, length};
 ghost use Rattle.csv.specs.Records.{fields_of};
 ghost use Rattle.road_net.specs.Network.{IsNetwork};
-ghost use Rattle.fixed_plans.specs.Records.{header, told_of};
+ghost use Rattle.fixed_plans.specs.Records.{told_of};
 ghost use Rattle.fixed_plans.specs.Drafts.{Reads};
 
 use crate::faults::FixedFault;
 use crate::rows::FixedRow;
 use csv::ByteRecord;
-use record_text::{digits, node_named};
+use record_text::{digits, field, node_named};
 use road_net::Network;
-
-/// Whether the record is the header.
-pub(crate) fn is_header(row: &ByteRecord) -> bool
-    ensures { IsTrue result ↔ (fields_of row.now ≡ header) }
-{
-    match four_fields(row) {
-        Some((node, phase, green, offset)) => node == b"node".as_slice()
-            && phase == b"phase".as_slice()
-            && green == b"green".as_slice()
-            && offset == b"offset".as_slice(),
-        None => false,
-    }
-}
 
 /// The row that a record tells, by the number of its node.
 #[tactic(auto, unfolding(crate::specs::Records::row_of))]
@@ -65,5 +52,5 @@ fn four_fields(row: &ByteRecord) -> Option<(&[u8], &[u8], &[u8], &[u8])>
     if row.len() != 4 {
         return None;
     }
-    Some((row.get(0)?, row.get(1)?, row.get(2)?, row.get(3)?))
+    Some((field(row, 0), field(row, 1), field(row, 2), field(row, 3)))
 }

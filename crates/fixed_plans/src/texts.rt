@@ -6,11 +6,11 @@ ghost use Rattle.fixed_plans.specs.declared.rows.FixedRow as spec;
 
 use crate::drafts::{Draft, add_row};
 use crate::faults::FixedFault;
-use crate::fields::{is_header, read_row};
+use crate::fields::read_row;
 use crate::order::is_end;
 use crate::plan::FixedPlan;
 use csv::ByteRecord;
-use record_text::{RecordTaker, take_records};
+use record_text::{RecordTaker, is_record, take_records};
 use road_net::Network;
 use std::alloc::Global;
 
@@ -55,7 +55,7 @@ impl RecordTaker for Draft {
     ghost at_fault = { IsRefused };
 
     fn is_header(row: &ByteRecord) -> bool {
-        is_header(row)
+        is_record(row, &[b"node", b"phase", b"green", b"offset"])
     }
 
     fn take(
