@@ -4,14 +4,14 @@ use Rattle.std.proofs.lemmas.List.Elements.{filter_map-append}
 use Rattle.std.proofs.Math.Seq.{get_or-append_seam}
 use Rattle.std.proofs.lemmas.Option.{same_Some, none-some}
 use Rattle.foundation.specs.Options.{each}
-use Rattle.foundation.proofs.EachLaws.{each-append, each-cons, each-length, each-push}
+use Rattle.foundation.proofs.EachLaws.{each-length, each-push}
 use Rattle.foundation.proofs.ListLaws.{All-middle}
 use Rattle.foundation.proofs.OptionLaws.{and-at}
 use Rattle.control_flow.specs.declared.greens.Green.{Green}
 use Rattle.net_numbers.specs.Numbers.{Net}
 use Rattle.record_text.specs.Faults.{HasAfterHeader}
 use Rattle.record_text.specs.Walks.{IsFaultAmong, OrMemory}
-use Rattle.record_text.proofs.FaultLaws.{one-after}
+use Rattle.record_text.proofs.FaultLaws.{cut-at, one-after}
 use Rattle.record_text.proofs.WalkLaws.{fault-after}
 use Rattle.world_records.specs.Records.{header}
 use Rattle.audit.specs.declared.sheet_drafts.Draft.{Draft}
@@ -118,10 +118,7 @@ module _ (net : Net) (records : List (List (List ℕ))) (sheet : Sheet) (is : Ar
   -- what the record at fault tells, and what is told, cut there
   cut : (n : ℕ) (at_fault : List Told → List (List ℕ) → Type 0) (first : IsFirst net records n at_fault) → (t : Told) × (back : List Told) × (told_of first.here ≡ Some t) × IsSheetOf net (first.so_far ++ t ∷ back) sheet
   cut n at_fault first =
-      let (front, rest, reads_front, reads_rest, whole) = each-append told_of first.before (first.here ∷ first.after) is.told (rw first.are at reads-all) in
-      let (t, back, told, behind, tail) = each-cons told_of first.here first.after rest reads_rest in
-      let same : front ≡ first.so_far = same_Some front first.so_far (sym reads_front ∙ first.reads.reads) in
-      let all : is.told ≡ first.so_far ++ t ∷ back = whole ∙ ap (λ l. l ++ rest) same ∙ ap (λ l. first.so_far ++ l) tail in
+      let (t, back, told, all) = cut-at told_of first.before first.after first.here is.told first.so_far (rw first.are at reads-all) first.reads.reads in
       (t, back, told, subst (λ (l : List Told). IsSheetOf net l sheet) all is.is)
 
   -- records with a fault have no sheet
