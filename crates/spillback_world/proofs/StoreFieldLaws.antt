@@ -1,7 +1,6 @@
 -- The fields of a record.
-use Rattle.std.proofs.Common.{◌≡◌, ◌≢◌, ℕ, ◌<◌, List, [], ◌∷◌, length, Some, None, refl, sym, arith}
+use Rattle.std.proofs.Common.{◌≡◌, ◌≢◌, ℕ, List, [], ◌∷◌, length, Some, None, refl, arith}
 use Rattle.csv.specs.Records.{field_at}
-use Rattle.csv.proofs.RecordFacts.{field-there}
 use Rattle.spillback_world.specs.StoreRecords.{told_of}
 
 -- two fields that were read one after another are all of them
@@ -18,7 +17,3 @@ told_of-none [] other = refl
 told_of-none (x ∷ []) other = refl
 told_of-none (x ∷ y ∷ []) other = absurd (other (omega arith))
 told_of-none (x ∷ y ∷ z ∷ more) other = refl
-
--- a field that is not there
-pub field-missing : (fs : List (List ℕ)) (i : ℕ) → i < length fs → None ≡ field_at fs i → ⊥
-field-missing fs i h none = field-there fs i h (sym none)

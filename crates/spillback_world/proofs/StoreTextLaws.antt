@@ -3,14 +3,14 @@ use Rattle.std.proofs.Common.{◌≡◌, ℕ, ◌<◌, ◌≤◌, List, [], ◌�
 use Rattle.std.proofs.lemmas.List.{map-append}
 use Rattle.std.proofs.lemmas.Option.{same_Some, none-some}
 use Rattle.foundation.specs.Options.{◌>>=◌, each}
-use Rattle.foundation.proofs.EachLaws.{each-append, each-cons, each-length, each-push}
+use Rattle.foundation.proofs.EachLaws.{each-length, each-push}
 use Rattle.foundation.proofs.ListLaws.{All-middle}
 use Rattle.foundation.proofs.OptionLaws.{bind-some, and-some, and-at}
 use Rattle.net_numbers.specs.Numbers.{Net, number_of}
 use Rattle.net_numbers.proofs.DraftParts.{number_of-within}
 use Rattle.record_text.specs.Faults.{HasAfterHeader}
 use Rattle.record_text.specs.Walks.{AreCounted, IsFaultAmong, OrMemory}
-use Rattle.record_text.proofs.FaultLaws.{one-after}
+use Rattle.record_text.proofs.FaultLaws.{cut-at, one-after}
 use Rattle.record_text.proofs.WalkLaws.{fault-after}
 use Rattle.spillback_world.specs.declared.store_drafts.Draft.{Draft}
 use Rattle.spillback_world.specs.declared.store_drafts.StoreRow.{StoreRow}
@@ -91,10 +91,7 @@ refuses : (net : Net) (all : List (List (List ℕ))) (n : ℕ) (at_fault : List 
     → ((rows : List StoreRow) (r : StoreRow) (x : List (List ℕ)) → at_fault rows x → row_of net x ≡ Some r → IsRow net r → (Contains (map link_of rows) r.link → ⊥) → ⊥)
     → (rows : List StoreRow) → each (row_of net) all ≡ Some rows → AreRows net rows → ⊥
 refuses net all n at_fault first clash rows reads are =
-    let (front, back, reads_front, reads_back, joined) = each-append (row_of net) first.before (first.here ∷ first.after) rows (rw first.are at reads) in
-    let (r, rest, is, others, tail) = each-cons (row_of net) first.here first.after back reads_back in
-    let same : front ≡ first.so_far = same_Some front first.so_far (sym reads_front ∙ first.reads.reads) in
-    let whole : rows ≡ first.so_far ++ r ∷ rest = joined ∙ ap (λ l. l ++ back) same ∙ ap (λ l. first.so_far ++ l) tail in
+    let (r, rest, is, whole) = cut-at (row_of net) first.before first.after first.here rows first.so_far (rw first.are at reads) first.reads.reads in
     let links = ap (map link_of) whole ∙ map-append link_of first.so_far (r ∷ rest) in
     clash first.so_far r first.here first.faulty is (All-middle (IsRow net) first.so_far rest r (rw whole at are.each)) (not-twice (map link_of first.so_far) (map link_of rest) r.link (rw links at are.once))
 

@@ -1,25 +1,15 @@
 //! The row that a record tells.
-ghost use Rattle.std.specs.Prelude.{◌≡◌, ◌≢◌, ◌↔◌, [], ◌∷◌, None, Some, IsTrue, MatchOption, length};
+ghost use Rattle.std.specs.Prelude.{◌≡◌, ◌≢◌, [], ◌∷◌, None, Some, MatchOption, length};
 ghost use Rattle.csv.specs.Records.{fields_of};
 ghost use Rattle.road_net.specs.Network.{IsNetwork};
 ghost use Rattle.spillback_world.specs.StoreDrafts.{Reads};
-ghost use Rattle.spillback_world.specs.StoreRecords.{header, told_of};
+ghost use Rattle.spillback_world.specs.StoreRecords.{told_of};
 
 use crate::store_drafts::StoreRow;
 use crate::store_faults::StoreFault;
 use csv::ByteRecord;
-use record_text::{digits, link_named};
+use record_text::{digits, field, link_named};
 use road_net::Network;
-
-/// Whether the record is the header.
-pub(crate) fn is_header(row: &ByteRecord) -> bool
-    ensures { IsTrue result ↔ (fields_of row.now ≡ header) }
-{
-    match two_fields(row) {
-        Some((link, storage)) => link == b"link".as_slice() && storage == b"storage".as_slice(),
-        None => false,
-    }
-}
 
 /// The row that a record tells, by the number of its link.
 #[tactic(auto, unfolding(crate::specs::StoreRecords::row_of))]
@@ -55,5 +45,5 @@ fn two_fields(row: &ByteRecord) -> Option<(&[u8], &[u8])>
     if row.len() != 2 {
         return None;
     }
-    Some((row.get(0)?, row.get(1)?))
+    Some((field(row, 0), field(row, 1)))
 }

@@ -5,9 +5,9 @@ ghost use Rattle.spillback_world.specs.StoreTexts.{IsStoreText, IsTextFault, Ref
 use crate::store::Store;
 use crate::store_drafts::Draft;
 use crate::store_faults::StoreFault;
-use crate::store_fields::{is_header, read_row};
+use crate::store_fields::read_row;
 use csv::ByteRecord;
-use record_text::{RecordTaker, take_records};
+use record_text::{RecordTaker, is_record, take_records};
 use road_net::Network;
 use std::alloc::Global;
 
@@ -45,7 +45,7 @@ impl RecordTaker for Draft {
     ghost at_fault = { StopsAt };
 
     fn is_header(row: &ByteRecord) -> bool {
-        is_header(row)
+        is_record(row, &[b"link", b"storage"])
     }
 
     fn take(
