@@ -3,13 +3,13 @@ use Rattle.std.proofs.Common.{◌≡◌, ℕ, ◌<◌, List, [], ◌∷◌, ◌+
 use Rattle.std.proofs.lemmas.List.FromFn.{get_or-map-range_with_len}
 use Rattle.std.proofs.lemmas.Option.{same_Some, none-some}
 use Rattle.foundation.specs.Options.{◌>>=◌, each}
-use Rattle.foundation.proofs.EachLaws.{each-append, each-cons, each-push}
+use Rattle.foundation.proofs.EachLaws.{each-push}
 use Rattle.foundation.proofs.OptionLaws.{and-at, and-some, bind-some}
 use Rattle.net_numbers.specs.Numbers.{Net}
 use Rattle.net_numbers.specs.Outline.{plan_at}
 use Rattle.record_text.specs.Faults.{HasAfterHeader}
 use Rattle.record_text.specs.Walks.{IsFaultAmong, OrMemory}
-use Rattle.record_text.proofs.FaultLaws.{one-after}
+use Rattle.record_text.proofs.FaultLaws.{cut-at, one-after}
 use Rattle.record_text.proofs.WalkLaws.{fault-after}
 use Rattle.round_states.specs.declared.entries.Entry.{Entry}
 use Rattle.round_states.specs.declared.entries.Said.{Said}
@@ -118,10 +118,7 @@ module _ (net : Net) (records : List (List (List ℕ))) (state : RoundState) (is
   -- what the record at fault tells, and that it may stand there
   cut : (n : ℕ) (at_fault : List Entry → List (List ℕ) → Type 0) (first : IsFirst net records n at_fault) → (e : Entry) × (entry_of net first.here ≡ Some e) × FitsAfter net first.so_far e
   cut n at_fault first =
-      let (front, rest, reads_front, reads_rest, whole) = each-append (entry_of net) first.before (first.here ∷ first.after) is.entries (rw first.are at reads-all) in
-      let (e, back, told, behind, tail) = each-cons (entry_of net) first.here first.after rest reads_rest in
-      let same : front ≡ first.so_far = same_Some front first.so_far (sym reads_front ∙ first.reads.reads) in
-      let all : is.entries ≡ first.so_far ++ e ∷ back = whole ∙ ap (λ l. l ++ rest) same ∙ ap (λ l. first.so_far ++ l) tail in
+      let (e, back, told, all) = cut-at (entry_of net) first.before first.after first.here is.entries first.so_far (rw first.are at reads-all) first.reads.reads in
       (e, told, order-middle net first.so_far e back (subst (AreInOrder net) all is.tell.order))
 
   entries-clash : (fault : StateFault) → TellNone net records fault → Refuses fault ⊥

@@ -1,27 +1,13 @@
 //! What the fields of a record tell.
-ghost use Rattle.std.specs.Prelude.{◌≡◌, ◌≢◌, ◌↔◌, [], ◌∷◌, IsTrue, MatchOption, None, Some, length};
+ghost use Rattle.std.specs.Prelude.{◌≡◌, ◌≢◌, [], ◌∷◌, MatchOption, None, Some, length};
 ghost use Rattle.csv.specs.Records.{fields_of};
-ghost use Rattle.round_states.specs.Told.{byte_of, header, name_of, row_of, shows_of, stands_of, told, told_of};
+ghost use Rattle.round_states.specs.Told.{byte_of, name_of, row_of, shows_of, stands_of, told, told_of};
 
 use crate::entries::{Said, Standing};
 use board_model::Row;
 use control_flow::greens::Green;
 use csv::ByteRecord;
-use record_text::digits;
-
-/// Whether the record is the header.
-pub(crate) fn is_header(row: &ByteRecord) -> bool
-    ensures { IsTrue result ↔ (fields_of row.now ≡ header) }
-{
-    match five_fields(row) {
-        Some((kind, name, x, y, z)) => kind == b"kind".as_slice()
-            && name == b"name".as_slice()
-            && x == b"x".as_slice()
-            && y == b"y".as_slice()
-            && z == b"z".as_slice(),
-        None => false,
-    }
-}
+use record_text::{digits, field};
 
 /// The name in a record, and what the record says; none where it says nothing.
 pub(crate) fn read_said(row: &ByteRecord) -> Option<(&[u8], Said)>
@@ -115,10 +101,10 @@ fn five_fields(row: &ByteRecord) -> Option<(&[u8], &[u8], &[u8], &[u8], &[u8])>
         return None;
     }
     Some((
-        row.get(0)?,
-        row.get(1)?,
-        row.get(2)?,
-        row.get(3)?,
-        row.get(4)?,
+        field(row, 0),
+        field(row, 1),
+        field(row, 2),
+        field(row, 3),
+        field(row, 4),
     ))
 }

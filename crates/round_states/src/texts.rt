@@ -12,7 +12,7 @@ ghost use Rattle.round_states.specs.declared.states.RoundState as spec;
 use crate::boards::boards;
 use crate::entries::{Entry, place_of};
 use crate::faults::StateFault;
-use crate::fields::{is_header, read_said};
+use crate::fields::read_said;
 use crate::lines::lines;
 use crate::order::{fits_after, round_of};
 use crate::sayings::{Sayings, sort_entries};
@@ -20,7 +20,7 @@ use crate::senses::{check_senses, senses};
 use crate::states::RoundState;
 use csv::ByteRecord;
 use foundation::items::Items;
-use record_text::{RecordTaker, take_records};
+use record_text::{RecordTaker, is_record, take_records};
 use road_net::Network;
 use std::alloc::Global;
 
@@ -143,7 +143,7 @@ impl RecordTaker for Entries {
     ghost at_fault = { IsRefused };
 
     fn is_header(row: &ByteRecord) -> bool {
-        is_header(row)
+        is_record(row, &[b"kind", b"name", b"x", b"y", b"z"])
     }
 
     fn take(
