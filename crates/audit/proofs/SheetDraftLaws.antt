@@ -1,5 +1,5 @@
 -- A draft and what was told.
-use Rattle.std.proofs.Common.{◌≡◌, ◌≢◌, ℕ, suc, ◌+◌, ◌<◌, ◌≤◌, Bool, true, false, List, [], ◌∷◌, ◌++◌, length, filter_map, get_or, map, take, Option, Some, None, is_some, not, All, refl, sym, ap, ◌∙◌, subst, inl, inr, arith, append-nil, length-append, length-take}
+use Rattle.std.proofs.Common.{◌≡◌, ◌≢◌, ℕ, suc, ◌+◌, ◌<◌, ◌≤◌, Bool, true, false, List, [], ◌∷◌, ◌++◌, length, filter_map, get_or, map, take, Option, Some, None, is_some, All, refl, sym, ap, ◌∙◌, subst, inl, inr, arith, append-nil, length-append, length-take}
 use Rattle.std.specs.List.{cons_option}
 use Rattle.std.specs.Str.{bytes_eq}
 use Rattle.std.proofs.lemmas.Bool.{cases_lt, true≢false}
@@ -25,17 +25,6 @@ use Rattle.audit.specs.SheetRecords.{Counts, Passed, Shows, Sums, Told}
 pub is_none-from : {X : Type 0} (o : Option X) → is_some o ≡ false → o ≡ None
 is_none-from None none = refl
 is_none-from (Some x) none = absurd (true≢false none)
-
--- names that were compared
-pub same-name : (a b : List ℕ) → false ≡ not (bytes_eq a b) → a ≡ b
-same-name a b same = by (bytes_eq a b) refl same
-  where
-    by : (t : Bool) → bytes_eq a b ≡ t → false ≡ not t → a ≡ b
-    by true e h = (bytes_eq-Decides a b).0 e
-    by false e h = absurd (true≢false (sym h))
-
-pub other-name-of : (a b : List ℕ) → true ≡ not (bytes_eq a b) → a ≢ b
-other-name-of a b other same = true≢false (other ∙ ap not ((bytes_eq-Decides a b).1 same))
 
 -- totals are told of as many links as are named
 pub counted-names : (told : List Told) → length (filter_map counts_of told) ≡ links_told told

@@ -1,7 +1,8 @@
 use Rattle.std.proofs.Common.{◌≡◌, refl, ap, sym, ◌∙◌, arith}
 use Rattle.net_numbers.specs.Outline.{link_name_at}
 use Rattle.audit.specs.SheetFaults.{links_told}
-use Rattle.audit.proofs.SheetDraftLaws.{come-counts, come-links, links-most, other-name-of, same-name}
+use Rattle.record_text.proofs.ShapeLaws.{other-bytes, same-bytes}
+use Rattle.audit.proofs.SheetDraftLaws.{come-counts, come-links, links-most}
 use Rattle.audit.proofs.sheet_drafts.take_counts.Goals as goal
 
 pub returns-then-link-links-clause-first : goal.returns-then-link-links-clause-first
@@ -11,7 +12,7 @@ pub returns-then-ne-clause-first : goal.returns-then-ne-clause-first
 returns-then-ne-clause-first c = λ told come.
     let links = come-links c.args.net.now told c.args.draft.now come in
     let next : c.as_bytes.result.now ≡ link_name_at c.args.net.now (links_told told) = c.as_bytes.ensures.value ∙ c.link_name.ensures.value ∙ ap (link_name_at c.args.net.now) (omega (arith, links)) in
-    (refl, (omega (arith, links), λ same. other-name-of c.args.name.now c.as_bytes.result.now c.if-ne.ensures (same ∙ sym next)))
+    (refl, (omega (arith, links), λ same. other-bytes c.args.name.now c.as_bytes.result.now c.if-ne.ensures (same ∙ sym next)))
 
 pub returns-clause-ok : goal.returns-clause-ok
-returns-clause-ok c = λ told come. come-counts c.args.net.now told c.args.draft.now come c.args.name.now c.args.totals _ (omega arith) (same-name c.args.name.now c.as_bytes.result.now c.if-ne.ensures ∙ c.as_bytes.ensures.value ∙ c.link_name.ensures.value ∙ ap (link_name_at c.args.net.now) (omega arith)) c.in_ok-push.ensures.items refl refl
+returns-clause-ok c = λ told come. come-counts c.args.net.now told c.args.draft.now come c.args.name.now c.args.totals _ (omega arith) (same-bytes c.args.name.now c.as_bytes.result.now c.if-ne.ensures ∙ c.as_bytes.ensures.value ∙ c.link_name.ensures.value ∙ ap (link_name_at c.args.net.now) (omega arith)) c.in_ok-push.ensures.items refl refl
