@@ -5,7 +5,7 @@ use Rattle.std.proofs.lemmas.List.Folds.{concat-append}
 use Rattle.std.proofs.lemmas.Option.{same_Some, none-some}
 use Rattle.std.proofs.lemmas.Bool.{cases_lt}
 use Rattle.foundation.specs.Options.{each}
-use Rattle.foundation.proofs.EachLaws.{each-append, each-cons, each-push}
+use Rattle.foundation.proofs.EachLaws.{each-push}
 use Rattle.foundation.proofs.OptionLaws.{bind-some}
 use Rattle.net_numbers.specs.Numbers.{Net, number_of}
 use Rattle.histories.specs.Histories.{IsLawful, IsUnderWay}
@@ -20,7 +20,7 @@ use Rattle.delay_report.specs.Entries.{steps_by, steps_of, node_field_of}
 use Rattle.delay_report.specs.Faults.{AreFaulty, AreUnderWay, IsAtExtra, IsAtNode, IsAtRow, IsAtTurn, IsFirst, IsRecordFault, Refuses, TellUnderWay}
 use Rattle.record_text.specs.Faults.{HasAfterHeader}
 use Rattle.record_text.specs.Walks.{IsFaultAmong, OrMemory}
-use Rattle.record_text.proofs.FaultLaws.{one-after}
+use Rattle.record_text.proofs.FaultLaws.{cut-at, one-after}
 use Rattle.record_text.proofs.WalkLaws.{fault-after}
 use Rattle.delay_report.specs.declared.texts.HistoryDraft.{HistoryDraft}
 use Rattle.delay_report.specs.Taken.{AreTaken, HasTaken, IsEntryFault, IsRefused}
@@ -113,15 +113,9 @@ module _ (net : Net) (records : List (List (List ℕ))) (h : List ℕ) (is : Are
     -- the steps of the record at fault, and the whole history, cut there
     cut : (more rest : List ℕ) × (steps_of net first.here ≡ Some more) × (h ≡ first.so_far ++ (more ++ rest))
     cut =
-        let (front, back, reads_front, reads_back, whole) = each-append (steps_of net) first.before (first.here ∷ first.after) is.steps (rw first.are at reads-all) in
-        let (more, others, told, behind, tail) = each-cons (steps_of net) first.here first.after back reads_back in
-        let same : front ≡ first.reads.under_way.steps = same_Some front first.reads.under_way.steps (sym reads_front ∙ first.reads.under_way.reads) in (
-          more,
-          concat others,
-          told,
-          is.history_is ∙ ap concat whole ∙ concat-append front back ∙ ap (λ l. concat l ++ concat back) same ∙ ap (λ l. concat first.reads.under_way.steps ++ concat l) tail
-              ∙ ap (λ l. l ++ (more ++ concat others)) (sym first.reads.under_way.history_is),
-        )
+        let way = first.reads.under_way in
+        let (more, others, told, whole) = cut-at (steps_of net) first.before first.after first.here is.steps way.steps (rw first.are at reads-all) way.reads in
+        (more, concat others, told, is.history_is ∙ ap concat whole ∙ concat-append way.steps (more ∷ others) ∙ ap (λ l. l ++ (more ++ concat others)) (sym way.history_is))
 
     -- a node that comes next in a lawful history
     goes-on : (node : ℕ) → steps_of net first.here ≡ Some (node ∷ []) → (rest : List ℕ) × IsLawful net (first.so_far ++ node ∷ rest)
