@@ -10,8 +10,8 @@ use Rattle.control_flow.specs.Greens.{BeginBy, IsContinued, end_of, head_at, spl
 use Rattle.control_flow.specs.Timelines.{first_head, rotation_of, stops_at}
 use Rattle.control_flow.specs.declared.greens.Green.{Green}
 use Rattle.control_flow.proofs.TurningLaws.{passes-called, turned-by, turned-line}
-use Rattle.net_numbers.specs.Numbers.{Net}
-use Rattle.net_numbers.specs.Outline.{plan_at}
+use Rattle.net_parts.specs.Numbers.{Net}
+use Rattle.net_parts.specs.Outline.{plan_at}
 use Rattle.net_simulator.specs.Flow.{Passed}
 use Rattle.road_net.specs.Network.{IsNetwork}
 use Rattle.signal_safety.proofs.Lines.{plan-is}

@@ -6,9 +6,9 @@ use Rattle.std.proofs.lemmas.List.{get_or_default, get_or_past}
 use Rattle.std.proofs.lemmas.List.Sums.{sum_by-cons, sum_by-le, sum_by-le-sum_by, sum_by-take-le, sum_by_more_le}
 use Rattle.clusters.specs.Inflow.{no_sense, sense_of}
 use Rattle.clusters.proofs.SeenLaws.{sense-within}
-use Rattle.net_numbers.specs.declared.roads.Link.{Link}
-use Rattle.net_numbers.specs.Numbers.{Net, no_link}
-use Rattle.net_numbers.specs.Outline.{link_at, phase_links_at, plan_at}
+use Rattle.net_parts.specs.declared.roads.Link.{Link}
+use Rattle.net_parts.specs.Numbers.{Net, no_link}
+use Rattle.net_parts.specs.Outline.{link_at, phase_links_at, plan_at}
 use Rattle.net_simulator.specs.Flow.{Passed}
 use Rattle.net_simulator.specs.Senses.{link_sense, near_of, near_on, sense}
 use Rattle.net_simulator.proofs.Seeing.{differing-part}

@@ -5,8 +5,8 @@ use Rattle.control_flow.specs.Greens.{head_at, spliced, standing}
 use Rattle.control_flow.specs.Timelines.{first_head, rotation_of}
 use Rattle.control_flow.specs.declared.greens.Green.{Green}
 use Rattle.switch_rules.specs.declared.Head.{Head}
-use Rattle.net_numbers.specs.Numbers.{Net}
-use Rattle.net_numbers.specs.Outline.{plan_at}
+use Rattle.net_parts.specs.Numbers.{Net}
+use Rattle.net_parts.specs.Outline.{plan_at}
 use Rattle.net_simulator.specs.Flow.{Passed, past_of}
 use Rattle.net_simulator.specs.Senses.{sense}
 use Rattle.net_simulator.specs.Sums.{end_of_run, link_totals, totals}

@@ -8,8 +8,8 @@ use Rattle.switch_rules.specs.declared.Head.{Head}
 use Rattle.clusters.specs.Inflow.{sense_of}
 use Rattle.control_flow.specs.Timelines.{calls_for, stops_at, turned}
 use Rattle.control_flow.specs.declared.greens.Green.{Green}
-use Rattle.net_numbers.specs.Numbers.{Net}
-use Rattle.net_numbers.specs.Outline.{phase_links_at, plan_at}
+use Rattle.net_parts.specs.Numbers.{Net}
+use Rattle.net_parts.specs.Outline.{phase_links_at, plan_at}
 use Rattle.net_simulator.specs.Senses.{near_of}
 use Rattle.road_net.specs.declared.senses.Sensed.{Sensed}
 

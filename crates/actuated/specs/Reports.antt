@@ -1,6 +1,6 @@
 -- The report of a run under actuated control.
 use Rattle.std.specs.Prelude.{ℕ, List}
-use Rattle.net_numbers.specs.Numbers.{Net}
+use Rattle.net_parts.specs.Numbers.{Net}
 use Rattle.audit.specs.LineReports.{line_text}
 use Rattle.audit.specs.LineRuns.{sheet_of}
 use Rattle.audit.specs.declared.line_runs.LineRun.{LineRun}

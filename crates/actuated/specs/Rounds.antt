@@ -2,8 +2,8 @@
 use Rattle.std.specs.Prelude.{◌≡◌, ℕ, ◌+◌, ◌<◌, ◌≤◌, List, length, slice_index}
 use Rattle.control_flow.specs.Greens.{BeginBy, IsLawful, end_of, standing}
 use Rattle.control_flow.specs.declared.greens.Green.{Green}
-use Rattle.net_numbers.specs.Numbers.{Net}
-use Rattle.net_numbers.specs.Outline.{plan_at}
+use Rattle.net_parts.specs.Numbers.{Net}
+use Rattle.net_parts.specs.Outline.{plan_at}
 use Rattle.net_simulator.specs.Worlds.{line_in}
 use Rattle.phase_plan.specs.declared.Phase.{Phase}
 use Rattle.road_net.specs.Totals.{total}

@@ -4,7 +4,7 @@ use Rattle.std.proofs.lemmas.Option.{same_Some, none-some}
 use Rattle.foundation.specs.Options.{◌>>=◌}
 use Rattle.foundation.proofs.EachLaws.{each-push, each-length}
 use Rattle.foundation.proofs.OptionLaws.{bind-some, and-some, and-at, and-weaker, none-and}
-use Rattle.net_numbers.specs.Numbers.{Net, number_of}
+use Rattle.net_parts.specs.Numbers.{Net, number_of}
 use Rattle.arrivals.specs.declared.rows.ArrivalRow.{ArrivalRow}
 use Rattle.arrivals.specs.declared.rows.RowFault.{RowFault}
 use Rattle.arrivals.specs.declared.rows.RowFault.TheVariants.{NoMemory, Header, Row, Link, Bound, Sum}

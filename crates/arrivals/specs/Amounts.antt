@@ -1,6 +1,6 @@
 -- What arrivals are: an amount for each link and second.
 use Rattle.std.specs.Prelude.{◌≡◌, ℕ, ◌+◌, ◌-◌, ◌*◌, ◌≤◌, ◌<◌, nat_le, nat_lt, ◌&&◌, if◌then◌else◌, Bool, List, length, slice_index_or}
-use Rattle.net_numbers.specs.Numbers.{Net}
+use Rattle.net_parts.specs.Numbers.{Net}
 use Rattle.road_net.specs.Totals.{total}
 use Rattle.arrivals.specs.declared.rows.ArrivalRow.{ArrivalRow}
 use Rattle.arrivals.specs.Rows.{seconds, most_of_all, IsSource, AreRows, entering_by}

@@ -1,7 +1,7 @@
 -- Rows of arrivals: which are lawful, and what they bring.
 use Rattle.std.specs.Prelude.{◌≡◌, ℕ, ◌≤◌, ◌<◌, ◌==◌, ◌&&◌, Bool, List, None, length, filter, sum_by, All}
-use Rattle.net_numbers.specs.Numbers.{Net}
-use Rattle.net_numbers.specs.Outline.{link_at}
+use Rattle.net_parts.specs.Numbers.{Net}
+use Rattle.net_parts.specs.Outline.{link_at}
 use Rattle.arrivals.specs.declared.rows.ArrivalRow.{ArrivalRow}
 
 -- the seconds in which something may enter

@@ -3,7 +3,7 @@ use Rattle.std.proofs.Common.{◌≡◌, ℕ, [], ◌∷◌, Vec}
 use Rattle.std.proofs.lemmas.List.Elements.{All-nil}
 use Rattle.csv.specs.declared.writer.Writer.{Writer}
 use Rattle.net_simulator.specs.Sums.{AreFew, end_of_run}
-use Rattle.net_numbers.specs.Numbers.{Net}
+use Rattle.net_parts.specs.Numbers.{Net}
 use Rattle.road_net.specs.Network.{IsNetwork}
 use Rattle.audit.specs.declared.sheet.Sheet.{Sheet}
 use Rattle.audit.specs.SheetTexts.{HasShape}

@@ -3,8 +3,8 @@ use Rattle.std.proofs.Common.{◌≡◌, ◌↔◌, ℕ, zero, suc, ◌+◌, ◌
 use Rattle.std.proofs.lemmas.List.{get_or_default}
 use Rattle.foundation.specs.Firsts.{IsFirstWithout}
 use Rattle.phase_plan.specs.declared.Phase.{Phase}
-use Rattle.net_numbers.specs.Numbers.{Net}
-use Rattle.net_numbers.specs.Outline.{plan_at}
+use Rattle.net_parts.specs.Numbers.{Net}
+use Rattle.net_parts.specs.Outline.{plan_at}
 use Rattle.road_net.specs.Network.{IsNetwork}
 use Rattle.control_flow.specs.Greens.{Follows, IsInOrder, IsLawful, no_green, row_at}
 use Rattle.control_flow.specs.declared.greens.Green.{Green}

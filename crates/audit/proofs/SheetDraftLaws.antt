@@ -8,9 +8,9 @@ use Rattle.std.proofs.lemmas.List.Elements.{All-map, All-nil, All-push, filter_m
 use Rattle.std.proofs.lemmas.List.Quantifiers.{position-Some}
 use Rattle.std.proofs.lemmas.Slice.Eq.{bytes_eq-Decides}
 use Rattle.control_flow.specs.declared.greens.Green.{Green}
-use Rattle.net_numbers.specs.Numbers.{Net, number_of}
-use Rattle.net_numbers.proofs.Known.{number_of-known}
-use Rattle.net_numbers.specs.Outline.{link_name_at, node_name_at}
+use Rattle.net_parts.specs.Numbers.{Net, number_of}
+use Rattle.net_parts.proofs.Known.{number_of-known}
+use Rattle.net_parts.specs.Outline.{link_name_at, node_name_at}
 use Rattle.net_simulator.specs.declared.totals.LinkTotals.{LinkTotals}
 use Rattle.net_simulator.specs.declared.totals.Totals.{Totals}
 use Rattle.road_net.specs.Network.{IsNetwork}

@@ -8,7 +8,7 @@ use Rattle.foundation.proofs.EachLaws.{each-length, each-push}
 use Rattle.foundation.proofs.ListLaws.{All-middle}
 use Rattle.foundation.proofs.OptionLaws.{and-at}
 use Rattle.control_flow.specs.declared.greens.Green.{Green}
-use Rattle.net_numbers.specs.Numbers.{Net}
+use Rattle.net_parts.specs.Numbers.{Net}
 use Rattle.record_text.specs.Faults.{HasAfterHeader}
 use Rattle.record_text.specs.Walks.{IsFaultAmong, OrMemory}
 use Rattle.record_text.proofs.FaultLaws.{cut-at, one-after}

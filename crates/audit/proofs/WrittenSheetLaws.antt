@@ -12,8 +12,8 @@ use Rattle.std.proofs.lemmas.Slice.Eq.{bytes_eq-Decides}
 use Rattle.foundation.specs.Options.{each}
 use Rattle.foundation.proofs.EachLaws.{each-cons, each-good}
 use Rattle.control_flow.specs.declared.greens.Green.{Green}
-use Rattle.net_numbers.specs.Numbers.{Net}
-use Rattle.net_numbers.specs.Outline.{link_name_at, node_name_at}
+use Rattle.net_parts.specs.Numbers.{Net}
+use Rattle.net_parts.specs.Outline.{link_name_at, node_name_at}
 use Rattle.net_simulator.specs.Counts.{counts_at, no_totals}
 use Rattle.net_simulator.specs.declared.totals.LinkTotals.{LinkTotals}
 use Rattle.net_simulator.specs.declared.totals.Totals.{Totals}

@@ -2,8 +2,8 @@
 use Rattle.std.specs.Prelude.{◌≡◌, ◌≢◌, ℕ, ◌-◌, ◌<◌, ◌≤◌, List, length}
 use Rattle.foundation.specs.Firsts.{IsFirstWithout, FromOne}
 use Rattle.phase_plan.specs.declared.Phase.{Phase}
-use Rattle.net_numbers.specs.Numbers.{Net}
-use Rattle.net_numbers.specs.Outline.{plan_at}
+use Rattle.net_parts.specs.Numbers.{Net}
+use Rattle.net_parts.specs.Outline.{plan_at}
 use Rattle.control_flow.specs.Greens.{Follows, IsGreen, IsLawful, row_at}
 use Rattle.control_flow.specs.declared.greens.Green.{Green}
 use Rattle.net_simulator.specs.Counts.{counts_at}

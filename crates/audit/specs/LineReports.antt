@@ -1,6 +1,6 @@
 -- The report of lines and totals, whatever made them: its records, and its text.
 use Rattle.std.specs.Prelude.{ℕ, List, ◌∷◌}
-use Rattle.net_numbers.specs.Numbers.{Net}
+use Rattle.net_parts.specs.Numbers.{Net}
 use Rattle.net_simulator.specs.Sums.{end_of_run}
 use Rattle.audit.specs.declared.sheet.Sheet.{Sheet}
 use Rattle.world_records.specs.Records.{header, records_text, shown_records}

@@ -1,8 +1,8 @@
 -- What the steps of the code answer. No public clause names these definitions.
 use Rattle.std.specs.Prelude.{◌≡◌, ℕ, ◌<◌, List, [], ◌∷◌, ◌++◌, Option, Some, None, All, filter_map, length, slice_index_or, take}
 use Rattle.foundation.specs.Options.{each}
-use Rattle.net_numbers.specs.Numbers.{Net}
-use Rattle.net_numbers.specs.Outline.{node_name_at}
+use Rattle.net_parts.specs.Numbers.{Net}
+use Rattle.net_parts.specs.Outline.{node_name_at}
 use Rattle.net_simulator.specs.declared.totals.Totals.{Totals}
 use Rattle.audit.specs.declared.sheet_drafts.Draft.{Draft}
 use Rattle.audit.specs.declared.sheet_entries.Entry.{Entry}

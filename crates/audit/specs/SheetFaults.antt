@@ -1,8 +1,8 @@
 -- The first fault of the text of a sheet.
 use Rattle.std.specs.Prelude.{◌≡◌, ◌≢◌, ℕ, ◌<◌, ◌≤◌, ◌⊎◌, List, [], ◌∷◌, Some, None, IsSomeAnd, All, Contains, filter_map, length, take}
 use Rattle.foundation.specs.Options.{each}
-use Rattle.net_numbers.specs.Numbers.{Net}
-use Rattle.net_numbers.specs.Outline.{link_name_at}
+use Rattle.net_parts.specs.Numbers.{Net}
+use Rattle.net_parts.specs.Outline.{link_name_at}
 use Rattle.record_text.specs.Faults.{HasAfterHeader, IsFirstFault}
 use Rattle.record_text.specs.Records.{records_of}
 use Rattle.world_records.specs.Records.{header}

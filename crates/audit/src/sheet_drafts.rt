@@ -1,6 +1,6 @@
 //! A sheet that is being read.
 ghost use Rattle.std.specs.Prelude.{◌≡◌, ◌≢◌, ◌<◌, ◌++◌, ◌∷◌, [], ℕ, List, IfErr, IfNone, IfOk, IfSome, OnOk, length, slice_index_or};
-ghost use Rattle.net_numbers.specs.Numbers.{Net};
+ghost use Rattle.net_parts.specs.Numbers.{Net};
 ghost use Rattle.road_net.specs.Network.{IsNetwork};
 ghost use Rattle.audit.specs.SheetEntries.{HasCome, IsMore, IsToldFault, in_words};
 ghost use Rattle.audit.specs.SheetFaults.{IsEarly};

@@ -1,6 +1,6 @@
 -- The reason why a sheet is not clean names a node or link that exists.
 use Rattle.std.proofs.Common.{ℕ}
-use Rattle.net_numbers.specs.Numbers.{Net}
+use Rattle.net_parts.specs.Numbers.{Net}
 use Rattle.audit.specs.declared.sheet.Sheet.{Sheet}
 use Rattle.audit.specs.Audits.{IsWhy}
 use Rattle.audit.specs.declared.findings.AuditWhy.{AuditWhy}

@@ -2,7 +2,7 @@
 use Rattle.std.specs.Prelude.{◌<◌, length}
 use Rattle.audit.specs.declared.findings.AuditWhy.{AuditWhy}
 use Rattle.audit.specs.declared.findings.AuditWhy.TheVariants.{Span, Next, Link, Total}
-use Rattle.net_numbers.specs.Numbers.{Net}
+use Rattle.net_parts.specs.Numbers.{Net}
 
 -- the node or link is one of the network
 abbrev pub NamesPart : Net → AuditWhy → Type 0

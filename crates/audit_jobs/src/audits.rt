@@ -2,7 +2,7 @@
 ghost use Rattle.std.specs.Prelude.{◌≡◌, ◌∷◌, ◌++◌, ◌<◌, ◌^◌, ℕ, List, All, IfOk, OnOk, length};
 ghost use Rattle.std.specs.Fmt.{decimal};
 ghost use Rattle.arrivals.specs.Amounts.{AreArrivals, entering};
-ghost use Rattle.net_numbers.specs.Outline.{node_name_at};
+ghost use Rattle.net_parts.specs.Outline.{node_name_at};
 ghost use Rattle.audit.specs.SheetTexts.{HasShape};
 ghost use Rattle.command_words.specs.Calls.{Audit};
 ghost use Rattle.commands.specs.Ending.{IsMadeOf, Makes};

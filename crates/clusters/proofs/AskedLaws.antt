@@ -9,8 +9,8 @@ use Rattle.switch_rules.specs.Bounds.{greatest_weight}
 use Rattle.switch_rules.specs.Sequences.{cluster_at}
 use Rattle.switch_rules.specs.Serving.{IsCluster}
 use Rattle.switch_rules.specs.declared.Head.{Head}
-use Rattle.net_numbers.specs.Numbers.{Net}
-use Rattle.net_numbers.specs.Outline.{phase_links_at, plan_at}
+use Rattle.net_parts.specs.Numbers.{Net}
+use Rattle.net_parts.specs.Outline.{phase_links_at, plan_at}
 use Rattle.road_net.specs.Network.{IsNetwork}
 use Rattle.road_net.specs.declared.senses.Sensed.{Sensed}
 use Rattle.clusters.specs.declared.vehicle_groups.Part.{Part}

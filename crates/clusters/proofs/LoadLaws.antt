@@ -5,9 +5,9 @@ use Rattle.std.proofs.lemmas.List.Elements.{All-get_or, All-head, All-tail}
 use Rattle.std.proofs.lemmas.List.Sums.{sum_by-cons, sum_by_more}
 use Rattle.std.proofs.lemmas.Nat.{le-div, mul-le}
 use Rattle.switch_rules.specs.Bounds.{greatest_weight}
-use Rattle.net_numbers.specs.Numbers.{Net, no_link}
-use Rattle.net_numbers.specs.declared.roads.Link.{Link}
-use Rattle.net_numbers.specs.Outline.{IsOutline, IsLink, link_at}
+use Rattle.net_parts.specs.Numbers.{Net, no_link}
+use Rattle.net_parts.specs.declared.roads.Link.{Link}
+use Rattle.net_parts.specs.Outline.{IsOutline, IsLink, link_at}
 use Rattle.road_net.specs.declared.senses.Sensed.{Sensed}
 use Rattle.clusters.specs.declared.vehicle_groups.Part.{Part}
 use Rattle.clusters.specs.Inflow.{sense_of}

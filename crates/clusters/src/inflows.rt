@@ -1,7 +1,7 @@
 //! What reaches the end of a link in the seconds that a planning looks ahead, and what leaves there.
 ghost use Rattle.std.specs.Prelude.{◌≡◌, ◌+◌, ◌-◌, ◌*◌, ◌++◌, replicate, ◌<◌, ◌≤◌, ◌^◌, ℕ, nat_lt, ◌==◌, find, option_copied, if◌then◌else◌, All, IfOk, length, slice_index, sum, sum_by, map};
 ghost use Rattle.board_model.specs.Forecasts.{IsForecast, amount_at};
-ghost use Rattle.net_numbers.specs.Outline.{link_at};
+ghost use Rattle.net_parts.specs.Outline.{link_at};
 ghost use Rattle.road_net.specs.Senses.{amount};
 ghost use Rattle.clusters.specs.Steps.{IsSeen};
 ghost use Rattle.clusters.specs.Inflow.{inflow, leaving, sense_of, heard_forecast};

@@ -1,6 +1,6 @@
 //! What platoons count: their loads.
 ghost use Rattle.std.specs.Prelude.{◌≡◌, ◌+◌, ◌*◌, ◌/◌, ◌<◌, ◌≤◌, ℕ, All, Some, length, min, sum, sum_by};
-ghost use Rattle.net_numbers.specs.Outline.{link_at};
+ghost use Rattle.net_parts.specs.Outline.{link_at};
 ghost use Rattle.clusters.specs.Inflow.{sense_of};
 ghost use Rattle.clusters.specs.Steps.{IsAge};
 ghost use Rattle.clusters.specs.Sound.{AreSpacedClusters, clusters_of};

@@ -1,7 +1,7 @@
 //! The platoons that a node expects.
 ghost use Rattle.std.specs.Prelude.{◌≡◌, ◌==◌, ◌&&◌, ℕ, ◌<◌, ◌≤◌, List, Some, None, All, IfOk, IfSome, length, if◌then◌else◌};
-ghost use Rattle.net_numbers.specs.Numbers.{Net};
-ghost use Rattle.net_numbers.specs.Outline.{phase_links_at, plan_at};
+ghost use Rattle.net_parts.specs.Numbers.{Net};
+ghost use Rattle.net_parts.specs.Outline.{phase_links_at, plan_at};
 ghost use Rattle.road_net.specs.Network.{IsNetwork};
 ghost use Rattle.road_net.specs.Senses.{IsSensedOf};
 ghost use Rattle.clusters.specs.Inflow.{IsHeardOf};

@@ -1,6 +1,6 @@
 //! The window: the platoons that one planning takes up.
 ghost use Rattle.std.specs.Prelude.{◌≡◌, ◌+◌, ◌<◌, ◌≤◌, ℕ, All, IfOk, length, replicate, take, slice_index, sum, map, vec_len};
-ghost use Rattle.net_numbers.specs.Numbers.{Net};
+ghost use Rattle.net_parts.specs.Numbers.{Net};
 ghost use Rattle.clusters.specs.Platoons.{platoons_at};
 ghost use Rattle.clusters.specs.Sound.{AreOfNode, ArePlannable, AreSpacedClusters, cluster_lists};
 ghost use Rattle.clusters.specs.Taking.{AreFronts, IsEarlier, IsFirstOf, IsNextArrival};

@@ -8,7 +8,7 @@ use Rattle.std.proofs.lemmas.Nat.{mul-le}
 use Rattle.std.specs.List.{range_with_len}
 use Rattle.road_net.specs.Network.{IsNetwork}
 use Rattle.intersection_actor.specs.declared.records.PlanRecord.{PlanRecord}
-use Rattle.net_numbers.specs.Numbers.{Net}
+use Rattle.net_parts.specs.Numbers.{Net}
 use Rattle.runs.specs.Promises.{IsKeptRun}
 use Rattle.runs.specs.Runs.{IsRun}
 use Rattle.runs.specs.Complete.{IsComplete, rounds_and_nodes}

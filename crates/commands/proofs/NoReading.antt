@@ -1,8 +1,8 @@
 -- A fault other than `NoMemory` says that a text is read as nothing of its kind.
 use Rattle.std.proofs.Common.{◌≢◌, refl}
 use Rattle.net_tables.specs.Faults.{Unless}
-use Rattle.net_draft.specs.declared.faults.NetFault.{NetFault}
-use Rattle.net_draft.specs.declared.faults.NetFault.TheVariants as net
+use Rattle.net_parts.specs.declared.faults.NetFault.{NetFault}
+use Rattle.net_parts.specs.declared.faults.NetFault.TheVariants as net
 use Rattle.arrivals.specs.Faults as arrivals
 use Rattle.arrivals.specs.declared.rows.RowFault.{RowFault}
 use Rattle.arrivals.specs.declared.rows.RowFault.TheVariants as row

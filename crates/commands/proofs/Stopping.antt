@@ -2,7 +2,7 @@
 use Rattle.std.proofs.Common.{◌≡◌, ℕ, List, Result, Ok, Err, IfErr, sym, subst}
 use Rattle.std.specs.Result.{IsErrAnd}
 use Rattle.outside_world.specs.Shelf.{GainsLast, ShelfState}
-use Rattle.net_numbers.specs.Numbers.{Net}
+use Rattle.net_parts.specs.Numbers.{Net}
 use Rattle.commands.specs.Stops.{StopsAt, StopsIn}
 use Rattle.commands.specs.Texts.{ArrivalsText, At, IsBad, IsIn, Kind, NetworkText, Texts, three_texts}
 use Rattle.commands.specs.declared.refusals.TextPlace.{TextPlace}

@@ -15,7 +15,7 @@ use Rattle.audit.specs.declared.findings.AuditWhy.{AuditWhy}
 use Rattle.cert_checker.specs.Verdicts.{IsWhy}
 use Rattle.cert_checker.specs.declared.Why.{Why}
 use Rattle.histories.specs.Histories.{turn_order}
-use Rattle.net_numbers.specs.Numbers.{number_of}
+use Rattle.net_parts.specs.Numbers.{number_of}
 use Rattle.net_simulator.specs.Sums.{end_of_run}
 use Rattle.net_simulator.specs.Worlds.{line_in}
 use Rattle.queue_series.specs.Series.{IsSeries}

@@ -12,7 +12,7 @@ use Rattle.fixed_plans.specs.Lines.{fixed_line}
 use Rattle.fixed_plans.specs.declared.rows.FixedRow.{FixedRow}
 use Rattle.histories.specs.Histories.{turn_order}
 use Rattle.audit.specs.LineReports.{line_text}
-use Rattle.net_numbers.specs.Numbers.{Net}
+use Rattle.net_parts.specs.Numbers.{Net}
 use Rattle.net_simulator.specs.Worlds.{line_in}
 use Rattle.net_simulator.specs.declared.totals.Totals.{Totals}
 use Rattle.runs.specs.Runs.{arriving_by}

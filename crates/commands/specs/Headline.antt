@@ -6,7 +6,7 @@ use Rattle.delay_report.specs.Reports.{report_text}
 use Rattle.dp_certificate.specs.Certificates.{Claim}
 use Rattle.histories.specs.Histories.{IsLawful, turn_order}
 use Rattle.intersection_actor.specs.declared.records.PlanRecord.{PlanRecord}
-use Rattle.net_numbers.specs.Numbers.{Net, number_of}
+use Rattle.net_parts.specs.Numbers.{Net, number_of}
 use Rattle.runs.specs.Promises.{IsKeptRun}
 use Rattle.runs.specs.Runs.{arriving_by}
 use Rattle.runs.specs.declared.records.RunRecord.{RunRecord}

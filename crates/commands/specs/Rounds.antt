@@ -1,7 +1,7 @@
 -- What `decide` writes: the decision of a round, or what one node decides in it.
 use Rattle.std.specs.Prelude.{◌≡◌, ℕ, List, Some}
 use Rattle.round_decisions.specs.DecisionTexts.{decision_text, node_decision_text}
-use Rattle.net_numbers.specs.Numbers.{Net, number_of}
+use Rattle.net_parts.specs.Numbers.{Net, number_of}
 use Rattle.round_decisions.specs.Promises.{IsKeptDecision, IsKeptTurn}
 use Rattle.round_decisions.specs.declared.decisions.Decision.{Decision}
 use Rattle.round_decisions.specs.declared.decisions.NodeDecision.{NodeDecision}

@@ -2,7 +2,7 @@
 use Rattle.std.specs.Prelude.{◌≡◌, ℕ, List, ◌++◌, Option, codes, slice_index}
 use Rattle.audit.specs.Audits.{AreLawful}
 use Rattle.histories.specs.Histories.{turn_order}
-use Rattle.net_numbers.specs.Numbers.{Net}
+use Rattle.net_parts.specs.Numbers.{Net}
 use Rattle.net_simulator.specs.Sums.{end_of_run}
 use Rattle.net_simulator.specs.Worlds.{line_in, standing_by}
 use Rattle.runs.specs.Runs.{arriving_by}

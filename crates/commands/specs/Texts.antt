@@ -6,8 +6,8 @@ use Rattle.schedule_meaning.specs.Instances.{Problem, IsInstance}
 use Rattle.schedule_meaning.specs.Texts.{IsTextFault, IsOutOfMemory}
 use Rattle.dp_certificate.specs.Certificates.{Claim, IsCertificate}
 use Rattle.certificate_form.specs.Answers as cert
-use Rattle.net_draft.specs.declared.faults.NetFault.TheVariants as net
-use Rattle.net_numbers.specs.Numbers.{Net}
+use Rattle.net_parts.specs.declared.faults.NetFault.TheVariants as net
+use Rattle.net_parts.specs.Numbers.{Net}
 use Rattle.net_file.specs.NetworkText.{IsCause, IsNetworkText}
 use Rattle.arrivals.specs.Amounts.{Amounts, entering}
 use Rattle.arrivals.specs.Texts as arrivals

@@ -9,8 +9,8 @@ use Rattle.cert_checker.specs.declared.Why.{Why}
 use Rattle.cert_checker.specs.declared.Why.TheVariants.{Sequence, Delay, NoRoot, Open, Cheaper}
 use Rattle.audit.specs.declared.findings.AuditWhy.{AuditWhy}
 use Rattle.audit.specs.declared.findings.AuditWhy.TheVariants.{Span, Next, Link, Total}
-use Rattle.net_numbers.specs.Numbers.{Net}
-use Rattle.net_numbers.specs.Outline.{link_name_at, node_name_at}
+use Rattle.net_parts.specs.Numbers.{Net}
+use Rattle.net_parts.specs.Outline.{link_name_at, node_name_at}
 
 -- why a serving is unfit
 abbrev pub unfit_name : Unfit → List ℕ

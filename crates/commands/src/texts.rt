@@ -17,7 +17,7 @@ use delay_report::{HistoryFault, read_history};
 use dp_certificate::Certificate;
 use fixed_plans::{FixedFault, FixedPlan, read_fixed_plan};
 use histories::History;
-use net_draft::NetFault;
+use net_parts::NetFault;
 use net_file::read_network;
 use outside_world::{Shelf, ShelfFault};
 use road_net::Network;

@@ -1,7 +1,7 @@
 -- Decisions as texts, and a node that a network has, or has not.
 use Rattle.std.proofs.Common.{◌≡◌, ℕ, List, Option, Some, None, IsSome}
 use Rattle.outside_world.specs.Shelf.{ShelfState}
-use Rattle.net_numbers.specs.Numbers.{Net, number_of}
+use Rattle.net_parts.specs.Numbers.{Net, number_of}
 use Rattle.round_states.specs.declared.states.RoundState.{RoundState}
 use Rattle.commands.specs.Texts.{IsIn, NetworkText, StateText}
 use Rattle.commands.specs.declared.refusals.Named.TheVariants.{Node, Round, Factor}

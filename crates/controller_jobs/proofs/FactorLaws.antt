@@ -7,7 +7,7 @@ use Rattle.std.proofs.lemmas.List.Folds.{concat-append}
 use Rattle.std.proofs.lemmas.List.FromFn.{get_or-map-range_with_len, length-map-range_with_len, map-range_with_len_more}
 use Rattle.arrivals.specs.Rows.{most_of_all}
 use Rattle.outside_world.specs.Shelf.{ShelfState}
-use Rattle.net_numbers.specs.Numbers.{Net}
+use Rattle.net_parts.specs.Numbers.{Net}
 use Rattle.scaled_arrivals.specs.Scaling.{scaled_whole}
 use Rattle.command_words.specs.Calls.{Scale}
 use Rattle.commands.specs.Commands.{MissesNothing}

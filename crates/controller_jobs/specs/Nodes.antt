@@ -1,6 +1,6 @@
 -- Why a word that names a node decides nothing. No public clause names anything here.
 use Rattle.std.specs.Prelude.{◌≡◌, ℕ, List, None}
-use Rattle.net_numbers.specs.Numbers.{Net, number_of}
+use Rattle.net_parts.specs.Numbers.{Net, number_of}
 use Rattle.commands.specs.declared.refusals.Named.TheVariants.{Node}
 use Rattle.commands.specs.declared.refusals.Refusal.{Refusal}
 use Rattle.commands.specs.declared.refusals.Refusal.TheVariants as refusal

@@ -1,6 +1,6 @@
 //! The commands `decide NET STATE` and `decide NET STATE NODE`.
 ghost use Rattle.std.specs.Prelude.{◌≡◌, ◌<◌, ℕ, List, IfErr, IfOk, IsSome, OnOk, Some, length};
-ghost use Rattle.net_numbers.specs.Numbers.{number_of};
+ghost use Rattle.net_parts.specs.Numbers.{number_of};
 ghost use Rattle.command_words.specs.Calls.{Decide, DecideNode};
 ghost use Rattle.commands.specs.Ending.{Makes};
 ghost use Rattle.commands.specs.Outcome.{Outcome};

@@ -11,8 +11,8 @@ use Rattle.histories.specs.declared.steps.BoardStep.TheVariants.{Read, Publish}
 use Rattle.intersection_actor.specs.Commits.{Commitment}
 use Rattle.intersection_actor.specs.PlanFields.{used_text}
 use Rattle.intersection_actor.specs.declared.records.PlanRecord.{PlanRecord}
-use Rattle.net_numbers.specs.Numbers.{Net}
-use Rattle.net_numbers.specs.Outline.{node_name_at}
+use Rattle.net_parts.specs.Numbers.{Net}
+use Rattle.net_parts.specs.Outline.{node_name_at}
 use Rattle.road_net.specs.Network.{IsNetwork}
 use Rattle.net_simulator.specs.Counts.{counts_at, no_totals}
 use Rattle.net_simulator.specs.Flow.{Passed}

@@ -14,8 +14,8 @@ use Rattle.histories.specs.Histories.{IsLawful, round_at, step_at, version_at}
 use Rattle.histories.specs.Steps.{board_steps}
 use Rattle.histories.specs.declared.steps.BoardStep.{BoardStep}
 use Rattle.histories.specs.declared.steps.BoardStep.TheVariants.{Read, Publish}
-use Rattle.net_numbers.specs.Numbers.{Net, AreDistinct, number_of}
-use Rattle.net_numbers.specs.Outline.{node_name_at}
+use Rattle.net_parts.specs.Numbers.{Net, AreDistinct, number_of}
+use Rattle.net_parts.specs.Outline.{node_name_at}
 use Rattle.net_simulator.specs.Sums.{end_of_run}
 use Rattle.road_net.specs.Network.{IsNetwork}
 use Rattle.runs.specs.declared.records.RunRecord.{RunRecord}

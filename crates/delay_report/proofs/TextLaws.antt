@@ -7,7 +7,7 @@ use Rattle.std.proofs.lemmas.Bool.{cases_lt}
 use Rattle.foundation.specs.Options.{each}
 use Rattle.foundation.proofs.EachLaws.{each-push}
 use Rattle.foundation.proofs.OptionLaws.{bind-some}
-use Rattle.net_numbers.specs.Numbers.{Net, number_of}
+use Rattle.net_parts.specs.Numbers.{Net, number_of}
 use Rattle.histories.specs.Histories.{IsLawful, IsUnderWay}
 use Rattle.histories.specs.Progress.{Course, HasCome}
 use Rattle.histories.specs.Steps.{board_steps}

@@ -2,7 +2,7 @@
 use Rattle.std.specs.Prelude.{codes, ℕ, ◌||◌, Bool, if◌then◌else◌, List, [], ◌∷◌, Option, Some, None}
 use Rattle.std.specs.Str.{bytes_eq}
 use Rattle.foundation.specs.Options.{◌>>=◌}
-use Rattle.net_numbers.specs.Numbers.{Net, number_of}
+use Rattle.net_parts.specs.Numbers.{Net, number_of}
 
 -- the kind of a step, and whether a field is one of the four kinds that are passed over
 abbrev pub is_step : List ℕ → Bool

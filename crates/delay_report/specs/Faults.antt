@@ -2,7 +2,7 @@
 use Rattle.std.specs.Prelude.{◌≡◌, ◌≢◌, ℕ, ◌<◌, List, [], ◌∷◌, Some, None, IsSomeAnd}
 use Rattle.std.specs.List.{concat}
 use Rattle.foundation.specs.Options.{each}
-use Rattle.net_numbers.specs.Numbers.{Net, number_of}
+use Rattle.net_parts.specs.Numbers.{Net, number_of}
 use Rattle.histories.specs.Histories.{IsLawful, IsUnderWay}
 use Rattle.histories.specs.Progress.{IsDoneInRound}
 use Rattle.histories.specs.Steps.{board_steps}

@@ -2,7 +2,7 @@
 use Rattle.std.specs.Prelude.{◌≡◌, ℕ, List, [], ◌∷◌, ◌++◌, Option, Some, None}
 use Rattle.std.specs.List.{concat}
 use Rattle.foundation.specs.Options.{each}
-use Rattle.net_numbers.specs.Numbers.{Net}
+use Rattle.net_parts.specs.Numbers.{Net}
 use Rattle.histories.specs.Progress.{Course, HasCome}
 use Rattle.delay_report.specs.declared.faults.HistoryFault.{HistoryFault}
 use Rattle.delay_report.specs.declared.faults.HistoryFault.TheVariants.{NoMemory, Row, Node, Extra, Turn}

@@ -4,7 +4,7 @@ ghost use Rattle.std.specs.Fmt.{decimal};
 ghost use Rattle.std.specs.List.{range_with_len};
 ghost use Rattle.histories.specs.Histories.{IsLawful, round_at, step_at};
 ghost use Rattle.histories.specs.Steps.{board_steps};
-ghost use Rattle.net_numbers.specs.Outline.{link_name_at, node_name_at};
+ghost use Rattle.net_parts.specs.Outline.{link_name_at, node_name_at};
 ghost use Rattle.road_net.specs.Network.{IsNetwork};
 ghost use Rattle.delay_report.specs.Reports.{step_record_at};
 ghost use Rattle.delay_report.specs.Walks.{HasWalkedTo, link_of};

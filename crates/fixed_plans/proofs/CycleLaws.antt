@@ -7,8 +7,8 @@ use Rattle.std.proofs.lemmas.List.Sums.{sum_by-cons, sum_by-le, sum_by-take-le}
 use Rattle.phase_plan.specs.Phases.{IsMarkedAt, IsPhase, IsPlan, between, is_unmarked, no_phase, phase_at}
 use Rattle.phase_plan.specs.declared.Phase.{Phase}
 use Rattle.control_flow.proofs.MarkLaws.{all-round, each-of-range}
-use Rattle.net_numbers.specs.Numbers.{Net}
-use Rattle.net_numbers.specs.Outline.{plan_at}
+use Rattle.net_parts.specs.Numbers.{Net}
+use Rattle.net_parts.specs.Outline.{plan_at}
 use Rattle.fixed_plans.specs.declared.rows.FixedRow.{FixedRow}
 use Rattle.fixed_plans.specs.Cycles.{IsCycle, IsCycleFrom}
 use Rattle.fixed_plans.specs.Lines.{cycle_length, rows_of, span}

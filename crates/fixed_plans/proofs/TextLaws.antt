@@ -4,9 +4,9 @@ use Rattle.std.proofs.lemmas.Option.{same_Some, none-some}
 use Rattle.foundation.specs.Options.{each, ◌>>=◌}
 use Rattle.foundation.proofs.EachLaws.{each-length, each-push}
 use Rattle.foundation.proofs.OptionLaws.{and-at, and-some, bind-some}
-use Rattle.net_numbers.specs.Numbers.{Net, number_of}
-use Rattle.net_numbers.specs.Outline.{plan_at}
-use Rattle.net_numbers.proofs.DraftParts.{number_of-within}
+use Rattle.net_parts.specs.Numbers.{Net, number_of}
+use Rattle.net_parts.specs.Outline.{plan_at}
+use Rattle.net_parts.proofs.DraftParts.{number_of-within}
 use Rattle.road_net.specs.Network.{IsNetwork}
 use Rattle.record_text.specs.Faults.{HasAfterHeader}
 use Rattle.record_text.specs.Walks.{AreCounted, IsFaultAmong, OrMemory}

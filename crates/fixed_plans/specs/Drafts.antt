@@ -1,8 +1,8 @@
 -- The draft of a plan: what it has taken, and what a row adds to it. No public clause names these definitions.
 use Rattle.std.specs.Prelude.{◌≡◌, ℕ, ◌<◌, ◌⊎◌, length, List, [], ◌∷◌, ◌++◌, None, Some, Result, Ok, Err, IsSomeAnd}
 use Rattle.foundation.specs.Options.{each}
-use Rattle.net_numbers.specs.Numbers.{Net, number_of}
-use Rattle.net_numbers.specs.Outline.{plan_at}
+use Rattle.net_parts.specs.Numbers.{Net, number_of}
+use Rattle.net_parts.specs.Outline.{plan_at}
 use Rattle.fixed_plans.specs.declared.drafts.Draft.{Draft}
 use Rattle.fixed_plans.specs.declared.faults.FixedFault.{FixedFault}
 use Rattle.fixed_plans.specs.declared.faults.FixedFault.TheVariants.{NoMemory, Row, Node, Phase, Green, Offset}

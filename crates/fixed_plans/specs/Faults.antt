@@ -1,8 +1,8 @@
 -- Which fixed plan a text stands for, and why it stands for none.
 use Rattle.std.specs.Prelude.{◌≡◌, ◌≢◌, ℕ, List, ◌∷◌, None, Some, IsSomeAnd}
 use Rattle.foundation.specs.Options.{each}
-use Rattle.net_numbers.specs.Numbers.{Net, number_of}
-use Rattle.net_numbers.specs.Outline.{plan_at}
+use Rattle.net_parts.specs.Numbers.{Net, number_of}
+use Rattle.net_parts.specs.Outline.{plan_at}
 use Rattle.record_text.specs.Faults.{HasAfterHeader, IsFirstFault}
 use Rattle.record_text.specs.Records.{records_of}
 use Rattle.fixed_plans.specs.declared.faults.FixedFault.{FixedFault}

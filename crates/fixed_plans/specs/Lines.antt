@@ -5,8 +5,8 @@ use Rattle.std.specs.Option.{option_map}
 use Rattle.phase_plan.specs.Phases.{phase_at}
 use Rattle.phase_plan.specs.declared.Phase.{Phase}
 use Rattle.control_flow.specs.declared.greens.Green.{Green}
-use Rattle.net_numbers.specs.Numbers.{Net}
-use Rattle.net_numbers.specs.Outline.{plan_at}
+use Rattle.net_parts.specs.Numbers.{Net}
+use Rattle.net_parts.specs.Outline.{plan_at}
 use Rattle.net_simulator.specs.Sums.{end_of_run}
 use Rattle.fixed_plans.specs.declared.rows.FixedRow.{FixedRow}
 

@@ -1,7 +1,7 @@
 -- The header, and the row that a record tells.
 use Rattle.std.specs.Prelude.{codes, ℕ, List, [], ◌∷◌, Option, Some, None}
 use Rattle.foundation.specs.Options.{◌>>=◌}
-use Rattle.net_numbers.specs.Numbers.{Net, number_of}
+use Rattle.net_parts.specs.Numbers.{Net, number_of}
 use Rattle.record_text.specs.Decimals.{number_of_digits}
 use Rattle.fixed_plans.specs.declared.rows.FixedRow.{FixedRow}
 

@@ -2,7 +2,7 @@
 ghost use Rattle.std.specs.Prelude.{◌≡◌, ◌+◌, ◌-◌, ◌%◌, ◌<◌, ◌≤◌, ◌++◌, ◌∷◌, [], ℕ, nat_lt, if◌then◌else◌, IfOk, OnOk, length, map, slice_index_or};
 ghost use Rattle.std.specs.List.{range_with_len};
 ghost use Rattle.control_flow.specs.Greens.{IsLawful, end_of};
-ghost use Rattle.net_numbers.specs.Outline.{plan_at};
+ghost use Rattle.net_parts.specs.Outline.{plan_at};
 ghost use Rattle.net_simulator.specs.Sums as sums;
 ghost use Rattle.net_simulator.specs.Worlds.{line_in};
 ghost use Rattle.phase_plan.specs.Phases.{IsPlan};

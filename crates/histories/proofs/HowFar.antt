@@ -9,7 +9,7 @@ use Rattle.histories.specs.declared.steps.BoardStep.{BoardStep}
 use Rattle.histories.specs.Histories.{count, HasRounds, IsUnderWay, IsLawful}
 use Rattle.histories.specs.Progress.{Course, HasCome, IsDoneInRound, IsStuck}
 use Rattle.histories.specs.Steps.{board_steps}
-use Rattle.net_numbers.specs.Numbers.{Net}
+use Rattle.net_parts.specs.Numbers.{Net}
 use Rattle.histories.proofs.Counts.{count-append, count-else, count-one}
 use Rattle.histories.proofs.Rounds.{begun, next, all-done, has-all, step-more, round-more, over-at-once}
 

@@ -1,9 +1,9 @@
 -- Who plays on a link.
 use Rattle.std.proofs.Common.{◌≡◌, ℕ, zero, suc, ◌+◌, ◌<◌, eqb, cond, Bool, true, false, List, [], ◌∷◌, ◌++◌, Option, Some, None, map, filter, get_or, is_some, refl, sym, ap, ◌∙◌, arith, eq-eqb, ne_eqb, append-nil}
 use Rattle.std.proofs.lemmas.List.Elements.{filter-append}
-use Rattle.net_numbers.specs.Numbers.{Net, no_link}
-use Rattle.net_numbers.specs.Outline.{link_at}
-use Rattle.net_numbers.specs.declared.roads.Link.{Link}
+use Rattle.net_parts.specs.Numbers.{Net, no_link}
+use Rattle.net_parts.specs.Outline.{link_at}
+use Rattle.net_parts.specs.declared.roads.Link.{Link}
 use Rattle.road_net.specs.Joins.{is_node, node_at, links_from}
 use Rattle.road_net.specs.Network.{IsNetwork, entry_links, exit_links, heard_links, told_links}
 use Rattle.road_net.proofs.Apart.{apart}

@@ -4,9 +4,9 @@ use Rattle.std.proofs.lemmas.List.{length-map}
 use Rattle.std.specs.Prelude.{IfSome}
 use Rattle.std.specs.List.Sorted.{IsStrictlyIncreasing}
 use Rattle.board_model.proofs.ForBoards.{rising-few}
-use Rattle.net_numbers.specs.Numbers.{Net}
-use Rattle.net_numbers.specs.Outline.{link_at}
-use Rattle.net_numbers.specs.declared.roads.Link.{Link}
+use Rattle.net_parts.specs.Numbers.{Net}
+use Rattle.net_parts.specs.Outline.{link_at}
+use Rattle.net_parts.specs.declared.roads.Link.{Link}
 use Rattle.road_net.specs.Joins.{is_node, node_at, links_from}
 use Rattle.std.proofs.lemmas.List.Elements.{All-tail}
 use Rattle.road_net.specs.Network.{IsNetwork, AreApart, entry_links, exit_links, heard_links, told_links}

@@ -14,8 +14,8 @@ use Rattle.board_model.specs.declared.calls.Call.{Call}
 use Rattle.histories.specs.declared.steps.BoardStep.{BoardStep}
 use Rattle.histories.specs.Calls.{IsRising, AreStepRounds, AreCalls}
 use Rattle.board_model.specs.Boards.{Log}
-use Rattle.net_numbers.specs.Numbers.{Net}
-use Rattle.net_numbers.specs.Outline.{link_at}
+use Rattle.net_parts.specs.Numbers.{Net}
+use Rattle.net_parts.specs.Outline.{link_at}
 use Rattle.road_net.specs.Network.{IsNetwork}
 use Rattle.histories.specs.Histories.{count, HasRounds, IsEntry, IsLawful, version_at}
 use Rattle.histories.specs.Merges.{IsMerge}

@@ -1,7 +1,7 @@
 -- Histories: lists of nodes, one for each board step. Which are lawful, and which step and version stand at a place.
 use Rattle.std.specs.Prelude.{◌+◌, ◌≡◌, ℕ, zero, suc, ◌/◌, ◌%◌, ◌==◌, ◌<◌, ◌≤◌, List, [], ◌++◌, length, take, replicate, count_by, slice_index, slice_index_or}
 use Rattle.std.specs.List.{concat, flat_map, range_with_len}
-use Rattle.net_numbers.specs.Numbers.{Net}
+use Rattle.net_parts.specs.Numbers.{Net}
 use Rattle.histories.specs.declared.steps.BoardStep.{BoardStep}
 use Rattle.histories.specs.declared.steps.BoardStep.TheVariants.{Read}
 use Rattle.histories.specs.Steps.{board_steps, is_publish_of}

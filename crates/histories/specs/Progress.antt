@@ -1,6 +1,6 @@
 -- How far a history has come.
 use Rattle.std.specs.Prelude.{◌≡◌, ℕ, ◌+◌, ◌<◌, ◌++◌, List, ◌∷◌, slice_index_or, length}
-use Rattle.net_numbers.specs.Numbers.{Net}
+use Rattle.net_parts.specs.Numbers.{Net}
 use Rattle.histories.specs.declared.progress.Stop.{Stop}
 use Rattle.histories.specs.declared.progress.Stop.TheVariants.{Over, NotItsTurn}
 use Rattle.histories.specs.Histories.{count, IsLawful, IsUnderWay}

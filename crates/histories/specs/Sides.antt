@@ -1,7 +1,7 @@
 -- The sides of a link. No public clause names these definitions.
 use Rattle.std.specs.Prelude.{ℕ, Bool, is_some}
-use Rattle.net_numbers.specs.Numbers.{Net}
-use Rattle.net_numbers.specs.Outline.{link_at}
+use Rattle.net_parts.specs.Numbers.{Net}
+use Rattle.net_parts.specs.Outline.{link_at}
 use Rattle.histories.specs.declared.steps.BoardStep.{BoardStep}
 use Rattle.histories.specs.declared.steps.BoardStep.TheVariants.{Read, Publish}
 use Rattle.histories.specs.declared.steps.Side.{Side}

@@ -3,7 +3,7 @@ ghost use Rattle.std.specs.Prelude.{◌≡◌, ◌≤◌, ◌<◌, ◌↔◌, �
 ghost use Rattle.histories.specs.Steps.{board_steps};
 ghost use Rattle.histories.specs.Histories as histories;
 ghost use Rattle.histories.specs.Histories.{turns, version_at, CanGoOn, IsLawful, IsOfRound, IsUnderWay};
-ghost use Rattle.net_numbers.specs.Outline.{link_at};
+ghost use Rattle.net_parts.specs.Outline.{link_at};
 
 use crate::progress::Progress;
 use crate::steps::step_count;

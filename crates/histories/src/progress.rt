@@ -53,7 +53,7 @@ impl CrossesThreads for Progress {}
 
 impl Progress {
     ghost use Rattle.std.specs.Prelude.{◌≡◌, ◌↔◌, ◌++◌, ◌∷◌, ℕ, List, [], IfErr, IsTrue, OnErr, OnOk};
-    ghost use Rattle.net_numbers.specs.Numbers.{Net};
+    ghost use Rattle.net_parts.specs.Numbers.{Net};
     ghost use Rattle.road_net.specs.Network.{IsNetwork};
     ghost use Rattle.histories.specs.Histories.{IsLawful};
     ghost use Rattle.histories.specs.Progress.{HasCome, IsStop, IsStuck};

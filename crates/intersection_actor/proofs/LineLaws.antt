@@ -5,7 +5,7 @@ use Rattle.phase_plan.specs.declared.Phase.{Phase}
 use Rattle.switch_rules.specs.declared.Head.{Head}
 use Rattle.control_flow.specs.Greens.{BeginBy, GoesOn, IsLawful, end_of}
 use Rattle.control_flow.specs.declared.greens.Green.{Green}
-use Rattle.net_numbers.specs.Numbers.{Net}
+use Rattle.net_parts.specs.Numbers.{Net}
 use Rattle.road_net.specs.declared.senses.Sensed.{Sensed}
 use Rattle.clusters.specs.Sound.{AreOfNode, ArePlannable, cluster_lists}
 use Rattle.clusters.specs.UnderLoad.{AreExpected}

@@ -2,7 +2,7 @@
 use Rattle.std.proofs.Common.{◌≡◌, ℕ, length-append, List, [], ◌∷◌, ◌++◌, map, drop, length, refl, sym, ap, ◌∙◌, subst}
 use Rattle.std.proofs.lemmas.List.{drop-drop, append_assoc, map-append}
 use Rattle.board_model.specs.declared.boards.Heard.{Heard}
-use Rattle.net_numbers.specs.Numbers.{Net}
+use Rattle.net_parts.specs.Numbers.{Net}
 use Rattle.intersection_actor.specs.Acting.{Acting, reading, with_heard, without_records}
 use Rattle.intersection_actor.specs.Rounds.{IsHearing, IsInRound, IsOf}
 use Rattle.intersection_actor.specs.declared.records.Want.{Want}

@@ -8,8 +8,8 @@ use Rattle.switch_rules.specs.Sequences.{AreNextServings, counts_of}
 use Rattle.switch_rules.specs.declared.Head.{Head}
 use Rattle.control_flow.specs.Greens.{GoesOn, IsContinued, IsLawful, head_at, spliced}
 use Rattle.control_flow.specs.declared.greens.Green.{Green}
-use Rattle.net_numbers.specs.Numbers.{Net}
-use Rattle.net_numbers.specs.Outline.{plan_at, link_at}
+use Rattle.net_parts.specs.Numbers.{Net}
+use Rattle.net_parts.specs.Outline.{plan_at, link_at}
 use Rattle.road_net.specs.Network.{IsNetwork, heard_links, told_links, exit_links}
 use Rattle.clusters.specs.Sound.{cluster_lists}
 use Rattle.clusters.specs.Windows as windows

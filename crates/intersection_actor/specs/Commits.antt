@@ -13,8 +13,8 @@ use Rattle.schedule_meaning.specs.declared.planners.Answer.TheVariants.{Plan, No
 use Rattle.control_flow.specs.Greens.{head_at, spliced}
 use Rattle.control_flow.specs.Timelines.{line_of, rotation_of}
 use Rattle.control_flow.specs.declared.greens.Green.{Green}
-use Rattle.net_numbers.specs.Numbers.{Net}
-use Rattle.net_numbers.specs.Outline.{plan_at}
+use Rattle.net_parts.specs.Numbers.{Net}
+use Rattle.net_parts.specs.Outline.{plan_at}
 use Rattle.road_net.specs.declared.senses.Sensed.{Sensed}
 use Rattle.clusters.specs.Sound.{cluster_lists}
 use Rattle.clusters.specs.UnderLoad.{AreExpected}

@@ -5,8 +5,8 @@ use Rattle.switch_rules.specs.declared.Head.{Head}
 use Rattle.control_flow.specs.Greens.{BeginBy, IsLawful, colour_at, end_of, standing}
 use Rattle.control_flow.specs.Timelines.{rotation_of}
 pub use Rattle.control_flow.specs.Timelines.{first_head}
-use Rattle.net_numbers.specs.Numbers.{Net}
-use Rattle.net_numbers.specs.Outline.{plan_at}
+use Rattle.net_parts.specs.Numbers.{Net}
+use Rattle.net_parts.specs.Outline.{plan_at}
 use Rattle.road_net.specs.Network.{heard_links, told_links}
 use Rattle.road_net.specs.Senses.{IsSensedOf}
 use Rattle.clusters.specs.Sound.{AreOfNode, cluster_lists}

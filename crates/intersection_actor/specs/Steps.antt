@@ -11,8 +11,8 @@ use Rattle.schedule_meaning.specs.Instances.{Problem, counts_of}
 use Rattle.control_flow.specs.Greens.{BeginBy, GoesOn, IsLawful, Joins, end_of, head_at, spliced}
 use Rattle.control_flow.specs.Timelines.{AreServings}
 use Rattle.control_flow.specs.declared.greens.Green.{Green}
-use Rattle.net_numbers.specs.Numbers.{Net}
-use Rattle.net_numbers.specs.Outline.{plan_at}
+use Rattle.net_parts.specs.Numbers.{Net}
+use Rattle.net_parts.specs.Outline.{plan_at}
 use Rattle.road_net.specs.declared.senses.Sensed.{Sensed}
 use Rattle.clusters.specs.Sound.{AreOfNode, ArePlannable, cluster_lists}
 use Rattle.clusters.specs.UnderLoad.{AreExpected}

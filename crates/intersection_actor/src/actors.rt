@@ -65,8 +65,8 @@ impl CrossesThreads for Actor {}
 impl Actor {
     ghost use Rattle.std.specs.Prelude.{◌≡◌, ℕ, ◌+◌, ◌*◌, ◌<◌, ◌≤◌, ◌++◌, IfOk, OnErr, OnOk, length, vec_capacity, vec_len};
     ghost use Rattle.control_flow.specs.Greens.{BeginBy, IsLawful, end_of};
-    ghost use Rattle.net_numbers.specs.Numbers.{Net};
-    ghost use Rattle.net_numbers.specs.Outline.{plan_at};
+    ghost use Rattle.net_parts.specs.Numbers.{Net};
+    ghost use Rattle.net_parts.specs.Outline.{plan_at};
     ghost use Rattle.road_net.specs.Senses.{IsSensedOf};
     ghost use Rattle.intersection_actor.specs.Acting.{IsPublish, at_rest, begun, resting};
     ghost use Rattle.intersection_actor.specs.Acting.{tells_from, told_at, wanting, with_heard, without_records};

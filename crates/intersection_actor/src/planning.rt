@@ -7,7 +7,7 @@ ghost use Rattle.control_flow.specs.Timelines.{AreServings};
 ghost use Rattle.intersection_actor.specs.Commits.{AreServedBy, line_for, phases_of, used_of};
 ghost use Rattle.intersection_actor.specs.Splices.{IsLawAlong, kept_of, record_from};
 ghost use Rattle.intersection_actor.specs.Steps.{AreSoonServed, HasLine, IsExpected, IsNextLine, IsPlanned, IsScheduled};
-ghost use Rattle.net_numbers.specs.Outline.{plan_at};
+ghost use Rattle.net_parts.specs.Outline.{plan_at};
 ghost use Rattle.road_net.specs.Senses.{IsSensedOf};
 ghost use Rattle.schedule_meaning.specs.Best.{IsBest};
 ghost use Rattle.switch_rules.specs.declared.Served.{Served};

@@ -1,6 +1,6 @@
 //! The links on which a node hears and tells others, one after another.
 ghost use Rattle.std.specs.Prelude.{◌≡◌, ◌<◌, All, IfOk, drop, filter, is_some, length};
-ghost use Rattle.net_numbers.specs.Outline.{link_at};
+ghost use Rattle.net_parts.specs.Outline.{link_at};
 ghost use Rattle.std.specs.List.Sorted.{IsStrictlyIncreasing};
 ghost use Rattle.road_net.specs.Network.{exit_links, heard_links};
 ghost use Rattle.intersection_actor.specs.Acting.{reading, tells_from};

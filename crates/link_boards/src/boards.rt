@@ -1,7 +1,8 @@
 //! The boards of all links.
+use crate::rule::BoardRule;
 use crate::slots::{LinkSlot, Settled};
+use crate::views::{Terms, View};
 use atomic_table::{Seat, Table};
-use board_rule::{BoardRule, Terms, View};
 use foundation::threads::CrossesThreads;
 use std::alloc::Global;
 use std::marker::Model;
@@ -26,8 +27,8 @@ pub struct Boards<S: LinkSlot> {
 
 impl<S: LinkSlot> Model for Boards<S> {
     ghost use Rattle.std.specs.Prelude.{◌≡◌, vec_len};
-    ghost use Rattle.board_rule.specs.Passes.{BoardsView, boards_view};
-    ghost use Rattle.board_rule.specs.Gathered.{AreBoards};
+    ghost use Rattle.link_boards.specs.Passes.{BoardsView, boards_view};
+    ghost use Rattle.link_boards.specs.Gathered.{AreBoards};
 
     ghost Value = { BoardsView };
 

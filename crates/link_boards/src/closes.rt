@@ -1,13 +1,13 @@
 //! The boards are closed.
 ghost use Rattle.std.specs.Prelude.{◌≡◌, ◌≤◌, ◌∷◌, ◌++◌, None, [], map, IfOk, IfErr, vec_capacity};
-ghost use Rattle.board_rule.specs.Views.{entry};
-ghost use Rattle.board_rule.specs.Passes.{AreAllPasses, AreLogsOfPasses};
-ghost use Rattle.board_rule.specs.Gathered.{HasPasses};
+ghost use Rattle.link_boards.specs.Views.{entry};
+ghost use Rattle.link_boards.specs.Passes.{AreAllPasses, AreLogsOfPasses};
+ghost use Rattle.link_boards.specs.Gathered.{HasPasses};
 
 use crate::boards::{Boards, Place};
 use crate::pass::Pass;
+use crate::rule::EndPass;
 use crate::slots::LinkSlot;
-use board_rule::EndPass;
 use std::alloc::{AllocError, Global};
 
 impl<S: LinkSlot> Boards<S> {

@@ -1,13 +1,13 @@
 //! Passes meet, by couriers.
 ghost use Rattle.std.specs.Prelude.{◌≡◌, [], max, map, All, IsOk};
-ghost use Rattle.board_rule.specs.Views.{courier, informed};
-ghost use Rattle.board_rule.specs.Passes.{highest, raised};
-ghost use Rattle.board_rule.specs.Gathered.{IsCourier};
+ghost use Rattle.link_boards.specs.Views.{courier, informed};
+ghost use Rattle.link_boards.specs.Passes.{highest, raised};
+ghost use Rattle.link_boards.specs.Gathered.{IsCourier};
 
 use crate::boards::{Boards, Place};
 use crate::pass::Pass;
+use crate::rule::{HearCourier, SendCourier};
 use crate::slots::LinkSlot;
-use board_rule::{HearCourier, SendCourier};
 use std::alloc::AllocError;
 use std::marker::Model;
 
@@ -21,7 +21,7 @@ pub struct Meeting<S: LinkSlot> {
 }
 
 impl<S: LinkSlot> Model for Meeting<S> {
-    ghost use Rattle.board_rule.specs.Gathered.{IsCourier};
+    ghost use Rattle.link_boards.specs.Gathered.{IsCourier};
     ghost use Rattle.link_boards.specs.Meetings.{MeetingView, meeting_view};
 
     ghost Value = { MeetingView };

@@ -1,13 +1,14 @@
 //! The boards and their passes are made.
 ghost use Rattle.std.specs.Prelude.{◌≡◌, ◌<◌, ◌≤◌, ◌+◌, [], IfOk, IfErr, All, length, replicate, vec_len, vec_capacity};
-ghost use Rattle.board_rule.specs.Passes.{AreAllPasses, fresh_pass, fresh_passes};
-ghost use Rattle.board_rule.specs.Gathered.{IsDealer};
+ghost use Rattle.link_boards.specs.Passes.{AreAllPasses, fresh_pass, fresh_passes};
+ghost use Rattle.link_boards.specs.Gathered.{IsDealer};
 
 use crate::boards::{Boards, Place};
 use crate::pass::Pass;
+use crate::rule::DealPass;
 use crate::slots::LinkSlot;
+use crate::views::Terms;
 use atomic_table::{Refused, Table};
-use board_rule::{DealPass, Terms};
 use std::alloc::{AllocError, Global};
 use std::sync::atomic::AtomicU64;
 

@@ -16,8 +16,8 @@ pub struct Pass<S: LinkSlot> {
 }
 
 impl<S: LinkSlot> Model for Pass<S> {
-    ghost use Rattle.board_rule.specs.Passes.{PassView};
-    ghost use Rattle.board_rule.specs.Gathered.{IsPass, pass_view};
+    ghost use Rattle.link_boards.specs.Passes.{PassView};
+    ghost use Rattle.link_boards.specs.Gathered.{IsPass, pass_view};
 
     ghost Value = { PassView };
 
@@ -30,7 +30,7 @@ impl<S: LinkSlot + Send + Sync> CrossesThreads for Pass<S> {}
 
 impl<S: LinkSlot> Pass<S> {
     ghost use Rattle.std.specs.Prelude.{◌≡◌};
-    ghost use Rattle.board_rule.specs.Passes.{AreInOrder};
+    ghost use Rattle.link_boards.specs.Passes.{AreInOrder};
 
     /// Its number, from 0.
     ///

@@ -1,16 +1,16 @@
 //! A publishing.
 ghost use Rattle.std.specs.Prelude.{◌≡◌, ◌<◌, ◌≤◌, ◌+◌, IfOk, IfErr, OnErr, OnOk, MatchResult};
 ghost use Rattle.board_model.specs.Boards.{after_publish, version_of};
-ghost use Rattle.board_rule.specs.Views.{drew_publish};
-ghost use Rattle.board_rule.specs.Plays.{HasDrawn};
-ghost use Rattle.board_rule.specs.Passes.{HasSent};
+ghost use Rattle.link_boards.specs.Views.{drew_publish};
+ghost use Rattle.link_boards.specs.Plays.{HasDrawn};
+ghost use Rattle.link_boards.specs.Passes.{HasSent};
 ghost use Rattle.link_boards.specs.Steps.{HoldsSlot, Holding, CanDraw, CanNote, SentHeld, SentAt, Undrawn, held, held_events};
 
 use crate::boards::{Boards, Place};
 use crate::pass::Pass;
+use crate::rule::{Asked, DrawPublish};
 use crate::slots::LinkSlot;
 use board_model::{Forecast, Gate, Sent};
-use board_rule::{Asked, DrawPublish};
 use std::alloc::AllocError;
 use std::marker::Brand;
 use std::sync::Wait;

@@ -1,17 +1,17 @@
 //! A reading.
 ghost use Rattle.std.specs.Prelude.{◌≡◌, ◌<◌, ◌≤◌, IfOk, OnErr};
 ghost use Rattle.board_model.specs.Boards.{after_read, newest, version_of};
-ghost use Rattle.board_rule.specs.Views.{drew_read};
-ghost use Rattle.board_rule.specs.Plays.{HasDrawn};
-ghost use Rattle.board_rule.specs.Passes.{HasRead};
+ghost use Rattle.link_boards.specs.Views.{drew_read};
+ghost use Rattle.link_boards.specs.Plays.{HasDrawn};
+ghost use Rattle.link_boards.specs.Passes.{HasRead};
 ghost use Rattle.link_boards.specs.Steps.{HoldsSlot, Holding, CanDraw, CanNote, ReadHeld, ReadAt, Undrawn, held, held_events};
 ghost use Rattle.link_boards.specs.Slots.{seen_of};
 
 use crate::boards::{Boards, Place};
 use crate::pass::Pass;
+use crate::rule::DrawRead;
 use crate::slots::LinkSlot;
 use board_model::{Gate, Seen};
-use board_rule::DrawRead;
 use std::alloc::{AllocError, Global};
 use std::sync::Wait;
 use std::thread::Threads;

@@ -1,12 +1,12 @@
 -- The faults of a draft, from those of the steps that number and join it.
 use Rattle.std.proofs.Common.{◌≡◌}
-use Rattle.net_draft.specs.declared.drafts.Draft.{Draft}
-use Rattle.net_draft.specs.declared.faults.NetFault.{NetFault}
-use Rattle.net_draft.specs.declared.faults.NetFault.TheVariants.{NoMemory, NotToml, Shape, Bound, Twice, Unknown, Ends, Crowd, Shares, Phaseless, Clash}
-use Rattle.net_numbers.specs.Bounds.{IsBounded}
-use Rattle.net_numbers.specs.FirstFaults.{FailsBounds, FailsNumbers, Refuses}
-use Rattle.net_numbers.specs.Numbers.{Net}
-use Rattle.net_numbers.specs.Parts.{IsNetOf}
+use Rattle.net_parts.specs.declared.drafts.Draft.{Draft}
+use Rattle.net_parts.specs.declared.faults.NetFault.{NetFault}
+use Rattle.net_parts.specs.declared.faults.NetFault.TheVariants.{NoMemory, NotToml, Shape, Bound, Twice, Unknown, Ends, Crowd, Shares, Phaseless, Clash}
+use Rattle.net_parts.specs.Bounds.{IsBounded}
+use Rattle.net_parts.specs.FirstFaults.{FailsBounds, FailsNumbers, Refuses}
+use Rattle.net_parts.specs.Numbers.{Net}
+use Rattle.net_parts.specs.Parts.{IsNetOf}
 use Rattle.road_net.specs.FirstFaults.{IsJoinFault, IsNumbersOf, IsDraftFault}
 use Rattle.road_net.specs.Network.{IsNetworkOf}
 

@@ -2,20 +2,20 @@
 use Rattle.std.proofs.Common.{◌≡◌, ℕ, ◌-◌, All, Result, Err, IfErr}
 use Rattle.foundation.specs.Firsts.{IsFirstAt, FromOne}
 use Rattle.foundation.proofs.FirstLaws.{FromOne-not}
-use Rattle.net_draft.specs.declared.drafts.Draft.{Draft}
-use Rattle.net_draft.specs.declared.faults.Section.{Section}
-use Rattle.net_draft.specs.declared.faults.Section.TheVariants.{Top, Run, Node, Phase, Link, Turn, Conflict}
-use Rattle.net_draft.specs.declared.faults.Place.{Place}
-use Rattle.net_draft.specs.declared.faults.NetFault.{NetFault}
-use Rattle.net_draft.specs.declared.faults.NetFault.TheVariants.{NoMemory, NotToml, Shape, Bound, Twice, Unknown, Ends, Crowd, Shares, Phaseless, Clash}
-use Rattle.net_numbers.specs.declared.parts.Parts.{Parts}
-use Rattle.net_numbers.specs.FirstFaults.{IsKnownPhase, IsKnownNode, IsKnownTurn, IsKnownLink, IsKnownConflict, IsUnknownInNode, IsUnknownInLink, IsTwiceFault, IsUnknownFault, FailsNumbers, Refuses}
-use Rattle.net_numbers.specs.Numbers.{Net, AreDistinct, node_names, link_names}
+use Rattle.net_parts.specs.declared.drafts.Draft.{Draft}
+use Rattle.net_parts.specs.declared.faults.Section.{Section}
+use Rattle.net_parts.specs.declared.faults.Section.TheVariants.{Top, Run, Node, Phase, Link, Turn, Conflict}
+use Rattle.net_parts.specs.declared.faults.Place.{Place}
+use Rattle.net_parts.specs.declared.faults.NetFault.{NetFault}
+use Rattle.net_parts.specs.declared.faults.NetFault.TheVariants.{NoMemory, NotToml, Shape, Bound, Twice, Unknown, Ends, Crowd, Shares, Phaseless, Clash}
+use Rattle.net_parts.specs.declared.parts.Parts.{Parts}
+use Rattle.net_parts.specs.FirstFaults.{IsKnownPhase, IsKnownNode, IsKnownTurn, IsKnownLink, IsKnownConflict, IsUnknownInNode, IsUnknownInLink, IsTwiceFault, IsUnknownFault, FailsNumbers, Refuses}
+use Rattle.net_parts.specs.Numbers.{Net, AreDistinct, node_names, link_names}
 use Rattle.net_build.specs.Outcome.{IsBoundAt, IsTwiceAt, IsUnknownAt}
-use Rattle.net_numbers.specs.Parts.{IsNetOf}
-use Rattle.net_numbers.proofs.Distinct.{IsFirstTwice-not}
-use Rattle.net_numbers.proofs.DraftParts.{IsNumbered, numbered-parts}
-use Rattle.net_numbers.proofs.Known.{nodes-known, links-known, conflicts-known}
+use Rattle.net_parts.specs.Parts.{IsNetOf}
+use Rattle.net_parts.proofs.Distinct.{IsFirstTwice-not}
+use Rattle.net_parts.proofs.DraftParts.{IsNumbered, numbered-parts}
+use Rattle.net_parts.proofs.Known.{nodes-known, links-known, conflicts-known}
 
 -- what the fault of a part says of the whole
 pub IsBoundAt-weaker : (why why' : Place → Type 0) (fault : NetFault) → ((place : Place) → why place → why' place) → IsBoundAt why fault → IsBoundAt why' fault

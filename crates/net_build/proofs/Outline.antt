@@ -8,18 +8,18 @@ use Rattle.phase_plan.specs.Phases.{IsPlan}
 use Rattle.foundation.specs.Options.{each}
 use Rattle.foundation.proofs.OptionLaws.{bind-some}
 use Rattle.foundation.proofs.EachLaws.{each-length, each-at, each-All}
-use Rattle.net_draft.specs.declared.drafts.Draft.{Draft}
-use Rattle.net_draft.specs.declared.drafts.DraftNode.{DraftNode}
-use Rattle.net_draft.specs.declared.drafts.DraftPhase.{DraftPhase}
-use Rattle.net_draft.specs.declared.drafts.DraftLink.{DraftLink}
-use Rattle.net_draft.specs.declared.drafts.DraftTurn.{DraftTurn}
-use Rattle.net_draft.specs.declared.drafts.DraftConflict.{DraftConflict}
-use Rattle.net_numbers.specs.declared.roads.Link.{Link}
-use Rattle.net_numbers.specs.declared.roads.Turn.{Turn}
-use Rattle.net_numbers.specs.Bounds.{IsName, IsBounded, IsBoundedNode, IsBoundedPhase, IsBoundedLink, IsBoundedTurn}
-use Rattle.net_numbers.specs.Numbers.{Net, no_link, AreDistinct, number_of, number_if, phase_of, plan_of, phases_of, link_of, turn_of, turns_of, conflict_of, node_names, link_names, numbered}
-use Rattle.net_numbers.specs.Outline.{IsOutline, IsLink, AreTurns, ArePhaseLinks, phases_at, plan_at, link_at}
-use Rattle.net_numbers.proofs.DraftParts.{IsNumbered, numbered-parts, number_of-within, number_if-within, number_of-own}
+use Rattle.net_parts.specs.declared.drafts.Draft.{Draft}
+use Rattle.net_parts.specs.declared.drafts.DraftNode.{DraftNode}
+use Rattle.net_parts.specs.declared.drafts.DraftPhase.{DraftPhase}
+use Rattle.net_parts.specs.declared.drafts.DraftLink.{DraftLink}
+use Rattle.net_parts.specs.declared.drafts.DraftTurn.{DraftTurn}
+use Rattle.net_parts.specs.declared.drafts.DraftConflict.{DraftConflict}
+use Rattle.net_parts.specs.declared.roads.Link.{Link}
+use Rattle.net_parts.specs.declared.roads.Turn.{Turn}
+use Rattle.net_parts.specs.Bounds.{IsName, IsBounded, IsBoundedNode, IsBoundedPhase, IsBoundedLink, IsBoundedTurn}
+use Rattle.net_parts.specs.Numbers.{Net, no_link, AreDistinct, number_of, number_if, phase_of, plan_of, phases_of, link_of, turn_of, turns_of, conflict_of, node_names, link_names, numbered}
+use Rattle.net_parts.specs.Outline.{IsOutline, IsLink, AreTurns, ArePhaseLinks, phases_at, plan_at, link_at}
+use Rattle.net_parts.proofs.DraftParts.{IsNumbered, numbered-parts, number_of-within, number_if-within, number_of-own}
 use Rattle.net_build.proofs.Plans.{IsPlan-from_bounds}
 
 anything : {X : Type 0} (xs : List X) → All (λ _. ⊤) xs

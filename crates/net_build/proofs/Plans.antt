@@ -4,8 +4,8 @@ use Rattle.std.proofs.lemmas.List.{length-map}
 use Rattle.std.proofs.lemmas.List.Sums.{sum_by-cons}
 use Rattle.std.proofs.lemmas.List.Elements.{All-map}
 use Rattle.phase_plan.specs.Phases.{IsPhase, IsPlan, is_unmarked}
-use Rattle.net_draft.specs.declared.drafts.DraftPhase.{DraftPhase}
-use Rattle.net_numbers.specs.Bounds.{IsBoundedPhase}
+use Rattle.net_parts.specs.declared.drafts.DraftPhase.{DraftPhase}
+use Rattle.net_parts.specs.Bounds.{IsBoundedPhase}
 
 unmarked-same : (phases : List DraftPhase) → count_by is_unmarked (map (λ p. p.phase) phases) ≡ count_by (λ p. is_unmarked p.phase) phases
 unmarked-same [] = refl

@@ -5,23 +5,23 @@ use Rattle.foundation.specs.Firsts.{IsFirstAt, IsFirstNot, FromOne}
 use Rattle.foundation.specs.Options.{each}
 use Rattle.foundation.proofs.EachLaws.{each-length}
 use Rattle.phase_plan.specs.declared.Phase.{Phase}
-use Rattle.net_draft.specs.declared.drafts.Draft.{Draft}
-use Rattle.net_draft.specs.declared.drafts.DraftNode.{DraftNode}
-use Rattle.net_draft.specs.declared.drafts.DraftLink.{DraftLink}
-use Rattle.net_draft.specs.declared.drafts.DraftConflict.{DraftConflict}
-use Rattle.net_draft.specs.declared.faults.Section.TheVariants.{Phase as AtPhase, Conflict as AtConflict}
-use Rattle.net_draft.specs.declared.faults.NetFault.{NetFault}
-use Rattle.net_numbers.specs.declared.roads.Link.{Link}
-use Rattle.net_numbers.specs.declared.roads.Turn.{Turn}
-use Rattle.net_numbers.specs.Bounds.{IsBoundedNode}
-use Rattle.net_numbers.specs.FirstFaults.{FailsNumbers, IsKnownNode, IsKnownLink, IsKnownConflict, IsUnknownInNode, IsUnknownInLink, IsUnknownFault}
-use Rattle.net_numbers.specs.Numbers.{Net, AreDistinct, phases_of, plan_of, conflict_of, roads_of, node_names, link_names, numbered}
+use Rattle.net_parts.specs.declared.drafts.Draft.{Draft}
+use Rattle.net_parts.specs.declared.drafts.DraftNode.{DraftNode}
+use Rattle.net_parts.specs.declared.drafts.DraftLink.{DraftLink}
+use Rattle.net_parts.specs.declared.drafts.DraftConflict.{DraftConflict}
+use Rattle.net_parts.specs.declared.faults.Section.TheVariants.{Phase as AtPhase, Conflict as AtConflict}
+use Rattle.net_parts.specs.declared.faults.NetFault.{NetFault}
+use Rattle.net_parts.specs.declared.roads.Link.{Link}
+use Rattle.net_parts.specs.declared.roads.Turn.{Turn}
+use Rattle.net_parts.specs.Bounds.{IsBoundedNode}
+use Rattle.net_parts.specs.FirstFaults.{FailsNumbers, IsKnownNode, IsKnownLink, IsKnownConflict, IsUnknownInNode, IsUnknownInLink, IsUnknownFault}
+use Rattle.net_parts.specs.Numbers.{Net, AreDistinct, phases_of, plan_of, conflict_of, roads_of, node_names, link_names, numbered}
 use Rattle.net_build.specs.Outcome.{IsUnknownAt, Makes}
-use Rattle.net_numbers.specs.Parts.{IsNetOf}
+use Rattle.net_parts.specs.Parts.{IsNetOf}
 use Rattle.net_build.specs.Stages.{AreNames, AreTables}
-use Rattle.net_numbers.proofs.DraftParts.{roads_parts}
+use Rattle.net_parts.proofs.DraftParts.{roads_parts}
 use Rattle.net_build.proofs.FirstFaults.{FailsNumbers-unknown, IsUnknownAt-weaker, IsUnknownFault-link}
-use Rattle.net_numbers.proofs.Known.{nodes-known, links-known, own_names}
+use Rattle.net_parts.proofs.Known.{nodes-known, links-known, own_names}
 use Rattle.net_build.proofs.Outline.{phases-few}
 
 -- the network of a draft with these lists

@@ -1,12 +1,12 @@
 -- What the steps from a draft to a network answer. No public clause names these words.
 use Rattle.std.specs.Prelude.{◌≡◌, ℕ, List, Option, Some, Result, Ok, Err}
 use Rattle.foundation.specs.Firsts.{FromOne}
-use Rattle.net_draft.specs.declared.faults.Section.{Section}
-use Rattle.net_draft.specs.declared.faults.Place.{Place}
-use Rattle.net_draft.specs.declared.faults.NetFault.{NetFault}
-use Rattle.net_draft.specs.declared.faults.NetFault.TheVariants.{NoMemory, Bound, Twice, Unknown}
-use Rattle.net_numbers.specs.FirstFaults.{IsFirstTwice}
-use Rattle.net_numbers.specs.Numbers.{AreDistinct}
+use Rattle.net_parts.specs.declared.faults.Section.{Section}
+use Rattle.net_parts.specs.declared.faults.Place.{Place}
+use Rattle.net_parts.specs.declared.faults.NetFault.{NetFault}
+use Rattle.net_parts.specs.declared.faults.NetFault.TheVariants.{NoMemory, Bound, Twice, Unknown}
+use Rattle.net_parts.specs.FirstFaults.{IsFirstTwice}
+use Rattle.net_parts.specs.Numbers.{AreDistinct}
 
 -- the fault is `Bound`, at a place where `why` holds
 abbrev pub IsBoundAt : (Place → Type 0) → NetFault → Type 0

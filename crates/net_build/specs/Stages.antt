@@ -1,9 +1,9 @@
 -- The stages from a draft to its numbers. No public clause names these words.
 use Rattle.std.specs.Prelude.{◌≡◌, ℕ, List, Some}
 use Rattle.foundation.specs.Options.{each}
-use Rattle.net_draft.specs.declared.drafts.Draft.{Draft}
+use Rattle.net_parts.specs.declared.drafts.Draft.{Draft}
 use Rattle.net_build.specs.declared.numbering.Lists.{Lists}
-use Rattle.net_numbers.specs.Numbers.{Net, AreDistinct, phases_of, node_names, link_names}
+use Rattle.net_parts.specs.Numbers.{Net, AreDistinct, phases_of, node_names, link_names}
 
 -- the names of the nodes and the links of a draft, no two of which are the same
 pub record AreNames (d : Draft) (ns ls : List (List ℕ)) : Type 0 where

@@ -3,10 +3,10 @@ ghost use Rattle.std.specs.Prelude.{◌≡◌, ◌≤◌, ◌↔◌, OnOk, IfErr
 ghost use Rattle.foundation.specs.Firsts.{IsFirstAt, IsFirstNot, FromOne};
 ghost use Rattle.phase_plan.specs.Phases.{is_unmarked};
 ghost use Rattle.net_build.specs.Outcome.{Checks};
-ghost use Rattle.net_numbers.specs.FirstFaults.{IsNodeFault, IsLinkFault, FailsBounds, Refuses};
-ghost use Rattle.net_numbers.specs.Bounds.{IsNameByte, IsName, IsRun, HasCounts, HasNodeBounds, HasLinkBounds, IsBoundedPhase, IsBoundedNode, IsBoundedTurn, IsBoundedLink, IsBounded};
+ghost use Rattle.net_parts.specs.FirstFaults.{IsNodeFault, IsLinkFault, FailsBounds, Refuses};
+ghost use Rattle.net_parts.specs.Bounds.{IsNameByte, IsName, IsRun, HasCounts, HasNodeBounds, HasLinkBounds, IsBoundedPhase, IsBoundedNode, IsBoundedTurn, IsBoundedLink, IsBounded};
 
-use net_draft::{
+use net_parts::{
     Draft, DraftLink, DraftNode, DraftPhase, DraftTurn, NetFault, Place, Run, Section,
 };
 

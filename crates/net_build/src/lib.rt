@@ -2,8 +2,8 @@
 #![tactic(auto)]
 
 ghost use Rattle.std.specs.Prelude.{IfOk, IfErr};
-ghost use Rattle.net_numbers.specs.FirstFaults.{Refuses};
-ghost use Rattle.net_numbers.specs.Numbers.{Net};
+ghost use Rattle.net_parts.specs.FirstFaults.{Refuses};
+ghost use Rattle.net_parts.specs.Numbers.{Net};
 ghost use Rattle.road_net.specs.FirstFaults.{IsDraftFault};
 ghost use Rattle.road_net.specs.Network.{IsNetworkOf};
 
@@ -11,7 +11,7 @@ mod bounds;
 mod numbering;
 
 use bounds::check_bounds;
-use net_draft::{Draft, NetFault};
+use net_parts::{Draft, NetFault};
 use numbering::number_draft;
 use road_net::{Network, join_parts};
 use std::alloc::Global;

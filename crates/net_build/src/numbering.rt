@@ -3,20 +3,17 @@ ghost use Rattle.std.specs.Prelude.{◌≡◌, ◌≤◌, ◌<◌, [], Some, IfO
 ghost use Rattle.foundation.specs.Firsts.{IsFirstAt, IsFirstNot, FromOne};
 ghost use Rattle.foundation.specs.Options.{each};
 ghost use Rattle.phase_plan.specs.Phases.{is_unmarked};
-ghost use Rattle.net_numbers.specs.Bounds.{IsBoundedNode, IsBoundedPhase, IsBounded};
-ghost use Rattle.net_numbers.specs.FirstFaults.{IsKnownPhase, IsKnownNode, HasKnownEnds, IsKnownTurn, IsKnownLink, IsKnownConflict, IsUnknownInNode, IsUnknownInLink, IsUnknownFault, FailsNumbers, Refuses};
+ghost use Rattle.net_parts.specs.Bounds.{IsBoundedNode, IsBoundedPhase, IsBounded};
+ghost use Rattle.net_parts.specs.FirstFaults.{IsKnownPhase, IsKnownNode, HasKnownEnds, IsKnownTurn, IsKnownLink, IsKnownConflict, IsUnknownInNode, IsUnknownInLink, IsUnknownFault, FailsNumbers, Refuses};
 ghost use Rattle.net_build.specs.Outcome.{AreAdded, Makes};
-ghost use Rattle.net_numbers.specs.Numbers as spec;
-ghost use Rattle.net_numbers.specs.Numbers.{Net, number_of, number_if};
-ghost use Rattle.net_numbers.specs.Parts.{net_of, IsNetOf};
+ghost use Rattle.net_parts.specs.Numbers as spec;
+ghost use Rattle.net_parts.specs.Numbers.{Net, number_of, number_if};
+ghost use Rattle.net_parts.specs.Parts.{net_of, IsNetOf};
 ghost use Rattle.net_build.specs.Stages.{AreNames, AreTables, net_with};
 
 use foundation::items::Items;
 use foundation::text::Text;
-use net_draft::{
-    Draft, DraftConflict, DraftLink, DraftNode, DraftPhase, DraftTurn, NetFault, Place, Section,
-};
-use net_numbers::{Link, Names, Parts, Turn, phase_with};
+use net_parts::{Draft, DraftConflict, DraftLink, DraftNode, DraftPhase, DraftTurn, Link, Names, NetFault, Parts, Place, Section, Turn, phase_with};
 use phase_plan::{Phase, PhasePlan};
 use std::alloc::{AllocError, Global};
 
@@ -235,7 +232,7 @@ struct Tables<'a> {
 }
 
 /// The links, and the turns of each.
-#[tactic(auto, unfolding(net_numbers::specs::Numbers::roads_of))]
+#[tactic(auto, unfolding(net_parts::specs::Numbers::roads_of))]
 fn roads(
     alloc: Global,
     names: &Tables,
@@ -264,7 +261,7 @@ fn roads(
 }
 
 /// A link by numbers.
-#[tactic(auto, unfolding(net_numbers::specs::Numbers::link_of))]
+#[tactic(auto, unfolding(net_parts::specs::Numbers::link_of))]
 fn road(names: &Tables, link: &DraftLink, place: Place) -> Result<Link, NetFault>
     requires nodes { length names.now.nodes.now ≤ length names.now.phase_links.now }
     requires phases { All (λ phases. length phases ≤ 4) names.now.phase_links.now }
@@ -322,7 +319,7 @@ fn turns(
 }
 
 /// A turn by numbers.
-#[tactic(auto, unfolding(net_numbers::specs::Numbers::turn_of))]
+#[tactic(auto, unfolding(net_parts::specs::Numbers::turn_of))]
 fn turn_of(names: &Names, turn: &DraftTurn, place: Place) -> Result<Turn, NetFault>
     ensures { Makes (λ turn. turn) result (spec.turn_of names.now turn.now)
         (λ at_fault. (at_fault ≡ place) × ¬ IsKnownTurn names.now turn.now) }
@@ -355,7 +352,7 @@ fn conflicts(
 }
 
 /// A conflict by numbers.
-#[tactic(auto, unfolding(net_numbers::specs::Numbers::conflict_of))]
+#[tactic(auto, unfolding(net_parts::specs::Numbers::conflict_of))]
 fn conflict_of(
     names: &Names,
     conflict: &DraftConflict,

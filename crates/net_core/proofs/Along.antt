@@ -13,7 +13,7 @@ use Rattle.histories.proofs.HowFar.{lawful-cut}
 use Rattle.histories.proofs.Rounds.{all-done, next}
 use Rattle.histories.proofs.StepLaws.{steps-beyond}
 use Rattle.intersection_actor.specs.declared.records.Want.TheVariants.{Done}
-use Rattle.net_numbers.specs.Numbers.{Net}
+use Rattle.net_parts.specs.Numbers.{Net}
 use Rattle.road_net.specs.Network.{IsNetwork}
 use Rattle.net_core.specs.Cores.{Course, IsStepFault, IsWanted, wanted_step}
 use Rattle.net_core.specs.declared.faults.StepFault.{StepFault}

@@ -4,7 +4,7 @@ use Rattle.arrivals.specs.Amounts.{Amounts, entering}
 use Rattle.runs.specs.Ending.{IsRecordOf, records_in}
 use Rattle.runs.proofs.EndedRecords.{last-room, run-by}
 use Rattle.histories.specs.Histories.{IsLawful}
-use Rattle.net_numbers.specs.Numbers.{Net}
+use Rattle.net_parts.specs.Numbers.{Net}
 use Rattle.road_net.specs.Network.{IsNetwork}
 use Rattle.runs.proofs.Resting.{no_acting}
 use Rattle.runs.specs.Runs.{IsRun}

@@ -16,8 +16,8 @@ use Rattle.intersection_actor.specs.Rounds.{IsCommitted, IsOf, KeepsPast}
 use Rattle.intersection_actor.specs.declared.records.PlanRecord.{PlanRecord}
 use Rattle.intersection_actor.specs.declared.records.Want.{Want}
 use Rattle.intersection_actor.specs.declared.records.Want.TheVariants.{Publish, Done}
-use Rattle.net_numbers.specs.Numbers.{Net}
-use Rattle.net_numbers.specs.Outline.{link_at}
+use Rattle.net_parts.specs.Numbers.{Net}
+use Rattle.net_parts.specs.Outline.{link_at}
 use Rattle.road_net.specs.Network.{IsNetwork, exit_links, heard_links, told_links}
 use Rattle.road_net.specs.declared.senses.Sensed.{Sensed}
 use Rattle.runs.specs.Runs.{Commits, line_before, sensed_in}

@@ -12,8 +12,8 @@ use Rattle.histories.proofs.Rounds.{rounds-count}
 use Rattle.histories.proofs.StepLaws.{steps-beyond}
 use Rattle.histories.proofs.TurnOrder.{IsBegun, begun-on}
 use Rattle.histories.proofs.Versions.{made, made-within, version-is, version-more}
-use Rattle.net_numbers.specs.Numbers.{Net}
-use Rattle.net_numbers.specs.Outline.{link_at}
+use Rattle.net_parts.specs.Numbers.{Net}
+use Rattle.net_parts.specs.Outline.{link_at}
 use Rattle.road_net.specs.Network.{IsNetwork, heard_links}
 use Rattle.runs.proofs.Places.{StandsAt, once, others, published, read-first, step-of}
 use Rattle.runs.proofs.Heard.{Ends, heard-ends}

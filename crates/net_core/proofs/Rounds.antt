@@ -9,7 +9,7 @@ use Rattle.intersection_actor.specs.Commits.{Commitment}
 use Rattle.intersection_actor.specs.Rounds.{IsCommitted, IsOf, KeepsPast}
 use Rattle.intersection_actor.specs.declared.records.Want.TheVariants.{Commit}
 use Rattle.intersection_actor.specs.declared.records.PlanRecord.{PlanRecord}
-use Rattle.net_numbers.specs.Numbers.{Net}
+use Rattle.net_parts.specs.Numbers.{Net}
 use Rattle.net_simulator.specs.Arriving.{arriving_of}
 use Rattle.net_simulator.specs.Flow.{past_of}
 use Rattle.net_simulator.specs.Senses.{sense}

@@ -8,9 +8,9 @@ use Rattle.histories.specs.Histories.{version_at}
 use Rattle.histories.specs.Steps.{board_steps}
 use Rattle.intersection_actor.specs.Acting.{Acting}
 use Rattle.intersection_actor.specs.declared.records.PlanRecord.{PlanRecord}
-use Rattle.net_numbers.specs.Numbers.{Net, no_link}
-use Rattle.net_numbers.specs.Outline.{link_at}
-use Rattle.net_numbers.specs.declared.roads.Link.{Link}
+use Rattle.net_parts.specs.Numbers.{Net, no_link}
+use Rattle.net_parts.specs.Outline.{link_at}
+use Rattle.net_parts.specs.declared.roads.Link.{Link}
 use Rattle.net_simulator.specs.Arriving.{arriving_of}
 use Rattle.net_simulator.specs.Worlds.{WorldState, Stands}
 use Rattle.road_net.specs.Network.{IsNetwork}

@@ -4,7 +4,7 @@ use Rattle.std.proofs.lemmas.Bool.{eq-eqb, eqb-true}
 use Rattle.arrivals.specs.Amounts.{Amounts}
 use Rattle.intersection_actor.specs.Acting.{Acting}
 use Rattle.intersection_actor.specs.declared.records.Want.TheVariants.{Done}
-use Rattle.net_numbers.specs.Numbers.{Net}
+use Rattle.net_parts.specs.Numbers.{Net}
 use Rattle.road_net.specs.Network.{IsNetwork}
 use Rattle.histories.specs.Histories.{IsLawful}
 use Rattle.runs.proofs.Resting.{no_acting}

@@ -16,7 +16,7 @@ use Rattle.histories.proofs.StepLaws.{step-count}
 use Rattle.intersection_actor.specs.Acting.{Acting}
 use Rattle.intersection_actor.specs.declared.records.Want.{Want}
 use Rattle.intersection_actor.specs.declared.records.Want.TheVariants.{Done}
-use Rattle.net_numbers.specs.Numbers.{Net}
+use Rattle.net_parts.specs.Numbers.{Net}
 use Rattle.road_net.specs.Network.{IsNetwork, heard_links, told_links}
 use Rattle.net_core.specs.Cores.{IsWanted, wanted_step}
 use Rattle.net_core.specs.States.{AreBetween, AreGoing, AreInRound, IsOpen, Plays}

@@ -5,7 +5,7 @@ use Rattle.intersection_actor.specs.Acting.{Acting, resting, wanting}
 use Rattle.intersection_actor.specs.Rounds.{IsCommitted, KeepsPast}
 use Rattle.intersection_actor.specs.declared.records.Want.{Want}
 use Rattle.intersection_actor.specs.declared.records.Want.TheVariants.{Read, Commit, Publish, Done}
-use Rattle.net_numbers.specs.Numbers.{Net}
+use Rattle.net_parts.specs.Numbers.{Net}
 
 -- a node that wants this commits at once where it has read all, and else stays as it is
 abbrev pub Settles : Net → Want → Acting → Acting → Type 0

@@ -7,7 +7,7 @@ use Rattle.histories.specs.declared.steps.BoardStep.{BoardStep}
 use Rattle.histories.specs.declared.steps.BoardStep.TheVariants as steps
 use Rattle.intersection_actor.specs.declared.records.Want.{Want}
 use Rattle.intersection_actor.specs.declared.records.Want.TheVariants.{Read, Publish, Done}
-use Rattle.net_numbers.specs.Numbers.{Net}
+use Rattle.net_parts.specs.Numbers.{Net}
 use Rattle.net_core.specs.declared.faults.StepFault.{StepFault}
 use Rattle.net_core.specs.declared.faults.StepFault.TheVariants.{UnknownNode, Spent, Over, NotItsTurn, NoMemory}
 

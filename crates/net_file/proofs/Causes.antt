@@ -3,11 +3,11 @@ use Rattle.std.proofs.Common.{◌≡◌, ℕ, List, Result, Ok, Err, IfErr, ap, 
 use Rattle.std.proofs.lemmas.Option.{same_Some, none-some}
 use Rattle.net_tables.specs.Faults.{Unless}
 use Rattle.net_tables.specs.Table.{draft_of, HasKnownVersion}
-use Rattle.net_draft.specs.declared.drafts.Draft.{Draft}
-use Rattle.net_draft.specs.declared.faults.NetFault.{NetFault}
-use Rattle.net_draft.specs.declared.faults.NetFault.TheVariants.{NoMemory, NotToml, Shape, Bound, Twice, Unknown, Ends, Crowd, Shares, Phaseless, Clash}
-use Rattle.net_numbers.specs.Numbers.{Net}
-use Rattle.net_numbers.specs.FirstFaults.{Refuses}
+use Rattle.net_parts.specs.declared.drafts.Draft.{Draft}
+use Rattle.net_parts.specs.declared.faults.NetFault.{NetFault}
+use Rattle.net_parts.specs.declared.faults.NetFault.TheVariants.{NoMemory, NotToml, Shape, Bound, Twice, Unknown, Ends, Crowd, Shares, Phaseless, Clash}
+use Rattle.net_parts.specs.Numbers.{Net}
+use Rattle.net_parts.specs.FirstFaults.{Refuses}
 use Rattle.road_net.specs.FirstFaults.{IsDraftFault}
 use Rattle.road_net.specs.Network.{IsNetworkOf}
 use Rattle.net_file.specs.NetworkText.{IsDraftText, IsNetworkText, IsCause, HasNoNetwork}

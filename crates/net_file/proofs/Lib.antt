@@ -1,5 +1,12 @@
 pub mod Causes
+pub mod DraftTables
+pub mod ItemLaws
+pub mod LinkLaws
+pub mod MemberLaws
 pub mod NamedLaws
+pub mod PhaseLaws
 pub mod ReadingLaws
-pub mod Tables
+pub mod RunLaws
+pub mod TableLaws
+pub mod TopLaws
 pub mod Written

@@ -5,16 +5,16 @@ use Rattle.std.proofs.lemmas.List.FromFn.{length-map-range_with_len}
 use Rattle.std.proofs.lemmas.List.Elements.{All-map}
 use Rattle.foundation.specs.Options.{each}
 use Rattle.phase_plan.specs.Phases.{IsPlan, is_unmarked, no_phase}
-use Rattle.net_draft.specs.declared.drafts.Draft.{Draft}
-use Rattle.net_draft.specs.declared.drafts.DraftNode.{DraftNode}
-use Rattle.net_draft.specs.declared.drafts.DraftPhase.{DraftPhase}
-use Rattle.net_draft.specs.declared.drafts.DraftLink.{DraftLink}
-use Rattle.net_numbers.specs.declared.roads.Turn.{Turn}
-use Rattle.net_numbers.specs.Bounds.{IsBounded, IsBoundedNode, IsBoundedPhase, IsBoundedLink, IsBoundedTurn}
-use Rattle.net_numbers.specs.Numbers.{Net, AreDistinct, no_link, number_of, number_if, plan_of, phases_of, link_of, turn_of, turns_of, conflict_of, roads_of, node_names, link_names, numbered}
-use Rattle.net_numbers.specs.Outline.{IsOutline, IsLink, AreTurns, ArePhaseLinks, link_at, turns_at, plan_at, phases_at}
-use Rattle.net_numbers.specs.Parts.{IsNetOf}
-use Rattle.net_numbers.proofs.DraftParts.{IsNumbered, number_of-own}
+use Rattle.net_parts.specs.declared.drafts.Draft.{Draft}
+use Rattle.net_parts.specs.declared.drafts.DraftNode.{DraftNode}
+use Rattle.net_parts.specs.declared.drafts.DraftPhase.{DraftPhase}
+use Rattle.net_parts.specs.declared.drafts.DraftLink.{DraftLink}
+use Rattle.net_parts.specs.declared.roads.Turn.{Turn}
+use Rattle.net_parts.specs.Bounds.{IsBounded, IsBoundedNode, IsBoundedPhase, IsBoundedLink, IsBoundedTurn}
+use Rattle.net_parts.specs.Numbers.{Net, AreDistinct, no_link, number_of, number_if, plan_of, phases_of, link_of, turn_of, turns_of, conflict_of, roads_of, node_names, link_names, numbered}
+use Rattle.net_parts.specs.Outline.{IsOutline, IsLink, AreTurns, ArePhaseLinks, link_at, turns_at, plan_at, phases_at}
+use Rattle.net_parts.specs.Parts.{IsNetOf}
+use Rattle.net_parts.proofs.DraftParts.{IsNumbered, number_of-own}
 use Rattle.net_file.specs.ByNames.{name_in, AreNumbers, phase_by_names, node_by_names, turn_by_names, link_by_names, conflict_by_names, draft_by_names}
 use Rattle.net_file.proofs.ReadingLaws.{each-range, each-own, map-range, All-range, count_by-map}
 

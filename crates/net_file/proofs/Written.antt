@@ -1,10 +1,10 @@
 -- The text of a network's draft by names is a text of that network.
 use Rattle.std.proofs.Common.{◌≡◌, ℕ, List}
-use Rattle.net_draft.specs.declared.drafts.Draft.{Draft}
-use Rattle.net_numbers.specs.Numbers.{Net}
+use Rattle.net_parts.specs.declared.drafts.Draft.{Draft}
+use Rattle.net_parts.specs.Numbers.{Net}
 use Rattle.net_file.specs.ByNames.{draft_by_names}
 use Rattle.net_file.proofs.NamedLaws.{named}
-use Rattle.net_text.specs.Written.{IsTextOfDraft}
+use Rattle.net_file.specs.Written.{IsTextOfDraft}
 use Rattle.road_net.specs.Network.{IsNetwork, IsNetworkOf}
 use Rattle.net_file.specs.Upgrade.{IsUpgraded}
 

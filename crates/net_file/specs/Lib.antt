@@ -1,4 +1,6 @@
 pub mod ByNames
+pub mod Members
 pub mod NetworkText
 pub mod Reading
 pub mod Upgrade
+pub mod Written

@@ -2,14 +2,14 @@
 use Rattle.std.specs.Prelude.{◌≡◌, ℕ, ◌⊎◌, List, Some, IsSome, IsUtf8, None}
 use Rattle.toml.specs.Data.{Members}
 use Rattle.toml.specs.Parse.{parse_document}
-use Rattle.net_draft.specs.declared.faults.Place.{Place}
-use Rattle.net_draft.specs.declared.faults.Section.TheVariants.{Top}
-use Rattle.net_draft.specs.declared.drafts.Draft.{Draft}
-use Rattle.net_draft.specs.declared.faults.NetFault.{NetFault}
-use Rattle.net_draft.specs.declared.faults.NetFault.TheVariants.{NoMemory, NotToml, Shape, Bound}
+use Rattle.net_parts.specs.declared.faults.Place.{Place}
+use Rattle.net_parts.specs.declared.faults.Section.TheVariants.{Top}
+use Rattle.net_parts.specs.declared.drafts.Draft.{Draft}
+use Rattle.net_parts.specs.declared.faults.NetFault.{NetFault}
+use Rattle.net_parts.specs.declared.faults.NetFault.TheVariants.{NoMemory, NotToml, Shape, Bound}
 use Rattle.net_tables.specs.FirstShape.{IsShapeFault}
 use Rattle.net_tables.specs.Table.{draft_of, HasKnownVersion}
-use Rattle.net_numbers.specs.Numbers.{Net}
+use Rattle.net_parts.specs.Numbers.{Net}
 use Rattle.road_net.specs.FirstFaults.{IsDraftFault}
 use Rattle.road_net.specs.Network.{IsNetworkOf}
 

@@ -1,9 +1,9 @@
 -- What reading a text answers. No public clause names this definition.
 use Rattle.std.specs.Prelude.{◌≡◌, ℕ, List, None, Result, Ok, Err, IsUtf8}
 use Rattle.toml.specs.Parse.{parse_document}
-use Rattle.net_draft.specs.declared.drafts.Draft.{Draft}
-use Rattle.net_draft.specs.declared.faults.NetFault.{NetFault}
-use Rattle.net_draft.specs.declared.faults.NetFault.TheVariants.{NoMemory, NotToml, Shape, Bound}
+use Rattle.net_parts.specs.declared.drafts.Draft.{Draft}
+use Rattle.net_parts.specs.declared.faults.NetFault.{NetFault}
+use Rattle.net_parts.specs.declared.faults.NetFault.TheVariants.{NoMemory, NotToml, Shape, Bound}
 use Rattle.net_file.specs.NetworkText.{IsDraftText, HasNoDraft, HasOtherVersion}
 
 -- the draft is that of the text; a fault says why it has none

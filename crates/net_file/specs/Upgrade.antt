@@ -2,7 +2,7 @@
 use Rattle.std.specs.Prelude.{◌≡◌, ℕ, codes, pos, List, Some}
 use Rattle.toml.specs.Data.{Members, integer, get_member}
 use Rattle.toml.specs.Parse.{parse_document}
-use Rattle.net_numbers.specs.Numbers.{Net}
+use Rattle.net_parts.specs.Numbers.{Net}
 use Rattle.net_file.specs.NetworkText.{IsNetworkText}
 
 -- a text of this very network whose table says version 2

@@ -1,16 +1,17 @@
 //! The draft of a network by numbers: names stand for its numbers again.
 ghost use Rattle.std.specs.Prelude.{◌≡◌, ◌<◌, IfOk, IfSome, All, length, map, option_map};
 ghost use Rattle.std.specs.List.{range_with_len};
-ghost use Rattle.net_numbers.specs.Numbers.{Net};
-ghost use Rattle.net_numbers.specs.Outline.{IsOutline, link_at, plan_at, phases_at};
-ghost use Rattle.net_numbers.specs.Parts.{net_of};
+ghost use Rattle.net_parts.specs.Numbers.{Net};
+ghost use Rattle.net_parts.specs.Outline.{IsOutline, link_at, plan_at, phases_at};
+ghost use Rattle.net_parts.specs.Parts.{net_of};
 ghost use Rattle.net_file.specs.ByNames as spec;
 ghost use Rattle.net_file.specs.ByNames.{name_in, AreNumbers};
 
 use foundation::items::Items;
 use foundation::text::Text;
-use net_draft::{Draft, DraftConflict, DraftLink, DraftNode, DraftPhase, DraftTurn};
-use net_numbers::{Names, Parts, Turn};
+use net_parts::{
+    Draft, DraftConflict, DraftLink, DraftNode, DraftPhase, DraftTurn, Names, Parts, Turn,
+};
 use phase_plan::Phase;
 use std::alloc::{AllocError, Global};
 

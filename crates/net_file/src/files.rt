@@ -1,6 +1,6 @@
 //! A network from its file, and the file of a network.
 ghost use Rattle.std.specs.Prelude.{◌<◌, ◌^◌, IfOk, IfErr, length};
-ghost use Rattle.net_numbers.specs.Numbers.{Net};
+ghost use Rattle.net_parts.specs.Numbers.{Net};
 ghost use Rattle.net_tables.specs.Faults.{Unless};
 ghost use Rattle.net_file.specs.NetworkText.{IsNetworkText, IsCause};
 ghost use Rattle.net_file.specs.Reading.{Drafts};
@@ -8,7 +8,7 @@ ghost use Rattle.net_file.specs.Upgrade.{IsUpgraded};
 
 use crate::by_names::draft_by_names;
 use net_build::build;
-use net_draft::{Draft, NetFault, Place, Section};
+use net_parts::{Draft, NetFault, Place, Section};
 use net_tables::{has_known_version, read_draft};
 use road_net::Network;
 use std::alloc::{AllocError, Global};
@@ -67,5 +67,5 @@ pub fn write_network(alloc: Global, net: &Network) -> Result<Vec<u8>, AllocError
     ensures { IfOk result (λ bytes. IsUpgraded bytes.items net.now) }
 {
     let draft = draft_by_names(alloc, net.parts())?;
-    net_text::draft_text(alloc, &draft)
+    crate::draft_texts::draft_text(alloc, &draft)
 }

@@ -2,6 +2,9 @@
 #![tactic(auto)]
 
 mod by_names;
+mod draft_texts;
 mod files;
+mod puts;
+mod tables;
 
 pub use files::{read_network, write_network};

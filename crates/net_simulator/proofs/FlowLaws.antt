@@ -1,6 +1,6 @@
 -- How the past of a network grows.
 use Rattle.std.proofs.Common.{◌≡◌, ℕ, suc, ◌+◌, ◌<◌, ◌≤◌, Option, length, sym, ap, ◌∙◌}
-use Rattle.net_numbers.specs.Numbers.{Net}
+use Rattle.net_parts.specs.Numbers.{Net}
 use Rattle.net_simulator.specs.Flow.{nothing, passed_in, discharged, passing, history, past_of}
 use Rattle.net_simulator.specs.Moves.{history_by}
 use Rattle.net_simulator.proofs.MoveLaws.{flowing, same-history, kept-by, next-by, none-by, by-same}

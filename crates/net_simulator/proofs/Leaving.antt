@@ -4,8 +4,8 @@ use Rattle.std.proofs.Math.ListN.{set}
 use Rattle.std.proofs.lemmas.List.{get_or-set_other, get_or-set_same}
 use Rattle.std.proofs.lemmas.Bool.Decides.{eqb_tells}
 use Rattle.control_flow.specs.declared.greens.Green.{Green}
-use Rattle.net_numbers.specs.Numbers.{Net}
-use Rattle.net_numbers.specs.Outline.{link_at}
+use Rattle.net_parts.specs.Numbers.{Net}
+use Rattle.net_parts.specs.Outline.{link_at}
 use Rattle.net_simulator.specs.LinkSeconds.{waits_at}
 use Rattle.net_simulator.specs.Rows.{cell}
 use Rattle.net_simulator.specs.Steps.{goes}

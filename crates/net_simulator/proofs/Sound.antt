@@ -2,8 +2,8 @@
 use Rattle.std.proofs.Common.{◌≡◌, ℕ, zero, suc, ◌+◌, ◌-◌, ◌<◌, ◌≤◌, min, List, Option, Some, None, length, ap, sym, subst, inl, inr, add-one, arith}
 use Rattle.std.proofs.lemmas.Bool.{cond_both, cases_lt}
 use Rattle.std.proofs.lemmas.Bool.Decides.{eqb_tells}
-use Rattle.net_numbers.specs.Numbers.{Net}
-use Rattle.net_numbers.specs.Outline.{link_at}
+use Rattle.net_parts.specs.Numbers.{Net}
+use Rattle.net_parts.specs.Outline.{link_at}
 use Rattle.net_simulator.specs.Flow.{Passed, nothing, reached, waiting, may_go, discharged_to, history, past_of}
 use Rattle.net_simulator.specs.Moves.{Moves, moved}
 use Rattle.net_simulator.proofs.MoveLaws.{flowing, past_by, moves_by, kept-by, next-by, none-by}

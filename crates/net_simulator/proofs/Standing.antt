@@ -1,7 +1,7 @@
 -- For how long a queue has stood.
 use Rattle.std.proofs.Common.{◌≡◌, ℕ, zero, suc, ◌+◌, ◌≤◌, ltb, refl, sym, ap, ◌∙◌, add-one, arith}
 use Rattle.std.proofs.lemmas.Bool.{cond_both}
-use Rattle.net_numbers.specs.Numbers.{Net}
+use Rattle.net_parts.specs.Numbers.{Net}
 use Rattle.net_simulator.specs.Flow.{Passed, queue}
 use Rattle.net_simulator.specs.Senses.{stood}
 use Rattle.net_simulator.specs.LinkSeconds.{stands_on}

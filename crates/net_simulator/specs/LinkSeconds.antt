@@ -2,8 +2,8 @@
 use Rattle.std.specs.Prelude.{ℕ, ◌+◌, ◌-◌, ◌==◌, nat_lt, Bool, false, not, ◌&&◌, if◌then◌else◌, List, Option, Some, None, map, slice_index}
 use Rattle.std.specs.List.{range_with_len}
 use Rattle.phase_plan.specs.Phases.{phase_at}
-use Rattle.net_numbers.specs.Numbers.{Net}
-use Rattle.net_numbers.specs.Outline.{link_at, plan_at}
+use Rattle.net_parts.specs.Numbers.{Net}
+use Rattle.net_parts.specs.Outline.{link_at, plan_at}
 use Rattle.road_net.specs.declared.senses.LinkSense.{LinkSense}
 use Rattle.control_flow.specs.declared.greens.Green.{Green}
 use Rattle.net_simulator.specs.Flow.{is_lost}

@@ -1,7 +1,7 @@
 -- What the world shows under given lines up to the end of the run.
 use Rattle.std.specs.Prelude.{ℕ, List}
 use Rattle.control_flow.specs.declared.greens.Green.{Green}
-use Rattle.net_numbers.specs.Numbers.{Net}
+use Rattle.net_parts.specs.Numbers.{Net}
 use Rattle.net_simulator.specs.Flow.{Passed, past_of}
 use Rattle.net_simulator.specs.Sums.{end_of_run, link_totals, totals}
 use Rattle.net_simulator.specs.Worlds.{line_in, standing_by}

@@ -1,7 +1,7 @@
 -- What the code does in one second of the world, by what it keeps. No public clause names these words.
 use Rattle.std.specs.Prelude.{ℕ, ◌+◌, ◌*◌, ◌≤◌, min, if◌then◌else◌, List, Option, Some, None, length, slice_index, slice_index_or}
-use Rattle.net_numbers.specs.Numbers.{Net}
-use Rattle.net_numbers.specs.Outline.{link_at}
+use Rattle.net_parts.specs.Numbers.{Net}
+use Rattle.net_parts.specs.Outline.{link_at}
 use Rattle.control_flow.specs.declared.greens.Green.{Green}
 use Rattle.road_net.specs.Totals.{total}
 use Rattle.net_simulator.specs.LinkSeconds.{is_open}

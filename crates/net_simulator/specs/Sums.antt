@@ -1,7 +1,7 @@
 -- Sums over the links of a network.
 use Rattle.std.specs.Prelude.{ℕ, ◌+◌, ◌-◌, ◌*◌, ◌≤◌, Option, None, Some, length}
-use Rattle.net_numbers.specs.Numbers.{Net}
-use Rattle.net_numbers.specs.Outline.{link_at}
+use Rattle.net_parts.specs.Numbers.{Net}
+use Rattle.net_parts.specs.Outline.{link_at}
 use Rattle.road_net.specs.Totals.{total}
 use Rattle.net_simulator.specs.Flow.{Passed, queue}
 use Rattle.net_simulator.specs.declared.totals.LinkTotals.{LinkTotals}

@@ -1,7 +1,7 @@
 //! What happens in one second of the world.
 
 ghost use Rattle.std.specs.Prelude.{◌≡◌, ◌≢◌, ℕ, ◌+◌, ◌-◌, ◌*◌, ◌/◌, ◌%◌, ◌≤◌, ◌<◌, ◌^◌, None, Some, IfSome, length, slice_index, slice_index_or};
-ghost use Rattle.net_numbers.specs.Outline.{link_at, turns_at};
+ghost use Rattle.net_parts.specs.Outline.{link_at, turns_at};
 ghost use Rattle.net_simulator.specs.Arriving.{arriving_of};
 ghost use Rattle.net_simulator.specs.Counts.{counts_at};
 ghost use Rattle.net_simulator.specs.LinkSeconds.{waits_at};

@@ -1,7 +1,7 @@
 //! What a node sees, by what a world keeps.
 
 ghost use Rattle.std.specs.Prelude.{◌≡◌, ◌+◌, ◌-◌, ◌*◌, ◌≤◌, ◌<◌, ◌^◌, All, IfOk, OnOk, length, map, slice_index};
-ghost use Rattle.net_numbers.specs.Outline.{link_at};
+ghost use Rattle.net_parts.specs.Outline.{link_at};
 ghost use Rattle.net_simulator.specs.LinkSeconds.{seen_by};
 ghost use Rattle.net_simulator.specs.Senses.{near_of};
 

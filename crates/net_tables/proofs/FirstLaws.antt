@@ -12,12 +12,12 @@ use Rattle.net_tables.specs.Faults.{Misses, Blames}
 use Rattle.net_tables.specs.FirstShape.{ordinal, IsAfterRead, IsFirstUnread, IsNodeFault, IsLinkFault, IsFaultWithin, IsShapeFault}
 use Rattle.net_tables.specs.Reading.{IsFaultAmong, IsNodeAtFault, IsPhaseAtFault, IsLinkAtFault, IsConflictAtFault}
 use Rattle.net_tables.specs.Table.{NodeForm, LinkForm, TopForm, is_complete, top_form, run_of, node_form, node_of, phase_of, link_form, link_of, turn_of, conflict_of, draft_of}
-use Rattle.net_draft.specs.declared.drafts.Draft.{Draft}
-use Rattle.net_draft.specs.declared.faults.NetFault.{NetFault}
-use Rattle.net_draft.specs.declared.faults.NetFault.TheVariants.{NoMemory, Shape}
-use Rattle.net_draft.specs.declared.faults.Section.{Section}
-use Rattle.net_draft.specs.declared.faults.Section.TheVariants.{Top, Run, Node, Phase, Link, Turn, Conflict}
-use Rattle.net_draft.specs.declared.faults.Place.{Place}
+use Rattle.net_parts.specs.declared.drafts.Draft.{Draft}
+use Rattle.net_parts.specs.declared.faults.NetFault.{NetFault}
+use Rattle.net_parts.specs.declared.faults.NetFault.TheVariants.{NoMemory, Shape}
+use Rattle.net_parts.specs.declared.faults.Section.{Section}
+use Rattle.net_parts.specs.declared.faults.Section.TheVariants.{Top, Run, Node, Phase, Link, Turn, Conflict}
+use Rattle.net_parts.specs.declared.faults.Place.{Place}
 
 -- what a fault says of its place
 pub Blames-weaker : {P Q : Place → Type 0} (fault : NetFault) → ((place : Place) → P place → Q place) → Blames fault P → Blames fault Q

@@ -6,7 +6,7 @@ use Rattle.foundation.specs.Options.{◌>>=◌}
 use Rattle.phase_plan.specs.declared.Phase.{Phase}
 use Rattle.net_tables.specs.Parts.{numbers_at, optional_numbers_at, run_fields, phase_times, phase_fields, link_numbers, link_ends, link_fields}
 use Rattle.net_tables.specs.Table.{PhaseForm, LinkForm, only, run_keys, run_of, phase_keys, phase_form, link_keys, link_form, number_at, optional_number_at, flag_at, weight_at, text_at, optional_text_at, list_at, optional_list_at}
-use Rattle.net_draft.specs.declared.drafts.Run.{Run}
+use Rattle.net_parts.specs.declared.drafts.Run.{Run}
 
 -- two options one after the other, as one
 abbrev both : {X Y : Type 0} → Option X → Option Y → Option (X × Y)

@@ -1,7 +1,7 @@
 -- What a reading of the file says of its fault.
-use Rattle.net_draft.specs.declared.faults.NetFault.{NetFault}
-use Rattle.net_draft.specs.declared.faults.NetFault.TheVariants.{NoMemory, Shape}
-use Rattle.net_draft.specs.declared.faults.Place.{Place}
+use Rattle.net_parts.specs.declared.faults.NetFault.{NetFault}
+use Rattle.net_parts.specs.declared.faults.NetFault.TheVariants.{NoMemory, Shape}
+use Rattle.net_parts.specs.declared.faults.Place.{Place}
 
 -- the fact holds, unless the fault is out of memory
 abbrev pub Unless : NetFault → Type 0 → Type 0

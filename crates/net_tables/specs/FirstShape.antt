@@ -5,8 +5,8 @@ use Rattle.toml.specs.Data.{Data, Members}
 use Rattle.foundation.specs.Firsts.{IsFirstAt}
 use Rattle.foundation.specs.Options.{each}
 use Rattle.net_tables.specs.Table.{TopForm, is_complete, top_form, run_of, node_form, node_of, phase_of, link_form, link_of, turn_of, conflict_of}
-use Rattle.net_draft.specs.declared.faults.Section.{Section}
-use Rattle.net_draft.specs.declared.faults.Section.TheVariants.{Top, Run, Node, Phase, Link, Turn, Conflict}
+use Rattle.net_parts.specs.declared.faults.Section.{Section}
+use Rattle.net_parts.specs.declared.faults.Section.TheVariants.{Top, Run, Node, Phase, Link, Turn, Conflict}
 
 -- the number of the element at an index, counted from 1; a number past the greatest u32 stands as that one
 abbrev pub ordinal : ℕ → ℕ

@@ -4,7 +4,7 @@ use Rattle.toml.specs.Data.{Members}
 use Rattle.foundation.specs.Options.{◌>>=◌}
 use Rattle.phase_plan.specs.declared.Phase.{Phase}
 use Rattle.net_tables.specs.Table.{PhaseForm, LinkForm, number_at, optional_number_at, flag_at, weight_at, text_at, optional_text_at, list_at, optional_list_at}
-use Rattle.net_draft.specs.declared.drafts.Run.{Run}
+use Rattle.net_parts.specs.declared.drafts.Run.{Run}
 
 -- the whole numbers at two keys
 unfoldable pub numbers_at : List ℕ → List ℕ → Members → Option (ℕ × ℕ)

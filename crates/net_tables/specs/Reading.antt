@@ -4,8 +4,8 @@ use Rattle.toml.specs.Data.{Data}
 use Rattle.foundation.specs.Firsts.{IsFirstAt}
 use Rattle.net_tables.specs.FirstShape.{ordinal, IsNodeFault, IsLinkFault}
 use Rattle.net_tables.specs.Table.{phase_of, turn_of, conflict_of}
-use Rattle.net_draft.specs.declared.faults.Section.TheVariants.{Phase, Turn, Conflict}
-use Rattle.net_draft.specs.declared.faults.Place.{Place}
+use Rattle.net_parts.specs.declared.faults.Section.TheVariants.{Phase, Turn, Conflict}
+use Rattle.net_parts.specs.declared.faults.Place.{Place}
 
 -- The elements of an array in the table of this item: the first that f does not read is at fault, by its number, at the named
 -- place.

@@ -5,13 +5,13 @@ use Rattle.std.specs.Str.{bytes_eq}
 use Rattle.toml.specs.Data.{Data, Items, no_items, item, Members, no_members, member, get_member, as_str, as_integer, as_bool, as_array, as_table}
 use Rattle.foundation.specs.Options.{◌>>=◌, each}
 use Rattle.phase_plan.specs.declared.Phase.{Phase}
-use Rattle.net_draft.specs.declared.drafts.Run.{Run}
-use Rattle.net_draft.specs.declared.drafts.Draft.{Draft}
-use Rattle.net_draft.specs.declared.drafts.DraftNode.{DraftNode}
-use Rattle.net_draft.specs.declared.drafts.DraftPhase.{DraftPhase}
-use Rattle.net_draft.specs.declared.drafts.DraftLink.{DraftLink}
-use Rattle.net_draft.specs.declared.drafts.DraftTurn.{DraftTurn}
-use Rattle.net_draft.specs.declared.drafts.DraftConflict.{DraftConflict}
+use Rattle.net_parts.specs.declared.drafts.Run.{Run}
+use Rattle.net_parts.specs.declared.drafts.Draft.{Draft}
+use Rattle.net_parts.specs.declared.drafts.DraftNode.{DraftNode}
+use Rattle.net_parts.specs.declared.drafts.DraftPhase.{DraftPhase}
+use Rattle.net_parts.specs.declared.drafts.DraftLink.{DraftLink}
+use Rattle.net_parts.specs.declared.drafts.DraftTurn.{DraftTurn}
+use Rattle.net_parts.specs.declared.drafts.DraftConflict.{DraftConflict}
 
 -- a whole number of the file; one that is no u32 stands as the greatest u32, which is out of every bound
 abbrev pub field_of : ℤ → ℕ

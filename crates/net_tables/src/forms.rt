@@ -10,7 +10,7 @@ use crate::values::{
     flag_at, list_at, number_at, numbers_at, only, optional_list_at, optional_number_at,
     optional_numbers_at, optional_text_at, table_at, text_at, weight_at,
 };
-use net_draft::Run;
+use net_parts::Run;
 use phase_plan::Phase;
 use toml::{Table, Value};
 

@@ -3,7 +3,7 @@ ghost use Rattle.std.specs.Prelude.{◌≡◌, ◌↔◌, ℕ, Bool, IsTrue, Opt
 ghost use Rattle.toml.specs.Data.{Data, as_str};
 ghost use Rattle.toml.specs.View.{view, table_view};
 ghost use Rattle.foundation.specs.Options.{each};
-ghost use Rattle.net_draft.specs.declared.faults.Place.{Place};
+ghost use Rattle.net_parts.specs.declared.faults.Place.{Place};
 ghost use Rattle.net_tables.specs.Faults.{Misses, Blames};
 ghost use Rattle.net_tables.specs.FirstShape.{IsShapeFault, ordinal};
 ghost use Rattle.net_tables.specs.Reading.{IsFaultAmong, IsNodeAtFault, IsPhaseAtFault, IsLinkAtFault, IsTurnAtFault, IsConflictAtFault};
@@ -13,7 +13,7 @@ ghost use Rattle.net_tables.specs.Table.{HasKnownVersion};
 use crate::forms::{conflict_form, link_form, node_form, phase_form, run_of, top_form, turn_form};
 use foundation::items::Items;
 use foundation::text::Text;
-use net_draft::{
+use net_parts::{
     Draft, DraftConflict, DraftLink, DraftNode, DraftPhase, DraftTurn, NetFault, Place, Section,
 };
 use std::alloc::{AllocError, Global};

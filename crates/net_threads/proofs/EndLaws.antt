@@ -4,8 +4,8 @@ use Rattle.std.specs.Prelude.{Option, Some, None, All, IfSome}
 use Rattle.std.proofs.Math.Seq.{take-suc}
 use Rattle.std.proofs.lemmas.List.{map-append}
 use Rattle.std.proofs.lemmas.List.Elements.{All-cons, All-nil, All-tail}
-use Rattle.net_numbers.specs.Outline.{IsLink}
-use Rattle.net_numbers.specs.declared.roads.Link.{Link}
+use Rattle.net_parts.specs.Outline.{IsLink}
+use Rattle.net_parts.specs.declared.roads.Link.{Link}
 use Rattle.road_net.specs.Joins.{HasEnds}
 use Rattle.snap_boards.specs.declared.ends.Ends.{Ends}
 use Rattle.snap_boards.specs.Boards.{AreEnds, AreAllEnds}

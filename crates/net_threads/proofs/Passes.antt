@@ -2,8 +2,8 @@
 use Rattle.std.proofs.Common.{◌≡◌, ℕ, ◌+◌, ◌<◌, ◌≤◌, List, All, length, max, take, get_or, set, ap, sym, ◌∙◌, arith}
 use Rattle.std.proofs.lemmas.List.{length-map}
 use Rattle.atomic_table.specs.Seated.{TableId}
-use Rattle.board_rule.specs.Passes.{PassView, highest, raised}
-use Rattle.board_rule.proofs.Meets.{highest-step, partly, partly-get, partly-step}
+use Rattle.link_boards.specs.Passes.{PassView, highest, raised}
+use Rattle.link_boards.proofs.MeetLaws.{highest-step, partly, partly-get, partly-step}
 use Rattle.node_rounds.proofs.Passes.{at-most-highest}
 use Rattle.net_threads.specs.Tasks.{actors_in, pass_of, passes_in}
 use Rattle.net_threads.specs.declared.node_tasks.NodeTask.{NodeTask}

@@ -2,9 +2,9 @@
 use Rattle.std.proofs.Common.{◌≡◌, ℕ, ◌<◌, List, All, Result, Ok, Err, OnOk, IsOk, length, get_or, refl, sym, subst, ◌∙◌, arith}
 use Rattle.std.proofs.lemmas.Bool.{false≢true}
 use Rattle.std.proofs.lemmas.List.{get_or-map, length-map}
-use Rattle.board_rule.specs.Passes.{BoardsView, PassView}
+use Rattle.link_boards.specs.Passes.{BoardsView, PassView}
 use Rattle.intersection_actor.specs.Acting.{Acting}
-use Rattle.net_numbers.specs.Numbers.{Net}
+use Rattle.net_parts.specs.Numbers.{Net}
 use Rattle.net_simulator.specs.Worlds.{WorldState}
 use Rattle.node_rounds.specs.Nodes.{CanGoOn, CanPlay, HasPlayed, HasPlayedOn}
 use Rattle.node_rounds.specs.Rounds.{CanAllPlay, HaveAllPlayed}

@@ -5,8 +5,8 @@ use Rattle.std.proofs.lemmas.List.{get_or-map, get_or-set_same, get_or-set_other
 use Rattle.std.proofs.lemmas.List.Elements.{All-append}
 use Rattle.std.proofs.Math.Seq.{map-set_same}
 use Rattle.atomic_table.specs.Seated.{TableId}
-use Rattle.board_rule.specs.Passes.{BoardsView, PassView}
-use Rattle.net_numbers.specs.Numbers.{Net}
+use Rattle.link_boards.specs.Passes.{BoardsView, PassView}
+use Rattle.net_parts.specs.Numbers.{Net}
 use Rattle.node_rounds.specs.Rounds.{AreSamePasses, names}
 use Rattle.net_threads.specs.Tasks.{AreEach, AreFirst, AreTasksOf, IsSameTask, actor_of, actors_in, pass_of, passes_in, settings_in}
 use Rattle.net_threads.specs.declared.node_tasks.NodeTask.{NodeTask}

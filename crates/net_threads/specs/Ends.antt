@@ -1,7 +1,7 @@
 -- The ends of a network's links, at boards whose forecasts are read beside the writer.
 use Rattle.std.specs.Prelude.{◌≡◌, ℕ, List, Option, Some, None, map}
-use Rattle.net_numbers.specs.Numbers.{Net}
-use Rattle.net_numbers.specs.declared.roads.Link.{Link}
+use Rattle.net_parts.specs.Numbers.{Net}
+use Rattle.net_parts.specs.declared.roads.Link.{Link}
 use Rattle.snap_boards.specs.declared.ends.Ends.{Ends}
 
 -- between two nodes the one publishes and the other reads

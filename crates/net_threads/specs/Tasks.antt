@@ -1,9 +1,9 @@
 -- The rounds of nodes as tasks. No public clause names these definitions.
 use Rattle.std.specs.Prelude.{◌≡◌, ℕ, ◌<◌, ◌≤◌, OnOk, List, All, length, map, slice_index_or}
-use Rattle.board_rule.specs.Passes.{BoardsView, PassView}
+use Rattle.link_boards.specs.Passes.{BoardsView, PassView}
 use Rattle.intersection_actor.specs.Acting.{Acting}
 use Rattle.intersection_actor.specs.Rounds.{IsOf}
-use Rattle.net_numbers.specs.Numbers.{Net}
+use Rattle.net_parts.specs.Numbers.{Net}
 use Rattle.net_simulator.specs.Worlds.{WorldState}
 use Rattle.node_rounds.specs.Nodes.{CanGoOn, CanPlay, HasBegun, HasPlayed, HasPlayedOn, IsSamePass}
 use Rattle.net_threads.specs.declared.node_tasks.NodeTask.{NodeTask}

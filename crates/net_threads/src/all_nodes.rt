@@ -25,7 +25,7 @@ pub struct NodeTasks<'a, P, S: LinkSlot, G> {
 
 impl<'a, P: Planner + Drop, S: LinkSlot, G: Gate> NodeTasks<'a, P, S, G> {
     ghost use Rattle.std.specs.Prelude.{◌≡◌, ◌+◌, ◌<◌, ◌≤◌, ◌++◌, [], All, IsOk, OnOk, length, map, vec_capacity, vec_len};
-    ghost use Rattle.board_rule.specs.Passes.{highest, raised};
+    ghost use Rattle.link_boards.specs.Passes.{highest, raised};
     ghost use Rattle.intersection_actor.specs.Acting.{without_records};
     ghost use Rattle.node_rounds.specs.Rounds.{AreSamePasses};
     ghost use Rattle.runs.specs.Ending.{records_in};

@@ -3,7 +3,7 @@ ghost use Rattle.std.specs.Prelude.{◌≡◌, IfOk, length};
 ghost use Rattle.snap_boards.specs.Boards.{AreAllEnds};
 ghost use Rattle.net_threads.specs.Ends.{AreEndsOf, ends_of};
 
-use net_numbers::Link;
+use net_parts::Link;
 use road_net::Network;
 use snap_boards::Ends;
 use std::alloc::{AllocError, Global};

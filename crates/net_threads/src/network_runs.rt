@@ -1,7 +1,7 @@
 //! The run of a network in threads.
 ghost use Rattle.std.specs.Prelude.{◌≡◌, ℕ, ◌*◌, ◌<◌, ◌≤◌, Option, [], All, IfOk, OnOk, length, vec_capacity, vec_len};
 ghost use Rattle.arrivals.specs.Amounts.{AreArrivals, entering};
-ghost use Rattle.board_rule.specs.Passes.{AreAllPasses, calls_in};
+ghost use Rattle.link_boards.specs.Passes.{AreAllPasses, calls_in};
 ghost use Rattle.net_simulator.specs.Worlds.{Stands};
 ghost use Rattle.node_rounds.specs.Calls.{AreStepsOf, HaveCallsLeft, IsRunOfCalls, MergeToLawful};
 ghost use Rattle.runs.specs.Resting.{AreNew};

@@ -1,6 +1,6 @@
 //! A node's round as a task.
 ghost use Rattle.std.specs.Prelude.{◌≡◌, ◌+◌, ◌≤◌, ◌++◌, max, OnOk, length, vec_capacity, vec_len};
-ghost use Rattle.board_rule.specs.Passes.{raised};
+ghost use Rattle.link_boards.specs.Passes.{raised};
 ghost use Rattle.intersection_actor.specs.Acting.{without_records};
 ghost use Rattle.node_rounds.specs.Nodes.{CanGoOn, HasPlayedOn, IsSamePass};
 ghost use Rattle.net_threads.specs.Tasks.{CanBeginTask, HasBegunTask, IsSameTask, actor_of, pass_of};

@@ -5,7 +5,7 @@ use Rattle.arrivals.specs.Rows.{most_of_all}
 use Rattle.audit.specs.Audits.{IsCleanText}
 use Rattle.commands.specs.Headline.{Headline, IsRunOf}
 use Rattle.delay_report.specs.Reports.{report_text}
-use Rattle.net_numbers.specs.Numbers.{Net}
+use Rattle.net_parts.specs.Numbers.{Net}
 use Rattle.net_simulator.specs.Sums.{arrived}
 use Rattle.net_simulator.proofs.Passing.{few-of}
 use Rattle.road_net.specs.Network.{IsNetwork}

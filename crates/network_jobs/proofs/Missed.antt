@@ -1,7 +1,7 @@
 -- A node and a round that a network has, or has not.
 use Rattle.std.proofs.Common.{◌≡◌, ℕ, ◌<◌, List, Option, Some, None, IsSome, arith}
 use Rattle.outside_world.specs.Shelf.{ShelfState}
-use Rattle.net_numbers.specs.Numbers.{Net, number_of}
+use Rattle.net_parts.specs.Numbers.{Net, number_of}
 use Rattle.commands.specs.Texts.{ArrivalsText, HistoryText, IsIn, NetworkText}
 use Rattle.commands.specs.declared.refusals.Named.TheVariants.{Factor, Node, Round}
 use Rattle.commands.specs.declared.refusals.Refusal.{Refusal}

@@ -9,7 +9,7 @@ use Rattle.instance_form.specs.InstanceText.{HasText, IsWritable, IsWritableClus
 use Rattle.instance_form.proofs.FormLaws.{text_once}
 use Rattle.instance_form.proofs.LengthLaws.{text-le}
 use Rattle.intersection_actor.specs.declared.records.PlanRecord.{PlanRecord}
-use Rattle.net_numbers.specs.Numbers.{Net, number_of}
+use Rattle.net_parts.specs.Numbers.{Net, number_of}
 use Rattle.phase_plan.specs.Phases.{IsPhase, no_phase}
 use Rattle.phase_plan.specs.declared.Phase.{Phase}
 use Rattle.runs.specs.declared.records.RunRecord.{RunRecord}

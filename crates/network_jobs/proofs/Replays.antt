@@ -3,7 +3,7 @@ use Rattle.std.proofs.Common.{◌≡◌, ℕ, List, sym, ap, subst, ◌∙◌}
 use Rattle.delay_report.specs.Reports.{report_text}
 use Rattle.delay_report.specs.Texts.{IsHistoryText}
 use Rattle.histories.specs.Histories.{IsLawful}
-use Rattle.net_numbers.specs.Numbers.{Net}
+use Rattle.net_parts.specs.Numbers.{Net}
 use Rattle.runs.specs.Runs.{IsRun}
 use Rattle.runs.specs.declared.records.RunRecord.{RunRecord}
 use Rattle.commands.specs.Headline.{Headline}

@@ -1,8 +1,8 @@
 -- The history that closed boards tell, and its run.
 use Rattle.std.proofs.Common.{◌≡◌, ℕ, List, Vec, Global, Result, Ok, Err, IfOk}
 use Rattle.board_model.specs.Boards.{Log}
-use Rattle.board_rule.specs.Passes.{PassView, AreLogsOfPasses, calls_in}
-use Rattle.net_numbers.specs.Numbers.{Net}
+use Rattle.link_boards.specs.Passes.{PassView, AreLogsOfPasses, calls_in}
+use Rattle.net_parts.specs.Numbers.{Net}
 use Rattle.node_rounds.specs.Calls.{IsRunOfCalls, MergeToLawful}
 use Rattle.runs.specs.declared.records.RunRecord.{RunRecord}
 use Rattle.delay_report.specs.Reports.{records_text, report_text, steps_records}

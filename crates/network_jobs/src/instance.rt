@@ -2,7 +2,7 @@
 ghost use Rattle.std.specs.Prelude.{◌≡◌, ℕ, ◌<◌, List, IfErr, IfOk, IsSome, OnOk, Some, length};
 ghost use Rattle.arrivals.specs.Amounts.{AreArrivals, entering};
 ghost use Rattle.histories.specs.Histories.{IsLawful};
-ghost use Rattle.net_numbers.specs.Numbers.{number_of};
+ghost use Rattle.net_parts.specs.Numbers.{number_of};
 ghost use Rattle.command_words.specs.Calls.{Instance};
 ghost use Rattle.commands.specs.Ending.{Makes};
 ghost use Rattle.commands.specs.Headline.{IsPlannedText};

@@ -1,7 +1,7 @@
 //! A run in threads, and the history that its boards tell.
 ghost use Rattle.std.specs.Prelude.{◌≡◌, All, IfOk, OnOk, [], length};
 ghost use Rattle.arrivals.specs.Amounts.{AreArrivals, entering};
-ghost use Rattle.board_rule.specs.Passes.{AreAllPasses, calls_in};
+ghost use Rattle.link_boards.specs.Passes.{AreAllPasses, calls_in};
 ghost use Rattle.delay_report.specs.Reports.{outcome_records, records_text, report_text, steps_records};
 ghost use Rattle.histories.specs.Histories.{IsLawful};
 ghost use Rattle.runs.specs.Complete.{IsComplete};

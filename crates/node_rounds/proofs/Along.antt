@@ -12,7 +12,7 @@ use Rattle.histories.specs.declared.steps.BoardStep.TheVariants.{Publish}
 use Rattle.histories.proofs.Versions.{version-law}
 use Rattle.intersection_actor.specs.Commits.{Commitment}
 use Rattle.histories.specs.Places.{AreTold, sent}
-use Rattle.net_numbers.specs.Numbers.{Net}
+use Rattle.net_parts.specs.Numbers.{Net}
 use Rattle.node_rounds.specs.Told.{heard_of}
 use Rattle.road_net.specs.Network.{IsNetwork}
 use Rattle.runs.specs.Runs.{HearAlong, forecast_at, hearing, told_in}

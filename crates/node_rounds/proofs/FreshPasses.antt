@@ -3,10 +3,10 @@ use Rattle.std.proofs.Common.{◌≡◌, ℕ, zero, suc, ◌+◌, ◌*◌, ◌<�
 use Rattle.std.specs.Prelude.{All, IfSome, slice_get}
 use Rattle.std.proofs.lemmas.Option.{slice_get-get_or}
 use Rattle.atomic_table.specs.Seated.{TableId}
-use Rattle.board_rule.specs.Passes.{PassView, fresh_pass, fresh_passes}
-use Rattle.board_rule.proofs.Closes.{all-if}
+use Rattle.link_boards.specs.Passes.{PassView, fresh_pass, fresh_passes}
+use Rattle.link_boards.proofs.CloseLaws.{all-if}
 use Rattle.histories.specs.Steps.{board_steps}
-use Rattle.net_numbers.specs.Numbers.{Net}
+use Rattle.net_parts.specs.Numbers.{Net}
 use Rattle.node_rounds.specs.Calls.{HaveCallsLeft}
 
 -- what is so of a new pass of any number is so of each of them

@@ -4,12 +4,12 @@ use Rattle.std.proofs.lemmas.List.{get_or-append-add, length-map, map-append}
 use Rattle.std.proofs.lemmas.List.Elements.{All-nil}
 use Rattle.board_model.specs.declared.boards.Heard.{Heard}
 use Rattle.board_model.specs.declared.calls.Call.{Call}
-use Rattle.board_rule.specs.Passes.{PassView}
+use Rattle.link_boards.specs.Passes.{PassView}
 use Rattle.histories.specs.Steps.{board_steps}
 use Rattle.histories.proofs.StepLaws.{step-count}
 use Rattle.intersection_actor.specs.Acting.{Acting, reading}
 use Rattle.intersection_actor.specs.declared.records.Want.TheVariants.{Read, Commit}
-use Rattle.net_numbers.specs.Numbers.{Net}
+use Rattle.net_parts.specs.Numbers.{Net}
 use Rattle.road_net.specs.Network.{IsNetwork, heard_links}
 use Rattle.node_rounds.specs.Nodes.{HasHeard, HasRead}
 use Rattle.node_rounds.specs.Told.{heard_of}

@@ -3,7 +3,7 @@ use Rattle.std.proofs.Common.{◌≡◌, ◌+◌, ◌-◌, ◌<◌, ◌≤◌, L
 use Rattle.std.proofs.lemmas.List.{length_push}
 use Rattle.std.proofs.lemmas.List.Elements.{All-append, All-cons, All-nil, All-weaker}
 use Rattle.board_model.specs.declared.calls.Call.{Call}
-use Rattle.board_rule.specs.Passes.{PassView, after_call}
+use Rattle.link_boards.specs.Passes.{PassView, after_call}
 use Rattle.node_rounds.specs.Nodes.{HasMade}
 
 -- what holds of all holds with one more

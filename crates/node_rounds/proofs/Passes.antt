@@ -5,7 +5,7 @@ use Rattle.std.proofs.lemmas.Bool.{cases_lt}
 use Rattle.std.proofs.lemmas.List.{get_or-map, get_or_past, length-map}
 use Rattle.std.proofs.lemmas.Option.{slice_get-get_or, slice_get_past}
 use Rattle.atomic_table.specs.Seated.{TableId}
-use Rattle.board_rule.specs.Passes.{AreAllPasses, BoardsView, PassView, calls_in, highest, raised}
+use Rattle.link_boards.specs.Passes.{AreAllPasses, BoardsView, PassView, calls_in, highest, raised}
 use Rattle.node_rounds.specs.Rounds.{AreSamePasses}
 
 -- some pass, to read a list by

@@ -10,7 +10,7 @@ use Rattle.std.proofs.Math.Nat.{mul-le-mul_right}
 use Rattle.arrivals.specs.Amounts.{Amounts, AreArrivals, entering}
 use Rattle.board_model.specs.declared.boards.Heard.{Heard}
 use Rattle.board_model.specs.declared.calls.Call.{Call}
-use Rattle.board_rule.specs.Passes.{BoardsView, PassView, calls_in, highest, raised}
+use Rattle.link_boards.specs.Passes.{BoardsView, PassView, calls_in, highest, raised}
 use Rattle.clusters.specs.Inflow.{IsHeardOf}
 use Rattle.control_flow.specs.Greens.{standing}
 use Rattle.control_flow.specs.declared.greens.Green.{Green}
@@ -21,7 +21,7 @@ use Rattle.intersection_actor.specs.Acting.{Acting, without_records}
 use Rattle.intersection_actor.specs.Commits.{Commitment, IsCommit, record_of}
 use Rattle.intersection_actor.specs.declared.records.PlanRecord.{PlanRecord}
 use Rattle.histories.specs.Calls.{IsRising, step_of}
-use Rattle.net_numbers.specs.Numbers.{Net}
+use Rattle.net_parts.specs.Numbers.{Net}
 use Rattle.net_simulator.specs.Arriving.{arriving_of}
 use Rattle.net_simulator.specs.Flow.{past_of}
 use Rattle.net_simulator.specs.Senses.{sense}

@@ -7,8 +7,8 @@ use Rattle.std.proofs.lemmas.List.Elements.{All-nil, filter-append}
 use Rattle.std.proofs.lemmas.Option.{slice_get_within}
 use Rattle.board_model.specs.declared.calls.Call.{Call}
 use Rattle.board_model.specs.declared.forecasts.Row.{Row}
-use Rattle.board_rule.specs.Passes as board
-use Rattle.board_rule.specs.Passes.{PassView, call_of_publish}
+use Rattle.link_boards.specs.Passes as board
+use Rattle.link_boards.specs.Passes.{PassView, call_of_publish}
 use Rattle.board_model.specs.declared.boards.Sent.{Sent}
 use Rattle.histories.specs.declared.steps.BoardStep.TheVariants as steps
 use Rattle.histories.proofs.Lists.{filter-no, filter-yes}
@@ -16,9 +16,9 @@ use Rattle.intersection_actor.specs.Acting.{Acting, telling, tells_from, told_at
 use Rattle.intersection_actor.specs.declared.records.Want.{Want}
 use Rattle.intersection_actor.specs.declared.records.Want.TheVariants.{Publish}
 use Rattle.histories.specs.Calls.{step_of}
-use Rattle.net_numbers.specs.Numbers.{Net}
-use Rattle.net_numbers.specs.Outline.{link_at}
-use Rattle.net_numbers.specs.declared.roads.Link.{Link}
+use Rattle.net_parts.specs.Numbers.{Net}
+use Rattle.net_parts.specs.Outline.{link_at}
+use Rattle.net_parts.specs.declared.roads.Link.{Link}
 use Rattle.road_net.specs.Network.{exit_links, told_links}
 use Rattle.node_rounds.specs.Nodes.{HasSent, HasTold, outgoing}
 use Rattle.node_rounds.proofs.Made.{all-push, made-more, made-none}

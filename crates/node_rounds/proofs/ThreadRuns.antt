@@ -9,7 +9,7 @@ use Rattle.board_model.specs.Boards.{Log}
 use Rattle.board_model.specs.Calls.{Agree, AreLogsOf, log_at}
 use Rattle.board_model.specs.declared.boards.Heard.{Heard}
 use Rattle.board_model.specs.declared.calls.Call.{Call}
-use Rattle.board_rule.specs.Passes.{BoardsView, PassView, calls_in}
+use Rattle.link_boards.specs.Passes.{BoardsView, PassView, calls_in}
 use Rattle.runs.specs.Ending.{IsRecordOf}
 use Rattle.runs.proofs.EndedRecords.{run-by}
 use Rattle.histories.specs.Histories.{IsLawful}
@@ -21,7 +21,7 @@ use Rattle.intersection_actor.specs.declared.records.PlanRecord.{PlanRecord}
 use Rattle.intersection_actor.specs.declared.records.Used.{Used}
 use Rattle.histories.specs.Calls.{AreCalls}
 use Rattle.histories.specs.Places.{AreTold}
-use Rattle.net_numbers.specs.Numbers.{Net}
+use Rattle.net_parts.specs.Numbers.{Net}
 use Rattle.net_simulator.specs.Worlds.{WorldState}
 use Rattle.road_net.specs.Network.{IsNetwork}
 use Rattle.runs.specs.Promises.{KeepsPromises}

@@ -17,7 +17,7 @@ use Rattle.histories.proofs.Lists.{filter-map}
 use Rattle.intersection_actor.specs.Commits.{Commitment}
 use Rattle.histories.specs.Calls.{AreStepRounds, step_of}
 use Rattle.histories.specs.Places.{sent}
-use Rattle.net_numbers.specs.Numbers.{Net}
+use Rattle.net_parts.specs.Numbers.{Net}
 use Rattle.node_rounds.specs.Told.{AreCallsOf, heard_of, repeated}
 use Rattle.runs.specs.Runs.{told_in}
 use Rattle.node_rounds.specs.Rounds.{AreCallsIn}

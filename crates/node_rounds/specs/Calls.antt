@@ -3,13 +3,13 @@ use Rattle.std.specs.Prelude.{◌≡◌, ℕ, ◌*◌, ◌/◌, ◌≤◌, false
 use Rattle.board_model.specs.Boards.{Log}
 use Rattle.board_model.specs.Calls.{Agree, AreLogsOf, log_at}
 use Rattle.board_model.specs.declared.calls.Call.{Call}
-use Rattle.board_rule.specs.Passes.{PassView}
+use Rattle.link_boards.specs.Passes.{PassView}
 use Rattle.histories.specs.Histories.{IsLawful}
 use Rattle.histories.specs.Merges.{IsMerge}
 use Rattle.histories.specs.Steps.{board_steps}
 use Rattle.intersection_actor.specs.declared.records.PlanRecord.{PlanRecord}
 use Rattle.histories.specs.Calls.{step_of}
-use Rattle.net_numbers.specs.Numbers.{Net}
+use Rattle.net_parts.specs.Numbers.{Net}
 use Rattle.runs.specs.Promises.{IsKeptRun}
 use Rattle.runs.specs.declared.records.RunRecord.{RunRecord}
 use Rattle.node_rounds.specs.Told.{repeated}

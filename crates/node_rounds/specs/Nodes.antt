@@ -3,7 +3,7 @@ use Rattle.std.specs.Prelude.{◌≡◌, ℕ, ◌+◌, ◌*◌, ◌<◌, ◌≤�
 use Rattle.board_model.specs.declared.boards.Heard.{Heard}
 use Rattle.board_model.specs.declared.calls.Call.{Call}
 use Rattle.board_model.specs.declared.forecasts.Row.{Row}
-use Rattle.board_rule.specs.Passes.{AreInOrder, BoardsView, PassView, after_call}
+use Rattle.link_boards.specs.Passes.{AreInOrder, BoardsView, PassView, after_call}
 use Rattle.clusters.specs.Inflow.{IsHeardOf}
 use Rattle.clusters.specs.Windows.{counts_of}
 use Rattle.control_flow.specs.Greens.{end_of}
@@ -15,7 +15,7 @@ use Rattle.intersection_actor.specs.Commits.{Commitment, IsCommit, record_of}
 use Rattle.intersection_actor.specs.Rounds.{IsOf}
 use Rattle.intersection_actor.specs.declared.records.Want.TheVariants.{Done}
 use Rattle.histories.specs.Calls.{step_of}
-use Rattle.net_numbers.specs.Numbers.{Net}
+use Rattle.net_parts.specs.Numbers.{Net}
 use Rattle.net_simulator.specs.Flow.{past_of}
 use Rattle.net_simulator.specs.Senses.{sense}
 use Rattle.net_simulator.specs.Worlds.{IsWorldOf, WorldState, Stands, standing_by}

@@ -6,7 +6,7 @@ use Rattle.histories.specs.Steps.{board_steps}
 use Rattle.histories.specs.declared.steps.BoardStep.{BoardStep}
 use Rattle.intersection_actor.specs.Commits.{Commitment}
 use Rattle.histories.specs.Calls.{step_of}
-use Rattle.net_numbers.specs.Numbers.{Net}
+use Rattle.net_parts.specs.Numbers.{Net}
 use Rattle.runs.specs.Runs.{told_in}
 
 -- what a reading tells

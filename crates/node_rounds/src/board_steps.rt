@@ -1,10 +1,10 @@
 //! The board steps of a node's round: its readings, and then its publishings.
 ghost use Rattle.std.specs.Prelude.{◌≡◌, ℕ, ◌+◌, ◌<◌, ◌≤◌, [], IfOk, OnOk, length};
-ghost use Rattle.board_rule.specs.Passes as board;
+ghost use Rattle.link_boards.specs.Passes as board;
 ghost use Rattle.histories.specs.Steps.{board_steps};
 ghost use Rattle.intersection_actor.specs.Acting.{reading, told_at};
 ghost use Rattle.intersection_actor.specs.Rounds.{IsOf};
-ghost use Rattle.net_numbers.specs.Numbers.{Net};
+ghost use Rattle.net_parts.specs.Numbers.{Net};
 ghost use Rattle.road_net.specs.Network.{heard_links, told_links};
 ghost use Rattle.node_rounds.specs.Nodes.{HasHeard, HasRead, HasSent, HasTold, IsSamePass};
 

@@ -16,8 +16,8 @@ use Rattle.switch_rules.specs.declared.Head.{Head}
 use Rattle.switch_rules.specs.declared.Cluster.{Cluster}
 use Rattle.switch_rules.specs.declared.Served.{Served}
 use Rattle.road_net.specs.Joins.{share_of, split_of}
-use Rattle.net_numbers.specs.Numbers.{Net, no_link}
-use Rattle.net_numbers.specs.Outline.{ArePhaseLinks, IsLink, IsOutline, link_at, plan_at, phases_at, phase_links_at, turns_at}
+use Rattle.net_parts.specs.Numbers.{Net, no_link}
+use Rattle.net_parts.specs.Outline.{ArePhaseLinks, IsLink, IsOutline, link_at, plan_at, phases_at, phase_links_at, turns_at}
 use Rattle.road_net.specs.Network.{IsNetwork}
 use Rattle.road_net.proofs.PartsAtMost.{split-most}
 use Rattle.outflow.proofs.AddLaws.{AreSmall, coming-at, part-small, shares-of}

@@ -3,7 +3,7 @@ ghost use Rattle.std.specs.Prelude.{◌≡◌, ◌+◌, ◌-◌, ◌<◌, ◌≤
 ghost use Rattle.std.specs.List.{range_with_len};
 ghost use Rattle.clusters.specs.Sound.{AreOfNode};
 ghost use Rattle.clusters.specs.Windows.{counts_of};
-ghost use Rattle.net_numbers.specs.Outline.{link_at, plan_at};
+ghost use Rattle.net_parts.specs.Outline.{link_at, plan_at};
 ghost use Rattle.outflow.specs.Outflow.{AreServed, departures, told_forecast, positive_rows};
 ghost use Rattle.road_net.specs.Network.{exit_links};
 

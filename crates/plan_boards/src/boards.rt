@@ -1,6 +1,6 @@
 //! The boards and their passes are made, and closed.
 ghost use Rattle.std.specs.Prelude.{◌≡◌, ◌≤◌, [], IfOk, IfErr, All, length};
-ghost use Rattle.board_rule.specs.Passes.{AreAllPasses, AreLogsOfPasses, fresh_passes};
+ghost use Rattle.link_boards.specs.Passes.{AreAllPasses, AreLogsOfPasses, fresh_passes};
 
 use board_model::BoardLog;
 use foundation::threads::CrossesThreads;
@@ -23,7 +23,7 @@ pub struct Boards {
 }
 
 impl Model for Boards {
-    ghost use Rattle.board_rule.specs.Passes.{BoardsView};
+    ghost use Rattle.link_boards.specs.Passes.{BoardsView};
 
     ghost Value = { BoardsView };
 

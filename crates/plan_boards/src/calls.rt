@@ -1,6 +1,6 @@
 //! The calls of a pass: a reading and a publishing.
 ghost use Rattle.std.specs.Prelude.{◌≡◌, ◌<◌, IfOk, IfErr, OnErr};
-ghost use Rattle.board_rule.specs.Passes.{HasRead, HasSent};
+ghost use Rattle.link_boards.specs.Passes.{HasRead, HasSent};
 
 use crate::boards::{Boards, Pass};
 use board_model::{Forecast, Gate, Seen, Sent};

@@ -1,6 +1,6 @@
 //! Passes meet.
 ghost use Rattle.std.specs.Prelude.{◌≡◌, max, map, All, IsOk};
-ghost use Rattle.board_rule.specs.Passes.{highest, raised};
+ghost use Rattle.link_boards.specs.Passes.{highest, raised};
 
 use crate::boards::{Boards, Pass};
 use board_model::BoardLog;

@@ -8,8 +8,8 @@ use Rattle.std.specs.List.{flat_map, range_with_len}
 use Rattle.foundation.proofs.RangeLaws.{range-push}
 use Rattle.csv.specs.declared.writer.Writer.{Writer}
 use Rattle.control_flow.specs.declared.greens.Green.{Green}
-use Rattle.net_numbers.specs.Numbers.{Net}
-use Rattle.net_numbers.specs.Outline.{link_at, link_name_at}
+use Rattle.net_parts.specs.Numbers.{Net}
+use Rattle.net_parts.specs.Outline.{link_at, link_name_at}
 use Rattle.road_net.specs.Network.{IsNetwork}
 use Rattle.road_net.specs.Totals.{total}
 use Rattle.road_net.proofs.TotalLaws.{total-same}

@@ -4,9 +4,9 @@ use Rattle.std.proofs.lemmas.Bool.{cases_lt, false≢true}
 use Rattle.std.proofs.lemmas.List.{get_or_past}
 use Rattle.std.proofs.lemmas.Str.{IsUtf8-from_ascii}
 use Rattle.std.specs.Str.{IsAscii}
-use Rattle.net_numbers.specs.Bounds.{IsName, IsNameByte}
-use Rattle.net_numbers.specs.Numbers.{number_of}
-use Rattle.net_numbers.proofs.Distinct.{number_of-none}
+use Rattle.net_parts.specs.Bounds.{IsName, IsNameByte}
+use Rattle.net_parts.specs.Numbers.{number_of}
+use Rattle.net_parts.proofs.Distinct.{number_of-none}
 
 small : (b : ℕ) → IsNameByte b → b < 128
 small b (inl letter) = omega (arith, letter.1)

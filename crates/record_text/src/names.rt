@@ -1,6 +1,6 @@
 //! The links and nodes that fields name.
 ghost use Rattle.std.specs.Prelude.{◌≡◌};
-ghost use Rattle.net_numbers.specs.Numbers.{number_of};
+ghost use Rattle.net_parts.specs.Numbers.{number_of};
 ghost use Rattle.road_net.specs.Network.{IsNetwork};
 
 use road_net::Network;

@@ -17,7 +17,7 @@ use std::alloc::{AllocError, Global};
 pub trait RecordTaker {
     ghost use Rattle.std.specs.Prelude.{◌≡◌, ◌↔◌, ◌++◌, ◌∷◌, [], ℕ, IfErr, IsTrue, List, OnOk};
     ghost use Rattle.csv.specs.Records.{fields_of};
-    ghost use Rattle.net_numbers.specs.Numbers.{Net};
+    ghost use Rattle.net_parts.specs.Numbers.{Net};
     ghost use Rattle.road_net.specs.Network.{IsNetwork};
 
     /// Why a record is not taken, or out of memory.

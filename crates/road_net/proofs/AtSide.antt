@@ -5,10 +5,10 @@ use Rattle.std.proofs.lemmas.Bool.{cases_lt, false≢true}
 use Rattle.std.proofs.lemmas.Bool.Decides.{eqb_tells}
 use Rattle.std.proofs.lemmas.List.{append-nil, take_all, get_or_append_left, get_or_default, get_or_push}
 use Rattle.std.proofs.lemmas.List.Elements.{All-nil, All-push, All-weaker, Contains-append_left, Contains-push}
-use Rattle.net_numbers.specs.declared.roads.Link.{Link}
+use Rattle.net_parts.specs.declared.roads.Link.{Link}
 use Rattle.road_net.specs.declared.joins.Side.{Side}
 use Rattle.road_net.specs.Joins.{node_at, is_node, links_from, links_of_node, link_at, AreLinksAt, AreByNode}
-use Rattle.net_numbers.specs.Numbers.{no_link}
+use Rattle.net_parts.specs.Numbers.{no_link}
 use Rattle.road_net.proofs.Ends.{one_if, links_from-more}
 
 -- the numbers below k of which P holds, rising

@@ -3,7 +3,7 @@ use Rattle.std.proofs.Common.{◌≡◌, ℕ, suc, ◌+◌, ◌<◌, Bool, true,
 use Rattle.std.specs.List.{concat}
 use Rattle.std.proofs.lemmas.List.{take_more, map_push, append-nil}
 use Rattle.std.proofs.lemmas.List.Folds.{concat-append}
-use Rattle.net_numbers.specs.declared.roads.Link.{Link}
+use Rattle.net_parts.specs.declared.roads.Link.{Link}
 use Rattle.road_net.specs.declared.joins.Side.{Side}
 use Rattle.road_net.specs.Joins.{node_at, is_node, links_from}
 

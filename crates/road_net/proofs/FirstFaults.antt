@@ -3,14 +3,14 @@ use Rattle.std.proofs.Common.{◌≡◌, ℕ, ◌<◌, length, Result, Ok, Err, 
 use Rattle.std.proofs.lemmas.Result.{err_from_is_err_and}
 use Rattle.foundation.specs.Firsts.{IsFirstWithout}
 use Rattle.foundation.proofs.ListLaws.{All-each}
-use Rattle.net_draft.specs.declared.faults.NetFault.{NetFault}
-use Rattle.net_draft.specs.declared.faults.NetFault.TheVariants.{NoMemory, Ends, Crowd, Shares, Phaseless, Clash}
-use Rattle.net_numbers.specs.declared.roads.Link.{Link}
-use Rattle.net_numbers.specs.declared.roads.Turn.{Turn}
-use Rattle.net_numbers.specs.Numbers.{Net, no_link}
-use Rattle.net_numbers.specs.declared.parts.Parts.{Parts}
-use Rattle.net_numbers.specs.FirstFaults.{Refuses}
-use Rattle.net_numbers.specs.Parts.{net_of}
+use Rattle.net_parts.specs.declared.faults.NetFault.{NetFault}
+use Rattle.net_parts.specs.declared.faults.NetFault.TheVariants.{NoMemory, Ends, Crowd, Shares, Phaseless, Clash}
+use Rattle.net_parts.specs.declared.roads.Link.{Link}
+use Rattle.net_parts.specs.declared.roads.Turn.{Turn}
+use Rattle.net_parts.specs.Numbers.{Net, no_link}
+use Rattle.net_parts.specs.declared.parts.Parts.{Parts}
+use Rattle.net_parts.specs.FirstFaults.{Refuses}
+use Rattle.net_parts.specs.Parts.{net_of}
 use Rattle.road_net.specs.declared.NodeLinks.{NodeLinks}
 use Rattle.road_net.specs.FirstFaults.{IsJoinFault}
 use Rattle.road_net.specs.Stored.{TestsEach, clash_at, HasFewAt}

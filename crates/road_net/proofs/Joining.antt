@@ -2,9 +2,9 @@
 use Rattle.std.proofs.Common.{ℕ, ◌<◌, ◌^◌, List, length, sum_by, arith}
 use Rattle.std.proofs.Math.Nat.{mul-le-mul_right}
 use Rattle.std.proofs.lemmas.List.Sums.{sum_by-le}
-use Rattle.net_numbers.specs.declared.roads.Link.{Link}
-use Rattle.net_numbers.specs.declared.roads.Turn.{Turn}
-use Rattle.net_numbers.specs.Outline.{AreTurns}
+use Rattle.net_parts.specs.declared.roads.Link.{Link}
+use Rattle.net_parts.specs.declared.roads.Turn.{Turn}
+use Rattle.net_parts.specs.Outline.{AreTurns}
 use Rattle.road_net.specs.declared.joins.Side.TheVariants.{To}
 use Rattle.foundation.specs.Firsts.{IsFirstWithout}
 use Rattle.road_net.specs.Joins.{share_of, AreByNode, HasFewEntries, HaveFewEntries}

@@ -1,9 +1,9 @@
 -- The links that the phases of a network serve.
 use Rattle.std.proofs.Common.{◌≡◌, ◌≢◌, ℕ, ◌<◌, List, [], length, get_or, Some, IfSome, AllPairs, Contains, refl, ap, ◌∙◌, sym, arith}
 use Rattle.std.proofs.lemmas.List.{get_or_default}
-use Rattle.net_numbers.specs.Numbers.{Net, no_link, phase_of}
+use Rattle.net_parts.specs.Numbers.{Net, no_link, phase_of}
 use Rattle.road_net.specs.Joins.{IsPhased}
-use Rattle.net_numbers.specs.Outline.{IsOutline, phases_at, phase_links_at, plan_at, link_at}
+use Rattle.net_parts.specs.Outline.{IsOutline, phases_at, phase_links_at, plan_at, link_at}
 use Rattle.road_net.specs.Network.{IsJoined, IsServed}
 use Rattle.road_net.proofs.Serving.{named-here, named-there, named-once}
 

@@ -6,7 +6,7 @@ use Rattle.std.proofs.lemmas.Bool.Decides.{eqb_tells}
 use Rattle.std.proofs.lemmas.List.{get_or-take, get_or_default}
 use Rattle.std.proofs.lemmas.List.Quantifiers.{position-Some}
 use Rattle.std.proofs.lemmas.List.Sums.{sum_by-append, sum_by-cons, sum_by_more_le, get_or-le-sum_by}
-use Rattle.net_numbers.specs.Numbers.{has_link, phase_of}
+use Rattle.net_parts.specs.Numbers.{has_link, phase_of}
 use Rattle.road_net.specs.Joins.{times_named, IsPhased}
 
 -- two places of a list count in its sum

@@ -2,12 +2,12 @@
 -- and the first link, node or conflict that fails one is named: docs/FORMATS.md, "Places and faults".
 use Rattle.std.specs.Prelude.{◌≡◌, ℕ, Some, length, All}
 use Rattle.foundation.specs.Firsts.{IsFirstWithout}
-use Rattle.net_draft.specs.declared.drafts.Draft.{Draft}
-use Rattle.net_draft.specs.declared.faults.NetFault.{NetFault}
-use Rattle.net_draft.specs.declared.faults.NetFault.TheVariants.{NoMemory, Bound, Twice, Unknown, Ends, Crowd, Shares, Phaseless, Clash}
-use Rattle.net_numbers.specs.Bounds.{IsBounded}
-use Rattle.net_numbers.specs.FirstFaults.{IsBoundFault, IsTwiceFault, IsUnknownFault}
-use Rattle.net_numbers.specs.Numbers.{Net, AreDistinct, numbered, node_names, link_names}
+use Rattle.net_parts.specs.declared.drafts.Draft.{Draft}
+use Rattle.net_parts.specs.declared.faults.NetFault.{NetFault}
+use Rattle.net_parts.specs.declared.faults.NetFault.TheVariants.{NoMemory, Bound, Twice, Unknown, Ends, Crowd, Shares, Phaseless, Clash}
+use Rattle.net_parts.specs.Bounds.{IsBounded}
+use Rattle.net_parts.specs.FirstFaults.{IsBoundFault, IsTwiceFault, IsUnknownFault}
+use Rattle.net_parts.specs.Numbers.{Net, AreDistinct, numbered, node_names, link_names}
 use Rattle.road_net.specs.Joins.{HasEnds, HasEndsAt, HasFewEntries, HaveFewEntries, HasSharesAt, AreShared, IsPhasedAt, ArePhased, conflict_at, IsConflictAt}
 
 -- the pair of links is the first conflict of the file that can be none

@@ -3,11 +3,11 @@ use Rattle.std.specs.Prelude.{◌≡◌, ◌≢◌, ℕ, suc, ◌+◌, ◌-◌, 
 use Rattle.std.specs.List.{concat}
 use Rattle.std.specs.List.Sorted.{IsStrictlyIncreasing}
 use Rattle.std.specs.Option.{option_map_or}
-use Rattle.net_numbers.specs.declared.roads.Link.{Link}
-use Rattle.net_numbers.specs.declared.roads.Turn.{Turn}
+use Rattle.net_parts.specs.declared.roads.Link.{Link}
+use Rattle.net_parts.specs.declared.roads.Turn.{Turn}
 use Rattle.road_net.specs.declared.joins.Side.{Side}
 use Rattle.road_net.specs.declared.joins.Side.TheVariants.{From, To}
-use Rattle.net_numbers.specs.Numbers.{no_link, has_link}
+use Rattle.net_parts.specs.Numbers.{no_link, has_link}
 
 -- the link with this number
 abbrev pub link_at : List Link → ℕ → Link

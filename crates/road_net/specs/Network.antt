@@ -1,14 +1,14 @@
 -- Which network a draft stands for, and what is true of every network.
 use Rattle.std.specs.Prelude.{◌≡◌, ◌≢◌, ℕ, ◌+◌, ◌<◌, ◌≤◌, List, Some, Result, Ok, Err, length, filter, is_some, slice_index, All, AllPairs, Contains}
-use Rattle.net_draft.specs.declared.drafts.Draft.{Draft}
+use Rattle.net_parts.specs.declared.drafts.Draft.{Draft}
 use Rattle.road_net.specs.declared.joins.Side.TheVariants.{From, To}
-use Rattle.net_numbers.specs.Bounds.{IsBounded}
-use Rattle.net_numbers.specs.Numbers.{Net, AreDistinct, numbered, node_names, link_names}
-use Rattle.net_numbers.specs.Outline.{IsOutline, link_at, plan_at, phase_links_at}
+use Rattle.net_parts.specs.Bounds.{IsBounded}
+use Rattle.net_parts.specs.Numbers.{Net, AreDistinct, numbered, node_names, link_names}
+use Rattle.net_parts.specs.Outline.{IsOutline, link_at, plan_at, phase_links_at}
 use Rattle.road_net.specs.Joins as joins
 use Rattle.road_net.specs.Joins.{HasEnds, HaveFewEntries, AreShared, ArePhased, IsConflict}
-use Rattle.net_draft.specs.declared.faults.NetFault.{NetFault}
-use Rattle.net_numbers.specs.FirstFaults.{Refuses}
+use Rattle.net_parts.specs.declared.faults.NetFault.{NetFault}
+use Rattle.net_parts.specs.FirstFaults.{Refuses}
 
 -- How the parts of a network by numbers have to be joined, in the order in which it is tested.
 pub record IsJoined (net : Net) : Type 0 where

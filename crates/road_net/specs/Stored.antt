@@ -1,13 +1,13 @@
 -- What the fields of the code stand for, and what its steps answer. No public clause names these words.
 use Rattle.std.specs.Prelude.{◌≡◌, ℕ, ◌<◌, ◌≤◌, List, [], Result, Ok, Err, length, slice_index_or}
 use Rattle.foundation.specs.Firsts.{IsFirstWithout}
-use Rattle.net_draft.specs.declared.faults.NetFault.{NetFault}
-use Rattle.net_draft.specs.declared.faults.NetFault.TheVariants.{NoMemory, Clash}
-use Rattle.net_numbers.specs.declared.parts.Parts.{Parts}
+use Rattle.net_parts.specs.declared.faults.NetFault.{NetFault}
+use Rattle.net_parts.specs.declared.faults.NetFault.TheVariants.{NoMemory, Clash}
+use Rattle.net_parts.specs.declared.parts.Parts.{Parts}
 use Rattle.road_net.specs.declared.NodeLinks.{NodeLinks}
 use Rattle.road_net.specs.declared.joins.Side.TheVariants.{From, To}
-use Rattle.net_numbers.specs.Numbers.{Net}
-use Rattle.net_numbers.specs.Parts.{net_of}
+use Rattle.net_parts.specs.Numbers.{Net}
+use Rattle.net_parts.specs.Parts.{net_of}
 use Rattle.road_net.specs.FirstFaults.{IsJoinFault}
 use Rattle.road_net.specs.Joins.{AreByNode, conflict_at}
 use Rattle.road_net.specs.Network.{IsNetwork, IsJoined}

@@ -5,8 +5,7 @@ ghost use Rattle.road_net.specs.Stored.{TestsEach, clash_at, HasFewAt};
 ghost use Rattle.road_net.specs.Joins.{HasEndsAt, link_at, node_at, is_node, links_of_node, AreByNode, HasShares, HasSharesAt, share_of, named_links, IsPhased, IsPhasedAt, IsConflict, IsConflictAt};
 
 use foundation::items::Items;
-use net_draft::NetFault;
-use net_numbers::{Link, Turn, phase_with};
+use net_parts::{Link, NetFault, Turn, phase_with};
 use std::alloc::{AllocError, Global};
 
 /// A side of a link.

@@ -2,8 +2,8 @@
 #![tactic(auto)]
 
 ghost use Rattle.std.specs.Prelude.{◌≡◌, ℕ, ◌<◌, IfErr, length};
-ghost use Rattle.net_numbers.specs.Outline.{IsOutline};
-ghost use Rattle.net_numbers.specs.Parts.{net_of};
+ghost use Rattle.net_parts.specs.Outline.{IsOutline};
+ghost use Rattle.net_parts.specs.Parts.{net_of};
 ghost use Rattle.road_net.specs.FirstFaults.{IsJoinFault};
 ghost use Rattle.road_net.specs.Joins.{AreByNode, HasEndsAt};
 ghost use Rattle.road_net.specs.Network.{Joins};
@@ -16,12 +16,12 @@ mod splits;
 use foundation::items::Items;
 use foundation::threads::CrossesThreads;
 use joins::Side;
-pub use net_draft::{
+pub use net_parts::{
     Draft, DraftConflict, DraftLink, DraftNode, DraftPhase, DraftTurn, NetFault, Place, Run,
     Section,
 };
-use net_numbers::Parts;
-pub use net_numbers::{Link, Turn};
+use net_parts::Parts;
+pub use net_parts::{Link, Turn};
 use phase_plan::PhasePlan;
 pub use senses::{LinkSense, Sensed};
 pub use splits::{law_of_parts, part_of_turn};
@@ -39,11 +39,11 @@ pub struct Network {
 }
 
 impl Model for Network {
-    ghost use Rattle.net_numbers.specs.Numbers.{Net};
+    ghost use Rattle.net_parts.specs.Numbers.{Net};
 
     ghost Value = { Net };
 
-    ghost use Rattle.net_numbers.specs.Parts.{net_of};
+    ghost use Rattle.net_parts.specs.Parts.{net_of};
     ghost use Rattle.road_net.specs.Stored.{IsStored};
 
     ghost view = { λ network. net_of network.parts };
@@ -55,10 +55,10 @@ impl CrossesThreads for Network {}
 
 impl Network {
     ghost use Rattle.std.specs.Prelude.{◌≡◌, ◌≤◌, ◌<◌, ◌↔◌, Some, IsSome, IsNone, IfSome, Contains, sum_by, slice_get, length};
-    ghost use Rattle.net_numbers.specs.Numbers.{number_of};
-    ghost use Rattle.net_numbers.specs.Parts.{net_of};
+    ghost use Rattle.net_parts.specs.Numbers.{number_of};
+    ghost use Rattle.net_parts.specs.Parts.{net_of};
     ghost use Rattle.road_net.specs.Joins.{split_of, AreLinksAt, AreParts};
-    ghost use Rattle.net_numbers.specs.Outline.{link_at, turns_at, plan_at, phases_at, phase_links_at, node_name_at, link_name_at};
+    ghost use Rattle.net_parts.specs.Outline.{link_at, turns_at, plan_at, phases_at, phase_links_at, node_name_at, link_name_at};
     ghost use Rattle.road_net.specs.Network.{IsNetwork, entry_links, exit_links, AreApart};
     ghost use Rattle.road_net.specs.Totals.{total};
 

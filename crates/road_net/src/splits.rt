@@ -1,9 +1,9 @@
 //! How an amount is divided among the turns of a link.
 ghost use Rattle.std.specs.Prelude.{◌≡◌, ◌≢◌, ◌+◌, ◌≤◌, ℕ, List, AllPairs, sum_by};
-ghost use Rattle.net_numbers.specs.declared.roads.Turn.{Turn};
+ghost use Rattle.net_parts.specs.declared.roads.Turn.{Turn};
 ghost use Rattle.road_net.specs.Joins.{share_of, part_between, split_of};
 
-use net_numbers::Turn;
+use net_parts::Turn;
 
 /// The part of an amount that turns into the link `exit`: 0 where no turn leads there.
 pub(crate) fn split(turns: &[Turn], amount: u32, exit: u32) -> u32

@@ -4,7 +4,7 @@ use Rattle.std.specs.List.{flat_map}
 use Rattle.std.proofs.lemmas.Grind.{flat_map-append}
 use Rattle.std.proofs.lemmas.List.{take_all, take_more}
 use Rattle.csv.specs.declared.writer.Writer.{Writer}
-use Rattle.net_numbers.specs.Numbers.{Net}
+use Rattle.net_parts.specs.Numbers.{Net}
 use Rattle.round_states.specs.Told.{header}
 use Rattle.round_states.specs.declared.states.LinkBoard.{LinkBoard}
 use Rattle.world_records.specs.Records.{records_text}

@@ -14,7 +14,7 @@ use Rattle.histories.specs.Steps.{publisher}
 use Rattle.intersection_actor.specs.Commits.{Commitment, IsCommit, IsProblemOf, used_of}
 use Rattle.intersection_actor.specs.declared.records.PlanRecord.{PlanRecord}
 use Rattle.intersection_actor.specs.declared.records.Used.{Used}
-use Rattle.net_numbers.specs.Numbers.{Net}
+use Rattle.net_parts.specs.Numbers.{Net}
 use Rattle.road_net.specs.Network.{IsNetwork, heard_links}
 use Rattle.round_states.specs.States.{IsBoard, IsStateOf, begin_of}
 use Rattle.road_net.specs.declared.senses.Sensed.{Sensed}
@@ -27,7 +27,7 @@ use Rattle.schedule_meaning.proofs.Choosing.{best-least}
 use Rattle.schedule_meaning.specs.Best.{IsLeast}
 use Rattle.signal_safety.proofs.Lines.{safe}
 use Rattle.signal_safety.proofs.Rounds.{KeepsLine}
-use Rattle.net_numbers.specs.Outline.{plan_at}
+use Rattle.net_parts.specs.Outline.{plan_at}
 use Rattle.round_decisions.specs.Decisions.{board_after, has_told, heard_in, line_of, plan_in, sensed_of}
 use Rattle.round_decisions.specs.Promises.{GoesOnAt, IsKeptDecision, IsKeptTurn, IsPlannedFrom, decided_line, forecast_of}
 use Rattle.round_decisions.specs.Steps.{HaveTurned}

@@ -15,9 +15,9 @@ use Rattle.histories.proofs.StepLaws.{steps-beyond}
 use Rattle.histories.proofs.TurnOrder.{turns-rounds}
 use Rattle.histories.proofs.Versions.{made-within, version-is, version-law}
 use Rattle.intersection_actor.specs.Commits.{Commitment, IsCommit, record_of}
-use Rattle.net_numbers.specs.Numbers.{Net, no_link}
-use Rattle.net_numbers.specs.Outline.{IsLink, link_at}
-use Rattle.net_numbers.specs.declared.roads.Link.{Link}
+use Rattle.net_parts.specs.Numbers.{Net, no_link}
+use Rattle.net_parts.specs.Outline.{IsLink, link_at}
+use Rattle.net_parts.specs.declared.roads.Link.{Link}
 use Rattle.road_net.specs.Network.{IsNetwork, heard_links}
 use Rattle.road_net.specs.declared.senses.Sensed.{Sensed}
 use Rattle.round_states.specs.declared.states.LinkBoard.{LinkBoard}

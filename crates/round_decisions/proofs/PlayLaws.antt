@@ -11,7 +11,7 @@ use Rattle.intersection_actor.specs.Commits.{Commitment, IsCommit, phases_of, re
 use Rattle.intersection_actor.specs.Rounds.{IsCommitted, KeepsPast}
 use Rattle.intersection_actor.specs.declared.records.PlanRecord.{PlanRecord}
 use Rattle.intersection_actor.specs.declared.records.Want.TheVariants.{Done}
-use Rattle.net_numbers.specs.Numbers.{Net}
+use Rattle.net_parts.specs.Numbers.{Net}
 use Rattle.outflow.specs.Outflow.{departures, told_forecast}
 use Rattle.road_net.specs.Network.{IsNetwork, heard_links}
 use Rattle.road_net.specs.declared.senses.Sensed.{Sensed}

@@ -6,7 +6,7 @@ use Rattle.std.proofs.lemmas.List.{get_or_default}
 use Rattle.intersection_actor.specs.Acting.{Acting, telling, tells_from, wanting}
 use Rattle.intersection_actor.specs.declared.records.Want.{Want}
 use Rattle.intersection_actor.specs.declared.records.Want.TheVariants.{Read, Commit, Publish, Done}
-use Rattle.net_numbers.specs.Numbers.{Net}
+use Rattle.net_parts.specs.Numbers.{Net}
 use Rattle.road_net.specs.Network.{IsNetwork, told_links}
 use Rattle.round_states.specs.declared.states.LinkBoard.{LinkBoard}
 use Rattle.round_decisions.specs.Steps.{HasTold, MayTell, outgoing}

@@ -11,7 +11,7 @@ use Rattle.histories.proofs.Counts.{count-append, count-else, count-here, count-
 use Rattle.histories.proofs.Rounds.{rounds-count}
 use Rattle.histories.proofs.StepLaws.{steps-beyond}
 use Rattle.histories.proofs.TurnOrder.{turns-rounds}
-use Rattle.net_numbers.specs.Numbers.{Net}
+use Rattle.net_parts.specs.Numbers.{Net}
 use Rattle.road_net.specs.Network.{IsNetwork}
 use Rattle.runs.proofs.Places.{StandsAt, comes-first}
 

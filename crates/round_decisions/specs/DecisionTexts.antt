@@ -7,8 +7,8 @@ use Rattle.control_flow.specs.declared.greens.Green.{Green}
 use Rattle.intersection_actor.specs.PlanFields.{used_text}
 use Rattle.intersection_actor.specs.declared.records.PlanRecord.{PlanRecord}
 use Rattle.intersection_actor.specs.declared.records.Used.{Used}
-use Rattle.net_numbers.specs.Numbers.{Net}
-use Rattle.net_numbers.specs.Outline.{link_at, link_name_at, node_name_at}
+use Rattle.net_parts.specs.Numbers.{Net}
+use Rattle.net_parts.specs.Outline.{link_at, link_name_at, node_name_at}
 use Rattle.round_decisions.specs.Lines.{rows_from}
 use Rattle.round_decisions.specs.Promises.{decided_line}
 use Rattle.round_decisions.specs.Turns.{board_of, tells}

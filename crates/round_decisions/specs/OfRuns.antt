@@ -4,8 +4,8 @@ use Rattle.std.specs.List.{range_with_len}
 use Rattle.board_model.specs.declared.boards.Heard.{Heard}
 use Rattle.histories.specs.Histories.{turn_order}
 use Rattle.intersection_actor.specs.Commits.{Commitment}
-use Rattle.net_numbers.specs.Numbers.{Net}
-use Rattle.net_numbers.specs.Outline.{link_at}
+use Rattle.net_parts.specs.Numbers.{Net}
+use Rattle.net_parts.specs.Outline.{link_at}
 use Rattle.round_states.specs.declared.states.RoundState.{RoundState}
 use Rattle.runs.specs.Runs.{HearAlong, IsRunBy, forecast_at, line_before, plans_in, sensed_in}
 use Rattle.runs.specs.declared.records.RunRecord.{RunRecord}

@@ -10,8 +10,8 @@ use Rattle.histories.specs.Steps.{publisher}
 use Rattle.intersection_actor.specs.Commits.{Commitment, IsProblemOf}
 use Rattle.intersection_actor.specs.declared.records.PlanRecord.{PlanRecord}
 use Rattle.intersection_actor.specs.declared.records.Used.{Used}
-use Rattle.net_numbers.specs.Numbers.{Net}
-use Rattle.net_numbers.specs.Outline.{plan_at}
+use Rattle.net_parts.specs.Numbers.{Net}
+use Rattle.net_parts.specs.Outline.{plan_at}
 use Rattle.road_net.specs.Network.{heard_links}
 use Rattle.round_states.specs.States.{IsBoard, IsLineAt, begin_of}
 use Rattle.round_states.specs.declared.states.RoundState.{RoundState}

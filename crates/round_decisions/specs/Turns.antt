@@ -5,8 +5,8 @@ use Rattle.board_model.specs.declared.forecasts.Row.{Row}
 use Rattle.control_flow.specs.declared.greens.Green.{Green}
 use Rattle.intersection_actor.specs.Commits.{Commitment, IsCommit, record_of}
 use Rattle.intersection_actor.specs.declared.records.PlanRecord.{PlanRecord}
-use Rattle.net_numbers.specs.Numbers.{Net}
-use Rattle.net_numbers.specs.Outline.{link_at}
+use Rattle.net_parts.specs.Numbers.{Net}
+use Rattle.net_parts.specs.Outline.{link_at}
 use Rattle.road_net.specs.Joins.{is_node}
 use Rattle.road_net.specs.Network.{heard_links}
 use Rattle.road_net.specs.declared.senses.Sensed.{Sensed}

@@ -3,7 +3,7 @@ ghost use Rattle.std.specs.Prelude.{◌≡◌, ℕ, ◌+◌, ◌<◌, [], ◌∷
 ghost use Rattle.control_flow.specs.Greens.{end_of};
 ghost use Rattle.intersection_actor.specs.Acting.{reading, tells_from, wanting, with_heard};
 ghost use Rattle.intersection_actor.specs.Rounds.{IsOf};
-ghost use Rattle.net_numbers.specs.Numbers.{Net};
+ghost use Rattle.net_parts.specs.Numbers.{Net};
 ghost use Rattle.round_states.specs.States.{begin_of};
 ghost use Rattle.round_decisions.specs.Steps.{CanTurn, HasHeard, HasPlayed, MayTell, outgoing};
 ghost use Rattle.round_decisions.specs.Turns.{ArePublished, IsTurn, next_board};

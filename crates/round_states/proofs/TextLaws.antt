@@ -5,8 +5,8 @@ use Rattle.std.proofs.lemmas.Option.{same_Some, none-some}
 use Rattle.foundation.specs.Options.{◌>>=◌, each}
 use Rattle.foundation.proofs.EachLaws.{each-push}
 use Rattle.foundation.proofs.OptionLaws.{and-at, and-some, bind-some}
-use Rattle.net_numbers.specs.Numbers.{Net}
-use Rattle.net_numbers.specs.Outline.{plan_at}
+use Rattle.net_parts.specs.Numbers.{Net}
+use Rattle.net_parts.specs.Outline.{plan_at}
 use Rattle.record_text.specs.Faults.{HasAfterHeader}
 use Rattle.record_text.specs.Walks.{IsFaultAmong, OrMemory}
 use Rattle.record_text.proofs.FaultLaws.{cut-at, one-after}

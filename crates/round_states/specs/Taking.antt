@@ -1,7 +1,7 @@
 -- What the steps of the code keep. No public clause names these definitions.
 use Rattle.std.specs.Prelude.{◌≡◌, ℕ, ◌<◌, ◌⊎◌, List, [], ◌∷◌, ◌++◌, Option, Some, Result, Ok, Err, Vec, length, map, slice_index_or, slice_set}
 use Rattle.std.specs.List.{cons_option}
-use Rattle.net_numbers.specs.Numbers.{Net}
+use Rattle.net_parts.specs.Numbers.{Net}
 use Rattle.round_states.specs.declared.entries.Entry.{Entry}
 use Rattle.round_states.specs.declared.entries.Said.{Said}
 use Rattle.round_states.specs.declared.faults.StateFault.{StateFault}

@@ -4,8 +4,8 @@ use Rattle.std.specs.Str.{bytes_eq}
 use Rattle.foundation.specs.Options.{◌>>=◌}
 use Rattle.board_model.specs.declared.forecasts.Row.{Row}
 use Rattle.control_flow.specs.declared.greens.Green.{Green}
-use Rattle.net_numbers.specs.Numbers.{Net, number_of}
-use Rattle.net_numbers.specs.Outline.{link_at}
+use Rattle.net_parts.specs.Numbers.{Net, number_of}
+use Rattle.net_parts.specs.Outline.{link_at}
 use Rattle.record_text.specs.Decimals.{number_of_digits}
 use Rattle.round_states.specs.declared.entries.Entry.{Entry}
 use Rattle.round_states.specs.declared.entries.Said.{Said}

@@ -2,7 +2,7 @@
 ghost use Rattle.std.specs.Prelude.{◌≡◌, ◌↔◌, ℕ, ◌+◌, ◌<◌, ◌≤◌, All, IfErr, IfOk, IsTrue, MatchOption, OnOk, length, map, sum, sum_by};
 ghost use Rattle.std.specs.List.{range_with_len};
 ghost use Rattle.board_model.specs.Forecasts.{amount_at};
-ghost use Rattle.net_numbers.specs.Outline.{link_at};
+ghost use Rattle.net_parts.specs.Outline.{link_at};
 ghost use Rattle.road_net.specs.Network.{entry_links};
 ghost use Rattle.road_net.specs.Senses.{amount};
 ghost use Rattle.round_states.specs.Faults.{AllGoOn, AreBoardsOnce, AreSensedOnce, IsEntryFault, SensesFew};

@@ -10,8 +10,8 @@ use Rattle.clusters.specs.declared.vehicle_groups.Window.{Window}
 use Rattle.control_flow.specs.Greens.{spliced}
 use Rattle.control_flow.specs.declared.greens.Green.{Green}
 use Rattle.intersection_actor.specs.Commits.{Commitment, IsCommit, AreServedBy, line_for}
-use Rattle.net_numbers.specs.Numbers.{Net}
-use Rattle.net_numbers.specs.Outline.{plan_at}
+use Rattle.net_parts.specs.Numbers.{Net}
+use Rattle.net_parts.specs.Outline.{plan_at}
 use Rattle.road_net.specs.declared.senses.Sensed.{Sensed}
 use Rattle.schedule_meaning.specs.Best.{IsBest}
 use Rattle.schedule_meaning.specs.Instances.{Problem}

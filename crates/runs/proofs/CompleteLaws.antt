@@ -9,7 +9,7 @@ use Rattle.histories.specs.Histories.{IsLawful}
 use Rattle.intersection_actor.specs.Commits.{record_of}
 use Rattle.intersection_actor.specs.declared.records.PlanRecord.{PlanRecord}
 use Rattle.intersection_actor.specs.declared.records.Used.{Used}
-use Rattle.net_numbers.specs.Numbers.{Net}
+use Rattle.net_parts.specs.Numbers.{Net}
 use Rattle.road_net.specs.Network.{IsNetwork, heard_links}
 use Rattle.runs.specs.Plans.{NamesVersions}
 use Rattle.runs.specs.Runs.{IsRun, plans_in, plans_of}

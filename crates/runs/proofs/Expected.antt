@@ -17,7 +17,7 @@ use Rattle.clusters.specs.declared.vehicle_groups.Window.{Window}
 use Rattle.clusters.proofs.RunLaws.{Rise, filled-rise, rise-last, rise-left, rise-right}
 use Rattle.clusters.proofs.WindowLaws.{front-within, sum-grows}
 use Rattle.histories.proofs.Counts.{cuts}
-use Rattle.net_numbers.specs.Numbers.{Net}
+use Rattle.net_parts.specs.Numbers.{Net}
 use Rattle.road_net.specs.declared.senses.Sensed.{Sensed}
 use Rattle.switch_rules.specs.declared.Head.{Head}
 

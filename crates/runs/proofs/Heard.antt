@@ -10,9 +10,9 @@ use Rattle.board_model.specs.declared.boards.Heard.{Heard}
 use Rattle.histories.specs.Histories.{version_at}
 use Rattle.histories.specs.Steps.{board_steps, publisher}
 use Rattle.intersection_actor.specs.Commits.{Commitment}
-use Rattle.net_numbers.specs.Numbers.{Net, no_link}
-use Rattle.net_numbers.specs.Outline.{IsLink, link_at}
-use Rattle.net_numbers.specs.declared.roads.Link.{Link}
+use Rattle.net_parts.specs.Numbers.{Net, no_link}
+use Rattle.net_parts.specs.Outline.{IsLink, link_at}
+use Rattle.net_parts.specs.declared.roads.Link.{Link}
 use Rattle.road_net.specs.Joins as joins
 use Rattle.road_net.specs.Joins.{links_of_node, node_at}
 use Rattle.road_net.specs.Network.{IsNetwork, entry_links, heard_links}

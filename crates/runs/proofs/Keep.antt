@@ -10,8 +10,8 @@ use Rattle.intersection_actor.specs.Commits.{Commitment, IsCommit, line_for, pha
 use Rattle.intersection_actor.specs.Rounds.{first_head}
 use Rattle.intersection_actor.proofs.ArrivalLaws.{window-soon}
 use Rattle.intersection_actor.proofs.ServedLaws.{greens-by, schedule-made}
-use Rattle.net_numbers.specs.Numbers.{Net}
-use Rattle.net_numbers.specs.Outline.{plan_at}
+use Rattle.net_parts.specs.Numbers.{Net}
+use Rattle.net_parts.specs.Outline.{plan_at}
 use Rattle.phase_plan.specs.Phases.{IsPlan}
 use Rattle.phase_plan.specs.declared.Phase.{Phase}
 use Rattle.road_net.specs.Network.{IsNetwork}

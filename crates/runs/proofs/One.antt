@@ -9,7 +9,7 @@ use Rattle.board_model.specs.declared.forecasts.Row.{Row}
 use Rattle.histories.specs.Histories.{IsLawful, version_at}
 use Rattle.histories.specs.Steps.{board_steps}
 use Rattle.histories.proofs.Versions.{version-law}
-use Rattle.net_numbers.specs.Numbers.{Net}
+use Rattle.net_parts.specs.Numbers.{Net}
 use Rattle.net_simulator.specs.Flow.{Passed}
 use Rattle.net_simulator.specs.Sums.{end_of_run, link_totals, totals}
 use Rattle.road_net.specs.Network.{IsNetwork, heard_links}

@@ -11,7 +11,7 @@ use Rattle.histories.proofs.Versions.{version-rises}
 use Rattle.intersection_actor.specs.Commits.{Commitment, IsProblemOf, record_of, used_of}
 use Rattle.intersection_actor.specs.declared.records.PlanRecord.{PlanRecord}
 use Rattle.intersection_actor.specs.declared.records.Used.{Used}
-use Rattle.net_numbers.specs.Numbers.{Net}
+use Rattle.net_parts.specs.Numbers.{Net}
 use Rattle.road_net.specs.Network.{IsNetwork, heard_links}
 use Rattle.schedule_meaning.specs.Best.{IsLeast}
 use Rattle.schedule_meaning.proofs.Choosing.{best-least}

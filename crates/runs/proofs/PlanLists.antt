@@ -13,7 +13,7 @@ use Rattle.clusters.proofs.ListLaws.{range-append}
 use Rattle.intersection_actor.specs.Acting.{Acting, without_records}
 use Rattle.intersection_actor.specs.Commits.{Commitment, record_of}
 use Rattle.intersection_actor.specs.declared.records.PlanRecord.{PlanRecord}
-use Rattle.net_numbers.specs.Numbers.{Net}
+use Rattle.net_parts.specs.Numbers.{Net}
 use Rattle.runs.specs.Ending.{records_in}
 use Rattle.runs.specs.Resting.{HasPlans}
 use Rattle.runs.specs.Runs.{plans_in, plans_of}

@@ -10,8 +10,8 @@ use Rattle.clusters.specs.declared.vehicle_groups.Platoon.{Platoon}
 use Rattle.clusters.specs.declared.vehicle_groups.Window.{Window}
 use Rattle.clusters.proofs.AskedLaws.{expected-clusters}
 use Rattle.clusters.proofs.TakingLaws.{fronts-plannable}
-use Rattle.net_numbers.specs.Numbers.{Net}
-use Rattle.net_numbers.specs.Outline.{plan_at}
+use Rattle.net_parts.specs.Numbers.{Net}
+use Rattle.net_parts.specs.Outline.{plan_at}
 use Rattle.road_net.specs.Network.{IsNetwork}
 use Rattle.road_net.specs.declared.senses.Sensed.{Sensed}
 use Rattle.switch_rules.specs.declared.Head.{Head}

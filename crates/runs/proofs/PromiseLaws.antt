@@ -6,8 +6,8 @@ use Rattle.control_flow.specs.Greens.{IsLawful as IsLawfulLine, standing}
 use Rattle.control_flow.specs.declared.greens.Green.{Green}
 use Rattle.histories.specs.Histories.{IsLawful}
 use Rattle.intersection_actor.specs.declared.records.PlanRecord.{PlanRecord}
-use Rattle.net_numbers.specs.Numbers.{Net}
-use Rattle.net_numbers.specs.Outline.{plan_at}
+use Rattle.net_parts.specs.Numbers.{Net}
+use Rattle.net_parts.specs.Outline.{plan_at}
 use Rattle.road_net.specs.Network.{IsNetwork}
 use Rattle.schedule_meaning.specs.Best.{IsLeast}
 use Rattle.signal_safety.proofs.Lines.{safe}

@@ -3,7 +3,7 @@ use Rattle.std.specs.Prelude.{◌≡◌, ℕ, List, All, length, map}
 use Rattle.std.specs.List.{flat_map, range_with_len}
 use Rattle.intersection_actor.specs.declared.records.PlanRecord.{PlanRecord}
 use Rattle.intersection_actor.specs.declared.records.Used.{Used}
-use Rattle.net_numbers.specs.Numbers.{Net}
+use Rattle.net_parts.specs.Numbers.{Net}
 use Rattle.road_net.specs.Network.{heard_links}
 use Rattle.runs.specs.declared.records.RunRecord.{RunRecord}
 

@@ -9,7 +9,7 @@ use Rattle.histories.specs.declared.steps.BoardStep.TheVariants.{Read}
 use Rattle.intersection_actor.specs.Commits.{Commitment, IsProblemOf}
 use Rattle.intersection_actor.specs.declared.records.PlanRecord.{PlanRecord}
 use Rattle.intersection_actor.specs.declared.records.Used.{Used}
-use Rattle.net_numbers.specs.Numbers.{Net}
+use Rattle.net_parts.specs.Numbers.{Net}
 use Rattle.road_net.specs.Network.{heard_links}
 use Rattle.switch_rules.specs.declared.Head.{Head}
 use Rattle.runs.specs.Runs.{hearing, line_before, sensed_in}

@@ -7,7 +7,7 @@ use Rattle.std.proofs.lemmas.Nat.{mul-le}
 use Rattle.std.proofs.lemmas.Option.{same_Some}
 use Rattle.foundation.proofs.EachLaws.{each-self}
 use Rattle.foundation.proofs.ListLaws.{All-middle}
-use Rattle.net_numbers.specs.Numbers.{Net}
+use Rattle.net_parts.specs.Numbers.{Net}
 use Rattle.road_net.specs.Totals.{total}
 use Rattle.road_net.proofs.TotalLaws.{total-le, total-same}
 use Rattle.arrivals.specs.Amounts.{Amounts, AreArrivals, AreArrivalsOf, entering}

@@ -1,6 +1,6 @@
 -- Rows that bring scaled arrivals. No public clause names these definitions.
 use Rattle.std.specs.Prelude.{◌≡◌, ℕ, ◌+◌, ◌<◌, ◌≤◌, ◌==◌, ◌&&◌, if◌then◌else◌, List, All, sum_by}
-use Rattle.net_numbers.specs.Numbers.{Net}
+use Rattle.net_parts.specs.Numbers.{Net}
 use Rattle.road_net.specs.Totals.{total}
 use Rattle.arrivals.specs.Amounts.{Amounts, entering}
 use Rattle.arrivals.specs.Rows.{IsRow, amount_of, entering_by, seconds}

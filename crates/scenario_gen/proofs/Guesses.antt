@@ -8,15 +8,15 @@ use Rattle.std.proofs.lemmas.Slice.Eq.{bytes_eq-Decides}
 use Rattle.foundation.specs.Options.{◌>>=◌, each}
 use Rattle.foundation.proofs.EachLaws.{each-cons}
 use Rattle.foundation.proofs.OptionLaws.{bind-some}
-use Rattle.net_draft.specs.declared.drafts.Draft.{Draft}
-use Rattle.net_draft.specs.declared.drafts.DraftNode.{DraftNode}
-use Rattle.net_draft.specs.declared.drafts.DraftLink.{DraftLink}
-use Rattle.net_draft.specs.declared.drafts.DraftTurn.{DraftTurn}
-use Rattle.net_draft.specs.declared.drafts.DraftConflict.{DraftConflict}
-use Rattle.net_numbers.specs.declared.roads.Link.{Link}
-use Rattle.net_numbers.specs.declared.roads.Turn.{Turn}
-use Rattle.net_numbers.specs.Numbers.{Net, AreDistinct, number_of, number_if, phase_of, plan_of, phases_of, link_of, turn_of, turns_of, conflict_of, roads_of, node_names, link_names, numbered}
-use Rattle.net_numbers.proofs.DraftParts.{number_of-own}
+use Rattle.net_parts.specs.declared.drafts.Draft.{Draft}
+use Rattle.net_parts.specs.declared.drafts.DraftNode.{DraftNode}
+use Rattle.net_parts.specs.declared.drafts.DraftLink.{DraftLink}
+use Rattle.net_parts.specs.declared.drafts.DraftTurn.{DraftTurn}
+use Rattle.net_parts.specs.declared.drafts.DraftConflict.{DraftConflict}
+use Rattle.net_parts.specs.declared.roads.Link.{Link}
+use Rattle.net_parts.specs.declared.roads.Turn.{Turn}
+use Rattle.net_parts.specs.Numbers.{Net, AreDistinct, number_of, number_if, phase_of, plan_of, phases_of, link_of, turn_of, turns_of, conflict_of, roads_of, node_names, link_names, numbered}
+use Rattle.net_parts.proofs.DraftParts.{number_of-own}
 
 -- whether the name stands at the place
 abbrev stands_at : ℕ → List (List ℕ) → List ℕ → Bool

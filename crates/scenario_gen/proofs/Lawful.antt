@@ -8,12 +8,12 @@ use Rattle.std.proofs.lemmas.List.FromFn.{length-range_with_len}
 use Rattle.std.proofs.lemmas.List.Sums.{sum_by-append, sum_by-cons, sum_by-le}
 use Rattle.std.proofs.lemmas.Option.{same_Some}
 use Rattle.foundation.proofs.EachLaws.{each-self}
-use Rattle.net_draft.specs.declared.drafts.Draft.{Draft}
-use Rattle.net_draft.specs.declared.faults.NetFault.{NetFault}
-use Rattle.net_draft.specs.declared.faults.NetFault.TheVariants as net_fault
-use Rattle.net_numbers.specs.Numbers.{Net}
-use Rattle.net_numbers.specs.FirstFaults.{Refuses}
-use Rattle.net_numbers.specs.Outline.{link_at}
+use Rattle.net_parts.specs.declared.drafts.Draft.{Draft}
+use Rattle.net_parts.specs.declared.faults.NetFault.{NetFault}
+use Rattle.net_parts.specs.declared.faults.NetFault.TheVariants as net_fault
+use Rattle.net_parts.specs.Numbers.{Net}
+use Rattle.net_parts.specs.FirstFaults.{Refuses}
+use Rattle.net_parts.specs.Outline.{link_at}
 use Rattle.road_net.specs.Network.{IsNetworkOf}
 use Rattle.arrivals.specs.declared.rows.ArrivalRow.{ArrivalRow}
 use Rattle.arrivals.specs.declared.rows.RowFault.{RowFault}

@@ -3,7 +3,7 @@ use Rattle.std.proofs.Common.{◌≡◌, ℕ, zero, suc, ◌+◌, ◌-◌, ◌*�
 use Rattle.std.specs.Prelude.{if◌then◌else◌}
 use Rattle.std.specs.Fmt.{digits}
 use Rattle.std.specs.List.{flat_map, position_or_len}
-use Rattle.net_numbers.specs.Bounds.{IsRun}
+use Rattle.net_parts.specs.Bounds.{IsRun}
 use Rattle.scenario_gen.specs.Drafts.{grid_draft, run}
 use Rattle.scenario_gen.specs.Grids.{AreRounds}
 use Rattle.scenario_gen.specs.Layout.{IsSide, entry_roads, nodes, number_of}

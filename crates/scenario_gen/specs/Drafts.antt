@@ -4,13 +4,13 @@ use Rattle.std.specs.Fmt.{decimal}
 use Rattle.std.specs.List.{flat_map}
 use Rattle.std.specs.Option.{option_map}
 use Rattle.phase_plan.specs.declared.Phase.{Phase}
-use Rattle.net_draft.specs.declared.drafts.Run.{Run}
-use Rattle.net_draft.specs.declared.drafts.Draft.{Draft}
-use Rattle.net_draft.specs.declared.drafts.DraftNode.{DraftNode}
-use Rattle.net_draft.specs.declared.drafts.DraftPhase.{DraftPhase}
-use Rattle.net_draft.specs.declared.drafts.DraftLink.{DraftLink}
-use Rattle.net_draft.specs.declared.drafts.DraftTurn.{DraftTurn}
-use Rattle.net_draft.specs.declared.drafts.DraftConflict.{DraftConflict}
+use Rattle.net_parts.specs.declared.drafts.Run.{Run}
+use Rattle.net_parts.specs.declared.drafts.Draft.{Draft}
+use Rattle.net_parts.specs.declared.drafts.DraftNode.{DraftNode}
+use Rattle.net_parts.specs.declared.drafts.DraftPhase.{DraftPhase}
+use Rattle.net_parts.specs.declared.drafts.DraftLink.{DraftLink}
+use Rattle.net_parts.specs.declared.drafts.DraftTurn.{DraftTurn}
+use Rattle.net_parts.specs.declared.drafts.DraftConflict.{DraftConflict}
 use Rattle.scenario_gen.specs.declared.layout.Direction.{Direction}
 use Rattle.scenario_gen.specs.declared.layout.Kind.{Kind}
 use Rattle.scenario_gen.specs.declared.layout.Kind.TheVariants.{Leaving, Entering}

@@ -1,6 +1,6 @@
 -- The grid of a number.
 use Rattle.std.specs.Prelude.{ℕ, ◌≤◌}
-use Rattle.net_numbers.specs.Numbers.{Net}
+use Rattle.net_parts.specs.Numbers.{Net}
 use Rattle.road_net.specs.Network.{IsNetworkOf}
 use Rattle.arrivals.specs.Amounts.{Amounts, AreArrivalsOf}
 use Rattle.arrivals.specs.Rows.{AreRows}

@@ -1,6 +1,6 @@
 //! What enters a square grid: words are drawn one after another, and decide.
 ghost use Rattle.std.specs.Prelude.{◌≡◌, ◌<◌, ◌++◌, ◌∷◌, [], IfOk, OnOk, if◌then◌else◌, is_none, length};
-ghost use Rattle.net_numbers.specs.Outline.{link_at};
+ghost use Rattle.net_parts.specs.Outline.{link_at};
 ghost use Rattle.road_net.specs.Network.{IsNetwork};
 ghost use Rattle.arrivals.specs.Rows.{AreRows};
 ghost use Rattle.scenario_gen.specs.Arrivals as words;

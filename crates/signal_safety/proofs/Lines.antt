@@ -7,8 +7,8 @@ use Rattle.std.proofs.lemmas.List.Elements.{All-get_or}
 use Rattle.control_flow.specs.Greens.{AreApart, IsGreen, IsLawful, covers, no_green, row_at}
 use Rattle.control_flow.specs.declared.greens.Green.{Green}
 use Rattle.control_flow.proofs.ApartLaws.{are-apart}
-use Rattle.net_numbers.specs.Numbers.{Net, no_link}
-use Rattle.net_numbers.specs.Outline.{IsLink, link_at, plan_at}
+use Rattle.net_parts.specs.Numbers.{Net, no_link}
+use Rattle.net_parts.specs.Outline.{IsLink, link_at, plan_at}
 use Rattle.phase_plan.specs.Phases.{IsPlan, phase_at}
 use Rattle.phase_plan.specs.declared.Phase.{Phase}
 use Rattle.phase_plan.proofs.RingLaws.{phase-bounds}

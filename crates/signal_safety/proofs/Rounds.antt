@@ -11,8 +11,8 @@ use Rattle.control_flow.specs.declared.greens.Green.{Green}
 use Rattle.control_flow.proofs.MakingLaws.{line_of-by, line_of-line, rotation_of-by, rotation_of-line}
 use Rattle.control_flow.proofs.RowLaws.{row_after-some}
 use Rattle.control_flow.proofs.SpliceLaws.{continued, head_in-by, head_in-since}
-use Rattle.net_numbers.specs.Numbers.{Net}
-use Rattle.net_numbers.specs.Outline.{plan_at}
+use Rattle.net_parts.specs.Numbers.{Net}
+use Rattle.net_parts.specs.Outline.{plan_at}
 use Rattle.phase_plan.specs.Phases.{IsPlan}
 use Rattle.phase_plan.specs.declared.Phase.{Phase}
 use Rattle.road_net.specs.Network.{IsNetwork}

@@ -2,7 +2,7 @@
 use Rattle.std.specs.Prelude.{ℕ, zero, suc, ◌/◌, List, Option}
 use Rattle.control_flow.specs.Greens.{standing}
 use Rattle.control_flow.specs.declared.greens.Green.{Green}
-use Rattle.net_numbers.specs.Numbers.{Net}
+use Rattle.net_parts.specs.Numbers.{Net}
 
 -- the line of a node before a round: at first that of `first`, and then that which the node made in the round before
 abbrev pub line_before : (ℕ → List Green) → (ℕ → ℕ → List Green) → ℕ → ℕ → List Green

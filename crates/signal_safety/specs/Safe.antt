@@ -2,8 +2,8 @@
 use Rattle.std.specs.Prelude.{◌≡◌, ℕ, ◌+◌, ◌≤◌, IsTrue, List, All, Contains, MatchOption, unwrap_or}
 use Rattle.control_flow.specs.Greens.{covers}
 use Rattle.control_flow.specs.declared.greens.Green.{Green}
-use Rattle.net_numbers.specs.Numbers.{Net}
-use Rattle.net_numbers.specs.Outline.{link_at, plan_at}
+use Rattle.net_parts.specs.Numbers.{Net}
+use Rattle.net_parts.specs.Outline.{link_at, plan_at}
 use Rattle.phase_plan.specs.Phases.{phase_at}
 use Rattle.phase_plan.specs.declared.Phase.{Phase}
 

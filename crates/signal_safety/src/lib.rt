@@ -4,8 +4,8 @@
 ghost use Rattle.std.specs.Prelude.{ℕ, ◌<◌, List, length};
 ghost use Rattle.control_flow.specs.Greens.{IsLawful};
 ghost use Rattle.control_flow.specs.declared.greens.Green.{Green};
-ghost use Rattle.net_numbers.specs.Numbers.{Net};
-ghost use Rattle.net_numbers.specs.Outline.{plan_at};
+ghost use Rattle.net_parts.specs.Numbers.{Net};
+ghost use Rattle.net_parts.specs.Outline.{plan_at};
 ghost use Rattle.road_net.specs.Network.{IsNetwork};
 ghost use Rattle.signal_safety.specs.Safe.{IsSafe};
 

@@ -2,7 +2,7 @@
 use Rattle.std.specs.Prelude.{◌≡◌, ◌≢◌, ℕ, ◌<◌, Option, Some, None, List, All, IfSome, slice_index_or}
 use Rattle.std.specs.Option.{option_map}
 use Rattle.atomic_table.specs.Seated.{TableId}
-use Rattle.board_rule.specs.Passes.{BoardsView}
+use Rattle.link_boards.specs.Passes.{BoardsView}
 use Rattle.snap_boards.specs.declared.ends.Ends.{Ends}
 
 -- which boards they are, how many links they have, how many passes, and the ends of each link

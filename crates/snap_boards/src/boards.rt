@@ -1,6 +1,6 @@
 //! The boards and their passes are made, and closed.
 ghost use Rattle.std.specs.Prelude.{◌≡◌, ◌≤◌, [], IfOk, All, length, map, vec_capacity};
-ghost use Rattle.board_rule.specs.Passes.{AreAllPasses, AreLogsOfPasses, fresh_passes};
+ghost use Rattle.link_boards.specs.Passes.{AreAllPasses, AreLogsOfPasses, fresh_passes};
 ghost use Rattle.snap_boards.specs.Boards.{AreAllEnds, shared_of};
 ghost use Rattle.snap_boards.specs.Slots.{is_settled};
 

@@ -1,6 +1,6 @@
 //! The calls of a pass: a reading, a publishing, and a meeting.
 ghost use Rattle.std.specs.Prelude.{◌≡◌, ◌<◌, IfOk, IfErr, IsOk, OnErr, All, map};
-ghost use Rattle.board_rule.specs.Passes.{HasRead, HasSent, highest, raised};
+ghost use Rattle.link_boards.specs.Passes.{HasRead, HasSent, highest, raised};
 ghost use Rattle.snap_boards.specs.Boards.{IsReader, IsWriter};
 
 use crate::boards::{SnapBoards, SnapPass};

@@ -1,6 +1,6 @@
 -- In a world with a store a network has one run under actuated control for what arrives at it.
 use Rattle.std.proofs.Common.{◌≡◌, ℕ, ◌<◌, length, sym, ap, ◌∙◌, arith}
-use Rattle.net_numbers.specs.Numbers.{Net}
+use Rattle.net_parts.specs.Numbers.{Net}
 use Rattle.net_simulator.specs.Flow.{Passed}
 use Rattle.net_simulator.specs.Sums.{end_of_run}
 use Rattle.road_net.specs.Network.{IsNetwork}

@@ -5,8 +5,8 @@ use Rattle.std.proofs.lemmas.Nat.{div_below}
 use Rattle.audit.specs.Audits.{AreLawful}
 use Rattle.control_flow.specs.Greens.{IsLawful, standing}
 use Rattle.control_flow.specs.declared.greens.Green.{Green}
-use Rattle.net_numbers.specs.Numbers.{Net}
-use Rattle.net_numbers.specs.Outline.{plan_at}
+use Rattle.net_parts.specs.Numbers.{Net}
+use Rattle.net_parts.specs.Outline.{plan_at}
 use Rattle.net_simulator.specs.Sums.{end_of_run}
 use Rattle.net_simulator.specs.Worlds.{line_in, standing_by}
 use Rattle.road_net.specs.Network.{IsNetwork}

@@ -2,7 +2,7 @@
 use Rattle.std.specs.Prelude.{◌≡◌, ℕ, ◌*◌, List}
 use Rattle.actuated.specs.RunsSoFar.{HaveActed}
 use Rattle.control_flow.specs.declared.greens.Green.{Green}
-use Rattle.net_numbers.specs.Numbers.{Net}
+use Rattle.net_parts.specs.Numbers.{Net}
 use Rattle.net_simulator.specs.Worlds.{line_in, standing_by}
 use Rattle.spillback_world.specs.Storage.{past_in}
 use Rattle.spillback_world.specs.Worlds.{SpillState, Stands}

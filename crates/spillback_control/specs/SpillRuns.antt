@@ -4,7 +4,7 @@ use Rattle.std.specs.List.{range_with_len}
 use Rattle.actuated.specs.ActRuns.{AllAct, first_line}
 use Rattle.control_flow.specs.Greens.{standing}
 use Rattle.control_flow.specs.declared.greens.Green.{Green}
-use Rattle.net_numbers.specs.Numbers.{Net}
+use Rattle.net_parts.specs.Numbers.{Net}
 use Rattle.net_simulator.specs.Sums.{end_of_run}
 use Rattle.net_simulator.specs.Worlds.{line_in}
 use Rattle.signal_safety.specs.Rounds.{line_before, shown_by}

@@ -1,9 +1,9 @@
 -- What discharges depends only on what the links of the network begin the second with.
 use Rattle.std.proofs.Common.{◌≡◌, ℕ, zero, suc, ◌+◌, ◌-◌, ◌<◌, ◌≤◌, ◌&&◌, cond, leb, min, List, [], ◌∷◌, ◌++◌, All, Option, Some, None, length, get_or, slice_index, refl, ap, ◌∙◌, arith}
 use Rattle.std.specs.List.{list_all}
-use Rattle.net_numbers.specs.declared.roads.Turn.{Turn}
-use Rattle.net_numbers.specs.Numbers.{Net}
-use Rattle.net_numbers.specs.Outline.{link_at, turns_at}
+use Rattle.net_parts.specs.declared.roads.Turn.{Turn}
+use Rattle.net_parts.specs.Numbers.{Net}
+use Rattle.net_parts.specs.Outline.{link_at, turns_at}
 use Rattle.road_net.specs.Joins.{split_of}
 use Rattle.road_net.specs.Network.{IsNetwork}
 use Rattle.road_net.specs.Totals.{total}

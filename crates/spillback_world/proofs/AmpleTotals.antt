@@ -1,10 +1,10 @@
 -- Where every link holds as much as may ever arrive, the totals are those of the world without bounds, and nothing waits outside.
 use Rattle.std.proofs.Common.{◌≡◌, ℕ, ◌+◌, ◌<◌, Option, Some, length, refl, ap, ◌∙◌, arith}
-use Rattle.net_numbers.specs.Numbers.{Net}
+use Rattle.net_parts.specs.Numbers.{Net}
 use Rattle.road_net.specs.Network.{IsNetwork}
 use Rattle.road_net.specs.Totals.{total}
 use Rattle.road_net.proofs.TotalLaws.{total-same, total-swap, total-zero}
-use Rattle.net_numbers.specs.Outline.{link_at}
+use Rattle.net_parts.specs.Outline.{link_at}
 use Rattle.net_simulator.specs.Flow.{Passed, passed_in, past_of, queue}
 use Rattle.net_simulator.specs.Sums.{AreFew, arrived, delay, totals}
 use Rattle.net_simulator.proofs.EveryWorld.{past-still}

@@ -1,7 +1,7 @@
 -- What is counted of a world that was played.
 use Rattle.std.proofs.Common.{◌≡◌, ℕ, Option, subst, ◌∙◌}
 use Rattle.arrivals.specs.Amounts.{Amounts}
-use Rattle.net_numbers.specs.Numbers.{Net}
+use Rattle.net_parts.specs.Numbers.{Net}
 use Rattle.net_simulator.specs.Arriving.{arriving_of}
 use Rattle.spillback_world.specs.declared.totals.SpillTotals.{SpillTotals}
 use Rattle.spillback_world.specs.Laws.{spilled_in}

@@ -13,7 +13,7 @@ use Rattle.std.proofs.lemmas.Map.Steps.{length-le_from_distinct_below}
 use Rattle.std.proofs.lemmas.Option.{none-some}
 use Rattle.std.proofs.Math.Seq.{get_or-append_seam}
 use Rattle.road_net.proofs.Serving.{list_any-found}
-use Rattle.net_numbers.specs.Numbers.{Net}
+use Rattle.net_parts.specs.Numbers.{Net}
 use Rattle.spillback_world.specs.declared.store_drafts.StoreRow.{StoreRow}
 use Rattle.spillback_world.specs.StoreDrafts.{AreStorages, IsDraftOf, draft_at, storages_of}
 use Rattle.spillback_world.specs.StoreRows.{IsRow, IsStorage, IsStoreOf, has_link, link_of, most_of_link, storage_in, storage_of}

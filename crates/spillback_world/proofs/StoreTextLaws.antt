@@ -6,8 +6,8 @@ use Rattle.foundation.specs.Options.{◌>>=◌, each}
 use Rattle.foundation.proofs.EachLaws.{each-length, each-push}
 use Rattle.foundation.proofs.ListLaws.{All-middle}
 use Rattle.foundation.proofs.OptionLaws.{bind-some, and-some, and-at}
-use Rattle.net_numbers.specs.Numbers.{Net, number_of}
-use Rattle.net_numbers.proofs.DraftParts.{number_of-within}
+use Rattle.net_parts.specs.Numbers.{Net, number_of}
+use Rattle.net_parts.proofs.DraftParts.{number_of-within}
 use Rattle.record_text.specs.Faults.{HasAfterHeader}
 use Rattle.record_text.specs.Walks.{AreCounted, IsFaultAmong, OrMemory}
 use Rattle.record_text.proofs.FaultLaws.{cut-at, one-after}

@@ -1,7 +1,7 @@
 -- How much of an amount fits.
 use Rattle.std.specs.Prelude.{ℕ, zero, suc, ◌-◌, Bool, nat_le, if◌then◌else◌, List, slice_index}
 use Rattle.std.specs.List.{list_all}
-use Rattle.net_numbers.specs.declared.roads.Turn.{Turn}
+use Rattle.net_parts.specs.declared.roads.Turn.{Turn}
 use Rattle.road_net.specs.Joins.{split_of}
 
 -- the greatest number up to a wish of which this holds; 0 where it holds of none

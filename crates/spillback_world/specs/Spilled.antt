@@ -1,7 +1,7 @@
 -- What is counted of a world in which a full link holds back those who want to enter it.
 use Rattle.std.specs.Prelude.{◌≡◌, ℕ, ◌+◌, Option, Some, None, length}
-use Rattle.net_numbers.specs.Numbers.{Net}
-use Rattle.net_numbers.specs.Outline.{link_at}
+use Rattle.net_parts.specs.Numbers.{Net}
+use Rattle.net_parts.specs.Outline.{link_at}
 use Rattle.road_net.specs.Totals.{total}
 use Rattle.net_simulator.specs.Flow.{Passed, queue}
 use Rattle.net_simulator.specs.Sums.{gone, on_road}

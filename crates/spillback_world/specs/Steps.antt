@@ -1,7 +1,7 @@
 -- What the code does in one second, by what it keeps. No public clause names these terms.
 use Rattle.std.specs.Prelude.{◌≡◌, ◌≢◌, ℕ, ◌+◌, ◌*◌, ◌≤◌, ◌<◌, ◌==◌, min, Bool, false, if◌then◌else◌, List, Option, Some, None, length, replicate, slice_index, slice_index_or}
-use Rattle.net_numbers.specs.Numbers.{Net}
-use Rattle.net_numbers.specs.Outline.{link_at, turns_at}
+use Rattle.net_parts.specs.Numbers.{Net}
+use Rattle.net_parts.specs.Outline.{link_at, turns_at}
 use Rattle.control_flow.specs.declared.greens.Green.{Green}
 use Rattle.net_simulator.specs.LinkSeconds.{is_open}
 use Rattle.spillback_world.specs.Filling.{fitting, room_of}

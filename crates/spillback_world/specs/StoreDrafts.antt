@@ -1,7 +1,7 @@
 -- What the steps of the code answer, and what they keep. No public clause names these words.
 use Rattle.std.specs.Prelude.{◌≡◌, ℕ, ◌⊎◌, List, Option, None, Some, Result, Ok, Err, IsSome, IfSome, IsSomeAnd, All, length, map, unwrap_or, slice_index_or, slice_set}
 use Rattle.foundation.specs.Options.{each}
-use Rattle.net_numbers.specs.Numbers.{Net, number_of}
+use Rattle.net_parts.specs.Numbers.{Net, number_of}
 use Rattle.spillback_world.specs.declared.store_drafts.Draft.{Draft}
 use Rattle.spillback_world.specs.declared.store_drafts.StoreRow.{StoreRow}
 use Rattle.spillback_world.specs.declared.store_faults.StoreFault.{StoreFault}

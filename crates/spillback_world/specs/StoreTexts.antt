@@ -1,7 +1,7 @@
 -- Which store a text stands for, and why it stands for none.
 use Rattle.std.specs.Prelude.{◌≡◌, ◌≢◌, ℕ, List, ◌∷◌, None, Some, IsSomeAnd, Contains, map}
 use Rattle.foundation.specs.Options.{each}
-use Rattle.net_numbers.specs.Numbers.{Net, number_of}
+use Rattle.net_parts.specs.Numbers.{Net, number_of}
 use Rattle.record_text.specs.Faults.{HasAfterHeader, IsFirstFault}
 use Rattle.record_text.specs.Records.{records_of}
 use Rattle.spillback_world.specs.declared.store_drafts.StoreRow.{StoreRow}

@@ -1,7 +1,7 @@
 //! What links discharge in a second, one after another.
 
 ghost use Rattle.std.specs.Prelude.{◌≡◌, ℕ, ◌+◌, ◌≤◌, ◌<◌, ◌^◌, All, length, slice_index};
-ghost use Rattle.net_numbers.specs.Outline.{turns_at};
+ghost use Rattle.net_parts.specs.Outline.{turns_at};
 ghost use Rattle.road_net.specs.Joins.{split_of};
 ghost use Rattle.spillback_world.specs.Filling.{room_of};
 ghost use Rattle.spillback_world.specs.Steps.{AreHeld, HasDischarged, HaveDischarged, HaveLeft, HaveLinks, link_goes};

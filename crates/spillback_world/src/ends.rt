@@ -1,7 +1,7 @@
 //! What happens at the ends of links, and before their begins, in a second.
 
 ghost use Rattle.std.specs.Prelude.{◌≡◌, ◌≢◌, ℕ, ◌+◌, ◌-◌, ◌*◌, ◌%◌, ◌≤◌, ◌<◌, ◌^◌, All, length, slice_index};
-ghost use Rattle.net_numbers.specs.Outline.{link_at};
+ghost use Rattle.net_parts.specs.Outline.{link_at};
 ghost use Rattle.net_simulator.specs.Arriving.{arriving_of};
 ghost use Rattle.net_simulator.specs.LinkSeconds.{waits_at};
 ghost use Rattle.net_simulator.specs.Rows.{cell};

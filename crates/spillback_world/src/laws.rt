@@ -4,7 +4,7 @@ ghost use Rattle.std.specs.Prelude.{◌≡◌, ℕ, ◌<◌, List, Option};
 ghost use Rattle.arrivals.specs.Amounts.{Amounts, AreArrivals};
 ghost use Rattle.control_flow.specs.Greens.{standing};
 ghost use Rattle.control_flow.specs.declared.greens.Green.{Green};
-ghost use Rattle.net_numbers.specs.Numbers.{Net};
+ghost use Rattle.net_parts.specs.Numbers.{Net};
 ghost use Rattle.net_simulator.specs.Worlds.{standing_by};
 ghost use Rattle.road_net.specs.Network.{IsNetwork};
 ghost use Rattle.spillback_world.specs.Laws.{IsAmple, IsKept};

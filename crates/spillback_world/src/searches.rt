@@ -1,7 +1,7 @@
 //! The search of the greatest amount for which there is room.
 
 ghost use Rattle.std.specs.Prelude.{◌≡◌, ℕ, ◌+◌, ◌-◌, ◌*◌, ◌≤◌, ◌<◌, false, length, slice_index};
-ghost use Rattle.net_numbers.specs.Outline.{turns_at};
+ghost use Rattle.net_parts.specs.Outline.{turns_at};
 ghost use Rattle.road_net.specs.Joins.{split_of};
 ghost use Rattle.spillback_world.specs.Filling.{fitting, has_room, room_of};
 

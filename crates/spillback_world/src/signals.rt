@@ -1,7 +1,7 @@
 //! Which links may discharge in a second.
 
 ghost use Rattle.std.specs.Prelude.{◌≡◌, ℕ, ◌*◌, ◌≤◌, ◌<◌, None, IfSome, false, length, slice_index_or};
-ghost use Rattle.net_numbers.specs.Outline.{link_at};
+ghost use Rattle.net_parts.specs.Outline.{link_at};
 ghost use Rattle.spillback_world.specs.Steps.{served_at};
 
 use control_flow::greens::Green;

@@ -11,11 +11,11 @@ use Rattle.schedule_meaning.specs.declared.texts.TextFault.TheVariants.{Line, Pl
 use Rattle.dp_certificate.specs.declared.certificates.CertFault.TheVariants as cert
 use Rattle.certificate_form.specs.declared.reading.CertText.{CertText}
 use Rattle.certificate_form.specs.declared.reading.CertText.TheVariants as text
-use Rattle.net_draft.specs.declared.faults.NetFault.{NetFault}
-use Rattle.net_draft.specs.declared.faults.NetFault.TheVariants as net
-use Rattle.net_draft.specs.declared.faults.Section.{Section}
-use Rattle.net_draft.specs.declared.faults.Section.TheVariants as part
-use Rattle.net_draft.specs.declared.faults.Place.{Place}
+use Rattle.net_parts.specs.declared.faults.NetFault.{NetFault}
+use Rattle.net_parts.specs.declared.faults.NetFault.TheVariants as net
+use Rattle.net_parts.specs.declared.faults.Section.{Section}
+use Rattle.net_parts.specs.declared.faults.Section.TheVariants as part
+use Rattle.net_parts.specs.declared.faults.Place.{Place}
 use Rattle.arrivals.specs.declared.rows.RowFault.{RowFault}
 use Rattle.arrivals.specs.declared.rows.RowFault.TheVariants as row
 use Rattle.delay_report.specs.declared.faults.HistoryFault.{HistoryFault}

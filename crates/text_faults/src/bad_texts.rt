@@ -13,7 +13,7 @@ use certificate_form::CertText;
 use delay_report::HistoryFault;
 use dp_certificate::CertFault;
 use fixed_plans::FixedFault;
-use net_draft::{NetFault, Place, Section};
+use net_parts::{NetFault, Place, Section};
 use phase_plan::{Field, PlanFault};
 use round_states::StateFault;
 use schedule_meaning::{InstanceFault, TextFault};

@@ -1,5 +1,5 @@
 use Rattle.std.proofs.lemmas.Result.{err_from_is_err_and, IfErr-weaker}
-use Rattle.net_numbers.specs.Parts.{net_of}
+use Rattle.net_parts.specs.Parts.{net_of}
 use Rattle.net_build.proofs.Outline.{outline}
 use Rattle.road_net.specs.FirstFaults.{IsDraftFault, IsNumbersOf}
 use Rattle.net_build.proofs.Building.{numbers-none, IsDraftFault-bounds, IsDraftFault-numbers, IsDraftFault-joins}

@@ -1,6 +1,6 @@
 //! A worked example: one link, two passes, four calls, each public call once.
 ghost use Rattle.std.specs.Prelude.{◌≡◌, ◌<◌, IfOk};
-ghost use Rattle.board_rule.specs.Passes.{AreAllPasses, HasRead, HasSent, fresh_passes};
+ghost use Rattle.link_boards.specs.Passes.{AreAllPasses, HasRead, HasSent, fresh_passes};
 
 use board_model::{BoardKind, BoardLog, Forecast, OpenGate, Row, Seen, Sent};
 use plan_boards::{Boards, Pass};

@@ -1,6 +1,6 @@
 //! The worked example at boards whose forecasts are read beside the writer: one link, two passes, four calls.
 ghost use Rattle.std.specs.Prelude.{◌≡◌, ◌<◌, Some, ◌∷◌, [], IfOk, OnErr, OnOk};
-ghost use Rattle.board_rule.specs.Passes.{AreAllPasses, HasRead, HasSent, fresh_passes};
+ghost use Rattle.link_boards.specs.Passes.{AreAllPasses, HasRead, HasSent, fresh_passes};
 ghost use Rattle.snap_boards.specs.Boards.{IsReader, IsWriter, shared_of};
 
 use super::example::{ANSWERS, Answers, ENTRIES, entries, one_row};

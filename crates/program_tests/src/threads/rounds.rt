@@ -1,7 +1,7 @@
 //! The rounds of a network, with boards and passes of the test.
 ghost use Rattle.std.specs.Prelude.{◌≡◌, ◌*◌, ◌≤◌, length};
 ghost use Rattle.arrivals.specs.Amounts.{AreArrivals};
-ghost use Rattle.board_rule.specs.Passes.{AreAllPasses, fresh_passes};
+ghost use Rattle.link_boards.specs.Passes.{AreAllPasses, fresh_passes};
 
 use super::copies::{network_of_copies, vehicles_of_copies};
 use super::pairs::{COPIES, MET, PAIRS};

@@ -1,7 +1,7 @@
 //! The rounds of a network at boards whose forecasts are read beside the writer, with boards and passes of the test.
 ghost use Rattle.std.specs.Prelude.{◌≡◌, ◌*◌, length};
 ghost use Rattle.arrivals.specs.Amounts.{AreArrivals};
-ghost use Rattle.board_rule.specs.Passes.{AreAllPasses, fresh_passes};
+ghost use Rattle.link_boards.specs.Passes.{AreAllPasses, fresh_passes};
 ghost use Rattle.net_threads.specs.Ends.{AreEndsOf};
 ghost use Rattle.snap_boards.specs.Boards.{shared_of};
 

@@ -1,8 +1,8 @@
 use Rattle.std.proofs.Common.{◌<◌, ◌^◌, length, sum_by, refl}
 use Rattle.std.proofs.lemmas.List.Elements.{All-weaker}
-use Rattle.net_numbers.specs.Outline.{AreTurns}
-use Rattle.net_numbers.specs.Parts.{net_of}
-use Rattle.net_numbers.proofs.OutlineLaws.{outline-few}
+use Rattle.net_parts.specs.Outline.{AreTurns}
+use Rattle.net_parts.specs.Parts.{net_of}
+use Rattle.net_parts.proofs.OutlineLaws.{outline-few}
 use Rattle.road_net.specs.Joins.{share_of}
 use Rattle.road_net.proofs.FirstFaults.{halted, entries-fault, shares-fault, phases-fault, conflicts-last}
 use Rattle.road_net.proofs.Joining.{shares-small}

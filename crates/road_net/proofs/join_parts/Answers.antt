@@ -1,4 +1,4 @@
-use Rattle.net_numbers.specs.Parts.{net_of}
+use Rattle.net_parts.specs.Parts.{net_of}
 use Rattle.road_net.proofs.FirstFaults.{refused}
 use Rattle.road_net.proofs.join_parts.Goals as goal
 

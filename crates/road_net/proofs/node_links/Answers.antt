@@ -1,4 +1,4 @@
-use Rattle.net_numbers.specs.Parts.{net_of}
+use Rattle.net_parts.specs.Parts.{net_of}
 use Rattle.road_net.proofs.FirstFaults.{blamed, ends-fault}
 use Rattle.road_net.proofs.Served.{served}
 use Rattle.road_net.proofs.node_links.Goals as goal

@@ -1,8 +1,8 @@
 use Rattle.std.proofs.Common.{◌≡◌, ◌+◌, ◌<◌, ◌≤◌, List, length, sym, ap, subst, ◌∙◌, arith}
 use Rattle.control_flow.specs.declared.greens.Green.{Green}
 use Rattle.clusters.proofs.SeenLaws.{written}
-use Rattle.net_draft.specs.declared.drafts.Run.{Run}
-use Rattle.net_numbers.specs.Outline.{plan_at}
+use Rattle.net_parts.specs.declared.drafts.Run.{Run}
+use Rattle.net_parts.specs.Outline.{plan_at}
 use Rattle.net_simulator.specs.Arriving.{arriving_of}
 use Rattle.net_simulator.specs.Flow.{past_of}
 use Rattle.net_simulator.specs.Worlds.{Stands, line_in, standing_by}

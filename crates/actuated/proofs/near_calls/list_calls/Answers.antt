@@ -1,7 +1,7 @@
 use Rattle.std.proofs.Common.{ℕ, List, [], ◌∷◌, ◌++◌, map, slice_index, sum_by, sym, ap, ◌∙◌, arith}
 use Rattle.std.specs.List.{range_with_len}
 use Rattle.std.proofs.lemmas.List.FromFn.{map-range_with_len_more}
-use Rattle.net_numbers.specs.Outline.{phase_links_at}
+use Rattle.net_parts.specs.Outline.{phase_links_at}
 use Rattle.actuated.proofs.near_calls.list_calls.Goals as goal
 
 pub loop-phase-preserved : goal.loop-phase-preserved

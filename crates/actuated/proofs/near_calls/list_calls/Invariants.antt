@@ -1,6 +1,6 @@
 use Rattle.std.proofs.Common.{◌≡◌, map, slice_index, sum_by}
 use Rattle.std.specs.List.{range_with_len}
-use Rattle.net_numbers.specs.Outline.{phase_links_at}
+use Rattle.net_parts.specs.Outline.{phase_links_at}
 use Rattle.actuated.proofs.near_calls.list_calls.Given as goal
 
 -- what calls for the phases so far

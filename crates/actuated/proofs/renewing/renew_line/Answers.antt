@@ -1,7 +1,7 @@
 use Rattle.std.proofs.Common.{◌≡◌, ◌+◌, ℕ, List, Some, sym, ap, subst, ◌∙◌, arith}
 use Rattle.control_flow.specs.Greens.{IsLawful, head_at}
-use Rattle.net_draft.specs.declared.drafts.Run.{Run}
-use Rattle.net_numbers.specs.Outline.{plan_at}
+use Rattle.net_parts.specs.declared.drafts.Run.{Run}
+use Rattle.net_parts.specs.Outline.{plan_at}
 use Rattle.phase_plan.specs.declared.Phase.{Phase}
 use Rattle.signal_safety.proofs.Lines.{plan-is}
 use Rattle.actuated.specs.Calls.{act_line}

@@ -1,6 +1,6 @@
 use Rattle.std.proofs.Common.{ℕ, List, length, slice_index, sum_by, sym, ap, subst, ◌∙◌, arith}
 use Rattle.std.proofs.lemmas.List.FromFn.{length-map-range_with_len}
-use Rattle.net_numbers.specs.Outline.{phase_links_at, plan_at}
+use Rattle.net_parts.specs.Outline.{phase_links_at, plan_at}
 use Rattle.actuated.specs.Rounds.{IsReady, IsRenewed}
 use Rattle.actuated.proofs.Acting.{at-node, more-renewed}
 use Rattle.actuated.proofs.renewing.renew_lines.Goals as goal

@@ -1,5 +1,5 @@
 use Rattle.std.proofs.Common.{refl, sym}
-use Rattle.net_numbers.proofs.Distinct.{number_of-unknown}
+use Rattle.net_parts.proofs.Distinct.{number_of-unknown}
 use Rattle.audit.proofs.SheetDraftLaws.{come-green}
 use Rattle.audit.proofs.sheet_drafts.take_green.Goals as goal
 

@@ -1,5 +1,5 @@
 use Rattle.std.proofs.Common.{◌∙◌, ◌≤◌, ap, arith, length, sum, sum_by, slice_range}
-use Rattle.net_numbers.specs.Outline.{link_at}
+use Rattle.net_parts.specs.Outline.{link_at}
 use Rattle.clusters.specs.Inflow.{sense_of}
 use Rattle.clusters.specs.UnderLoad.{amount_load, aged_load_of}
 use Rattle.clusters.proofs.TogetherLaws.{All-slice_range, sizing-more, stream-few, stream-small}

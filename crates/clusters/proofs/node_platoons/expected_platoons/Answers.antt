@@ -1,5 +1,5 @@
 use Rattle.std.proofs.Common.{◌≡◌, ap, length, arith}
-use Rattle.net_numbers.specs.Outline.{phase_links_at, plan_at}
+use Rattle.net_parts.specs.Outline.{phase_links_at, plan_at}
 use Rattle.clusters.specs.Platoons.{streams_of}
 use Rattle.clusters.specs.UnderLoad.{AreExpectedIn}
 use Rattle.clusters.proofs.AskedLaws.{expected-are, expected-clusters, expected-node, expected-rising}

@@ -1,4 +1,4 @@
-use Rattle.net_numbers.specs.Outline.{phase_links_at}
+use Rattle.net_parts.specs.Outline.{phase_links_at}
 use Rattle.clusters.specs.Platoons.{streams_of}
 use Rattle.clusters.specs.UnderLoad.{AreExpectedIn}
 use Rattle.clusters.proofs.PlatoonLaws.{ArePhases}

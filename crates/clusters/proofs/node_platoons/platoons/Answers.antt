@@ -1,6 +1,6 @@
 use Rattle.std.proofs.Common.{◌≡◌, ◌∙◌, ap, length, arith}
 use Rattle.std.specs.Prelude.{None}
-use Rattle.net_numbers.specs.Outline.{plan_at}
+use Rattle.net_parts.specs.Outline.{plan_at}
 use Rattle.clusters.specs.Steps.{ArePlatoonsAsked}
 use Rattle.clusters.proofs.AskedLaws.{plain-are, plain-sound}
 use Rattle.clusters.proofs.PlatoonLaws.{phases-clusters, phases-more, phases-node, phases-rising}

@@ -1,6 +1,6 @@
 use Rattle.std.proofs.Common.{◌≡◌, ℕ, ◌≤◌, ◌∙◌, ap, length, replicate, subst, sym, arith}
 use Rattle.std.proofs.lemmas.List.{length-replicate, take-replicate}
-use Rattle.net_draft.specs.declared.drafts.Run.{Run}
+use Rattle.net_parts.specs.declared.drafts.Run.{Run}
 use Rattle.clusters.specs.Steps.{AreStreams}
 use Rattle.clusters.proofs.PlatoonLaws.{streams-exist, streams-sound}
 use Rattle.clusters.proofs.node_platoons.platoons_of.Goals as goal

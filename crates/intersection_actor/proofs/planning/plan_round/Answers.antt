@@ -1,5 +1,5 @@
 use Rattle.std.proofs.Common.{◌+◌, ◌∙◌, ap, arith}
-use Rattle.net_draft.specs.declared.drafts.Run.{Run}
+use Rattle.net_parts.specs.declared.drafts.Run.{Run}
 use Rattle.intersection_actor.proofs.PlanLaws.{plan-soon, planned-made}
 use Rattle.intersection_actor.proofs.planning.plan_round.Goals as goal
 

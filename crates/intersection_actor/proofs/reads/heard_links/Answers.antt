@@ -1,6 +1,6 @@
 use Rattle.std.proofs.Common.{is_some, not, sym, ap, ◌∙◌}
-use Rattle.net_numbers.specs.Outline.{link_at}
-use Rattle.net_numbers.specs.declared.roads.Link.{Link}
+use Rattle.net_parts.specs.Outline.{link_at}
+use Rattle.net_parts.specs.declared.roads.Link.{Link}
 use Rattle.intersection_actor.proofs.Filtered.{filter-less, filter-more, filter-whole}
 use Rattle.intersection_actor.proofs.reads.heard_links.Goals as goal
 

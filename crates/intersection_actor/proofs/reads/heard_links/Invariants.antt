@@ -1,5 +1,5 @@
 use Rattle.std.proofs.Common.{◌≡◌, filter, is_some, take}
-use Rattle.net_numbers.specs.Outline.{link_at}
+use Rattle.net_parts.specs.Outline.{link_at}
 use Rattle.intersection_actor.proofs.reads.heard_links.Given as goal
 
 abbrev pub invariant-loop-link : goal.invariant-loop-link

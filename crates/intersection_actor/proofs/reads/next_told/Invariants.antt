@@ -1,5 +1,5 @@
 use Rattle.std.proofs.Common.{◌≡◌, filter, find, is_some, drop, nat_le}
-use Rattle.net_numbers.specs.Outline.{link_at}
+use Rattle.net_parts.specs.Outline.{link_at}
 use Rattle.road_net.specs.Network.{told_links}
 use Rattle.intersection_actor.proofs.reads.next_told.Given as goal
 

@@ -1,5 +1,5 @@
 use Rattle.std.proofs.Common.{All, take}
-use Rattle.net_numbers.specs.Bounds.{IsBoundedLink}
+use Rattle.net_parts.specs.Bounds.{IsBoundedLink}
 use Rattle.net_build.proofs.bounds.check_links.Given as goal
 
 -- the links so far are within their bounds

@@ -1,7 +1,7 @@
 use Rattle.std.proofs.Common.{◌∙◌, ap, Err}
 use Rattle.std.proofs.lemmas.Result.{err_from_is_err_and}
-use Rattle.net_numbers.specs.Bounds.{IsBoundedNode}
-use Rattle.net_numbers.specs.FirstFaults.{IsNodeFault}
+use Rattle.net_parts.specs.Bounds.{IsBoundedNode}
+use Rattle.net_parts.specs.FirstFaults.{IsNodeFault}
 use Rattle.net_build.proofs.FirstFaults.{IsBoundAt-weaker}
 use Rattle.foundation.proofs.FirstLaws.{FromOne-here}
 use Rattle.foundation.proofs.ListLaws.{All-step, All-end}

@@ -1,5 +1,5 @@
 use Rattle.std.proofs.Common.{All, take}
-use Rattle.net_numbers.specs.Bounds.{IsBoundedNode}
+use Rattle.net_parts.specs.Bounds.{IsBoundedNode}
 use Rattle.net_build.proofs.bounds.check_nodes.Given as goal
 
 -- the nodes so far are within their bounds

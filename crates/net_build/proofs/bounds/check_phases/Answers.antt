@@ -1,5 +1,5 @@
 use Rattle.std.proofs.Common.{refl, rules}
-use Rattle.net_numbers.specs.Bounds.{IsBoundedPhase}
+use Rattle.net_parts.specs.Bounds.{IsBoundedPhase}
 use Rattle.foundation.proofs.FirstLaws.{FromOne-here}
 use Rattle.foundation.proofs.ListLaws.{All-step, All-end}
 use Rattle.net_build.proofs.bounds.check_phases.Goals as goal

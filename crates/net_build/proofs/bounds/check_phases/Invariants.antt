@@ -1,5 +1,5 @@
 use Rattle.std.proofs.Common.{All, take}
-use Rattle.net_numbers.specs.Bounds.{IsBoundedPhase}
+use Rattle.net_parts.specs.Bounds.{IsBoundedPhase}
 use Rattle.net_build.proofs.bounds.check_phases.Given as goal
 
 -- the phases so far are within their bounds

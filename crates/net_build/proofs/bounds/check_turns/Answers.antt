@@ -1,5 +1,5 @@
 use Rattle.std.proofs.Common.{refl, arith}
-use Rattle.net_numbers.specs.Bounds.{IsBoundedTurn}
+use Rattle.net_parts.specs.Bounds.{IsBoundedTurn}
 use Rattle.foundation.proofs.FirstLaws.{FromOne-here}
 use Rattle.foundation.proofs.ListLaws.{All-step, All-end}
 use Rattle.net_build.proofs.bounds.check_turns.Goals as goal

@@ -1,5 +1,5 @@
 use Rattle.std.proofs.Common.{All, take}
-use Rattle.net_numbers.specs.Bounds.{IsBoundedTurn}
+use Rattle.net_parts.specs.Bounds.{IsBoundedTurn}
 use Rattle.net_build.proofs.bounds.check_turns.Given as goal
 
 -- the turns so far are within their bounds

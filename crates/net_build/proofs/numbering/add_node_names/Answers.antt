@@ -1,6 +1,6 @@
 use Rattle.std.proofs.Common.{refl}
-use Rattle.net_draft.specs.declared.drafts.DraftNode.{DraftNode}
-use Rattle.net_numbers.proofs.Distinct.{names-twice, names-more}
+use Rattle.net_parts.specs.declared.drafts.DraftNode.{DraftNode}
+use Rattle.net_parts.proofs.Distinct.{names-twice, names-more}
 use Rattle.net_build.proofs.numbering.add_node_names.Goals as goal
 
 pub returns-then-not-branch : goal.returns-then-not-branch

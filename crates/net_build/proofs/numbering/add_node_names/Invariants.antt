@@ -1,5 +1,5 @@
 use Rattle.std.proofs.Common.{◌≡◌, map, take}
-use Rattle.net_numbers.specs.Numbers.{AreDistinct}
+use Rattle.net_parts.specs.Numbers.{AreDistinct}
 use Rattle.net_build.proofs.numbering.add_node_names.Given as goal
 
 -- the names so far, no two of them the same

@@ -1,12 +1,12 @@
 use Rattle.std.proofs.Common.{◌∙◌, ap, Err}
 use Rattle.std.proofs.lemmas.Result.{err_from_is_err_and}
-use Rattle.net_numbers.specs.Numbers.{conflict_of}
+use Rattle.net_parts.specs.Numbers.{conflict_of}
 use Rattle.foundation.proofs.EachLaws.{each-more}
 use Rattle.net_build.proofs.FirstFaults.{IsUnknownAt-weaker}
 use Rattle.foundation.proofs.FirstLaws.{FromOne-here}
-use Rattle.net_draft.specs.declared.faults.Place.{Place}
-use Rattle.net_numbers.specs.FirstFaults.{IsKnownConflict}
-use Rattle.net_numbers.proofs.Known.{conflicts-known}
+use Rattle.net_parts.specs.declared.faults.Place.{Place}
+use Rattle.net_parts.specs.FirstFaults.{IsKnownConflict}
+use Rattle.net_parts.proofs.Known.{conflicts-known}
 use Rattle.net_build.proofs.numbering.conflicts.Goals as goal
 
 pub returns-in_err-pair : goal.returns-in_err-pair

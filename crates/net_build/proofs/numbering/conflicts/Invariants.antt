@@ -1,6 +1,6 @@
 use Rattle.std.proofs.Common.{◌≡◌, Some, take}
 use Rattle.foundation.specs.Options.{each}
-use Rattle.net_numbers.specs.Numbers.{conflict_of}
+use Rattle.net_parts.specs.Numbers.{conflict_of}
 use Rattle.net_build.proofs.numbering.conflicts.Given as goal
 
 -- the conflicts so far

@@ -1,14 +1,14 @@
 use Rattle.std.proofs.Common.{◌∙◌, ap, sym, Err, Some}
 use Rattle.std.proofs.lemmas.Result.{err_from_is_err_and}
 use Rattle.foundation.specs.Options.{each}
-use Rattle.net_draft.specs.declared.drafts.DraftPhase.{DraftPhase}
-use Rattle.net_numbers.specs.Numbers.{number_of}
+use Rattle.net_parts.specs.declared.drafts.DraftPhase.{DraftPhase}
+use Rattle.net_parts.specs.Numbers.{number_of}
 use Rattle.foundation.proofs.EachLaws.{each-more, each-good}
 use Rattle.net_build.proofs.FirstFaults.{IsUnknownAt-weaker}
 use Rattle.foundation.proofs.FirstLaws.{FromOne-here}
-use Rattle.net_draft.specs.declared.faults.Place.{Place}
-use Rattle.net_numbers.specs.FirstFaults.{IsKnownPhase}
-use Rattle.net_numbers.proofs.Known.{phase-known}
+use Rattle.net_parts.specs.declared.faults.Place.{Place}
+use Rattle.net_parts.specs.FirstFaults.{IsKnownPhase}
+use Rattle.net_parts.proofs.Known.{phase-known}
 use Rattle.net_build.proofs.numbering.links_of_phases.Goals as goal
 
 pub returns-in_err-links : goal.returns-in_err-links

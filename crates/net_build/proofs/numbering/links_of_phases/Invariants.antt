@@ -1,6 +1,6 @@
 use Rattle.std.proofs.Common.{◌≡◌, Some, take}
 use Rattle.foundation.specs.Options.{each}
-use Rattle.net_numbers.specs.Numbers.{number_of}
+use Rattle.net_parts.specs.Numbers.{number_of}
 use Rattle.net_build.proofs.numbering.links_of_phases.Given as goal
 
 -- the links of the phases so far

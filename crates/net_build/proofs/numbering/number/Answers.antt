@@ -1,5 +1,5 @@
 use Rattle.std.proofs.Common.{refl, sym}
-use Rattle.net_numbers.proofs.Distinct.{number_of-unknown}
+use Rattle.net_parts.proofs.Distinct.{number_of-unknown}
 use Rattle.net_build.proofs.numbering.number.Goals as goal
 
 pub returns-in-None : goal.returns-in-None

@@ -1,6 +1,6 @@
 use Rattle.std.proofs.Common.{◌∙◌, ap, Err}
 use Rattle.std.proofs.lemmas.Result.{err_from_is_err_and}
-use Rattle.net_numbers.specs.Numbers.{number_of}
+use Rattle.net_parts.specs.Numbers.{number_of}
 use Rattle.foundation.proofs.EachLaws.{each-more}
 use Rattle.std.proofs.Common.{Contains}
 use Rattle.net_build.proofs.FirstFaults.{IsUnknownAt-weaker}

@@ -1,12 +1,12 @@
 use Rattle.std.proofs.Common.{◌∙◌, ap, sym, Err, Some}
 use Rattle.std.proofs.lemmas.Result.{err_from_is_err_and}
-use Rattle.net_numbers.specs.Numbers.{phases_of}
+use Rattle.net_parts.specs.Numbers.{phases_of}
 use Rattle.foundation.proofs.EachLaws.{each-more}
-use Rattle.net_numbers.specs.Bounds.{IsBoundedNode}
+use Rattle.net_parts.specs.Bounds.{IsBoundedNode}
 use Rattle.net_build.proofs.FirstFaults.{IsUnknownAt-weaker}
 use Rattle.foundation.proofs.FirstLaws.{FromOne-here}
-use Rattle.net_numbers.specs.FirstFaults.{IsKnownNode, IsUnknownInNode}
-use Rattle.net_numbers.proofs.Known.{nodes-known}
+use Rattle.net_parts.specs.FirstFaults.{IsKnownNode, IsUnknownInNode}
+use Rattle.net_parts.proofs.Known.{nodes-known}
 use Rattle.foundation.proofs.ListLaws.{All-at}
 use Rattle.net_build.proofs.numbering.phase_links.Goals as goal
 

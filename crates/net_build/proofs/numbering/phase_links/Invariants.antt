@@ -1,6 +1,6 @@
 use Rattle.std.proofs.Common.{◌≡◌, Some, take}
 use Rattle.foundation.specs.Options.{each}
-use Rattle.net_numbers.specs.Numbers.{phases_of}
+use Rattle.net_parts.specs.Numbers.{phases_of}
 use Rattle.net_build.proofs.numbering.phase_links.Given as goal
 
 -- the links of the phases of the nodes so far

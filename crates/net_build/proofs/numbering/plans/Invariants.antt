@@ -1,5 +1,5 @@
 use Rattle.std.proofs.Common.{◌≡◌, map, take}
-use Rattle.net_numbers.specs.Numbers.{plan_of}
+use Rattle.net_parts.specs.Numbers.{plan_of}
 use Rattle.net_build.proofs.numbering.plans.Given as goal
 
 -- the plans of the nodes so far

@@ -1,15 +1,15 @@
 use Rattle.std.proofs.Common.{◌∙◌, ap, sym, Err, Some}
 use Rattle.std.proofs.lemmas.Result.{err_from_is_err_and}
 use Rattle.foundation.proofs.EachLaws.{each-more}
-use Rattle.net_draft.specs.declared.faults.Section.TheVariants.{Link, Turn}
-use Rattle.net_numbers.specs.Numbers.{link_of, turns_of}
+use Rattle.net_parts.specs.declared.faults.Section.TheVariants.{Link, Turn}
+use Rattle.net_parts.specs.Numbers.{link_of, turns_of}
 use Rattle.std.proofs.Common.{Contains, refl}
 use Rattle.net_build.proofs.FirstFaults.{IsUnknownAt-weaker}
 use Rattle.foundation.proofs.FirstLaws.{FromOne-here}
-use Rattle.net_numbers.specs.FirstFaults.{IsKnownLink, IsUnknownInLink}
-use Rattle.net_numbers.proofs.Known.{links-known, ends-known}
+use Rattle.net_parts.specs.FirstFaults.{IsKnownLink, IsUnknownInLink}
+use Rattle.net_parts.proofs.Known.{links-known, ends-known}
 use Rattle.foundation.proofs.ListLaws.{All-at}
-use Rattle.net_draft.specs.declared.drafts.DraftLink.{DraftLink}
+use Rattle.net_parts.specs.declared.drafts.DraftLink.{DraftLink}
 use Rattle.net_build.proofs.numbering.roads.Goals as goal
 
 pub road-requires-clause-own : goal.road-requires-clause-own

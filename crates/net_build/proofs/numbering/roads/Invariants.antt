@@ -1,6 +1,6 @@
 use Rattle.std.proofs.Common.{◌≡◌, Some, take}
 use Rattle.foundation.specs.Options.{each}
-use Rattle.net_numbers.specs.Numbers.{link_of, turns_of}
+use Rattle.net_parts.specs.Numbers.{link_of, turns_of}
 use Rattle.net_build.proofs.numbering.roads.Given as goal
 
 -- the links so far, and the turns of each

@@ -1,12 +1,12 @@
 use Rattle.std.proofs.Common.{◌∙◌, ap, Err}
 use Rattle.std.proofs.lemmas.Result.{err_from_is_err_and}
-use Rattle.net_numbers.specs.Numbers.{turn_of}
+use Rattle.net_parts.specs.Numbers.{turn_of}
 use Rattle.foundation.proofs.EachLaws.{each-more, each-good}
 use Rattle.net_build.proofs.FirstFaults.{IsUnknownAt-weaker}
 use Rattle.foundation.proofs.FirstLaws.{FromOne-here}
-use Rattle.net_draft.specs.declared.faults.Place.{Place}
-use Rattle.net_numbers.specs.FirstFaults.{IsKnownTurn}
-use Rattle.net_numbers.proofs.Known.{turn-known}
+use Rattle.net_parts.specs.declared.faults.Place.{Place}
+use Rattle.net_parts.specs.FirstFaults.{IsKnownTurn}
+use Rattle.net_parts.proofs.Known.{turn-known}
 use Rattle.net_build.proofs.numbering.turns.Goals as goal
 
 pub returns-in_err-turn : goal.returns-in_err-turn

@@ -1,6 +1,6 @@
 use Rattle.std.proofs.Common.{◌≡◌, Some, take}
 use Rattle.foundation.specs.Options.{each}
-use Rattle.net_numbers.specs.Numbers.{turn_of}
+use Rattle.net_parts.specs.Numbers.{turn_of}
 use Rattle.net_build.proofs.numbering.turns.Given as goal
 
 -- the turns so far

@@ -1,6 +1,6 @@
 use Rattle.std.proofs.Common.{◌≡◌, ℕ, OnOk, Result, subst, ◌∙◌, ap}
 use Rattle.intersection_actor.specs.Acting.{Acting, begun, reading}
-use Rattle.net_numbers.specs.Numbers.{Net}
+use Rattle.net_parts.specs.Numbers.{Net}
 use Rattle.road_net.specs.Network.{heard_links}
 use Rattle.road_net.specs.declared.senses.Sensed.{Sensed}
 use Rattle.net_core.specs.Acts.{Settles}

@@ -1,5 +1,5 @@
 use Rattle.std.proofs.Common.{◌+◌, ap, arith, ◌∙◌}
-use Rattle.net_draft.specs.declared.drafts.Run.{Run}
+use Rattle.net_parts.specs.declared.drafts.Run.{Run}
 use Rattle.net_core.proofs.Standing.{end-between, end-capacity, end-room, end-stands}
 use Rattle.net_core.proofs.stepping.end_round.Goals as goal
 

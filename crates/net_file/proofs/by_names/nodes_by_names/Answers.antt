@@ -1,7 +1,7 @@
 use Rattle.std.proofs.Common.{arith}
 use Rattle.std.proofs.lemmas.List.FromFn.{map-range_with_len_more}
 use Rattle.net_file.specs.ByNames as spec
-use Rattle.net_numbers.specs.Parts.{net_of}
+use Rattle.net_parts.specs.Parts.{net_of}
 use Rattle.net_file.proofs.by_names.nodes_by_names.Goals as goal
 
 pub loop-n-preserved : goal.loop-n-preserved

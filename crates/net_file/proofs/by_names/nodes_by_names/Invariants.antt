@@ -1,7 +1,7 @@
 use Rattle.std.proofs.Common.{◌≡◌, map}
 use Rattle.std.specs.List.{range_with_len}
 use Rattle.net_file.specs.ByNames as spec
-use Rattle.net_numbers.specs.Parts.{net_of}
+use Rattle.net_parts.specs.Parts.{net_of}
 use Rattle.net_file.proofs.by_names.nodes_by_names.Given as goal
 
 -- the nodes so far

@@ -1,7 +1,7 @@
 use Rattle.std.proofs.Common.{◌≡◌, subst}
 use Rattle.std.proofs.lemmas.Result.{IfOk-weaker}
-use Rattle.net_numbers.specs.Numbers.{Net}
-use Rattle.net_text.specs.Written.{IsTextOfDraft}
+use Rattle.net_parts.specs.Numbers.{Net}
+use Rattle.net_file.specs.Written.{IsTextOfDraft}
 use Rattle.net_file.specs.ByNames.{draft_by_names}
 use Rattle.net_file.specs.Upgrade.{IsUpgraded}
 use Rattle.net_file.proofs.Written.{upgraded}

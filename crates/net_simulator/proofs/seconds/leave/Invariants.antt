@@ -1,5 +1,5 @@
 use Rattle.std.proofs.Common.{◌≡◌, ℕ, ◌-◌, ◌<◌, ◌≤◌, slice_index}
-use Rattle.net_numbers.specs.Outline.{link_at}
+use Rattle.net_parts.specs.Outline.{link_at}
 use Rattle.net_simulator.specs.LinkSeconds.{waits_at}
 use Rattle.net_simulator.specs.Steps.{goes}
 use Rattle.net_simulator.proofs.seconds.leave.Given as goal

@@ -1,5 +1,5 @@
 use Rattle.std.proofs.Common.{◌≡◌, ◌≢◌, ℕ, ◌*◌, ◌/◌, ◌%◌}
-use Rattle.net_numbers.specs.Outline.{turns_at}
+use Rattle.net_parts.specs.Outline.{turns_at}
 use Rattle.road_net.specs.Joins.{shares_to}
 use Rattle.net_simulator.specs.Rows.{cell}
 use Rattle.net_simulator.proofs.Turning.{AreTurned}

@@ -1,5 +1,5 @@
 use Rattle.std.proofs.Common.{◌≡◌, ◌+◌, ◌<◌, ◌∙◌, min, ap, arith}
-use Rattle.net_numbers.specs.declared.roads.Link.{Link}
+use Rattle.net_parts.specs.declared.roads.Link.{Link}
 use Rattle.net_simulator.proofs.Seeing.{near-all, near-more, near-within}
 use Rattle.net_simulator.proofs.sensing.near_amount.Goals as goal
 

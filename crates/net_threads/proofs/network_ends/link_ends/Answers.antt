@@ -1,6 +1,6 @@
 use Rattle.std.proofs.Common.{◌<◌, ◌≡◌, length, map, take, sym, ap, subst, ◌∙◌, ◌++◌, ◌∷◌, [], arith}
 use Rattle.std.proofs.Math.Seq.{take-length}
-use Rattle.net_numbers.specs.Numbers.{no_link}
+use Rattle.net_parts.specs.Numbers.{no_link}
 use Rattle.snap_boards.specs.Boards.{AreAllEnds}
 use Rattle.net_threads.specs.Ends.{ends_of}
 use Rattle.net_threads.proofs.EndLaws.{all-ends, ends-more}

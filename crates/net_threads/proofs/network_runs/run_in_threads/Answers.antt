@@ -1,9 +1,9 @@
 use Rattle.std.proofs.Common.{◌≡◌, ◌+◌, ◌≤◌, All, List, OnOk, length, vec_capacity, vec_len, sym, ap, subst, ◌∙◌, arith}
 use Rattle.std.proofs.lemmas.List.{length-map}
 use Rattle.arrivals.specs.Amounts.{Amounts, AreArrivals}
-use Rattle.board_rule.specs.Passes.{AreAllPasses, BoardsView, PassView}
+use Rattle.link_boards.specs.Passes.{AreAllPasses, BoardsView, PassView}
 use Rattle.intersection_actor.specs.Acting.{Acting}
-use Rattle.net_numbers.specs.Numbers.{Net}
+use Rattle.net_parts.specs.Numbers.{Net}
 use Rattle.node_rounds.specs.Rounds.{AreSamePasses, Between}
 use Rattle.node_rounds.proofs.FreshPasses.{left-at}
 use Rattle.node_rounds.proofs.Passes.{own-same, same-length}

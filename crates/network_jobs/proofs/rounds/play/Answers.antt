@@ -1,7 +1,7 @@
 use Rattle.std.proofs.Common.{subst}
 use Rattle.std.specs.Prelude.{IfOk, OnOk}
 use Rattle.arrivals.specs.Amounts.{entering}
-use Rattle.board_rule.specs.Passes.{calls_in}
+use Rattle.link_boards.specs.Passes.{calls_in}
 use Rattle.node_rounds.specs.Calls.{IsRunOfCalls, MergeToLawful}
 use Rattle.network_jobs.proofs.Telling.{told}
 use Rattle.network_jobs.proofs.rounds.play.Goals as goal

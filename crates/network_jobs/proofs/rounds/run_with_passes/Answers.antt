@@ -1,7 +1,7 @@
 use Rattle.std.proofs.Common.{◌≡◌, ◌++◌, ◌∙◌, List, length, take, drop, sym, subst}
 use Rattle.std.specs.Prelude.{IfOk, OnOk}
 use Rattle.arrivals.specs.Amounts.{entering}
-use Rattle.board_rule.specs.Passes.{PassView, calls_in}
+use Rattle.link_boards.specs.Passes.{PassView, calls_in}
 use Rattle.node_rounds.specs.Calls.{IsRunOfCalls, MergeToLawful}
 use Rattle.node_rounds.proofs.Slices.{put-back}
 use Rattle.network_jobs.proofs.rounds.run_with_passes.Goals as goal

@@ -1,5 +1,5 @@
 use Rattle.std.proofs.Common.{ap, get_or, ◌+◌, ◌-◌, arith}
-use Rattle.net_numbers.specs.declared.roads.Link.{Link}
+use Rattle.net_parts.specs.declared.roads.Link.{Link}
 use Rattle.outflow.proofs.ServedLaws.{clear-after, filling-all, filling-more, found-fit, listed, no_served, phase-below, phases-few, platoon-found, platoon-there, serving-late}
 use Rattle.outflow.proofs.exit_flow.fill_exit_flow.Goals as goal
 

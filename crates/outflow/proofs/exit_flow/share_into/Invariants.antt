@@ -1,5 +1,5 @@
 use Rattle.std.proofs.Common.{◌≡◌, ◌≢◌, ℕ, ◌<◌, get_or, take, sum_by}
-use Rattle.net_numbers.specs.declared.roads.Turn.{Turn}
+use Rattle.net_parts.specs.declared.roads.Turn.{Turn}
 use Rattle.road_net.specs.Joins.{share_of}
 use Rattle.outflow.proofs.exit_flow.share_into.Given as goal
 

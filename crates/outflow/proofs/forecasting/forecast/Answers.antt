@@ -4,8 +4,8 @@ use Rattle.std.proofs.lemmas.List.{take-replicate}
 use Rattle.std.proofs.lemmas.Result.{IfOk-weaker}
 use Rattle.board_model.specs.declared.forecasts.Row.{Row}
 use Rattle.clusters.specs.Windows.{counts_of}
-use Rattle.net_numbers.specs.Outline.{link_at}
-use Rattle.net_draft.specs.declared.drafts.Run.{Run}
+use Rattle.net_parts.specs.Outline.{link_at}
+use Rattle.net_parts.specs.declared.drafts.Run.{Run}
 use Rattle.outflow.specs.Outflow.{departures, told_forecast, positive_rows}
 use Rattle.outflow.proofs.ForecastLaws.{exit-there, forecast-later, forecast-made}
 use Rattle.outflow.proofs.forecasting.forecast.Goals as goal

@@ -1,6 +1,6 @@
 use Rattle.std.proofs.Common.{ap, ◌∙◌}
-use Rattle.net_numbers.specs.Numbers.{number_of}
-use Rattle.net_numbers.proofs.Distinct.{number_of-none, number_of-found}
+use Rattle.net_parts.specs.Numbers.{number_of}
+use Rattle.net_parts.proofs.Distinct.{number_of-none, number_of-found}
 use Rattle.road_net.proofs.Network.find_link.Goals as goal
 
 pub returns-clause-none : goal.returns-clause-none

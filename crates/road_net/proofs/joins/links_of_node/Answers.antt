@@ -1,5 +1,5 @@
 use Rattle.std.proofs.Common.{◌∙◌, ap, sym}
-use Rattle.net_numbers.specs.Numbers.{no_link}
+use Rattle.net_parts.specs.Numbers.{no_link}
 use Rattle.road_net.proofs.Ends.{links_from-more, one_if-true, one_if-false}
 use Rattle.road_net.proofs.joins.links_of_node.Goals as goal
 use Rattle.road_net.proofs.joins.links_of_node.Goals.{then-has_node+in_ok-push, else-has_node}

@@ -1,5 +1,5 @@
 use Rattle.std.proofs.Common.{◌≡◌, Some, rules}
-use Rattle.net_numbers.specs.declared.roads.Turn.{Turn}
+use Rattle.net_parts.specs.declared.roads.Turn.{Turn}
 use Rattle.road_net.specs.Joins.{link_at}
 use Rattle.std.proofs.lemmas.List.Elements.{All-more}
 use Rattle.foundation.proofs.ListLaws.{All-end}

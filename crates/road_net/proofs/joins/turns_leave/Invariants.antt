@@ -1,5 +1,5 @@
 use Rattle.std.proofs.Common.{◌≡◌, Some, All, take}
-use Rattle.net_numbers.specs.declared.roads.Turn.{Turn}
+use Rattle.net_parts.specs.declared.roads.Turn.{Turn}
 use Rattle.road_net.specs.Joins.{link_at}
 use Rattle.road_net.proofs.joins.turns_leave.Given as goal
 

@@ -1,5 +1,5 @@
 use Rattle.std.proofs.Common.{sym, arith}
-use Rattle.net_numbers.specs.declared.roads.Turn.{Turn}
+use Rattle.net_parts.specs.declared.roads.Turn.{Turn}
 use Rattle.road_net.proofs.Shares.{shares-more, split-found, split-none}
 use Rattle.road_net.proofs.splits.split.Goals as goal
 

@@ -1,7 +1,7 @@
 use Rattle.std.proofs.Common.{◌*◌, None, subst}
 use Rattle.std.specs.List.{flat_map}
 use Rattle.intersection_actor.specs.declared.records.PlanRecord.{PlanRecord}
-use Rattle.net_draft.specs.declared.drafts.Run.{Run}
+use Rattle.net_parts.specs.declared.drafts.Run.{Run}
 use Rattle.round_decisions.specs.Promises.{decided_line}
 use Rattle.round_states.specs.States.{begin_of}
 use Rattle.world_records.specs.Written.{Adds}

@@ -1,5 +1,5 @@
 use Rattle.std.proofs.Common.{◌*◌, Some, subst}
-use Rattle.net_draft.specs.declared.drafts.Run.{Run}
+use Rattle.net_parts.specs.declared.drafts.Run.{Run}
 use Rattle.round_states.specs.States.{begin_of}
 use Rattle.world_records.specs.Written.{Adds}
 use Rattle.round_decisions.specs.DecisionTexts.{turn_records}

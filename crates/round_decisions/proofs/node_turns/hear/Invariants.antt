@@ -1,6 +1,6 @@
 use Rattle.std.proofs.Common.{length}
 use Rattle.intersection_actor.specs.Rounds.{IsOf}
-use Rattle.net_numbers.specs.Numbers.{Net}
+use Rattle.net_parts.specs.Numbers.{Net}
 use Rattle.round_decisions.specs.Steps.{HasHeard}
 use Rattle.round_decisions.proofs.node_turns.hear.Given as goal
 

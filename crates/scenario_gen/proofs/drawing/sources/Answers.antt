@@ -1,5 +1,5 @@
 use Rattle.std.proofs.Common.{is_none}
-use Rattle.net_numbers.specs.Outline.{link_at}
+use Rattle.net_parts.specs.Outline.{link_at}
 use Rattle.scenario_gen.proofs.Loops.{filter-step}
 use Rattle.scenario_gen.proofs.drawing.sources.Goals as goal
 

@@ -1,6 +1,6 @@
 use Rattle.std.proofs.Common.{◌≡◌, filter, is_none}
 use Rattle.std.specs.List.{range_with_len}
-use Rattle.net_numbers.specs.Outline.{link_at}
+use Rattle.net_parts.specs.Outline.{link_at}
 use Rattle.scenario_gen.proofs.drawing.sources.Given as goal
 
 abbrev pub invariant-loop-link : goal.invariant-loop-link

@@ -1,7 +1,7 @@
 use Rattle.std.proofs.Common.{subst}
-use Rattle.net_numbers.specs.Numbers.{Net}
-use Rattle.net_numbers.specs.FirstFaults.{Refuses}
-use Rattle.net_draft.specs.declared.drafts.Draft.{Draft}
+use Rattle.net_parts.specs.Numbers.{Net}
+use Rattle.net_parts.specs.FirstFaults.{Refuses}
+use Rattle.net_parts.specs.declared.drafts.Draft.{Draft}
 use Rattle.road_net.specs.Network.{IsNetworkOf}
 use Rattle.scenario_gen.specs.Drafts.{grid_draft}
 use Rattle.scenario_gen.proofs.Lawful.{memory-alone}

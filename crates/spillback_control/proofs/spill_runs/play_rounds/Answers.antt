@@ -1,8 +1,8 @@
 use Rattle.std.proofs.Common.{◌≡◌, ◌+◌, ◌<◌, ◌≤◌, List, length, slice_index, sym, ap, subst, ◌∙◌, arith}
 use Rattle.control_flow.specs.declared.greens.Green.{Green}
 use Rattle.clusters.proofs.SeenLaws.{written}
-use Rattle.net_draft.specs.declared.drafts.Run.{Run}
-use Rattle.net_numbers.specs.Outline.{plan_at}
+use Rattle.net_parts.specs.declared.drafts.Run.{Run}
+use Rattle.net_parts.specs.Outline.{plan_at}
 use Rattle.net_simulator.specs.Arriving.{arriving_of}
 use Rattle.net_simulator.specs.Worlds.{line_in, standing_by}
 use Rattle.actuated.specs.Rounds.{AreAmounts, AreRenewed, IsReady}

@@ -1,8 +1,8 @@
 use Rattle.std.proofs.Common.{not, refl, sym, ap, ◌∙◌}
 use Rattle.std.proofs.lemmas.List.{length-set}
 use Rattle.std.specs.Option.{is_some}
-use Rattle.net_numbers.specs.declared.roads.Link.{Link}
-use Rattle.net_numbers.specs.Outline.{link_at}
+use Rattle.net_parts.specs.declared.roads.Link.{Link}
+use Rattle.net_parts.specs.Outline.{link_at}
 use Rattle.spillback_world.proofs.Discharging.{discharge-in, some-of}
 use Rattle.spillback_world.proofs.discharges.discharge_link.Goals as goal
 

@@ -1,6 +1,6 @@
 use Rattle.std.proofs.Common.{◌≡◌, ℕ, ◌+◌, length, get_or, slice_index, ap, ◌∙◌, arith}
 use Rattle.std.proofs.lemmas.List.{get_or-set_other, get_or-set_same}
-use Rattle.net_numbers.specs.Outline.{turns_at}
+use Rattle.net_parts.specs.Outline.{turns_at}
 use Rattle.net_simulator.proofs.EveryWorld.{exits-differ, parts-of}
 use Rattle.net_simulator.proofs.Turning.{exit-below, no_turn, shares-next, turn-none, turn-part, turned-all, turned-more}
 use Rattle.spillback_world.proofs.discharges.give.Goals as goal

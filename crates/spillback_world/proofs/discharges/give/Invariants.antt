@@ -1,5 +1,5 @@
 use Rattle.std.proofs.Common.{◌≡◌, slice_index}
-use Rattle.net_numbers.specs.Outline.{turns_at}
+use Rattle.net_parts.specs.Outline.{turns_at}
 use Rattle.net_simulator.proofs.Turning.{AreTurned}
 use Rattle.road_net.specs.Joins.{shares_to}
 use Rattle.spillback_world.proofs.discharges.give.Given as goal

@@ -1,6 +1,6 @@
 use Rattle.std.proofs.Common.{◌≡◌, ℕ, ◌+◌, ◌-◌, ◌<◌, length, slice_index, ap, add-one, ◌∙◌, arith}
-use Rattle.net_numbers.specs.Outline.{link_at}
-use Rattle.net_numbers.specs.declared.roads.Link.{Link}
+use Rattle.net_parts.specs.Outline.{link_at}
+use Rattle.net_parts.specs.declared.roads.Link.{Link}
 use Rattle.road_net.specs.Totals.{total}
 use Rattle.net_simulator.specs.LinkSeconds.{waits_at}
 use Rattle.net_simulator.specs.Rows.{cell}

@@ -1,5 +1,5 @@
 use Rattle.std.proofs.Common.{◌≡◌, ℕ, ◌<◌, ◌≤◌, false}
-use Rattle.net_numbers.specs.Outline.{turns_at}
+use Rattle.net_parts.specs.Outline.{turns_at}
 use Rattle.spillback_world.specs.Filling.{has_room, room_of}
 use Rattle.spillback_world.proofs.searches.allowed.Given as goal
 

@@ -1,5 +1,5 @@
 use Rattle.std.proofs.Common.{arith}
-use Rattle.net_numbers.specs.Outline.{turns_at}
+use Rattle.net_parts.specs.Outline.{turns_at}
 use Rattle.spillback_world.specs.Filling.{room_of}
 use Rattle.spillback_world.proofs.Searching.{try-next}
 use Rattle.spillback_world.proofs.searches.first_try.Goals as goal

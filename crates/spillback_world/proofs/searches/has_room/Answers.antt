@@ -1,5 +1,5 @@
 use Rattle.std.proofs.Common.{◌≡◌, length, arith}
-use Rattle.net_numbers.specs.Outline.{turns_at}
+use Rattle.net_parts.specs.Outline.{turns_at}
 use Rattle.net_simulator.proofs.EveryWorld.{parts-of}
 use Rattle.net_simulator.proofs.Turning.{exit-below, no_turn}
 use Rattle.spillback_world.specs.Filling.{room_of}

@@ -1,5 +1,5 @@
 use Rattle.std.proofs.Common.{◌≡◌, ℕ, ◌<◌, ◌≤◌}
-use Rattle.net_numbers.specs.Outline.{turns_at}
+use Rattle.net_parts.specs.Outline.{turns_at}
 use Rattle.net_simulator.proofs.Turning.{exit_at}
 use Rattle.road_net.specs.Joins.{shares_to, split_of}
 use Rattle.spillback_world.specs.Filling.{room_of}

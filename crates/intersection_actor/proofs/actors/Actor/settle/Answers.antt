@@ -1,6 +1,6 @@
 use Rattle.std.proofs.Common.{subst, sym, ◌∙◌, ap}
 use Rattle.phase_plan.specs.Phases.{IsPlan}
-use Rattle.net_numbers.specs.Outline.{plan_at}
+use Rattle.net_parts.specs.Outline.{plan_at}
 use Rattle.intersection_actor.specs.Acting.{Acting, told_at}
 use Rattle.intersection_actor.specs.Rounds.{IsCommitted, IsOf, KeepsPast}
 use Rattle.intersection_actor.specs.contracts.actors.Actor.{the_view}

@@ -1,6 +1,6 @@
 use Rattle.std.proofs.Common.{◌≤◌, ◌+◌, ◌-◌, ◌∷◌, [], ◌++◌, ap, sym, ◌∙◌, subst, arith}
-use Rattle.board_rule.specs.Passes.{fresh_passes}
-use Rattle.board_rule.proofs.Opens.{fresh-more}
+use Rattle.link_boards.specs.Passes.{fresh_passes}
+use Rattle.link_boards.proofs.OpenLaws.{fresh-more}
 use Rattle.link_boards.proofs.boards.Boards.deal_all.Goals as goal
 
 pub loop-number-preserved : goal.loop-number-preserved

@@ -1,5 +1,5 @@
 use Rattle.std.proofs.Common.{rules}
-use Rattle.board_rule.proofs.Draws.{draws-publish}
+use Rattle.link_boards.proofs.Draws.{draws-publish}
 use Rattle.link_boards.specs.Slots.{stands_for}
 use Rattle.link_boards.proofs.boards.Boards.draw_publish.Goals as goal
 

@@ -1,5 +1,5 @@
 use Rattle.std.proofs.Common.{rules}
-use Rattle.board_rule.proofs.Draws.{draws-read}
+use Rattle.link_boards.proofs.Draws.{draws-read}
 use Rattle.link_boards.specs.Slots.{stands_for}
 use Rattle.link_boards.proofs.boards.Boards.draw_read.Goals as goal
 

@@ -1,6 +1,6 @@
 use Rattle.std.proofs.Common.{rules, refl}
 use Rattle.link_boards.specs.Steps.{held}
-use Rattle.board_rule.proofs.Turns.{gives-turn}
+use Rattle.link_boards.proofs.TurnLaws.{gives-turn}
 use Rattle.link_boards.specs.Slots.{stands_for}
 use Rattle.link_boards.proofs.boards.Boards.give.Goals as goal
 

@@ -1,5 +1,5 @@
 use Rattle.std.proofs.Common.{rules}
-use Rattle.board_rule.proofs.Seats.{hears-courier}
+use Rattle.link_boards.proofs.Seats.{hears-courier}
 use Rattle.link_boards.specs.Slots.{stands_for}
 use Rattle.link_boards.proofs.boards.Boards.hear.Goals as goal
 

@@ -1,6 +1,6 @@
 use Rattle.std.proofs.Common.{rules, ◌≤◌, length, ap, sym, ◌∙◌, subst, arith}
-use Rattle.board_rule.specs.Views.{number_of}
-use Rattle.board_rule.proofs.Turns.{takes-turn}
+use Rattle.link_boards.specs.Views.{number_of}
+use Rattle.link_boards.proofs.TurnLaws.{takes-turn}
 use Rattle.link_boards.specs.Slots.{stands_for}
 use Rattle.link_boards.proofs.boards.Boards.take.Goals as goal
 

@@ -1,7 +1,7 @@
 use Rattle.std.proofs.Common.{false, get_or, ap, ◌∙◌, arith, get_or-set_other}
 use mathlib.Core.Logic.{dite}
 use native.Mathlib.Decide.{ℕ_discrete}
-use Rattle.board_rule.proofs.Closes.{taken-here}
+use Rattle.link_boards.proofs.CloseLaws.{taken-here}
 use Rattle.link_boards.proofs.boards.Boards.take_apart.Goals as goal
 
 pub loop-k-preserved : goal.loop-k-preserved

@@ -1,6 +1,6 @@
 use Rattle.std.proofs.Common.{◌≡◌, false, IsTrue, nat_eq, subst, ap}
 use Rattle.histories.specs.Histories.{IsLawful}
-use Rattle.net_draft.specs.declared.drafts.Run.{Run}
+use Rattle.net_parts.specs.declared.drafts.Run.{Run}
 use Rattle.net_core.specs.Cores.{Course}
 use Rattle.net_core.proofs.Turns.{over-decides}
 use Rattle.net_core.proofs.cores.Core.is_over.Goals as goal

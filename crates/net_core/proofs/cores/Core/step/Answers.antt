@@ -3,7 +3,7 @@ use Rattle.std.proofs.lemmas.Bool.{false≢true}
 use Rattle.intersection_actor.specs.Acting.{Acting}
 use Rattle.intersection_actor.specs.declared.records.Want.{Want}
 use Rattle.intersection_actor.specs.declared.records.Want.TheVariants.{Done}
-use Rattle.net_draft.specs.declared.drafts.Run.{Run}
+use Rattle.net_parts.specs.declared.drafts.Run.{Run}
 use Rattle.net_core.specs.Cores.{Course, HasNoTurn, MayStep}
 use Rattle.net_core.proofs.Turns.{may-step, no-turn}
 use Rattle.net_core.proofs.cores.Core.step.Goals as goal

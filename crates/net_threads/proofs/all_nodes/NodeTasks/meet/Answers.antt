@@ -1,5 +1,5 @@
 use Rattle.std.proofs.Common.{◌≡◌, length, ap, ◌∙◌, arith}
-use Rattle.board_rule.specs.Passes.{highest, raised}
+use Rattle.link_boards.specs.Passes.{highest, raised}
 use Rattle.link_boards.specs.Meetings.{MeetingView}
 use Rattle.net_threads.specs.Tasks.{pass_of, passes_in}
 use Rattle.net_threads.proofs.Passes.{partly-boards, partly-heard}

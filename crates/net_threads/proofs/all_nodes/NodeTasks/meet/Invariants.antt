@@ -1,6 +1,6 @@
 use Rattle.std.proofs.Common.{◌≡◌}
-use Rattle.board_rule.specs.Passes.{highest, raised}
-use Rattle.board_rule.proofs.Meets.{partly}
+use Rattle.link_boards.specs.Passes.{highest, raised}
+use Rattle.link_boards.proofs.MeetLaws.{partly}
 use Rattle.net_threads.specs.Tasks.{actors_in, passes_in, settings_in}
 use Rattle.net_threads.proofs.all_nodes.NodeTasks.meet.Given as goal
 

@@ -1,5 +1,5 @@
 use Rattle.std.proofs.Common.{◌≡◌, ◌≤◌, take}
-use Rattle.board_rule.specs.Passes.{highest}
+use Rattle.link_boards.specs.Passes.{highest}
 use Rattle.net_threads.specs.Tasks.{actors_in, passes_in, settings_in}
 use Rattle.net_threads.proofs.all_nodes.NodeTasks.meeting.Given as goal
 

@@ -1,8 +1,8 @@
 use Rattle.std.proofs.Common.{◌≡◌, ◌+◌, ◌≤◌, ◌++◌, List, All, length, map, vec_capacity, vec_len, refl, sym, ap, subst, ◌∙◌}
-use Rattle.board_rule.specs.Passes.{BoardsView, PassView, highest}
+use Rattle.link_boards.specs.Passes.{BoardsView, PassView, highest}
 use Rattle.intersection_actor.specs.Acting.{Acting, without_records}
-use Rattle.net_draft.specs.declared.drafts.Run.{Run}
-use Rattle.net_numbers.specs.Numbers.{Net}
+use Rattle.net_parts.specs.declared.drafts.Run.{Run}
+use Rattle.net_parts.specs.Numbers.{Net}
 use Rattle.net_simulator.specs.Arriving.{arriving_of}
 use Rattle.net_simulator.specs.Worlds.{Stands, standing_by}
 use Rattle.runs.specs.Ending.{records_in}

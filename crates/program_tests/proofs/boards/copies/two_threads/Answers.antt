@@ -1,6 +1,6 @@
 use Rattle.std.proofs.Common.{◌≡◌, sym, subst}
 use Rattle.std.specs.Prelude.{All}
-use Rattle.board_rule.proofs.Opens.{all-of-boards}
+use Rattle.link_boards.proofs.OpenLaws.{all-of-boards}
 use Rattle.snap_boards.specs.Boards.{shared_of}
 use Rattle.program_tests.proofs.boards.copies.two_threads.Goals as goal
 

@@ -1,6 +1,6 @@
 use Rattle.std.proofs.Common.{◌≡◌, sym, subst}
 use Rattle.std.specs.Prelude.{All}
-use Rattle.board_rule.proofs.Opens.{all-of-boards}
+use Rattle.link_boards.proofs.OpenLaws.{all-of-boards}
 use Rattle.program_tests.proofs.boards.waiters.three_threads.Goals as goal
 
 pub make_rounds_at_once-requires-clause-passes : goal.make_rounds_at_once-requires-clause-passes

@@ -2,7 +2,7 @@ use Rattle.std.proofs.Common.{◌≡◌, [], ◌*◌, length, subst, sym, ap, �
 use Rattle.std.specs.Prelude.{All}
 use Rattle.std.proofs.Math.Nat.{mul-le-mul_left}
 use Rattle.std.proofs.lemmas.List.FromFn.{length-map-range_with_len}
-use Rattle.board_rule.specs.Passes.{PassView, fresh_pass}
+use Rattle.link_boards.specs.Passes.{PassView, fresh_pass}
 use Rattle.node_rounds.specs.Calls.{HaveCallsLeft}
 use Rattle.node_rounds.proofs.FreshPasses.{fresh-left, fresh-none}
 use Rattle.program_tests.proofs.threads.rounds.play.Goals as goal

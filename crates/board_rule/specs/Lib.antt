@@ -1,5 +1,0 @@
-pub mod Gathered
-pub mod Passes
-pub mod Plays
-pub mod Rule
-pub mod Views

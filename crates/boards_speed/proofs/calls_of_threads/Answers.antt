@@ -1,9 +1,0 @@
-use Rattle.std.proofs.Common.{◌≡◌, sym, subst}
-use Rattle.std.specs.Prelude.{All}
-use Rattle.board_rule.proofs.Opens.{all-of-boards}
-use Rattle.boards_speed.proofs.calls_of_threads.Goals as goal
-
-pub work_at_once-requires-clause-passes : goal.work_at_once-requires-clause-passes
-work_at_once-requires-clause-passes g c =
-    let boards = c.in_ok-boards.boards in
-    λ κs outlives. subst (All (λ p. p.boards ≡ boards.id)) (sym c.as_mut_slice.ensures.value) (all-of-boards boards c.in_ok-boards.passes.items c.in_ok-boards.ensures.all)

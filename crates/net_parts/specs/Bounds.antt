@@ -1,0 +1,74 @@
+-- The bounds of what is in a draft.
+use Rattle.std.specs.Prelude.{◌≡◌, ℕ, ◌≤◌, ◌⊎◌, IfSome, List, length, count_by, All}
+use Rattle.phase_plan.specs.Phases.{IsPhase, is_unmarked}
+use Rattle.net_parts.specs.declared.drafts.Run.{Run}
+use Rattle.net_parts.specs.declared.drafts.Draft.{Draft}
+use Rattle.net_parts.specs.declared.drafts.DraftNode.{DraftNode}
+use Rattle.net_parts.specs.declared.drafts.DraftPhase.{DraftPhase}
+use Rattle.net_parts.specs.declared.drafts.DraftLink.{DraftLink}
+use Rattle.net_parts.specs.declared.drafts.DraftTurn.{DraftTurn}
+
+-- a to z, 0 to 9 and _
+abbrev pub IsNameByte : ℕ → Type 0
+IsNameByte b = ((97 ≤ b) × (b ≤ 122)) ⊎ (((48 ≤ b) × (b ≤ 57)) ⊎ (b ≡ 95))
+
+-- 1 to 16 of these characters
+pub record IsName (name : List ℕ) : Type 0 where
+  pub count : (1 ≤ length name) × (length name ≤ 16)
+  pub bytes : All IsNameByte name
+
+-- the numbers of a run, and that a round is no longer than a planning looks ahead
+pub record IsRun (run : Run) : Type 0 where
+  pub step : (1 ≤ run.step) × (run.step ≤ 30)
+  pub look : (10 ≤ run.look) × (run.look ≤ 180)
+  pub within : run.step ≤ run.look
+  pub gap : run.gap ≤ 10
+  pub rounds : (1 ≤ run.rounds) × (run.rounds ≤ 600)
+  pub age : IfSome run.age (λ age. (1 ≤ age) × (age ≤ 3600))
+  pub hold : IfSome run.hold (λ hold. (1 ≤ hold) × (hold ≤ 20))
+
+-- a phase and how many links it names
+pub record IsBoundedPhase (p : DraftPhase) : Type 0 where
+  pub phase : IsPhase p.phase
+  pub links : length p.links ≤ 16
+
+-- the bounds of a node itself, the times of its phases apart
+pub record HasNodeBounds (n : DraftNode) : Type 0 where
+  pub name : IsName n.name
+  pub count : (2 ≤ length n.phases) × (length n.phases ≤ 4)
+  pub ring : 2 ≤ count_by (λ p. is_unmarked p.phase) n.phases
+
+-- a node with its phases
+pub record IsBoundedNode (n : DraftNode) : Type 0 where
+  pub own : HasNodeBounds n
+  pub phases : All IsBoundedPhase n.phases
+
+-- a share is at most the whole
+abbrev pub IsBoundedTurn : DraftTurn → Type 0
+IsBoundedTurn t = t.share ≤ 1000
+
+-- the bounds of a link itself, its turns apart
+pub record HasLinkBounds (l : DraftLink) : Type 0 where
+  pub name : IsName l.name
+  pub travel : (1 ≤ l.travel) × (l.travel ≤ 120)
+  pub sat : (1 ≤ l.sat) × (l.sat ≤ 5000)
+  pub weight : (1 ≤ l.weight) × (l.weight ≤ 20)
+  pub count : length l.turns ≤ 16
+
+-- a link with its turns
+pub record IsBoundedLink (l : DraftLink) : Type 0 where
+  pub own : HasLinkBounds l
+  pub turns : All IsBoundedTurn l.turns
+
+-- how many nodes, links and conflicts there are
+pub record HasCounts (d : Draft) : Type 0 where
+  pub nodes : (1 ≤ length d.nodes) × (length d.nodes ≤ 64)
+  pub links : (1 ≤ length d.links) × (length d.links ≤ 320)
+  pub conflicts : length d.conflicts ≤ 1024
+
+-- a draft with all in it
+pub record IsBounded (d : Draft) : Type 0 where
+  pub counts : HasCounts d
+  pub run : IsRun d.run
+  pub nodes : All IsBoundedNode d.nodes
+  pub links : All IsBoundedLink d.links

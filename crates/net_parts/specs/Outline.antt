@@ -1,0 +1,77 @@
+-- The parts of a network by number, and how many there are.
+use Rattle.std.specs.Prelude.{◌≡◌, ℕ, ◌<◌, ◌≤◌, List, [], IfSome, length, slice_index_or, All}
+use Rattle.phase_plan.specs.declared.Phase.{Phase}
+use Rattle.phase_plan.specs.Phases.{IsPlan}
+use Rattle.net_parts.specs.declared.roads.Link.{Link}
+use Rattle.net_parts.specs.declared.roads.Turn.{Turn}
+use Rattle.net_parts.specs.Bounds.{IsName, IsRun}
+use Rattle.net_parts.specs.Numbers.{Net, AreDistinct, no_link, phase_of}
+
+-- the link with this number
+abbrev pub link_at : Net → ℕ → Link
+link_at net l = slice_index_or net.links l no_link
+
+-- the turns at the end of a link
+abbrev pub turns_at : Net → ℕ → List Turn
+turns_at net l = slice_index_or net.turns l []
+
+-- the plan of a node
+abbrev pub plan_at : Net → ℕ → List Phase
+plan_at net n = slice_index_or net.plans n []
+
+-- the links of each phase of a node, phase by phase
+abbrev pub phases_at : Net → ℕ → List (List ℕ)
+phases_at net n = slice_index_or net.phase_links n []
+
+-- the links of phase k of a node
+abbrev pub phase_links_at : Net → ℕ → ℕ → List ℕ
+phase_links_at net n k = slice_index_or (phases_at net n) k []
+
+-- the name of a node
+abbrev pub node_name_at : Net → ℕ → List ℕ
+node_name_at net n = slice_index_or net.node_names n []
+
+-- the name of a link
+abbrev pub link_name_at : Net → ℕ → List ℕ
+link_name_at net l = slice_index_or net.link_names l []
+
+-- a link of a network with this number of nodes
+pub record IsLink (nodes : ℕ) (l : Link) : Type 0 where
+  pub from : IfSome l.from (λ n. n < nodes)
+  pub to : IfSome l.to (λ n. n < nodes)
+  pub travel : (1 ≤ l.travel) × (l.travel ≤ 120)
+  pub sat : (1 ≤ l.sat) × (l.sat ≤ 5000)
+  pub weight : (1 ≤ l.weight) × (l.weight ≤ 20)
+
+-- turns into a network of this number of links
+pub record AreTurns (links : ℕ) (turns : List Turn) : Type 0 where
+  pub count : length turns ≤ 16
+  pub exits : All (λ t. t.exit < links) turns
+  pub shares : All (λ t. t.share ≤ 1000) turns
+
+-- the links that a phase serves, in a network of this number of links
+pub record ArePhaseLinks (links : ℕ) (numbers : List ℕ) : Type 0 where
+  pub count : length numbers ≤ 16
+  pub exist : All (λ l. l < links) numbers
+
+-- The counts and bounds of a network: every list has its place for each node or link, and numbers are those of nodes and links.
+pub record IsOutline (net : Net) : Type 0 where
+  pub run : IsRun net.run
+  pub node_count : (1 ≤ length net.node_names) × (length net.node_names ≤ 64)
+  pub link_count : (1 ≤ length net.link_names) × (length net.link_names ≤ 320)
+  pub node_names : All IsName net.node_names
+  pub nodes_differ : AreDistinct net.node_names
+  pub link_names : All IsName net.link_names
+  pub links_differ : AreDistinct net.link_names
+  pub plan_count : length net.plans ≡ length net.node_names
+  pub plans : All IsPlan net.plans
+  pub phases_count : length net.phase_links ≡ length net.node_names
+  pub phase_counts : (n : ℕ) → n < length net.node_names → length (phases_at net n) ≡ length (plan_at net n)
+  pub phase_links : All (λ phases. All (ArePhaseLinks (length net.link_names)) phases) net.phase_links
+  pub road_count : length net.links ≡ length net.link_names
+  pub links : All (IsLink (length net.node_names)) net.links
+  pub phases : (l : ℕ) → l < length net.links → (link_at net l).phase ≡ phase_of net.phase_links l (link_at net l).to
+  pub turn_count : length net.turns ≡ length net.link_names
+  pub turns : All (AreTurns (length net.link_names)) net.turns
+  pub conflict_count : length net.conflicts ≤ 1024
+  pub conflicts : All (λ c. (c.0 < length net.link_names) × (c.1 < length net.link_names)) net.conflicts

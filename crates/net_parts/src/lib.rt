@@ -1,0 +1,17 @@
+//! The parts of a road network: by names, as they stand in its file (a draft), with the faults of such files; and by numbers, where nodes and
+//! links are numbered from 0 in the order of the file, and numbers stand for their names.
+#![tactic(auto)]
+
+mod drafts;
+mod faults;
+mod names;
+mod parts;
+mod phases;
+mod roads;
+
+pub use drafts::{Draft, DraftConflict, DraftLink, DraftNode, DraftPhase, DraftTurn, Run};
+pub use faults::{NetFault, Place, Section};
+pub use names::Names;
+pub use parts::Parts;
+pub use phases::phase_with;
+pub use roads::{Link, Turn};
