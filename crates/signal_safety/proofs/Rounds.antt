@@ -19,7 +19,7 @@ use Rattle.road_net.specs.Network.{IsNetwork}
 use Rattle.switch_rules.specs.Serving.{IsHead}
 use Rattle.switch_rules.specs.declared.Head.{Head}
 use Rattle.switch_rules.specs.declared.Served.{Served}
-use Rattle.signal_safety.specs.Rounds.{shown_by}
+use Rattle.signal_safety.specs.Rounds.{shown_by, shown_every}
 
 -- a line as the rounds leave it: lawful, and its rows begin by 100,000
 pub record IsLine (plan : List Phase) (rows : List Green) : Type 0 where
@@ -80,32 +80,43 @@ spliced-keeps plan old now head next p line at goes =
     let c : IsContinued plan old now next (spliced old next) = continued plan old now head next p line.lawful at goes.line.lawful goes.goes in
     record { line = record { lawful = c.lawful; begins = c.begins_by 100000 line.begins goes.line.begins }; past = c.past }
 
--- each of the first rounds keeps the line of each node
-abbrev pub AllKeep : Net → (ℕ → ℕ → List Green) → ℕ → Type 0
-AllKeep net line rounds = (round node : ℕ) → round < rounds → node < length net.node_names → KeepsLine (plan_at net node) (line round node) (round * net.run.step) (line (suc round) node)
+-- each of the first rounds, of so many seconds, keeps the line of each node
+abbrev pub AllKeepEvery : Net → ℕ → (ℕ → ℕ → List Green) → ℕ → Type 0
+AllKeepEvery net step line rounds = (round node : ℕ) → round < rounds → node < length net.node_names → KeepsLine (plan_at net node) (line round node) (round * step) (line (suc round) node)
 
 -- they do where the first lines are lines, and each round keeps what is a line before it
-module _ (net : Net) (network : IsNetwork net) (line : ℕ → ℕ → List Green) (rounds : ℕ) (few : rounds ≤ net.run.rounds) (first : (node : ℕ) → node < length net.node_names → IsLine (plan_at net node) (line 0 node))
-    (keeps : (round node : ℕ) → round < rounds → node < length net.node_names → round * net.run.step ≤ 18000 → IsLine (plan_at net node) (line round node)
-    → KeepsLine (plan_at net node) (line round node) (round * net.run.step) (line (suc round) node)) where
-  early : (r : ℕ) → r < rounds → r * net.run.step ≤ 18000
-  early r less = (let most = network.outline.run.rounds.1 in mul-le r net.run.step 600 30 (omega arith) network.outline.run.step.1)
-
+module _ (net : Net) (step : ℕ) (line : ℕ → ℕ → List Green) (rounds : ℕ) (early : (r : ℕ) → r < rounds → r * step ≤ 18000) (first : (node : ℕ) → node < length net.node_names → IsLine (plan_at net node) (line 0 node))
+    (keeps : (round node : ℕ) → round < rounds → node < length net.node_names → round * step ≤ 18000 → IsLine (plan_at net node) (line round node) → KeepsLine (plan_at net node) (line round node) (round * step) (line (suc round) node)) where
   line-is : (r : ℕ) → r ≤ rounds → (node : ℕ) → node < length net.node_names → IsLine (plan_at net node) (line r node)
   line-is zero most node below = first node below
   line-is (suc r) most node below = (keeps r node (omega arith) below (early r (omega arith)) (line-is r (omega arith) node below)).line
 
+  pub all-keep-every : AllKeepEvery net step line rounds
+  all-keep-every r node less below = keeps r node less below (early r less) (line-is r (omega arith) node below)
+
+module _ (net : Net) (step : ℕ) (some : 0 < step) (line : ℕ → ℕ → List Green) (rounds : ℕ) (keep : AllKeepEvery net step line rounds) where
+  -- what a line shows in a round before is what the line made in that round showed
+  pub shows-every : (r : ℕ) → r ≤ rounds → (second node : ℕ) → node < length net.node_names → second / step < r → standing (line r node) second ≡ shown_every step (λ round. line (suc round)) second node
+  shows-every zero most second node below before = absurd (omega arith)
+  shows-every (suc r) most second node below before = elim (cases_lt (second / step) r) [
+    | inl earlier ↦ (keep r node (omega arith) below).past second ((div-lt_iff_lt-mul {k = step} {x = second} {y = r} some).0 earlier) ∙ shows-every r (omega arith) second node below earlier
+    | inr last ↦ (let e : r ≡ second / step = omega arith in ap (λ s. standing (line (suc s) node) second) e)
+  ]
+
+-- the same of the rounds of a network
+abbrev pub AllKeep : Net → (ℕ → ℕ → List Green) → ℕ → Type 0
+AllKeep net = AllKeepEvery net net.run.step
+
+module _ (net : Net) (network : IsNetwork net) (line : ℕ → ℕ → List Green) (rounds : ℕ) (few : rounds ≤ net.run.rounds) (first : (node : ℕ) → node < length net.node_names → IsLine (plan_at net node) (line 0 node))
+    (keeps : (round node : ℕ) → round < rounds → node < length net.node_names → round * net.run.step ≤ 18000 → IsLine (plan_at net node) (line round node)
+    → KeepsLine (plan_at net node) (line round node) (round * net.run.step) (line (suc round) node)) where
   pub all-keep : AllKeep net line rounds
-  all-keep r node less below = keeps r node less below (early r less) (line-is r (omega arith) node below)
+  all-keep = all-keep-every net net.run.step line rounds
+      (λ r less. (let most = network.outline.run.rounds.1 in mul-le r net.run.step 600 30 (omega arith) network.outline.run.step.1)) first keeps
 
 module _ (net : Net) (network : IsNetwork net) (line : ℕ → ℕ → List Green) (rounds : ℕ) (keep : AllKeep net line rounds) where
-  -- what a line shows in a round before is what the line made in that round showed
   pub shows : (r : ℕ) → r ≤ rounds → (second node : ℕ) → node < length net.node_names → second / net.run.step < r → standing (line r node) second ≡ shown_by net (λ round. line (suc round)) second node
-  shows zero most second node below before = absurd (omega arith)
-  shows (suc r) most second node below before = elim (cases_lt (second / net.run.step) r) [
-    | inl earlier ↦ (keep r node (omega arith) below).past second ((div-lt_iff_lt-mul {k = net.run.step} {x = second} {y = r} network.outline.run.step.0).0 earlier) ∙ shows r (omega arith) second node below earlier
-    | inr last ↦ (let e : r ≡ second / net.run.step = omega arith in ap (λ s. standing (line (suc s) node) second) e)
-  ]
+  shows = shows-every net net.run.step network.outline.run.step.0 line rounds keep
 
   pub lawful-after : (r : ℕ) → 0 < r → r ≤ rounds → (node : ℕ) → node < length net.node_names → IsLawful (plan_at net node) (line r node)
   lawful-after zero some most node below = absurd (omega arith)

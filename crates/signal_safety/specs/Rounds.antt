@@ -9,6 +9,11 @@ abbrev pub line_before : (ℕ → List Green) → (ℕ → ℕ → List Green) �
 line_before first made zero node = first node
 line_before first made (suc round) node = made round node
 
--- which phase is green in a second at a node, and since when: in the seconds of a round the signals show the lines made in it
+-- which phase is green in a second at a node, and since when, where a round takes so many seconds: in these the signals show the
+-- lines made in it
+abbrev pub shown_every : ℕ → (ℕ → ℕ → List Green) → ℕ → ℕ → Option (ℕ × ℕ)
+shown_every step made x node = standing (made (x / step) node) x
+
+-- the same by the rounds of a network
 abbrev pub shown_by : Net → (ℕ → ℕ → List Green) → ℕ → ℕ → Option (ℕ × ℕ)
-shown_by net made x node = standing (made (x / net.run.step) node) x
+shown_by net = shown_every net.run.step
