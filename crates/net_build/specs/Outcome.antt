@@ -1,10 +1,12 @@
 -- What the steps from a draft to a network answer. No public clause names these words.
-use Rattle.std.specs.Prelude.{◌≡◌, ℕ, List, Option, Some, Result, Ok, Err}
+use Rattle.std.specs.Prelude.{◌≡◌, ℕ, ◌≤◌, IfSome, List, Option, Some, Result, Ok, Err}
 use Rattle.foundation.specs.Firsts.{FromOne}
 use Rattle.net_parts.specs.declared.faults.Section.{Section}
 use Rattle.net_parts.specs.declared.faults.Place.{Place}
 use Rattle.net_parts.specs.declared.faults.NetFault.{NetFault}
 use Rattle.net_parts.specs.declared.faults.NetFault.TheVariants.{NoMemory, Bound, Twice, Unknown}
+use Rattle.net_parts.specs.Bounds.{IsActStep}
+use Rattle.net_parts.specs.declared.drafts.Run.{Run}
 use Rattle.net_parts.specs.FirstFaults.{IsFirstTwice}
 use Rattle.net_parts.specs.Numbers.{AreDistinct}
 
@@ -24,6 +26,12 @@ abbrev pub IsUnknownAt : (Place → Type 0) → NetFault → Type 0
 IsUnknownAt why NoMemory = Unit {0}
 IsUnknownAt why (Unknown place) = why place
 IsUnknownAt why _ = ⊥
+
+-- what a run has beside the numbers that each has is within its bounds
+pub record HasOptions (run : Run) : Type 0 where
+  pub age : IfSome run.age (λ age. (1 ≤ age) × (age ≤ 3600))
+  pub hold : IfSome run.hold (λ hold. (1 ≤ hold) × (hold ≤ 20))
+  pub act_step : IfSome run.act_step (IsActStep run.step)
 
 -- a test of bounds answers Ok where the fact holds, and otherwise names a place where `why` holds
 abbrev pub Checks : Type 0 → (Place → Type 0) → Result (Unit {0}) NetFault → Type 0

@@ -2,9 +2,9 @@
 ghost use Rattle.std.specs.Prelude.{◌≡◌, ◌≤◌, ◌↔◌, OnOk, IfErr, IsTrue, All, length, count_by};
 ghost use Rattle.foundation.specs.Firsts.{IsFirstAt, IsFirstNot, FromOne};
 ghost use Rattle.phase_plan.specs.Phases.{is_unmarked};
-ghost use Rattle.net_build.specs.Outcome.{Checks};
+ghost use Rattle.net_build.specs.Outcome.{Checks, HasOptions};
 ghost use Rattle.net_parts.specs.FirstFaults.{IsNodeFault, IsLinkFault, FailsBounds, Refuses};
-ghost use Rattle.net_parts.specs.Bounds.{IsNameByte, IsName, IsRun, HasCounts, HasNodeBounds, HasLinkBounds, IsBoundedPhase, IsBoundedNode, IsBoundedTurn, IsBoundedLink, IsBounded};
+ghost use Rattle.net_parts.specs.Bounds.{IsNameByte, IsName, IsActStep, IsRun, HasCounts, HasNodeBounds, HasLinkBounds, IsBoundedPhase, IsBoundedNode, IsBoundedTurn, IsBoundedLink, IsBounded};
 
 use net_parts::{
     Draft, DraftLink, DraftNode, DraftPhase, DraftTurn, NetFault, Place, Run, Section,
@@ -48,13 +48,31 @@ fn has_counts(draft: &Draft) -> bool
 fn is_run(run: &Run) -> bool
     ensures { IsTrue result ↔ IsRun run.now }
 {
+    let has_options = has_options(run);
     (1..=30).contains(&run.step)
         && (10..=180).contains(&run.look)
         && run.step <= run.look
         && run.gap <= 10
         && (1..=600).contains(&run.rounds)
-        && run.age.is_none_or(|age| (1..=3600).contains(&age))
+        && has_options
+}
+
+/// Whether what the run may have beside them is.
+fn has_options(run: &Run) -> bool
+    ensures { IsTrue result ↔ HasOptions run.now }
+{
+    run.age.is_none_or(|age| (1..=3600).contains(&age))
         && run.hold.is_none_or(|hold| (1..=20).contains(&hold))
+        && run
+            .act_step
+            .is_none_or(|act_step| is_act_step(run.step, act_step))
+}
+
+/// Whether actuated control may have this step, where the rounds of the run have `step` seconds.
+fn is_act_step(step: u32, act_step: u32) -> bool
+    ensures { IsTrue result ↔ IsActStep step act_step }
+{
+    (1..=30).contains(&act_step) && step % act_step == 0
 }
 
 /// Tests each node, and names the first fault of the first that is out of its bounds.

@@ -127,7 +127,8 @@ impl Element for Run {
         put_number(alloc, table, "rounds", self.rounds)?;
         put_flag_if_true(alloc, table, "split", self.split)?;
         put_number_if(alloc, table, "age", self.age)?;
-        put_number_if(alloc, table, "hold", self.hold)
+        put_number_if(alloc, table, "hold", self.hold)?;
+        put_number_if(alloc, table, "act_step", self.act_step)
     }
 }
 

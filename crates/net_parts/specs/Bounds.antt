@@ -1,5 +1,5 @@
 -- The bounds of what is in a draft.
-use Rattle.std.specs.Prelude.{◌≡◌, ℕ, ◌≤◌, ◌⊎◌, IfSome, List, length, count_by, All}
+use Rattle.std.specs.Prelude.{◌≡◌, ℕ, ◌%◌, ◌≤◌, ◌⊎◌, IfSome, List, length, count_by, All}
 use Rattle.phase_plan.specs.Phases.{IsPhase, is_unmarked}
 use Rattle.net_parts.specs.declared.drafts.Run.{Run}
 use Rattle.net_parts.specs.declared.drafts.Draft.{Draft}
@@ -17,6 +17,11 @@ pub record IsName (name : List ℕ) : Type 0 where
   pub count : (1 ≤ length name) × (length name ≤ 16)
   pub bytes : All IsNameByte name
 
+-- a step of actuated control, in a run whose rounds have so many seconds: it divides these
+pub record IsActStep (step act_step : ℕ) : Type 0 where
+  pub bounds : (1 ≤ act_step) × (act_step ≤ 30)
+  pub whole : step % act_step ≡ 0
+
 -- the numbers of a run, and that a round is no longer than a planning looks ahead
 pub record IsRun (run : Run) : Type 0 where
   pub step : (1 ≤ run.step) × (run.step ≤ 30)
@@ -26,6 +31,7 @@ pub record IsRun (run : Run) : Type 0 where
   pub rounds : (1 ≤ run.rounds) × (run.rounds ≤ 600)
   pub age : IfSome run.age (λ age. (1 ≤ age) × (age ≤ 3600))
   pub hold : IfSome run.hold (λ hold. (1 ≤ hold) × (hold ≤ 20))
+  pub act_step : IfSome run.act_step (IsActStep run.step)
 
 -- a phase and how many links it names
 pub record IsBoundedPhase (p : DraftPhase) : Type 0 where

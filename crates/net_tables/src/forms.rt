@@ -64,6 +64,7 @@ fn run_fields(table: &Table) -> Option<Run>
     let (gap, rounds) = numbers_at(table, "gap", "rounds")?;
     let split = flag_at(table, "split", false)?;
     let (age, hold) = optional_numbers_at(table, "age", "hold")?;
+    let act_step = optional_number_at(table, "act_step")?;
     Some(Run {
         step,
         look,
@@ -72,6 +73,7 @@ fn run_fields(table: &Table) -> Option<Run>
         split,
         age,
         hold,
+        act_step,
     })
 }
 
@@ -80,7 +82,9 @@ fn run_fields(table: &Table) -> Option<Run>
 fn only_run_keys(table: &Table) -> Option<&Table>
     ensures { option_map (λ table. table_view table.now) result ≡ spec.only spec.run_keys (table_view table.now) }
 {
-    let keys = ["step", "look", "gap", "rounds", "split", "age", "hold"];
+    let keys = [
+        "step", "look", "gap", "rounds", "split", "age", "hold", "act_step",
+    ];
     only(table, &keys)
 }
 
