@@ -11,11 +11,13 @@ use Rattle.net_parts.specs.Outline.{plan_at}
 use Rattle.net_simulator.specs.Flow.{Passed}
 use Rattle.net_simulator.specs.Worlds.{line_in, standing_by}
 use Rattle.road_net.specs.Network.{IsNetwork}
-use Rattle.signal_safety.specs.Rounds.{line_before, shown_by}
-use Rattle.actuated.specs.ActRuns.{AllAct, IsNextBy, IsNextLine, first_line}
+use Rattle.signal_safety.specs.Rounds.{line_before}
+use Rattle.actuated.specs.ActRuns.{AllAct, IsNextBy, IsNextLine, first_line, shown_in}
+use Rattle.actuated.specs.ActSteps.{act_step}
 use Rattle.actuated.specs.Calls.{calls_by}
 use Rattle.actuated.specs.Rounds.{AreFirstLines, AreRenewed, IsReady, IsRenewed}
 use Rattle.actuated.specs.RunsSoFar.{AreNear, CountsBefore, HaveActed}
+use Rattle.actuated.proofs.ActStepLaws.{act-rounds, one-round}
 use Rattle.actuated.proofs.NearLaws.{calls-are}
 
 -- ---- first lines, one after another
@@ -71,26 +73,14 @@ none-acted net under lines first = record {
   acts = λ r n less below. absurd (omega arith);
   count = first.count;
   are = first.are;
-  ready = λ n below. (let z : 0 ≡ 0 * net.run.step = omega arith in subst (λ s. IsReady (plan_at net n) s (get_or lines n [])) z (first.ready n below));
+  ready = λ n below. (let z : 0 ≡ 0 * act_step net = omega arith in subst (λ s. IsReady (plan_at net n) s (get_or lines n [])) z (first.ready n below));
   shown = λ x n less. absurd (omega arith);
 }
 
--- in a round there is time for its seconds
-pub time-for : (net : Net) → IsNetwork net → (r : ℕ) → r < net.run.rounds → r * net.run.step + net.run.step ≤ 18000
-time-for net network r less =
-    let few = network.outline.run.rounds.1 in
-    let short = network.outline.run.step.1 in
-    let all : (r + 1) * net.run.step ≤ 600 * net.run.step = mul-le-mul_right {m = r + 1} {n = 600} net.run.step (omega arith) in
-    let one : (r + 1) * net.run.step ≡ r * net.run.step + net.run.step = omega arith in
-    omega (arith, all, one)
-
-pub one-round : (net : Net) (r : ℕ) → (r + 1) * net.run.step ≡ r * net.run.step + net.run.step
-one-round net r = omega arith
-
 module _ (net : Net) (network : IsNetwork net) (under : (ℕ → ℕ → Option (ℕ × ℕ)) → ℕ → ℕ → ℕ → Passed) (counts : CountsBefore under) (r : ℕ) (lines renewed : List (List Green)) (near : List ℕ)
-    (a : HaveActed net under r lines) (are : AreRenewed net near (r * net.run.step) (length net.node_names) lines renewed) where
+    (a : HaveActed net under r lines) (are : AreRenewed net near (r * act_step net) (length net.node_names) lines renewed) where
   -- the renewed lines show the same before
-  pub same-before : (x n : ℕ) → x < r * net.run.step → standing (line_in renewed n) x ≡ standing (line_in lines n) x
+  pub same-before : (x n : ℕ) → x < r * act_step net → standing (line_in renewed n) x ≡ standing (line_in lines n) x
   same-before x n less = elim (cases_lt n (length net.node_names)) [
     | inl below ↦ (are.renewed n below).past x less
     | inr past ↦ ap (λ (l : List Green). standing l x) (get_or_past renewed n [] (omega (arith, are.count, a.count)) ∙ sym (get_or_past lines n [] (omega (arith, a.count))))
@@ -107,42 +97,42 @@ module _ (net : Net) (network : IsNetwork net) (under : (ℕ → ℕ → Option 
   unfolding made
   made-now round n e = sym (ap (λ b. cond b (line_in renewed n) (a.made round n)) (eq-eqb round r e))
 
-  shown-before : (x n : ℕ) → x < r * net.run.step → shown_by net a.made x n ≡ shown_by net made x n
-  shown-before x n less = ap (λ (l : List Green). standing l x) (made-before (x / net.run.step) n (div_below x net.run.step r network.outline.run.step.0 less))
+  shown-before : (x n : ℕ) → x < r * act_step net → shown_in net a.made x n ≡ shown_in net made x n
+  shown-before x n less = ap (λ (l : List Green). standing l x) (made-before (x / act_step net) n (div_below x (act_step net) r (act-rounds net network).some less))
 
   line-before : (round n : ℕ) → round ≤ r → line_before (first_line net) a.made round n ≡ line_before (first_line net) made round n
   line-before zero n most = refl
   line-before (suc round) n most = made-before round n (omega arith)
 
-  module _ (sensed : AreNear net (under (standing_by (line_in lines)) (r * net.run.step)) (r * net.run.step) near) where
+  module _ (sensed : AreNear net (under (standing_by (line_in lines)) (r * act_step net)) (r * act_step net) near) where
     acts : AllAct net under made (r + 1)
     acts round n less below = elim (cases_lt round r) [
       | inl before ↦
-          let soon : round * net.run.step ≤ r * net.run.step = mul-le-mul_right {m = round} {n = r} net.run.step (omega arith) in
-          next-moved net (under (shown_by net a.made) (round * net.run.step)) (under (shown_by net made) (round * net.run.step)) (round * net.run.step) (round * net.run.step) n
+          let soon : round * act_step net ≤ r * act_step net = mul-le-mul_right {m = round} {n = r} (act_step net) (omega arith) in
+          next-moved net (under (shown_in net a.made) (round * act_step net)) (under (shown_in net made) (round * act_step net)) (round * act_step net) (round * act_step net) n
           (line_before (first_line net) a.made round n) (line_before (first_line net) made round n) (a.made round n) (made round n)
-          (counts (shown_by net a.made) (shown_by net made) (round * net.run.step) (λ x k b. shown-before x k (omega (arith, soon, b))))
+          (counts (shown_in net a.made) (shown_in net made) (round * act_step net) (λ x k b. shown-before x k (omega (arith, soon, b))))
           refl (line-before round n (omega arith)) (made-before round n before) (a.acts round n before below)
       | inr at ↦
           let e : round ≡ r = omega arith in
-          let second : r * net.run.step ≡ round * net.run.step = ap (λ k. k * net.run.step) (sym e) in
-          let calls = calls-are net network (slice_index near) (under (standing_by (line_in lines)) (r * net.run.step)) (r * net.run.step) n below sensed in
-          let one : IsNextLine net (under (standing_by (line_in lines)) (r * net.run.step)) (r * net.run.step) n (line_in lines n) (line_in renewed n) =
-          subst (λ (cs : List ℕ). IsNextBy net cs (r * net.run.step) n (line_in lines n) (line_in renewed n)) calls (are.renewed n below).next in
-          next-moved net (under (standing_by (line_in lines)) (r * net.run.step)) (under (shown_by net made) (round * net.run.step)) (r * net.run.step) (round * net.run.step) n
+          let second : r * act_step net ≡ round * act_step net = ap (λ k. k * act_step net) (sym e) in
+          let calls = calls-are net network (slice_index near) (under (standing_by (line_in lines)) (r * act_step net)) (r * act_step net) n below sensed in
+          let one : IsNextLine net (under (standing_by (line_in lines)) (r * act_step net)) (r * act_step net) n (line_in lines n) (line_in renewed n) =
+          subst (λ (cs : List ℕ). IsNextBy net cs (r * act_step net) n (line_in lines n) (line_in renewed n)) calls (are.renewed n below).next in
+          next-moved net (under (standing_by (line_in lines)) (r * act_step net)) (under (shown_in net made) (round * act_step net)) (r * act_step net) (round * act_step net) n
           (line_in lines n) (line_before (first_line net) made round n) (line_in renewed n) (made round n)
-          (counts (standing_by (line_in lines)) (shown_by net made) (r * net.run.step) (λ x k b. a.shown x k b ∙ shown-before x k b) ∙ ap (under (shown_by net made)) second)
+          (counts (standing_by (line_in lines)) (shown_in net made) (r * act_step net) (λ x k b. a.shown x k b ∙ shown-before x k b) ∙ ap (under (shown_in net made)) second)
           second (a.are n below ∙ ap (λ k. line_before (first_line net) a.made k n) (sym e) ∙ line-before round n (omega arith)) (made-now round n e) one
     ]
 
-    shown : (x n : ℕ) → x < (r + 1) * net.run.step → standing (line_in renewed n) x ≡ shown_by net made x n
-    shown x n less = elim (cases_lt (x / net.run.step) r) [
+    shown : (x n : ℕ) → x < (r + 1) * act_step net → standing (line_in renewed n) x ≡ shown_in net made x n
+    shown x n less = elim (cases_lt (x / act_step net) r) [
       | inl earlier ↦
-          let before : x < r * net.run.step = (div-lt_iff_lt-mul {k = net.run.step} {x = x} {y = r} network.outline.run.step.0).0 earlier in
+          let before : x < r * act_step net = (div-lt_iff_lt-mul {k = act_step net} {x = x} {y = r} (act-rounds net network).some).0 earlier in
           same-before x n before ∙ a.shown x n before ∙ shown-before x n before
       | inr last ↦
-          let most = div_below x net.run.step (r + 1) network.outline.run.step.0 less in
-          ap (λ (l : List Green). standing l x) (made-now (x / net.run.step) n (omega (arith, last, most)))
+          let most = div_below x (act_step net) (r + 1) (act-rounds net network).some less in
+          ap (λ (l : List Green). standing l x) (made-now (x / act_step net) n (omega (arith, last, most)))
     ]
 
     -- after a round more

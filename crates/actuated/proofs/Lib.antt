@@ -1,4 +1,5 @@
 pub mod Acting
+pub mod ActStepLaws
 pub mod LineLaws
 pub mod NearLaws
 pub mod OneRun

@@ -18,6 +18,7 @@ use Rattle.signal_safety.proofs.Lines.{plan-is}
 use Rattle.signal_safety.proofs.Rounds.{IsLine, IsNext, IsSoonHead, KeepsLine, head-of, rotation-next, spliced-keeps}
 use Rattle.actuated.specs.Calls.{act_line, held_until, is_held}
 use Rattle.actuated.specs.ActRuns.{IsNextLine}
+use Rattle.actuated.specs.ActSteps.{act_step}
 use Rattle.actuated.specs.Rounds.{IsRenewed}
 
 -- the green of a head ends within its bounds
@@ -58,7 +59,7 @@ module _ (net : Net) (network : IsNetwork net) (node : ℕ) (below : node < leng
 
 -- what a node makes of its line
 pub renewed : (net : Net) (s node : ℕ) (old next new : List Green) (head : Head) (calls : List ℕ) (until : ℕ)
-    → net.run.step ≤ net.run.look → head_at (plan_at net node) old s ≡ Some head → next ≡ act_line (plan_at net node) head calls until → until ≡ s + net.run.look
+    → act_step net ≤ net.run.look → head_at (plan_at net node) old s ≡ Some head → next ≡ act_line (plan_at net node) head calls until → until ≡ s + net.run.look
     → new ≡ spliced old next → IsContinued (plan_at net node) old s next new → BeginBy 100000 old → BeginBy 100000 next → until < end_of next
     → IsRenewed net calls s node old new
 renewed net s node old next new head calls until within at made soon is continued first more ends = record {

@@ -14,11 +14,13 @@ use Rattle.net_simulator.specs.Flow.{Passed, past_of}
 use Rattle.net_simulator.specs.Sums.{end_of_run, link_totals, totals}
 use Rattle.net_simulator.proofs.AtNodes.{past-at-nodes}
 use Rattle.road_net.specs.Network.{IsNetwork}
-use Rattle.signal_safety.specs.Rounds.{line_before, shown_by}
+use Rattle.signal_safety.specs.Rounds.{line_before}
 use Rattle.switch_rules.specs.declared.Head.{Head}
-use Rattle.actuated.specs.ActRuns.{AllAct, IsActRun, IsNextLine, calls_at, first_line}
+use Rattle.actuated.specs.ActRuns.{AllAct, IsActRun, IsNextLine, calls_at, first_line, shown_in}
+use Rattle.actuated.specs.ActSteps.{act_rounds, act_step}
 use Rattle.actuated.specs.Calls.{act_line}
 use Rattle.actuated.specs.RunsSoFar.{CountsAtNodes}
+use Rattle.actuated.proofs.ActStepLaws.{act-rounds}
 use Rattle.audit.specs.declared.line_runs.LineRun.{LineRun}
 
 -- a line has one next line
@@ -39,10 +41,10 @@ module _ (net : Net) (network : IsNetwork net) (under : (ℕ → ℕ → Option 
   lines-same zero n before below = refl
   lines-same (suc r) n before below = before r n (omega arith) below
 
-  pub past-same : (r : ℕ) → SameBefore r → under (shown_by net made) (r * net.run.step) ≡ under (shown_by net other) (r * net.run.step)
+  pub past-same : (r : ℕ) → SameBefore r → under (shown_in net made) (r * act_step net) ≡ under (shown_in net other) (r * act_step net)
   past-same r before =
-      counts (shown_by net made) (shown_by net other) (r * net.run.step)
-      (λ x n less below. ap (λ (l : List Green). standing l x) (before (x / net.run.step) n (div_below x net.run.step r network.outline.run.step.0 less) below))
+      counts (shown_in net made) (shown_in net other) (r * act_step net)
+      (λ x n less below. ap (λ (l : List Green). standing l x) (before (x / act_step net) n (div_below x (act_step net) r (act-rounds net network).some less) below))
 
   pub same-before : (rounds : ℕ) → AllAct net under made rounds → AllAct net under other rounds → (r : ℕ) → r ≤ rounds → SameBefore r
   same-before rounds acts also zero most s n less below = absurd (omega (arith, less))
@@ -52,7 +54,7 @@ module _ (net : Net) (network : IsNetwork net) (under : (ℕ → ℕ → Option 
         let here : r ≡ s = omega (arith, less, late) in
         let before = same-before rounds acts also r (omega arith) in
         subst (λ q. made q n ≡ other q n) here
-        (next-one net (r * net.run.step) n (under (shown_by net made) (r * net.run.step)) (under (shown_by net other) (r * net.run.step)) (past-same r before)
+        (next-one net (r * act_step net) n (under (shown_in net made) (r * act_step net)) (under (shown_in net other) (r * act_step net)) (past-same r before)
         (line_before (first_line net) made r n) (line_before (first_line net) other r n) (made r n) (other r n) (lines-same r n before below)
         (acts r n (omega arith) below) (also r n (omega arith) below))
   ]
@@ -60,14 +62,15 @@ module _ (net : Net) (network : IsNetwork net) (under : (ℕ → ℕ → Option 
 pub one-run : (net : Net) → IsNetwork net → (arriving : ℕ → ℕ → ℕ) (one other : LineRun) → IsActRun net arriving one → IsActRun net arriving other → one ≡ other
 one-run net network arriving one other a b = λ i. record { timelines = timelines i; links = links i; totals = all i }
   where
-    before : (s n : ℕ) → s < net.run.rounds → n < length net.node_names → a.made s n ≡ b.made s n
-    before = same-before net network (past_of net arriving) (past-at-nodes net network arriving) a.made b.made net.run.rounds a.by.acts b.by.acts net.run.rounds (omega arith)
+    before : (s n : ℕ) → s < act_rounds net → n < length net.node_names → a.made s n ≡ b.made s n
+    before = same-before net network (past_of net arriving) (past-at-nodes net network arriving) a.made b.made (act_rounds net) a.by.acts b.by.acts (act_rounds net) (omega arith)
 
-    past : past_of net arriving (shown_by net a.made) (end_of_run net) ≡ past_of net arriving (shown_by net b.made) (end_of_run net)
-    past = past-same net network (past_of net arriving) (past-at-nodes net network arriving) a.made b.made net.run.rounds before
+    past : past_of net arriving (shown_in net a.made) (end_of_run net) ≡ past_of net arriving (shown_in net b.made) (end_of_run net)
+    past = subst (λ n. past_of net arriving (shown_in net a.made) n ≡ past_of net arriving (shown_in net b.made) n) (act-rounds net network).whole
+        (past-same net network (past_of net arriving) (past-at-nodes net network arriving) a.made b.made (act_rounds net) before)
 
     last : (ℕ → ℕ → List Green) → ℕ → List Green
-    last made = line_before (first_line net) made net.run.rounds
+    last made = line_before (first_line net) made (act_rounds net)
 
     nodes : ℕ
     nodes = length net.node_names
@@ -78,7 +81,7 @@ one-run net network arriving one other a b = λ i. record { timelines = timeline
         (λ n inside.
         let below : n < nodes = omega (arith, inside, length-map-range_with_len (last a.made) 0 nodes) in
         get_or-map-range_with_len (last a.made) 0 nodes n n [] below (omega arith)
-        ∙ lines-same net network (past_of net arriving) (past-at-nodes net network arriving) a.made b.made net.run.rounds n before below
+        ∙ lines-same net network (past_of net arriving) (past-at-nodes net network arriving) a.made b.made (act_rounds net) n before below
         ∙ sym (get_or-map-range_with_len (last b.made) 0 nodes n n [] below (omega arith)))
 
     timelines : one.timelines ≡ other.timelines

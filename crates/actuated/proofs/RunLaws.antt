@@ -15,17 +15,19 @@ use Rattle.net_simulator.specs.declared.totals.LinkTotals.{LinkTotals}
 use Rattle.net_simulator.proofs.FlowLaws.{history-same}
 use Rattle.net_simulator.proofs.Passing.{stands-under}
 use Rattle.road_net.specs.Network.{IsNetwork}
-use Rattle.signal_safety.specs.Rounds.{line_before, shown_by}
+use Rattle.signal_safety.specs.Rounds.{line_before}
 use Rattle.signal_safety.specs.Safe.{IsSafe}
 use Rattle.signal_safety.proofs.Lines.{safe}
-use Rattle.signal_safety.proofs.Rounds.{AllKeep, shows, all-keep as lines-keep}
+use Rattle.signal_safety.proofs.Rounds.{AllKeepEvery, all-keep-every, shows-every}
 use Rattle.audit.specs.SheetTexts.{HasShape}
 use Rattle.audit.specs.LineRuns.{sheet_of}
-use Rattle.actuated.specs.ActRuns.{IsActRun, ShowsGreens, first_line, past_by}
+use Rattle.actuated.specs.ActRuns.{IsActRun, ShowsGreens, first_line, past_by, shown_in}
+use Rattle.actuated.specs.ActSteps.{act_rounds, act_step}
 use Rattle.actuated.specs.Rounds.{AreFirstLines, AreRenewed}
 use Rattle.actuated.specs.RunsSoFar.{AreNear, HavePlayed}
 use Rattle.audit.specs.declared.line_runs.LineRun.{LineRun}
-use Rattle.actuated.proofs.Acting.{more-acted, none-acted, one-round, same-before, time-for}
+use Rattle.actuated.proofs.ActStepLaws.{act-rounds, begins-by, one-round, time-for}
+use Rattle.actuated.proofs.Acting.{more-acted, none-acted, same-before}
 use Rattle.actuated.proofs.LineLaws.{first-is-line, next-keeps}
 use Rattle.arrivals.specs.Amounts.{Amounts, AreArrivals}
 use Rattle.net_simulator.specs.Arriving.{arriving_of}
@@ -40,12 +42,12 @@ pub none-played : (net : Net) (arriving : ℕ → ℕ → ℕ) (lines : List (Li
     → ((shown : ℕ → ℕ → Option (ℕ × ℕ)) → Stands net arriving shown w) → HavePlayed net arriving 0 lines w
 none-played net arriving lines w first second stands = record {
   acted = none-acted net (past_of net arriving) lines first;
-  second = (let z : 0 ≡ 0 * net.run.step = omega arith in second ∙ z);
+  second = (let z : 0 ≡ 0 * act_step net = omega arith in second ∙ z);
   stands = stands (standing_by (line_in lines));
 }
 
 module _ (net : Net) (network : IsNetwork net) (arriving : ℕ → ℕ → ℕ) (r : ℕ) (lines renewed : List (List Green)) (near : List ℕ) (w : WorldState) (a : HavePlayed net arriving r lines w) (are : AreRenewed net near w.second (length net.node_names) lines renewed) where
-  then-renewed : AreRenewed net near (r * net.run.step) (length net.node_names) lines renewed
+  then-renewed : AreRenewed net near (r * act_step net) (length net.node_names) lines renewed
   then-renewed = subst (λ s. AreRenewed net near s (length net.node_names) lines renewed) a.second are
 
   pub renewed-stands : Stands net arriving (standing_by (line_in renewed)) w
@@ -53,11 +55,11 @@ module _ (net : Net) (network : IsNetwork net) (arriving : ℕ → ℕ → ℕ) 
       stands-under net arriving (standing_by (line_in lines)) (standing_by (line_in renewed)) w
       (λ x n less. sym (same-before net network (past_of net arriving) (past-same net arriving) r lines renewed near a.acted then-renewed x n (omega (arith, a.second, less)))) a.stands
 
-  pub room : r < net.run.rounds → w.second + net.run.step ≤ 18000
+  pub room : r < act_rounds net → w.second + act_step net ≤ 18000
   room less = omega (arith, time-for net network r less, a.second)
 
   -- after a round more
-  pub more-played : AreNear net (past_of net arriving (standing_by (line_in lines)) w.second) w.second near → (v : WorldState) → v.second ≡ w.second + net.run.step → Stands net arriving (standing_by (line_in renewed)) v → HavePlayed net arriving (r + 1) renewed v
+  pub more-played : AreNear net (past_of net arriving (standing_by (line_in lines)) w.second) w.second near → (v : WorldState) → v.second ≡ w.second + act_step net → Stands net arriving (standing_by (line_in renewed)) v → HavePlayed net arriving (r + 1) renewed v
   more-played sensed v second stands = record {
     acted = more-acted net network (past_of net arriving) (past-same net arriving) r lines renewed near a.acted then-renewed (subst (λ s. AreNear net (past_of net arriving (standing_by (line_in lines)) s) s near) a.second sensed);
     second = omega (arith, second, a.second, one-round net r);
@@ -70,18 +72,21 @@ played-world net arrivals r lines w enter a = record { arrivals = arrivals; line
 
 -- ---- the record
 
-module _ (net : Net) (network : IsNetwork net) (arriving : ℕ → ℕ → ℕ) (w : WorldState) (run : LineRun) (a : HavePlayed net arriving net.run.rounds run.timelines w)
+module _ (net : Net) (network : IsNetwork net) (arriving : ℕ → ℕ → ℕ) (w : WorldState) (run : LineRun) (a : HavePlayed net arriving (act_rounds net) run.timelines w)
     (links : run.links ≡ map (counts_at w.counts) (range_with_len 0 (length net.link_names))) (all : run.totals ≡ w.totals) where
+  second-is : w.second ≡ end_of_run net
+  second-is = a.second ∙ (act-rounds net network).whole
+
   past-is : past_of net arriving (standing_by (line_in run.timelines)) (end_of_run net) ≡ past_by net arriving a.acted.made
-  past-is = past-same net arriving (standing_by (line_in run.timelines)) (shown_by net a.acted.made) (end_of_run net) (λ x n less. a.acted.shown x n less)
+  past-is = past-same net arriving (standing_by (line_in run.timelines)) (shown_in net a.acted.made) (end_of_run net) (λ x n less. a.acted.shown x n (omega (arith, less, (act-rounds net network).whole)))
 
   link-is : (l : ℕ) → l < length net.link_names → get_or run.links l no_totals ≡ link_totals net (past_of net arriving (standing_by (line_in run.timelines)) (end_of_run net)) (end_of_run net) l
   link-is l below =
       ap (λ (ts : List LinkTotals). get_or ts l no_totals) links ∙ get_or-map-range_with_len (counts_at w.counts) 0 (length net.link_names) l l no_totals below (omega arith)
-      ∙ a.stands.counts l below ∙ ap (λ s. link_totals net (past_of net arriving (standing_by (line_in run.timelines)) s) s l) a.second
+      ∙ a.stands.counts l below ∙ ap (λ s. link_totals net (past_of net arriving (standing_by (line_in run.timelines)) s) s l) second-is
 
   all-is : run.totals ≡ totals net arriving (past_of net arriving (standing_by (line_in run.timelines)) (end_of_run net)) (end_of_run net)
-  all-is = all ∙ a.stands.totals ∙ ap (λ s. totals net arriving (past_of net arriving (standing_by (line_in run.timelines)) s) s) a.second
+  all-is = all ∙ a.stands.totals ∙ ap (λ s. totals net arriving (past_of net arriving (standing_by (line_in run.timelines)) s) s) second-is
 
   link-count : length run.links ≡ length net.link_names
   link-count = ap length links ∙ length-map-range_with_len (counts_at w.counts) 0 (length net.link_names)
@@ -91,7 +96,7 @@ module _ (net : Net) (network : IsNetwork net) (arriving : ℕ → ℕ → ℕ) 
     made = a.acted.made;
     by = record {
       acts = a.acted.acts;
-      timelines = fill_by_all (line_before (first_line net) a.acted.made net.run.rounds) run.timelines (length net.node_names) [] a.acted.count a.acted.are;
+      timelines = fill_by_all (line_before (first_line net) a.acted.made (act_rounds net)) run.timelines (length net.node_names) [] a.acted.count a.acted.are;
       links = fill_by_all (link_totals net (past_by net arriving a.acted.made) (end_of_run net)) run.links (length net.link_names) no_totals link-count
           (λ l below. link-is l below ∙ ap (λ (p : ℕ → ℕ → Passed). link_totals net p (end_of_run net) l) past-is);
       all = all-is ∙ ap (λ (p : ℕ → ℕ → Passed). totals net arriving p (end_of_run net)) past-is;
@@ -110,19 +115,22 @@ module _ (net : Net) (network : IsNetwork net) (arriving : ℕ → ℕ → ℕ) 
 -- ---- what every run keeps
 
 module _ (net : Net) (network : IsNetwork net) (arriving : ℕ → ℕ → ℕ) (run : LineRun) (is : IsActRun net arriving run) where
-  keep : AllKeep net (line_before (first_line net) is.made) net.run.rounds
-  keep = lines-keep net network (line_before (first_line net) is.made) net.run.rounds (omega arith) (first-is-line net network)
-      (λ r n less below early old. next-keeps net network n below (past_of net arriving (shown_by net is.made) (r * net.run.step)) (r * net.run.step) (line_before (first_line net) is.made r n) (is.made r n) early old (is.by.acts r n less below))
+  keep : AllKeepEvery net (act_step net) (line_before (first_line net) is.made) (act_rounds net)
+  keep = all-keep-every net (act_step net) (line_before (first_line net) is.made) (act_rounds net) (begins-by net network) (first-is-line net network)
+      (λ r n less below early old. next-keeps net network n below (past_of net arriving (shown_in net is.made) (r * act_step net)) (r * act_step net) (line_before (first_line net) is.made r n) (is.made r n) early old (is.by.acts r n less below))
 
-  line-is : (n : ℕ) → n < length net.node_names → line_in run.timelines n ≡ line_before (first_line net) is.made net.run.rounds n
+  in-rounds : (second : ℕ) → second < end_of_run net → second < act_rounds net * act_step net
+  in-rounds second before = omega (arith, before, (act-rounds net network).whole)
+
+  line-is : (n : ℕ) → n < length net.node_names → line_in run.timelines n ≡ line_before (first_line net) is.made (act_rounds net) n
   line-is n below =
       ap (λ (l : List (List Green)). get_or l n []) is.by.timelines
-      ∙ get_or-map-range_with_len (line_before (first_line net) is.made net.run.rounds) 0 (length net.node_names) n n [] below (omega arith)
+      ∙ get_or-map-range_with_len (line_before (first_line net) is.made (act_rounds net)) 0 (length net.node_names) n n [] below (omega arith)
 
   pub shows-greens : ShowsGreens net is.made run
   shows-greens second n before below =
       ap (λ (l : List Green). standing l second) (line-is n below)
-      ∙ shows net network (line_before (first_line net) is.made) net.run.rounds keep net.run.rounds (omega arith) second n below (div_below second net.run.step net.run.rounds network.outline.run.step.0 before)
+      ∙ shows-every net (act_step net) (act-rounds net network).some (line_before (first_line net) is.made) (act_rounds net) keep (act_rounds net) (omega arith) second n below (div_below second (act_step net) (act_rounds net) (act-rounds net network).some (in-rounds second before))
 
 -- the record of lines that have acted in all rounds, and what it keeps
 pub record HasEnded (net : Net) (arriving : ℕ → ℕ → ℕ) (run : LineRun) : Type 0 where
@@ -132,10 +140,10 @@ pub record HasEnded (net : Net) (arriving : ℕ → ℕ → ℕ) (run : LineRun)
   pub greens : (is : IsActRun net arriving run) → ShowsGreens net is.made run
   pub clean : IsClean net arriving (sheet_of run)
 
-pub ended : (net : Net) → IsNetwork net → (arriving : ℕ → ℕ → ℕ) (w : WorldState) (run : LineRun) (lines : List (List Green)) → run.timelines ≡ lines → HavePlayed net arriving net.run.rounds lines w
+pub ended : (net : Net) → IsNetwork net → (arriving : ℕ → ℕ → ℕ) (w : WorldState) (run : LineRun) (lines : List (List Green)) → run.timelines ≡ lines → HavePlayed net arriving (act_rounds net) lines w
     → run.links ≡ map (counts_at w.counts) (range_with_len 0 (length net.link_names)) → run.totals ≡ w.totals → HasEnded net arriving run
 ended net network arriving w run lines are acted links all =
-    let a : HavePlayed net arriving net.run.rounds run.timelines w = subst (λ (l : List (List Green)). HavePlayed net arriving net.run.rounds l w) (sym are) acted in
+    let a : HavePlayed net arriving (act_rounds net) run.timelines w = subst (λ (l : List (List Green)). HavePlayed net arriving (act_rounds net) l w) (sym are) acted in
     record {
       is_run = ended-run net network arriving w run a links all;
       shape = ended-shape net network arriving w run a links all;

@@ -11,8 +11,9 @@ use Rattle.net_simulator.specs.Flow.{Passed, past_of}
 use Rattle.net_simulator.specs.Senses.{sense}
 use Rattle.net_simulator.specs.Sums.{end_of_run, link_totals, totals}
 use Rattle.net_simulator.specs.Worlds.{line_in}
-use Rattle.signal_safety.specs.Rounds.{line_before, shown_by}
+use Rattle.signal_safety.specs.Rounds.{line_before, shown_every}
 use Rattle.audit.specs.declared.line_runs.LineRun.{LineRun}
+use Rattle.actuated.specs.ActSteps.{act_rounds, act_step}
 use Rattle.actuated.specs.Calls.{act_line, calling}
 
 -- Below, `made round node` is the line of a node in a round, and `under shown n` what passed the links in the first n seconds where
@@ -36,10 +37,14 @@ pub record IsNextBy (net : Net) (calls : List ℕ) (n node : ℕ) (old next : Li
 abbrev pub IsNextLine : Net → (ℕ → ℕ → Passed) → ℕ → ℕ → List Green → List Green → Type 0
 IsNextLine net past n node old next = IsNextBy net (calls_at net past n node) n node old next
 
+-- which phase is green in a second at a node, and since when, by the lines that the nodes make in the controller's rounds
+abbrev pub shown_in : Net → (ℕ → ℕ → List Green) → ℕ → ℕ → Option (ℕ × ℕ)
+shown_in net = shown_every (act_step net)
+
 -- a node acts in a round: its line becomes the next one when the round begins
 abbrev pub Acts : Net → ((ℕ → ℕ → Option (ℕ × ℕ)) → ℕ → ℕ → ℕ → Passed) → (ℕ → ℕ → List Green) → ℕ → ℕ → Type 0
 Acts net under made round node =
-    IsNextLine net (under (shown_by net made) (round * net.run.step)) (round * net.run.step) node
+    IsNextLine net (under (shown_in net made) (round * act_step net)) (round * act_step net) node
     (line_before (first_line net) made round node) (made round node)
 
 -- each node of the network acts in each of the first `rounds` rounds
@@ -48,13 +53,13 @@ AllAct net under made rounds = (round node : ℕ) → round < rounds → node < 
 
 -- what passes the links until the last round is over
 abbrev pub past_by : Net → (ℕ → ℕ → ℕ) → (ℕ → ℕ → List Green) → ℕ → ℕ → Passed
-past_by net arriving made = past_of net arriving (shown_by net made) (end_of_run net)
+past_by net arriving made = past_of net arriving (shown_in net made) (end_of_run net)
 
 -- The record of a run, where `arriving second link` comes from outside: the nodes act in all rounds; it has the last line of each
 -- node, and what the world has counted of each link and in all when the last round is over.
 pub record IsActRunBy (net : Net) (arriving : ℕ → ℕ → ℕ) (made : ℕ → ℕ → List Green) (run : LineRun) : Type 0 where
-  pub acts : AllAct net (past_of net arriving) made net.run.rounds
-  pub timelines : run.timelines ≡ map (line_before (first_line net) made net.run.rounds) (range_with_len 0 (length net.node_names))
+  pub acts : AllAct net (past_of net arriving) made (act_rounds net)
+  pub timelines : run.timelines ≡ map (line_before (first_line net) made (act_rounds net)) (range_with_len 0 (length net.node_names))
   pub links : run.links ≡ map (link_totals net (past_by net arriving made) (end_of_run net)) (range_with_len 0 (length net.link_names))
   pub all : run.totals ≡ totals net arriving (past_by net arriving made) (end_of_run net)
 
@@ -67,4 +72,4 @@ pub record IsActRun (net : Net) (arriving : ℕ → ℕ → ℕ) (run : LineRun)
 abbrev pub ShowsGreens : Net → (ℕ → ℕ → List Green) → LineRun → Type 0
 ShowsGreens net made run =
     (second node : ℕ) → second < end_of_run net → node < length net.node_names
-    → standing (line_in run.timelines node) second ≡ shown_by net made second node
+    → standing (line_in run.timelines node) second ≡ shown_in net made second node

@@ -1,5 +1,6 @@
 pub mod Calls
 pub mod ActRuns
+pub mod ActSteps
 pub mod Reports
 pub mod Rounds
 pub mod RunsSoFar

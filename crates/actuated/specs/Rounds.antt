@@ -8,6 +8,7 @@ use Rattle.net_simulator.specs.Worlds.{line_in}
 use Rattle.phase_plan.specs.declared.Phase.{Phase}
 use Rattle.road_net.specs.Totals.{total}
 use Rattle.actuated.specs.ActRuns.{IsNextBy, first_line}
+use Rattle.actuated.specs.ActSteps.{act_step}
 use Rattle.actuated.specs.Calls.{calls_by}
 
 -- a line is ready for a second: it is lawful, its rows begin by 100,000, and it ends after the second
@@ -23,11 +24,11 @@ pub record AreFirstLines (net : Net) (nodes : ℕ) (lines : List (List Green)) :
   pub ready : (node : ℕ) → node < nodes → IsReady (plan_at net node) 0 (line_in lines node)
 
 -- what a node makes of its line in a second by what calls for its phases: the next line, which shows the same before that second,
--- and is ready for the next round
+-- and is ready for the next round of the controller
 pub record IsRenewed (net : Net) (calls : List ℕ) (second node : ℕ) (old new : List Green) : Type 0 where
   pub next : IsNextBy net calls second node old new
   pub past : (x : ℕ) → x < second → standing new x ≡ standing old x
-  pub ready : IsReady (plan_at net node) (second + net.run.step) new
+  pub ready : IsReady (plan_at net node) (second + act_step net) new
 
 -- the first nodes have renewed their lines by what is near on each link, and the others have the old ones
 pub record AreRenewed (net : Net) (near : List ℕ) (second nodes : ℕ) (old new : List (List Green)) : Type 0 where

@@ -7,8 +7,9 @@ use Rattle.net_parts.specs.Outline.{plan_at}
 use Rattle.net_simulator.specs.Flow.{Passed, past_of}
 use Rattle.net_simulator.specs.Senses.{near_on}
 use Rattle.net_simulator.specs.Worlds.{Stands, WorldState, line_in, standing_by}
-use Rattle.signal_safety.specs.Rounds.{line_before, shown_by}
-use Rattle.actuated.specs.ActRuns.{AllAct, first_line}
+use Rattle.signal_safety.specs.Rounds.{line_before}
+use Rattle.actuated.specs.ActRuns.{AllAct, first_line, shown_in}
+use Rattle.actuated.specs.ActSteps.{act_step}
 use Rattle.actuated.specs.Rounds.{IsReady}
 
 -- what is near on each link in a second
@@ -30,11 +31,11 @@ pub record HaveActed (net : Net) (under : (ℕ → ℕ → Option (ℕ × ℕ)) 
   pub acts : AllAct net under made rounds
   pub count : length lines ≡ length net.node_names
   pub are : (node : ℕ) → node < length net.node_names → line_in lines node ≡ line_before (first_line net) made rounds node
-  pub ready : (node : ℕ) → node < length net.node_names → IsReady (plan_at net node) (rounds * net.run.step) (line_in lines node)
-  pub shown : (x node : ℕ) → x < rounds * net.run.step → standing (line_in lines node) x ≡ shown_by net made x node
+  pub ready : (node : ℕ) → node < length net.node_names → IsReady (plan_at net node) (rounds * act_step net) (line_in lines node)
+  pub shown : (x node : ℕ) → x < rounds * act_step net → standing (line_in lines node) x ≡ shown_in net made x node
 
 -- and the world without a store is the one that moved by them
 pub record HavePlayed (net : Net) (arriving : ℕ → ℕ → ℕ) (rounds : ℕ) (lines : List (List Green)) (w : WorldState) : Type 0 where
   pub acted : HaveActed net (past_of net arriving) rounds lines
-  pub second : w.second ≡ rounds * net.run.step
+  pub second : w.second ≡ rounds * act_step net
   pub stands : Stands net arriving (standing_by (line_in lines)) w

@@ -11,8 +11,10 @@ ghost use Rattle.audit.specs.LineRuns.{sheet_of};
 ghost use Rattle.audit.specs.SheetTexts.{HasShape};
 ghost use Rattle.audit.specs.declared.line_runs.LineRun as spec;
 ghost use Rattle.actuated.specs.ActRuns.{IsActRun, ShowsGreens};
+ghost use Rattle.actuated.specs.ActSteps as steps;
 ghost use Rattle.actuated.specs.RunsSoFar.{HavePlayed};
 
+use super::act_steps::{act_rounds, act_step};
 use super::records::ActRecord;
 use super::renewing::{first_lines, renew_lines};
 use super::sensing::sense_near;
@@ -25,9 +27,9 @@ use net_simulator::{Lines, World};
 use road_net::Network;
 use std::alloc::{AllocError, Global};
 
-/// The run of a network under actuated control, from second 0 up to the end of the last round: when a round begins,
-/// the timeline of each node goes on by what the node senses then; and then the world moves by the timelines up to
-/// the next round.
+/// The run of a network under actuated control, from second 0 up to the end of the last round: when a round of
+/// the controller begins, of `act_step` seconds, the timeline of each node goes on by what the node senses then; and then
+/// the world moves by the timelines up to the next one.
 ///
 /// All timelines are lawful, and the network is safe. The last timelines show the greens, with the same begin, by
 /// which the world moved. The totals are what the world shows under the last timelines, and what entered has left or
@@ -84,13 +86,13 @@ fn play_rounds(
 ) -> Result<(), AllocError>
     requires arrivals { AreArrivals net.now arrivals.now }
     requires first { HavePlayed net.now (arriving_of arrivals.now) 0 lines.old.items world.old }
-    ensures { OnOk result (HavePlayed net.now (arriving_of arrivals.now) net.now.run.rounds
+    ensures { OnOk result (HavePlayed net.now (arriving_of arrivals.now) (steps.act_rounds net.now)
         lines.new.items world.new) }
 {
     let mut near = zeros(alloc, net.links() as usize)?;
     let mut calls = Vec::with_capacity(alloc, 4)?;
-    let run = net.run();
-    for _round in 0..run.rounds {
+    let step = act_step(net);
+    for _round in 0..act_rounds(net) {
         sense_near(near.as_mut_slice(), net, world);
         renew_lines(alloc, net, world.now(), near.as_slice(), lines, &mut calls)?;
         world.advance(
@@ -99,7 +101,7 @@ fn play_rounds(
                 all: lines.as_slice(),
             },
             arrivals,
-            run.step,
+            step,
         );
     }
     Ok(())

@@ -5,6 +5,7 @@
 mod act_lines;
 mod act_reports;
 mod act_runs;
+mod act_steps;
 mod calls;
 mod near_calls;
 mod records;
@@ -14,6 +15,7 @@ mod sensing;
 pub use act_lines::act_line;
 pub use act_reports::act_report;
 pub use act_runs::{law_of_one_run, run_actuated};
+pub use act_steps::{act_rounds, act_step};
 pub use calls::calling;
 pub use records::ActRecord;
 pub use renewing::{first_lines, renew_lines};

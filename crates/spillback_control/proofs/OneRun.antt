@@ -1,9 +1,12 @@
 -- In a world with a store a network has one run under actuated control for what arrives at it.
-use Rattle.std.proofs.Common.{◌≡◌, ℕ, ◌<◌, length, sym, ap, ◌∙◌, arith}
+use Rattle.std.proofs.Common.{◌≡◌, ℕ, ◌<◌, length, sym, ap, subst, ◌∙◌, arith}
 use Rattle.net_parts.specs.Numbers.{Net}
 use Rattle.net_simulator.specs.Flow.{Passed}
 use Rattle.net_simulator.specs.Sums.{end_of_run}
 use Rattle.road_net.specs.Network.{IsNetwork}
+use Rattle.actuated.specs.ActRuns.{shown_in}
+use Rattle.actuated.specs.ActSteps.{act_rounds}
+use Rattle.actuated.proofs.ActStepLaws.{act-rounds}
 use Rattle.actuated.proofs.OneRun.{past-same, same-before}
 use Rattle.spillback_world.specs.Spilled.{spilled}
 use Rattle.spillback_world.specs.Storage.{past_in}
@@ -13,8 +16,11 @@ use Rattle.spillback_control.specs.SpillRuns.{IsActuatedIn}
 
 pub one-spill : (net : Net) → IsNetwork net → (arriving : ℕ → ℕ → ℕ) (store : ℕ → ℕ) (one other : SpillTotals) → IsActuatedIn net arriving store one → IsActuatedIn net arriving store other → one ≡ other
 one-spill net network arriving store one other a b =
-    let before : (s n : ℕ) → s < net.run.rounds → n < length net.node_names → a.made s n ≡ b.made s n =
-    same-before net network (past_in net arriving store) (past-at-nodes net network arriving store) a.made b.made net.run.rounds a.acts b.acts net.run.rounds (omega arith) in
+    let before : (s n : ℕ) → s < act_rounds net → n < length net.node_names → a.made s n ≡ b.made s n =
+    same-before net network (past_in net arriving store) (past-at-nodes net network arriving store) a.made b.made (act_rounds net) a.acts b.acts (act_rounds net) (omega arith) in
+    let past : past_in net arriving store (shown_in net a.made) (end_of_run net) ≡ past_in net arriving store (shown_in net b.made) (end_of_run net) =
+    subst (λ n. past_in net arriving store (shown_in net a.made) n ≡ past_in net arriving store (shown_in net b.made) n) (act-rounds net network).whole
+    (past-same net network (past_in net arriving store) (past-at-nodes net network arriving store) a.made b.made (act_rounds net) before) in
     a.are
-    ∙ ap (λ (p : ℕ → ℕ → Passed). spilled net arriving p (end_of_run net)) (past-same net network (past_in net arriving store) (past-at-nodes net network arriving store) a.made b.made net.run.rounds before)
+    ∙ ap (λ (p : ℕ → ℕ → Passed). spilled net arriving p (end_of_run net)) past
     ∙ sym b.are

@@ -10,14 +10,16 @@ use Rattle.net_parts.specs.Outline.{plan_at}
 use Rattle.net_simulator.specs.Sums.{end_of_run}
 use Rattle.net_simulator.specs.Worlds.{line_in, standing_by}
 use Rattle.road_net.specs.Network.{IsNetwork}
-use Rattle.signal_safety.specs.Rounds.{line_before, shown_by}
+use Rattle.signal_safety.specs.Rounds.{line_before}
 use Rattle.signal_safety.specs.Safe.{IsSafe}
 use Rattle.signal_safety.proofs.Lines.{safe}
-use Rattle.signal_safety.proofs.Rounds.{AllKeep, IsLine, shows, all-keep as lines-keep}
-use Rattle.actuated.specs.ActRuns.{first_line}
+use Rattle.signal_safety.proofs.Rounds.{AllKeepEvery, IsLine, all-keep-every, shows-every}
+use Rattle.actuated.specs.ActRuns.{first_line, shown_in}
+use Rattle.actuated.specs.ActSteps.{act_rounds, act_step}
 use Rattle.actuated.specs.Rounds.{AreFirstLines, AreRenewed}
 use Rattle.actuated.specs.RunsSoFar.{AreNear}
-use Rattle.actuated.proofs.Acting.{more-acted, none-acted, one-round, same-before, time-for}
+use Rattle.actuated.proofs.ActStepLaws.{act-rounds, begins-by, one-round, time-for}
+use Rattle.actuated.proofs.Acting.{more-acted, none-acted, same-before}
 use Rattle.actuated.proofs.LineLaws.{first-is-line, next-keeps}
 use Rattle.spillback_world.specs.Spilled.{spilled}
 use Rattle.spillback_world.specs.Storage.{past_in}
@@ -34,12 +36,12 @@ pub none-spilled : (net : Net) (arriving : ℕ → ℕ → ℕ) (store : ℕ →
     → ((shown : ℕ → ℕ → Option (ℕ × ℕ)) → Stands net arriving store shown w) → HaveSpilled net arriving store 0 lines w
 none-spilled net arriving store lines w first second stands = record {
   acted = none-acted net (past_in net arriving store) lines first;
-  second = (let z : 0 ≡ 0 * net.run.step = omega arith in second ∙ z);
+  second = (let z : 0 ≡ 0 * act_step net = omega arith in second ∙ z);
   stands = stands (standing_by (line_in lines));
 }
 
 module _ (net : Net) (network : IsNetwork net) (arriving : ℕ → ℕ → ℕ) (store : ℕ → ℕ) (r : ℕ) (lines renewed : List (List Green)) (near : List ℕ) (w : SpillState) (a : HaveSpilled net arriving store r lines w) (are : AreRenewed net near w.second (length net.node_names) lines renewed) where
-  then-renewed : AreRenewed net near (r * net.run.step) (length net.node_names) lines renewed
+  then-renewed : AreRenewed net near (r * act_step net) (length net.node_names) lines renewed
   then-renewed = subst (λ s. AreRenewed net near s (length net.node_names) lines renewed) a.second are
 
   pub renewed-stands : Stands net arriving store (standing_by (line_in renewed)) w
@@ -47,11 +49,11 @@ module _ (net : Net) (network : IsNetwork net) (arriving : ℕ → ℕ → ℕ) 
       stands-under net arriving store (standing_by (line_in lines)) (standing_by (line_in renewed)) w
       (λ x n less. sym (same-before net network (past_in net arriving store) (past-same net arriving store) r lines renewed near a.acted then-renewed x n (omega (arith, a.second, less)))) a.stands
 
-  pub room : r < net.run.rounds → w.second + net.run.step ≤ 18000
+  pub room : r < act_rounds net → w.second + act_step net ≤ 18000
   room less = omega (arith, time-for net network r less, a.second)
 
   -- after a round more
-  pub more-spilled : AreNear net (past_in net arriving store (standing_by (line_in lines)) w.second) w.second near → (v : SpillState) → v.second ≡ w.second + net.run.step → Stands net arriving store (standing_by (line_in renewed)) v → HaveSpilled net arriving store (r + 1) renewed v
+  pub more-spilled : AreNear net (past_in net arriving store (standing_by (line_in lines)) w.second) w.second near → (v : SpillState) → v.second ≡ w.second + act_step net → Stands net arriving store (standing_by (line_in renewed)) v → HaveSpilled net arriving store (r + 1) renewed v
   more-spilled sensed v second stands = record {
     acted = more-acted net network (past_in net arriving store) (past-same net arriving store) r lines renewed near a.acted then-renewed
         (subst (λ s. AreNear net (past_in net arriving store (standing_by (line_in lines)) s) s near) a.second sensed);
@@ -64,31 +66,36 @@ pub spilled-world : (net : Net) (arrivals : Amounts) (store : ℕ → ℕ) (r : 
 spilled-world net arrivals store r lines w enter a = record { arrivals = arrivals; store = store; lines = line_in lines; enter = enter; stands = a.stands }
 
 -- what is counted when all rounds are over
-pub ended : (net : Net) (arriving : ℕ → ℕ → ℕ) (store : ℕ → ℕ) (lines : List (List Green)) (w : SpillState) (t : SpillTotals) → HaveSpilled net arriving store net.run.rounds lines w → t ≡ w.totals → IsActuatedIn net arriving store t
-ended net arriving store lines w t a is = record {
-  made = a.acted.made;
-  acts = a.acted.acts;
-  are =
-      is ∙ a.stands.totals ∙ ap (λ s. spilled net arriving (past_in net arriving store (standing_by (line_in lines)) s) s) a.second
-      ∙ ap (λ p. spilled net arriving p (end_of_run net)) (past-same net arriving store (standing_by (line_in lines)) (shown_by net a.acted.made) (end_of_run net) (λ x n less. a.acted.shown x n less));
-}
+pub ended : (net : Net) → IsNetwork net → (arriving : ℕ → ℕ → ℕ) (store : ℕ → ℕ) (lines : List (List Green)) (w : SpillState) (t : SpillTotals) → HaveSpilled net arriving store (act_rounds net) lines w → t ≡ w.totals → IsActuatedIn net arriving store t
+ended net network arriving store lines w t a is =
+    let whole = (act-rounds net network).whole in
+    record {
+      made = a.acted.made;
+      acts = a.acted.acts;
+      are =
+          is ∙ a.stands.totals ∙ ap (λ s. spilled net arriving (past_in net arriving store (standing_by (line_in lines)) s) s) (a.second ∙ whole)
+          ∙ ap (λ p. spilled net arriving p (end_of_run net)) (past-same net arriving store (standing_by (line_in lines)) (shown_in net a.acted.made) (end_of_run net) (λ x n less. a.acted.shown x n (omega (arith, less, whole))));
+    }
 
 -- ---- what every run keeps
 
 module _ (net : Net) (network : IsNetwork net) (arriving : ℕ → ℕ → ℕ) (store : ℕ → ℕ) (t : SpillTotals) (is : IsActuatedIn net arriving store t) where
-  keep : AllKeep net (line_before (first_line net) is.made) net.run.rounds
-  keep = lines-keep net network (line_before (first_line net) is.made) net.run.rounds (omega arith) (first-is-line net network)
-      (λ r n less below early old. next-keeps net network n below (past_in net arriving store (shown_by net is.made) (r * net.run.step)) (r * net.run.step) (line_before (first_line net) is.made r n) (is.made r n) early old (is.acts r n less below))
+  keep : AllKeepEvery net (act_step net) (line_before (first_line net) is.made) (act_rounds net)
+  keep = all-keep-every net (act_step net) (line_before (first_line net) is.made) (act_rounds net) (begins-by net network) (first-is-line net network)
+      (λ r n less below early old. next-keeps net network n below (past_in net arriving store (shown_in net is.made) (r * act_step net)) (r * act_step net) (line_before (first_line net) is.made r n) (is.made r n) early old (is.acts r n less below))
 
-  line-is : (rounds : ℕ) → rounds ≤ net.run.rounds → (n : ℕ) → n < length net.node_names → IsLine (plan_at net n) (line_before (first_line net) is.made rounds n)
+  in-rounds : (second : ℕ) → second < end_of_run net → second < act_rounds net * act_step net
+  in-rounds second before = omega (arith, before, (act-rounds net network).whole)
+
+  line-is : (rounds : ℕ) → rounds ≤ act_rounds net → (n : ℕ) → n < length net.node_names → IsLine (plan_at net n) (line_before (first_line net) is.made rounds n)
   line-is zero most n below = first-is-line net network n below
   line-is (suc r) most n below = (keep r n (omega arith) below).line
 
-  last-is : (n : ℕ) → n < length net.node_names → line_in (last_lines net is.made) n ≡ line_before (first_line net) is.made net.run.rounds n
-  last-is n below = get_or-map-range_with_len (line_before (first_line net) is.made net.run.rounds) 0 (length net.node_names) n n [] below (omega arith)
+  last-is : (n : ℕ) → n < length net.node_names → line_in (last_lines net is.made) n ≡ line_before (first_line net) is.made (act_rounds net) n
+  last-is n below = get_or-map-range_with_len (line_before (first_line net) is.made (act_rounds net)) 0 (length net.node_names) n n [] below (omega arith)
 
   pub last-lawful : AreLawful net (last_lines net is.made)
-  last-lawful n below = subst (IsLawful (plan_at net n)) (sym (last-is n below)) (line-is net.run.rounds (omega arith) n below).lawful
+  last-lawful n below = subst (IsLawful (plan_at net n)) (sym (last-is n below)) (line-is (act_rounds net) (omega arith) n below).lawful
 
   pub last-safe : IsSafe net (line_in (last_lines net is.made))
   last-safe = safe net network (line_in (last_lines net is.made)) last-lawful
@@ -96,4 +103,4 @@ module _ (net : Net) (network : IsNetwork net) (arriving : ℕ → ℕ → ℕ) 
   pub last-show : LastLinesShow net is.made
   last-show second n before below =
       ap (λ (l : List Green). standing l second) (last-is n below)
-      ∙ shows net network (line_before (first_line net) is.made) net.run.rounds keep net.run.rounds (omega arith) second n below (div_below second net.run.step net.run.rounds network.outline.run.step.0 before)
+      ∙ shows-every net (act_step net) (act-rounds net network).some (line_before (first_line net) is.made) (act_rounds net) keep (act_rounds net) (omega arith) second n below (div_below second (act_step net) (act_rounds net) (act-rounds net network).some (in-rounds second before))

@@ -1,5 +1,6 @@
 -- How far a run has come. No public clause names this definition.
 use Rattle.std.specs.Prelude.{◌≡◌, ℕ, ◌*◌, List}
+use Rattle.actuated.specs.ActSteps.{act_step}
 use Rattle.actuated.specs.RunsSoFar.{HaveActed}
 use Rattle.control_flow.specs.declared.greens.Green.{Green}
 use Rattle.net_parts.specs.Numbers.{Net}
@@ -10,5 +11,5 @@ use Rattle.spillback_world.specs.Worlds.{SpillState, Stands}
 -- after so many rounds: these are the lines that the nodes made, and the world with this store is the one that moved by them
 pub record HaveSpilled (net : Net) (arriving : ℕ → ℕ → ℕ) (store : ℕ → ℕ) (rounds : ℕ) (lines : List (List Green)) (w : SpillState) : Type 0 where
   pub acted : HaveActed net (past_in net arriving store) rounds lines
-  pub second : w.second ≡ rounds * net.run.step
+  pub second : w.second ≡ rounds * act_step net
   pub stands : Stands net arriving store (standing_by (line_in lines)) w

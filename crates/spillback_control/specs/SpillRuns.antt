@@ -1,13 +1,14 @@
 -- A run of actuated control in a world in which a full link holds back those who want to enter it: the nodes sense that world.
 use Rattle.std.specs.Prelude.{◌≡◌, ℕ, ◌<◌, List, length, map}
 use Rattle.std.specs.List.{range_with_len}
-use Rattle.actuated.specs.ActRuns.{AllAct, first_line}
+use Rattle.actuated.specs.ActRuns.{AllAct, first_line, shown_in}
+use Rattle.actuated.specs.ActSteps.{act_rounds}
 use Rattle.control_flow.specs.Greens.{standing}
 use Rattle.control_flow.specs.declared.greens.Green.{Green}
 use Rattle.net_parts.specs.Numbers.{Net}
 use Rattle.net_simulator.specs.Sums.{end_of_run}
 use Rattle.net_simulator.specs.Worlds.{line_in}
-use Rattle.signal_safety.specs.Rounds.{line_before, shown_by}
+use Rattle.signal_safety.specs.Rounds.{line_before}
 use Rattle.spillback_world.specs.Spilled.{spilled}
 use Rattle.spillback_world.specs.Storage.{past_in}
 use Rattle.spillback_world.specs.declared.totals.SpillTotals.{SpillTotals}
@@ -17,15 +18,15 @@ use Rattle.spillback_world.specs.declared.totals.SpillTotals.{SpillTotals}
 -- with that store, which moves by the lines that were made.
 pub record IsActuatedIn (net : Net) (arriving : ℕ → ℕ → ℕ) (store : ℕ → ℕ) (totals : SpillTotals) : Type 0 where
   pub made : ℕ → ℕ → List Green
-  pub acts : AllAct net (past_in net arriving store) made net.run.rounds
-  pub are : totals ≡ spilled net arriving (past_in net arriving store (shown_by net made) (end_of_run net)) (end_of_run net)
+  pub acts : AllAct net (past_in net arriving store) made (act_rounds net)
+  pub are : totals ≡ spilled net arriving (past_in net arriving store (shown_in net made) (end_of_run net)) (end_of_run net)
 
 -- the line of each node after the last round
 abbrev pub last_lines : Net → (ℕ → ℕ → List Green) → List (List Green)
-last_lines net made = map (line_before (first_line net) made net.run.rounds) (range_with_len 0 (length net.node_names))
+last_lines net made = map (line_before (first_line net) made (act_rounds net)) (range_with_len 0 (length net.node_names))
 
 -- in each second of the run the last lines show the greens, with the same begin, by which the world moved
 abbrev pub LastLinesShow : Net → (ℕ → ℕ → List Green) → Type 0
 LastLinesShow net made =
     (second node : ℕ) → second < end_of_run net → node < length net.node_names
-    → standing (line_in (last_lines net made) node) second ≡ shown_by net made second node
+    → standing (line_in (last_lines net made) node) second ≡ shown_in net made second node

@@ -1,6 +1,7 @@
 //! The run of a network under actuated control in the world with a store.
 
 ghost use Rattle.std.specs.Prelude.{◌≡◌, ℕ, IfOk, OnOk, length, slice_index};
+ghost use Rattle.actuated.specs.ActSteps as steps;
 ghost use Rattle.arrivals.specs.Amounts.{AreArrivals};
 ghost use Rattle.audit.specs.Audits.{AreLawful};
 ghost use Rattle.net_simulator.specs.Arriving.{arriving_of};
@@ -12,7 +13,7 @@ ghost use Rattle.spillback_world.specs.Spilled.{IsBalanced};
 ghost use Rattle.spillback_world.specs.declared.totals.SpillTotals as spec;
 
 use crate::sensing::sense_near;
-use actuated::{first_lines, renew_lines};
+use actuated::{act_rounds, act_step, first_lines, renew_lines};
 use arrivals::Arrivals;
 use control_flow::greens::Timeline;
 use net_simulator::Lines;
@@ -22,8 +23,8 @@ use spillback_world::{SpillTotals, SpillWorld, Store};
 use std::alloc::{AllocError, Global};
 
 /// What is counted of a network whose links hold what the store says, in its run under actuated control from second 0 up
-/// to the end of the last round: when a round begins, the timeline of each node goes on by what the node senses then of the
-/// world with that store; and then this world moves by the timelines up to the next round.
+/// to the end of the last round: when a round of the controller begins, of `act_step` seconds, the timeline of each node goes
+/// on by what the node senses then of the world with that store; and then this world moves by the timelines up to the next one.
 ///
 /// The last timelines are lawful, and the network is safe under them. They show the greens, with the same begin, by
 /// which that world moved. What entered has left or is on the links.
@@ -80,13 +81,14 @@ fn play_rounds(
     requires store { length store.now ≡ length net.now.link_names }
     requires first { HaveSpilled net.now (arriving_of arrivals.now) (slice_index store.now) 0
         lines.old.items world.old }
-    ensures { OnOk result (HaveSpilled net.now (arriving_of arrivals.now) (slice_index store.now) net.now.run.rounds
+    ensures { OnOk result (HaveSpilled net.now (arriving_of arrivals.now) (slice_index store.now)
+        (steps.act_rounds net.now)
         lines.new.items world.new) }
 {
     let mut near = zeros(alloc, net.links() as usize)?;
     let mut calls = Vec::with_capacity(alloc, 4)?;
-    let run = net.run();
-    for _round in 0..run.rounds {
+    let step = act_step(net);
+    for _round in 0..act_rounds(net) {
         sense_near(near.as_mut_slice(), net, world);
         renew_lines(alloc, net, world.now(), near.as_slice(), lines, &mut calls)?;
         world.advance(
@@ -96,7 +98,7 @@ fn play_rounds(
                 all: lines.as_slice(),
             },
             arrivals,
-            run.step,
+            step,
         );
     }
     Ok(())

@@ -5,6 +5,7 @@ use Rattle.net_parts.specs.Outline.{plan_at}
 use Rattle.phase_plan.specs.declared.Phase.{Phase}
 use Rattle.signal_safety.proofs.Lines.{plan-is}
 use Rattle.actuated.specs.Calls.{act_line}
+use Rattle.actuated.proofs.ActStepLaws.{act-rounds}
 use Rattle.actuated.proofs.LineLaws.{renewed}
 use Rattle.actuated.proofs.renewing.renew_line.Goals as goal
 
@@ -24,7 +25,7 @@ returns c =
     let at : head_at (plan_at net node) old s ≡ Some head = ap (λ (p : List Phase). head_at p old s) (sym plan) ∙ c.head_at-head.ensures.value in
     let reach = c.head_at-head.ensures.begins_by 100000 (omega (arith, c.requires.now)) c.requires.ready.begins in
     let lawful : IsLawful (plan_at net node) next = subst (λ (p : List Phase). IsLawful p next) plan c.in_ok-next.ensures.lawful in
-    renewed net s node old next c.splice.new.self head calls until bounds.within at
+    renewed net s node old next c.splice.new.self head calls until (omega (arith, bounds.within, (act-rounds net c.plan-plan.ensures.network).within)) at
     (c.in_ok-next.ensures.value ∙ ap (λ (p : List Phase). act_line p head calls until) plan)
     (ap (λ n. s + n) look)
     c.in_ok-splice.ensures.ok
