@@ -24,6 +24,7 @@ class Run:
     split: bool = False
     age: int | None = None
     hold: int | None = None
+    act_step: int | None = None
 
     @property
     def seconds(self) -> int:
@@ -146,7 +147,7 @@ def network_of(file: dict[str, Any]) -> Network:
     """The network of the tables that `tomllib` reads."""
     run = file["run"]
     return Network(
-        Run(run["step"], run["look"], run["gap"], run["rounds"], run.get("split", False), run.get("age"), run.get("hold")),
+        Run(*(run[key] for key in ("step", "look", "gap", "rounds")), run.get("split", False), *map(run.get, ("age", "hold", "act_step"))),
         tuple(Node(node["name"], tuple(map(_phase, node["phase"]))) for node in file["node"]),
         tuple(map(_link, file["link"])),
         tuple(Conflict(pair["a"], pair["b"]) for pair in file.get("conflict", [])),

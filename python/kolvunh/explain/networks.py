@@ -24,7 +24,7 @@ WHOLE, TEXT, TRUTH, TEXTS, TABLE, TABLES = (
 # The keys that a table has to have, and those that it may have, each with its kind.
 KEYS: dict[str, tuple[dict[str, str], dict[str, str]]] = {
     "top": ({"run": TABLE, "node": TABLES, "link": TABLES}, {"conflict": TABLES, "version": WHOLE}),
-    "run": (dict.fromkeys(("step", "look", "gap", "rounds"), WHOLE), {"split": TRUTH, "age": WHOLE, "hold": WHOLE}),
+    "run": (dict.fromkeys(("step", "look", "gap", "rounds"), WHOLE), {"split": TRUTH, **dict.fromkeys(("age", "hold", "act_step"), WHOLE)}),
     "node": ({"name": TEXT, "phase": TABLES}, {}),
     "phase": (
         {**dict.fromkeys(("least", "greatest", "yellow", "clear", "loss", "wait"), WHOLE), "links": TEXTS},
@@ -43,6 +43,7 @@ BOUNDS: dict[str, dict[str, tuple[int, int, str]]] = {
         "rounds": (1, 600, ""),
         "age": (1, 3600, "seconds"),
         "hold": (1, 20, ""),
+        "act_step": (1, 30, "seconds"),
     },
     "phase": {
         "least": (1, 120, "seconds"),
@@ -336,6 +337,8 @@ def _number_faults(table: dict[str, Any], key: str, least: int, most: int, unit:
         yield key, f"{key} is {value(number)}, and has to be {least} to {thousands(most)}{f' ({unit})' if unit else ''}"
     elif key == "step" and number > table["look"]:
         yield key, f"step is {number}, and has to be at most look, which is {table['look']}"
+    elif key == "act_step" and table["step"] % number:
+        yield key, f"act_step is {number}, and has to divide step, which is {table['step']}"
     elif key == "greatest" and number < table["least"]:
         yield key, f"greatest is {number}, and has to be at least least, which is {table['least']}"
     elif key == "loss" and number >= table["greatest"]:
