@@ -24,7 +24,7 @@ use control_flow::greens::Timeline;
 use foundation::items::Items;
 use net_simulator::starts::zeros;
 use net_simulator::{Lines, World};
-use road_net::Network;
+use road_net::{Network, law_of_network};
 use std::alloc::{AllocError, Global};
 
 /// The run of a network under actuated control, from second 0 up to the end of the last round: when a round of
@@ -53,8 +53,7 @@ pub fn run_actuated(
     ensures clean { IfOk result (λ run. IsClean net.now (arriving_of arrivals.now) (sheet_of run)) }
     ensures whole { IfOk result (λ run. IsBalanced run.totals) }
 {
-    // Called for its clause `network`.
-    let _ = net.nodes();
+    law_of_network(net);
     let mut lines = first_lines(alloc, net)?;
     let mut world = World::new(alloc, net)?;
     play_rounds(alloc, net, arrivals, &mut lines, &mut world)?;
@@ -73,7 +72,7 @@ pub fn law_of_one_run(net: &Network)
     ensures { (arriving : ℕ → ℕ → ℕ) (one other : spec.LineRun)
         → IsActRun net.now arriving one → IsActRun net.now arriving other → one ≡ other }
 {
-    let _nodes = net.nodes();
+    law_of_network(net);
 }
 
 /// Plays all rounds from the first one.

@@ -9,7 +9,7 @@ ghost use Rattle.audit.specs.LineReports.{line_text};
 
 use control_flow::greens::Timeline;
 use net_simulator::{LinkTotals, Totals};
-use road_net::Network;
+use road_net::{Network, law_of_network};
 use std::alloc::{AllocError, Global};
 use world_records::{finish, start, write_header, write_shown};
 
@@ -33,8 +33,7 @@ pub fn line_report(
         → IsClean net.now arriving (record { lines = lines.now; links = links.now; totals = totals })
         → IfOk result (λ text. IsCleanText net.now arriving text.items) }
 {
-    // Called for its clause `network`.
-    let _nodes = net.nodes();
+    law_of_network(net);
     let mut out = start(Vec::new(alloc));
     write_header(&mut out)?;
     write_shown(net, lines, links, totals, &mut out)?;

@@ -16,7 +16,7 @@ use control_flow::greens::Timeline;
 use foundation::items::Items;
 use foundation::threads::CrossesThreads;
 use net_simulator::{Lines, LinkTotals, Totals, World, end_of_run, play};
-use road_net::Network;
+use road_net::{Network, law_of_network};
 use std::alloc::{AllocError, Global};
 
 /// Lines, and what the world counts under them up to the end of the last round.
@@ -55,8 +55,7 @@ pub fn run_lines(
     ensures safe { IfOk result (λ run. IsSafe net.now (line_in run.timelines)) }
     ensures whole { IfOk result (λ run. IsBalanced run.totals) }
 {
-    // Called for its clause `network`.
-    let _nodes = net.nodes();
+    law_of_network(net);
     let given = Lines {
         all: lines.as_slice(),
     };

@@ -10,7 +10,7 @@ use arrivals::Arrivals;
 use histories::{History, turn_order};
 use net_core::run;
 use pruned_dp::BoundPlanner;
-use road_net::Network;
+use road_net::{Network, law_of_network};
 use runs::{RunRecord, law_of_runs};
 use std::alloc::{AllocError, Global};
 
@@ -27,7 +27,7 @@ pub fn kept_run(
     ensures whole { IfOk result (IsComplete net.now) }
     ensures few { IfOk result (λ run. length run.plans ≤ 38400) }
 {
-    let _nodes = net.nodes();
+    law_of_network(net);
     law_of_runs(net);
     run(alloc, net, arrivals, h, &mut BoundPlanner::new(alloc))
 }

@@ -14,7 +14,7 @@ use actuated::{ActRecord, act_report, run_actuated};
 use arrivals::Arrivals;
 use commands::{Made, Refusal, Status, end, fetch_scene};
 use outside_world::{Shelf, Sink};
-use road_net::Network;
+use road_net::{Network, law_of_network};
 use std::alloc::{AllocError, Global};
 
 /// The run of a network under actuated control, with all that it keeps. `Err`: out of memory.
@@ -36,8 +36,7 @@ fn report_actuated(alloc: Global, net: &Network, arrivals: &Arrivals) -> Result<
     requires { AreArrivals net.now arrivals.now }
     ensures { IfOk result (λ text. IsActuatedReport net.now (entering arrivals.now) text.items) }
 {
-    // Called for its clause `network`.
-    let _nodes = net.nodes();
+    law_of_network(net);
     let run = actuated_run(alloc, net, arrivals)?;
     let text = act_report(alloc, net, &run)?;
     Ok(text)

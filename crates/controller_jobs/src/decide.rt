@@ -11,7 +11,7 @@ ghost use Rattle.controller_jobs.specs.Nodes.{MissesNode};
 use commands::{Made, Named, Refusal, StateScene, Status, end, fetch_state_scene};
 use outside_world::{Shelf, Sink};
 use pruned_dp::BoundPlanner;
-use road_net::Network;
+use road_net::{Network, law_of_network};
 use round_decisions::{decide, decide_node, decision_text, node_decision_text};
 use round_states::RoundState;
 use std::alloc::{AllocError, Global};
@@ -21,8 +21,7 @@ fn decided_text(alloc: Global, net: &Network, state: RoundState) -> Result<Vec<u
     requires { IsStateOf net.now state }
     ensures { IfOk result (λ text. IsDecisionText net.now state text.items) }
 {
-    // Called for its clause `network`.
-    let _nodes = net.nodes();
+    law_of_network(net);
     let round = state.round;
     let decision = decide(alloc, net, state, &mut BoundPlanner::new(alloc))?;
     let text = decision_text(alloc, net, round, &decision)?;
@@ -41,8 +40,7 @@ fn turn_text(
     ensures { IfOk result (λ text. (node : List ℕ) → number_of net.now.node_names node ≡ Some number
         → IsNodeDecisionText net.now state node text.items) }
 {
-    // Called for its clause `network`.
-    let _nodes = net.nodes();
+    law_of_network(net);
     let round = state.round;
     let decision = decide_node(alloc, net, state, number, &mut BoundPlanner::new(alloc))?;
     let text = node_decision_text(alloc, net, round, number, &decision)?;

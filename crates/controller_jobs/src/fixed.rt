@@ -21,7 +21,7 @@ use audit::{LineRun, line_report, run_lines};
 use commands::{Made, Refusal, Status, end, fetch_plan_scene};
 use fixed_plans::{FixedPlan, fixed_lines};
 use outside_world::{Shelf, Sink};
-use road_net::Network;
+use road_net::{Network, law_of_network};
 use std::alloc::{AllocError, Global};
 
 /// The run of a network under a fixed plan of it, with all that it keeps. `Err`: out of memory.
@@ -67,8 +67,7 @@ fn report_fixed(
     requires plan { IsFixedPlan net.now plan.now }
     ensures { IfOk result (λ text. IsFixedReport net.now (entering arrivals.now) plan.now text.items) }
 {
-    // Called for its clause `network`.
-    let _nodes = net.nodes();
+    law_of_network(net);
     let run = fixed_run(alloc, net, arrivals, plan)?;
     let text = run_report(alloc, net, &run)?;
     Ok(text)

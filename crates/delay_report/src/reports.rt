@@ -15,7 +15,7 @@ ghost use Rattle.delay_report.specs.Texts.{IsHistoryText};
 use crate::plans::write_plans;
 use crate::steps::write_steps;
 use histories::History;
-use road_net::Network;
+use road_net::{Network, law_of_network};
 use runs::RunRecord;
 use std::alloc::{AllocError, Global};
 use world_records::{finish, start, write_header, write_shown};
@@ -89,7 +89,7 @@ pub fn join_report(net: &Network, steps: Vec<u8>, outcome: &[u8]) -> Result<Vec<
         → outcome.now ≡ records_text (outcome_records net.now run)
         → IfOk result (λ text. text.items ≡ report_text net.now run history) }
 {
-    let _nodes = net.nodes();
+    law_of_network(net);
     let mut text = steps;
     text.extend_from_slice(outcome)?;
     Ok(text)
@@ -108,5 +108,5 @@ pub fn law_of_reports(net: &Network)
         → ((n : ℕ) → arrived net.now (arriving_by enters) n ≤ most_of_all)
         → IsCleanText net.now (arriving_by enters) (report_text net.now run history) }
 {
-    let _nodes = net.nodes();
+    law_of_network(net);
 }

@@ -11,7 +11,7 @@ use crate::order::is_end;
 use crate::plan::FixedPlan;
 use csv::ByteRecord;
 use record_text::{RecordTaker, is_record, take_records};
-use road_net::Network;
+use road_net::{Network, law_of_network};
 use std::alloc::Global;
 
 /// The fixed plan of a file, whose nodes stand by their names in the network: for each node, in the order of the
@@ -29,8 +29,7 @@ pub fn read_fixed_plan(alloc: Global, bytes: &[u8], net: &Network) -> Result<Fix
         Refuses fault ((rows : List spec.FixedRow) → ¬ IsPlanText net.now bytes.now rows)) }
     ensures first { IfErr result (IsPlanFault net.now bytes.now) }
 {
-    // Called for its clause `network`.
-    let _nodes = net.nodes();
+    law_of_network(net);
     let mut draft = Draft::none(alloc);
     if !take_records(alloc, bytes, net, &mut draft)? {
         return Err(FixedFault::Header);

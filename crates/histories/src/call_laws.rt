@@ -9,7 +9,7 @@ ghost use Rattle.histories.specs.Steps.{board_steps, publisher};
 ghost use Rattle.histories.specs.Calls.{AreCalls};
 ghost use Rattle.histories.specs.Places.{AreTold};
 
-use road_net::Network;
+use road_net::{Network, law_of_network};
 
 /// Where the nodes have made their board steps, round by round, each in the order of its stamps, and all stamps of a round
 /// below those of the next: the merge of the logs of these calls is one history, and lawful. Where the logs agree with the
@@ -29,5 +29,5 @@ pub fn law_of_merged_calls(net: &Network)
         → AreLogsOf calls (log_at logs) → Agree calls (log_at logs) → IsMerge logs h
         → AreTold (board_steps net.now) (publisher net.now) calls h }
 {
-    let _nodes = net.nodes();
+    law_of_network(net);
 }

@@ -8,7 +8,7 @@ ghost use Rattle.net_parts.specs.Outline.{link_at};
 use crate::progress::Progress;
 use crate::steps::step_count;
 use foundation::threads::CrossesThreads;
-use road_net::Network;
+use road_net::{Network, law_of_network};
 use std::alloc::{AllocError, Global};
 use std::marker::Model;
 
@@ -124,7 +124,7 @@ pub fn law_of_histories(net: &Network)
     ensures over { (done : ℕ) (h : List ℕ) → IsUnderWay (board_steps net.now) net.now.run.rounds done h
         → IsLawful net.now h ↔ (done ≡ net.now.run.rounds) }
 {
-    let _nodes = net.nodes();
+    law_of_network(net);
 }
 
 /// Of the versions in every history: they never fall, and in a lawful one the version of a link between two nodes is, at
@@ -138,5 +138,5 @@ pub fn law_of_versions(net: &Network)
         → IsSome (link_at net.now link).from → IsSome (link_at net.now link).to
         → IsOfRound (board_steps net.now) h link place }
 {
-    let _nodes = net.nodes();
+    law_of_network(net);
 }

@@ -4,7 +4,7 @@ ghost use Rattle.histories.specs.Sides as sides;
 ghost use Rattle.histories.specs.Steps.{board_steps, AreSteps};
 
 use foundation::threads::CrossesThreads;
-use road_net::Network;
+use road_net::{Network, law_of_network};
 use std::alloc::{AllocError, Global};
 
 /// What a node does at the board of a link in a round.
@@ -115,5 +115,5 @@ fn push_steps(
 pub fn law_of_steps(net: &Network)
     ensures { AreSteps net.now }
 {
-    let _nodes = net.nodes();
+    law_of_network(net);
 }

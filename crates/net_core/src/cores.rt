@@ -6,7 +6,7 @@ use crate::stepping::{begin_round, go_on, is_done, play};
 use arrivals::Arrivals;
 use foundation::threads::CrossesThreads;
 use intersection_actor::Want;
-use road_net::Network;
+use road_net::{Network, law_of_network};
 use runs::{EmptyRecord, RunRecord, empty_record, law_of_runs, record_of};
 use schedule_meaning::Planner;
 use std::alloc::{AllocError, Global};
@@ -112,7 +112,7 @@ impl<'a> Core<'a> {
         requires spent { self.now.spent ≡ false }
         ensures { IsWanted self.now.net self.now.steps node result }
     {
-        let _ = self.net.nodes();
+        law_of_network(self.net);
         self.parts.actors.all[node as usize].want()
     }
 
@@ -180,8 +180,7 @@ impl<'a> Core<'a> {
         requires lawful { IsLawful self.net self.steps }
         ensures { IsKeptRun self.entry.net (entering self.entry.arrivals) self.entry.steps result }
     {
-        // Called for its clause `network`.
-        let _ = self.net.nodes();
+        law_of_network(self.net);
         law_of_runs(self.net);
         let Core {
             net,

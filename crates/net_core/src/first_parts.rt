@@ -6,7 +6,7 @@ ghost use Rattle.net_core.specs.States.{AreAtFirst, AreBlank};
 use crate::parts::{Board, Parts};
 use board_model::Forecast;
 use net_simulator::World;
-use road_net::Network;
+use road_net::{Network, law_of_network};
 use runs::{actors_of, empty_plans};
 use std::alloc::{AllocError, Global};
 
@@ -15,8 +15,7 @@ pub(crate) fn parts_of(alloc: Global, net: &Network) -> Result<Parts, AllocError
     ensures first { (arrivals : Amounts) → IfOk result (AreAtFirst net.now arrivals) }
     ensures below { IfOk result (λ parts. parts.round < net.now.run.rounds) }
 {
-    // Called for its clause `network`.
-    let _ = net.nodes();
+    law_of_network(net);
     let actors = actors_of(alloc, net)?;
     let boards = boards_of(alloc, net)?;
     let world = World::new(alloc, net)?;

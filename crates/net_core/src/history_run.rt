@@ -9,7 +9,7 @@ use crate::cores::Core;
 use crate::faults::StepFault;
 use arrivals::Arrivals;
 use histories::{History, law_of_histories};
-use road_net::Network;
+use road_net::{Network, law_of_network};
 use runs::RunRecord;
 use schedule_meaning::Planner;
 use std::alloc::{AllocError, Global};
@@ -30,8 +30,7 @@ pub fn run<P: Planner>(
     requires lawful { IsLawful net.now h.now }
     ensures { IfOk result (IsKeptRun net.now (entering arrivals.now) h.now) }
 {
-    // Called for its clause `network`.
-    let _ = net.nodes();
+    law_of_network(net);
     law_of_histories(net);
     let mut core = Core::start(alloc, net, arrivals, planner)?;
     let steps = h.steps();

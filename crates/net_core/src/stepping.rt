@@ -7,7 +7,7 @@ use crate::acts::{begin, read, tell};
 use crate::parts::Parts;
 use arrivals::Arrivals;
 use intersection_actor::{Actor, Want};
-use road_net::Network;
+use road_net::{Network, law_of_network};
 use schedule_meaning::Planner;
 use std::alloc::{AllocError, Global};
 
@@ -27,8 +27,7 @@ fn begin_node<P: Planner>(
     ensures history { parts.new.history ≡ parts.old.history }
     ensures round { parts.new.round ≡ parts.old.round }
 {
-    // Called for its clause `network`.
-    let _ = net.nodes();
+    law_of_network(net);
     begin(
         alloc,
         net,
@@ -143,8 +142,7 @@ fn read_board<P: Planner>(
     ensures after { OnOk result (AreAfter net.now arrivals.now (parts.old.history.items ++ node ∷ []) parts.new) }
     ensures history { parts.new.history ≡ parts.old.history }
 {
-    // Called for its clause `network`.
-    let _ = net.nodes();
+    law_of_network(net);
     read(
         alloc,
         net,
@@ -170,8 +168,7 @@ fn tell_board(
     ensures after { OnOk result (AreAfter net.now arrivals.now (parts.old.history.items ++ node ∷ []) parts.new) }
     ensures history { parts.new.history ≡ parts.old.history }
 {
-    // Called for its clause `network`.
-    let _ = net.nodes();
+    law_of_network(net);
     tell(
         alloc,
         net,

@@ -22,7 +22,7 @@ use arrivals::Arrivals;
 use control_flow::greens::Green;
 use foundation::items::Items;
 use foundation::threads::CrossesThreads;
-use road_net::{LinkSense, Network, Sensed};
+use road_net::{LinkSense, Network, Sensed, law_of_network};
 use std::alloc::{AllocError, Global};
 use std::marker::Model;
 
@@ -198,8 +198,7 @@ impl World {
             → result ≡ near_on net.now (past_of net.now arriving (standing_by lines) self.now.second)
             self.now.second gap link }
     {
-        // Called for its clause `network`.
-        let _ = net.links();
+        law_of_network(net);
         let sight = Sight {
             net,
             queues: self.queues.as_slice(),

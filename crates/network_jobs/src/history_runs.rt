@@ -8,7 +8,7 @@ use arrivals::Arrivals;
 use commands::kept_run;
 use delay_report::{law_of_reports, render};
 use histories::History;
-use road_net::Network;
+use road_net::{Network, law_of_network};
 use std::alloc::{AllocError, Global};
 
 /// The report of the run of a lawful history. `Err`: out of memory.
@@ -22,7 +22,7 @@ pub fn report(
     requires lawful { IsLawful net.now h.now }
     ensures { IfOk result (λ text. Headline net.now (entering arrivals.now) h.now text.items) }
 {
-    let _nodes = net.nodes();
+    law_of_network(net);
     // It is called for its clause `clean`.
     law_of_reports(net);
     let run = kept_run(alloc, net, arrivals, h)?;

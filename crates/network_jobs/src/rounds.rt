@@ -18,7 +18,7 @@ use delay_report::{join_report, law_of_reports, render_outcome, render_steps};
 use histories::merge;
 use net_threads::{link_ends, run_rounds_snap};
 use pruned_dp::BoundPlanner;
-use road_net::Network;
+use road_net::{Network, law_of_network};
 use runs::{RunRecord, law_of_runs};
 use snap_boards::{SnapBoards, SnapPass};
 use std::alloc::{AllocError, Global};
@@ -182,7 +182,7 @@ pub(crate) fn report<R: Threads + Wait + Sync, G: Gate + Sync>(
     requires { AreArrivals net.now arrivals.now }
     ensures { IfOk result (λ text. ToldHeadline net.now (entering arrivals.now) text.items) }
 {
-    let _nodes = net.nodes();
+    law_of_network(net);
     let logged = play(rt, alloc, net, arrivals, gate)?;
     law_of_runs(net);
     law_of_reports(net);

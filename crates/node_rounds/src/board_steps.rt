@@ -12,6 +12,7 @@ use crate::round_setting::RoundSetting;
 use board_model::{Forecast, Gate, Heard, Sent};
 use intersection_actor::{Actor, Want};
 use link_boards::{LinkSlot, Pass};
+use road_net::law_of_network;
 use std::alloc::AllocError;
 use std::sync::Wait;
 use std::thread::Threads;
@@ -61,8 +62,7 @@ pub(crate) fn hear<'a, S: LinkSlot, R: Threads + Wait + Sync, G: Gate>(
     ensures of { IsOf setting.now.net.now actor.new }
     ensures same { IsSamePass pass.old pass.new }
 {
-    // `nodes` is called for its clause `network`.
-    let _ = setting.net.nodes();
+    law_of_network(setting.net);
     while let Want::Read(link) = actor.want() {
         read(rt, setting, link, actor, pass)?;
     }

@@ -9,7 +9,7 @@ ghost use Rattle.histories.specs.Places.{AreTold};
 ghost use Rattle.runs.specs.Runs.{HearAlong};
 ghost use Rattle.node_rounds.specs.Rounds.{AreCallsIn};
 
-use road_net::Network;
+use road_net::{Network, law_of_network};
 
 /// Where the calls of the nodes are those of all rounds, and stand in a lawful history with the versions of their places, the nodes
 /// have heard along that history.
@@ -21,5 +21,5 @@ pub fn law_of_round_calls(net: &Network)
         → IsLawful net.now history → AreTold (board_steps net.now) (publisher net.now) calls history
         → HearAlong net.now history heard made }
 {
-    let _nodes = net.nodes();
+    law_of_network(net);
 }

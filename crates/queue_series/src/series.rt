@@ -17,7 +17,7 @@ use arrivals::Arrivals;
 use control_flow::greens::Timeline;
 use csv::Writer;
 use net_simulator::{Lines, World, end_of_run};
-use road_net::Network;
+use road_net::{Network, law_of_network};
 use std::alloc::{AllocError, Global};
 use world_records::{digits_of, finish, start, write_record};
 
@@ -62,8 +62,7 @@ fn write_seconds(
         (flat_map (second_records net.now (past_under net.now (arriving_of arrivals.now) lines.now))
         (range_with_len 0 (sums.end_of_run net.now)))) }
 {
-    // Called for its clause `network`.
-    let _ = net.nodes();
+    law_of_network(net);
     let mut world = World::new(alloc, net)?;
     for _second in 0..end_of_run(net) {
         world.advance(net, &Lines { all: lines }, arrivals, 1);

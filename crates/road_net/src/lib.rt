@@ -6,7 +6,7 @@ ghost use Rattle.net_parts.specs.Outline.{IsOutline};
 ghost use Rattle.net_parts.specs.Parts.{net_of};
 ghost use Rattle.road_net.specs.FirstFaults.{IsJoinFault};
 ghost use Rattle.road_net.specs.Joins.{AreByNode, HasEndsAt};
-ghost use Rattle.road_net.specs.Network.{Joins};
+ghost use Rattle.road_net.specs.Network.{IsNetwork, Joins};
 ghost use Rattle.road_net.specs.Stored.{IsStored, Links, Passes};
 
 mod joins;
@@ -16,12 +16,11 @@ mod splits;
 use foundation::items::Items;
 use foundation::threads::CrossesThreads;
 use joins::Side;
-pub use net_parts::{
-    Draft, DraftConflict, DraftLink, DraftNode, DraftPhase, DraftTurn, NetFault, Place, Run,
-    Section,
-};
 use net_parts::Parts;
-pub use net_parts::{Link, Turn};
+pub use net_parts::{
+    Draft, DraftConflict, DraftLink, DraftNode, DraftPhase, DraftTurn, Link, NetFault, Place, Run,
+    Section, Turn,
+};
 use phase_plan::PhasePlan;
 pub use senses::{LinkSense, Sensed};
 pub use splits::{law_of_parts, part_of_turn};
@@ -232,6 +231,15 @@ impl Network {
     {
         self.parts.link_names.find(name)
     }
+}
+
+/// A value that is a network by its type has the parts of one, joined as they must be.
+///
+/// docs/RULES.md, "Road network".
+pub fn law_of_network(net: &Network)
+    ensures { IsNetwork net.now }
+{
+    let _ = net.nodes();
 }
 
 /// The network of these parts, where they are joined as they must be.

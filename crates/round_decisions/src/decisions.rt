@@ -10,7 +10,7 @@ use control_flow::greens::Timeline;
 use foundation::items::Items;
 use foundation::threads::CrossesThreads;
 use intersection_actor::PlanRecord;
-use road_net::Network;
+use road_net::{Network, law_of_network};
 use round_states::{LinkBoard, RoundState};
 use schedule_meaning::Planner;
 use std::alloc::{AllocError, Global};
@@ -61,8 +61,7 @@ pub fn decide<P: Planner>(
     requires { IsStateOf net.now state }
     ensures { IfOk result (IsKeptDecision net.now state) }
 {
-    // `nodes` is called for its clause `network`.
-    let _ = net.nodes();
+    law_of_network(net);
     let RoundState {
         round,
         sensed,
@@ -118,8 +117,7 @@ pub fn decide_node<P: Planner>(
     requires node { node < length net.now.node_names }
     ensures { IfOk result (IsKeptTurn net.now state node) }
 {
-    // `nodes` is called for its clause `network`.
-    let _ = net.nodes();
+    law_of_network(net);
     let RoundState {
         round,
         sensed,

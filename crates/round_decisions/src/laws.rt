@@ -8,7 +8,7 @@ ghost use Rattle.round_decisions.specs.Decisions.{IsDecision};
 ghost use Rattle.round_decisions.specs.OfRuns.{IsRoundIn, IsStateIn, IsTurnRun};
 ghost use Rattle.round_decisions.specs.declared.decisions.Decision.{Decision};
 
-use road_net::Network;
+use road_net::{Network, law_of_network};
 
 /// Where a state is that of its round in the run of the turn order, each decision from it is the run's round: its plan records
 /// are those of the round, its lines those of the round's commits, and its boards those with which the run's next round begins.
@@ -20,5 +20,5 @@ pub fn law_of_decisions(net: &Network)
         → IsTurnRun net.now enters heard made run → IsStateIn net.now enters made state → IsDecision net.now state d
         → IsRoundIn net.now heard made state.round d }
 {
-    let _nodes = net.nodes();
+    law_of_network(net);
 }

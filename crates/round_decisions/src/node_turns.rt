@@ -11,7 +11,7 @@ ghost use Rattle.round_decisions.specs.Turns.{ArePublished, IsTurn, next_board};
 use board_model::Heard;
 use control_flow::greens::Timeline;
 use intersection_actor::{Actor, PlanRecord, Want};
-use road_net::{Network, Sensed};
+use road_net::{Network, Sensed, law_of_network};
 use round_states::LinkBoard;
 use schedule_meaning::Planner;
 use std::alloc::{AllocError, Global};
@@ -98,8 +98,7 @@ fn tell(
     ensures done { OnOk result (actor.new ≡ wanting Want.Done actor.old) }
     ensures of { IsOf net.now actor.new }
 {
-    // `nodes` is called for its clause `network`.
-    let _ = net.nodes();
+    law_of_network(net);
     while let Want::Publish(link) = actor.want() {
         publish(alloc, net, link, &mut boards[link as usize], actor)?;
     }
@@ -122,8 +121,7 @@ fn play<P: Planner>(
     ensures played { OnOk result (HasPlayed net.now round sensed boards.old.items boards.new.items
         actor.old actor.new) }
 {
-    // `nodes` is called for its clause `network`.
-    let _ = net.nodes();
+    law_of_network(net);
     actor.begin(alloc, net, round, sensed)?;
     hear(alloc, boards, actor)?;
     actor.commit(alloc, net, planner)?;

@@ -21,7 +21,7 @@ use crate::states::RoundState;
 use csv::ByteRecord;
 use foundation::items::Items;
 use record_text::{RecordTaker, is_record, take_records};
-use road_net::Network;
+use road_net::{Network, law_of_network};
 use std::alloc::Global;
 
 /// The state that a text tells, by the names of a network. A round of the network begins in it. The text has fewer than
@@ -96,8 +96,7 @@ impl Entries {
         ensures none { result.all.items ≡ [] }
         ensures network { IsNetwork net.now }
     {
-        // Called for its clause `network`, and not for the count.
-        let _ = net.nodes();
+        law_of_network(net);
         Entries {
             all: Vec::new(alloc),
         }

@@ -6,7 +6,7 @@ ghost use Rattle.runs.specs.Runs.{IsRun};
 ghost use Rattle.runs.specs.Complete.{IsComplete};
 ghost use Rattle.runs.specs.declared.records.RunRecord.{RunRecord};
 
-use road_net::Network;
+use road_net::{Network, law_of_network};
 
 /// Every run of a lawful history keeps what is promised of plans and signals: each plan names the versions that it used, none
 /// older than one that its node had seen; its instance is that of just these versions and of what the node sensed, and no sequence
@@ -21,7 +21,7 @@ pub fn law_of_runs(net: &Network)
     ensures whole { (enters : ℕ → ℕ → ℕ) (history : List ℕ) (record_of_run : RunRecord) → IsLawful net.now history
         → IsRun net.now enters history record_of_run → IsComplete net.now record_of_run }
 {
-    let _nodes = net.nodes();
+    law_of_network(net);
 }
 
 /// A lawful history has one run for what enters the links in each second: two records of it are the same.
@@ -31,5 +31,5 @@ pub fn law_of_one_run(net: &Network)
     ensures { (enters : ℕ → ℕ → ℕ) (history : List ℕ) (one other : RunRecord) → IsLawful net.now history
         → IsRun net.now enters history one → IsRun net.now enters history other → one ≡ other }
 {
-    let _nodes = net.nodes();
+    law_of_network(net);
 }

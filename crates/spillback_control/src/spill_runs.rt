@@ -18,7 +18,7 @@ use arrivals::Arrivals;
 use control_flow::greens::Timeline;
 use net_simulator::Lines;
 use net_simulator::starts::zeros;
-use road_net::Network;
+use road_net::{Network, law_of_network};
 use spillback_world::{SpillTotals, SpillWorld, Store};
 use std::alloc::{AllocError, Global};
 
@@ -49,8 +49,7 @@ pub fn spill_actuated(
         → LastLinesShow net.now is.made) }
     ensures whole { IfOk result IsBalanced }
 {
-    // Called for its clause `network`.
-    let _ = net.nodes();
+    law_of_network(net);
     let mut lines = first_lines(alloc, net)?;
     let mut world = SpillWorld::new(alloc, net)?;
     play_rounds(alloc, net, arrivals, store, &mut lines, &mut world)?;
@@ -65,7 +64,7 @@ pub fn law_of_one_spill(net: &Network)
     ensures { (arriving : ℕ → ℕ → ℕ) (store : ℕ → ℕ) (one other : spec.SpillTotals)
         → IsActuatedIn net.now arriving store one → IsActuatedIn net.now arriving store other → one ≡ other }
 {
-    let _nodes = net.nodes();
+    law_of_network(net);
 }
 
 /// Plays all rounds from the first one.

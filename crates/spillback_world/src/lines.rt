@@ -11,7 +11,7 @@ use crate::totals::SpillTotals;
 use crate::worlds::SpillWorld;
 use arrivals::Arrivals;
 use net_simulator::{Lines, end_of_run};
-use road_net::Network;
+use road_net::{Network, law_of_network};
 use std::alloc::{AllocError, Global};
 
 /// What is counted of a network whose links hold what the store says, over its whole run under these timelines. Where every
@@ -34,8 +34,7 @@ pub fn spill_lines<'a>(
     ensures ample { AreAmple store.now → IfOk result (λ t. t ≡ unbounded_in net.now arrivals.now
         (standing_by (line_in lines.now.all.now)) (end_of_run net.now)) }
 {
-    // Called for its clause `network`.
-    let _ = net.links();
+    law_of_network(net);
     let mut world = SpillWorld::new(alloc, net)?;
     let seconds = end_of_run(net);
     world.advance(net, store, lines, arrivals, seconds);

@@ -27,7 +27,7 @@ use net_simulator::Lights;
 use net_simulator::link_seconds::{look, remember};
 use net_simulator::sensing::{Sight, near_amount, sense_links};
 use net_simulator::starts::{no_greens, zeros};
-use road_net::{Network, Sensed};
+use road_net::{Network, Sensed, law_of_network};
 use std::alloc::{AllocError, Global};
 use std::marker::Model;
 
@@ -170,8 +170,7 @@ impl SpillWorld {
             → result ≡ near_on net.now (past_in net.now arriving store shown self.now.second)
             self.now.second gap link }
     {
-        // Called for its clause `network`.
-        let _ = net.links();
+        law_of_network(net);
         let sight = Sight {
             net,
             queues: self.links.queues.as_slice(),

@@ -20,5 +20,5 @@ pub returns-clause-clean : goal.returns-clause-clean
 returns-clause-clean c arriving few clean =
     let s : Sheet = record { lines = c.args.lines.now; links = c.args.links.now; totals = c.args.totals } in
     IfOk-weaker c.finish.result (λ (text : Vec ℕ Global). text.items ≡ line_text c.args.net.now s) (λ (text : Vec ℕ Global). IsCleanText c.args.net.now arriving text.items)
-    (λ text is. subst (IsCleanText c.args.net.now arriving) (sym is) (report-clean c.args.net.now c.nodes-nodes.ensures.network arriving few s c.requires clean))
+    (λ text is. subst (IsCleanText c.args.net.now arriving) (sym is) (report-clean c.args.net.now c.law_of_network.ensures arriving few s c.requires clean))
     (returns-clause-text c)

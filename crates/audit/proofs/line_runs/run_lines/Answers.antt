@@ -21,4 +21,4 @@ pub returns-clause-clean : goal.returns-clause-clean
 returns-clause-clean c = subst (IsClean c.args.net.now (arriving_of c.args.arrivals.now)) (sym (returns-clause-value c)) (shown-clean c.args.net.now (arriving_of c.args.arrivals.now) c.args.lines.items c.requires.lawful)
 
 pub returns-clause-safe : goal.returns-clause-safe
-returns-clause-safe c = safe c.args.net.now c.nodes-nodes.ensures.network (line_in c.from_vec.result) (subst (AreLawful c.args.net.now) (sym c.from_vec.ensures) c.requires.lawful)
+returns-clause-safe c = safe c.args.net.now c.law_of_network.ensures (line_in c.from_vec.result) (subst (AreLawful c.args.net.now) (sym c.from_vec.ensures) c.requires.lawful)

@@ -8,5 +8,5 @@ returns c = record {
   run = c.in_ok-run.run';
   runs = c.in_ok-run.ensures.kept;
   report = c.in_ok-text.ensures.text;
-  clean = c.in_ok-text.ensures.clean (arriving_by (entering c.args.arrivals.now)) (few-of c.args.net.now c.nodes-nodes.ensures.network c.args.arrivals.now c.requires) c.in_ok-run.ensures.clean;
+  clean = c.in_ok-text.ensures.clean (arriving_by (entering c.args.arrivals.now)) (few-of c.args.net.now c.law_of_network.ensures c.args.arrivals.now c.requires) c.in_ok-run.ensures.clean;
 }

@@ -2,7 +2,7 @@ use Rattle.round_decisions.proofs.WritableLaws.{node-decision-of}
 use Rattle.controller_jobs.proofs.decide.turn_text.Goals as goal
 
 pub node_decision_text-requires : goal.node_decision_text-requires
-node_decision_text-requires c = record { round = c.requires.state.round; decision = node-decision-of c.args.net.now c.nodes-nodes.ensures.network c.args.state c.requires.state c.args.number c.requires.number c.in_ok-decision.decision c.in_ok-decision.ensures }
+node_decision_text-requires c = record { round = c.requires.state.round; decision = node-decision-of c.args.net.now c.law_of_network.ensures c.args.state c.requires.state c.args.number c.requires.number c.in_ok-decision.decision c.in_ok-decision.ensures }
 
 pub returns : goal.returns
 returns c = λ node named. record { number = c.args.number; named = named; decision = c.in_ok-decision.decision; kept = c.in_ok-decision.ensures; text = c.in_ok-text.ensures }

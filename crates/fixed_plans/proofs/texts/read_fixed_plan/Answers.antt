@@ -8,7 +8,7 @@ use Rattle.fixed_plans.proofs.TextLaws.{first-fault, records-refuse, taken-few, 
 use Rattle.fixed_plans.proofs.texts.read_fixed_plan.Goals as goal
 
 pub take_records-requires-clause-few : goal.take_records-requires-clause-few
-take_records-requires-clause-few c = taken-few c.args.net.now c.nodes-nodes.ensures.network (records_of c.args.bytes.now)
+take_records-requires-clause-few c = taken-few c.args.net.now c.law_of_network.ensures (records_of c.args.bytes.now)
 
 pub take_records-requires-clause-none : goal.take_records-requires-clause-none
 take_records-requires-clause-none c = taken-none c.args.net.now _ c.none-draft.ensures.rows c.none-draft.ensures.last

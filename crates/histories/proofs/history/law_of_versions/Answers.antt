@@ -6,4 +6,4 @@ pub returns-clause-rise : goal.returns-clause-rise
 returns-clause-rise c = λ h link early late order. version-rises (board_steps c.args.net.now) h link early late order
 
 pub returns-clause-round : goal.returns-clause-round
-returns-clause-round c = λ h link place all inside from to. version-law c.args.net.now c.nodes-nodes.ensures.network link h place all inside from to
+returns-clause-round c = λ h link place all inside from to. version-law c.args.net.now c.law_of_network.ensures link h place all inside from to

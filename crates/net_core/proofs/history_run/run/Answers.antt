@@ -16,7 +16,7 @@ out_of_memory-requires g c =
     let place : ℕ = c.loop-node.node-index in
     let lawful : IsLawful net h = subst (IsLawful net) (sym c.steps-steps.ensures) c.requires.lawful in
     let way = c.law_of_histories.ensures.begins h place lawful (omega (arith, c.loop-node-test.true)) in
-    no-fault net c.args.arrivals.now h c.nodes.ensures.network lawful place c.loop-node-test.true way.0 way.1 c.loop-node.core c.loop-node.invariant c.in-Err.fault c.in-Err.ensures.fault
+    no-fault net c.args.arrivals.now h c.law_of_network.ensures lawful place c.loop-node-test.true way.0 way.1 c.loop-node.core c.loop-node.invariant c.in-Err.fault c.in-Err.ensures.fault
 
 pub loop-node-preserved : goal.loop-node-preserved
 loop-node-preserved g c = gone-more c.args.net.now c.args.arrivals.now c.steps-steps.result.now c.loop-node.node-index c.loop-node.core c.step.new.self c.loop-node-test.true c.loop-node.invariant c.in-Ok.ensures.ok

@@ -29,7 +29,7 @@ returns g c =
     let spells = subst (λ bytes. IsHistoryText c.args.net.now bytes told.history) (sym told.text_is) (c.law_of_reports.ensures.reads_back run told.history ran.lawful) in
     record {
       history = told.history;
-      headline = headline c.args.net.now c.nodes-nodes.ensures.network c.law_of_reports.ensures.clean c.args.arrivals.now c.requires told.history run text.items ran told.text_is;
+      headline = headline c.args.net.now c.law_of_network.ensures c.law_of_reports.ensures.clean c.args.arrivals.now c.requires told.history run text.items ran told.text_is;
       is_text = spells;
       only = λ other also. c.law_of_reports.ensures.one text.items other told.history also spells;
     })

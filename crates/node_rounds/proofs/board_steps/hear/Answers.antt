@@ -7,7 +7,7 @@ pub read-requires-clause-link : goal.read-requires-clause-link
 read-requires-clause-link g c =
     let i = c.loop-link.invariant in
     let wants : c.loop-link.actor.want ≡ Read c.in-Read.link = sym c.want.ensures ∙ c.in-Read.is in
-    let there = link-there c.args.actor.now c.loop-link.actor c.args.pass.now c.loop-link.pass i.heard c.in-Read.link wants c.args.setting.now.net.now c.nodes.ensures.network c.requires.begun.0 in
+    let there = link-there c.args.actor.now c.loop-link.actor c.args.pass.now c.loop-link.pass i.heard c.in-Read.link wants c.args.setting.now.net.now c.law_of_network.ensures c.requires.begun.0 in
     omega (arith, there, c.requires.links)
 
 pub loop-link-preserved : goal.loop-link-preserved
@@ -18,7 +18,7 @@ loop-link-preserved g c =
     let p = c.args.pass.now in
     let q = c.loop-link.pass in
     let wants : c.loop-link.actor.want ≡ Read c.in-Read.link = sym c.want.ensures ∙ c.in-Read.is in
-    let some = call-left a b p q i.heard c.in-Read.link wants c.args.setting.now.net.now c.nodes.ensures.network c.requires.begun.0 c.requires.left in
+    let some = call-left a b p q i.heard c.in-Read.link wants c.args.setting.now.net.now c.law_of_network.ensures c.requires.begun.0 c.requires.left in
     let read = c.in_ok-read.ensures in
     record {
       heard = heard-more a b p q i.heard c.in-Read.link wants c.read.new.actor c.read.new.pass read.read some;

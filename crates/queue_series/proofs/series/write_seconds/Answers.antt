@@ -12,7 +12,7 @@ use Rattle.queue_series.proofs.series.write_seconds.Goals as goal
 pub write_second-requires-clause-grows : goal.write_second-requires-clause-grows
 write_second-requires-clause-grows c =
     let l = c.loop-second in
-    can-all c.args.net.now c.nodes.ensures.network (arriving_of c.args.arrivals.now) c.args.lines.now l._second (omega (arith, c.loop-second-test.true, c.end_of_run-second-end.ensures.value)) c.advance.new.self
+    can-all c.args.net.now c.law_of_network.ensures (arriving_of c.args.arrivals.now) c.args.lines.now l._second (omega (arith, c.loop-second-test.true, c.end_of_run-second-end.ensures.value)) c.advance.new.self
     (c.advance.ensures.second ∙ ap (λ s. s + 1) l.invariant.0) c.advance.ensures.stands l.watches.items l.invariant.2
 
 pub loop-second-preserved : goal.loop-second-preserved
@@ -25,9 +25,9 @@ loop-second-preserved c =
     let second : c.advance.new.self.second ≡ l._second + 1 = c.advance.ensures.second ∙ ap (λ s. s + 1) l.invariant.0 in (
       second,
       c.advance.ensures.stands,
-      watches-next net c.nodes.ensures.network arriving lines l._second before c.advance.new.self second c.advance.ensures.stands l.watches.items l.invariant.2 c.write_second.new.watches.items c.in_ok-write_second.ensures.watches,
+      watches-next net c.law_of_network.ensures arriving lines l._second before c.advance.new.self second c.advance.ensures.stands l.watches.items l.invariant.2 c.write_second.new.watches.items c.in_ok-write_second.ensures.watches,
       adds-part (second_records net (past_under net arriving lines)) l._second c.args.out.now l.out c.write_second.new.out l.invariant.3
-          (subst (Adds l.out c.write_second.new.out) (records-are net c.nodes.ensures.network arriving lines l._second before c.advance.new.self second c.advance.ensures.stands l.watches.items l.invariant.2) c.in_ok-write_second.ensures.adds),
+          (subst (Adds l.out c.write_second.new.out) (records-are net c.law_of_network.ensures arriving lines l._second before c.advance.new.self second c.advance.ensures.stands l.watches.items l.invariant.2) c.in_ok-write_second.ensures.adds),
     )
 
 pub loop-second-init : goal.loop-second-init

@@ -5,7 +5,7 @@ pub hear-requires-clause-want : goal.hear-requires-clause-want
 hear-requires-clause-want g c = began-want c.args.net.now c.args.round c.args.sensed c.args.actor.now c.begin.new.self c.in_ok-begin.ensures.ok
 
 pub hear-requires-clause-there : goal.hear-requires-clause-there
-hear-requires-clause-there g c = began-there c.args.net.now c.nodes.ensures.network c.args.round c.args.sensed c.args.boards.now.items c.args.actor.now c.begin.new.self c.in_ok-begin.ensures.ok c.requires.can.count
+hear-requires-clause-there g c = began-there c.args.net.now c.law_of_network.ensures c.args.round c.args.sensed c.args.boards.now.items c.args.actor.now c.begin.new.self c.in_ok-begin.ensures.ok c.requires.can.count
 
 pub tell-requires-clause-want : goal.tell-requires-clause-want
 tell-requires-clause-want g c = committed-want c.args.net.now c.hear.new.actor c.commit.new.self c.in_ok-commit.ensures.ok

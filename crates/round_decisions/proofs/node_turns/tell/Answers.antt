@@ -9,26 +9,26 @@ loop-link-init c = record { told = told-none c.args.net.now c.args.actor.now c.a
 pub index_mut-requires : goal.index_mut-requires
 index_mut-requires c =
     let wants : c.loop-link.actor.want ≡ Publish c.in-Publish.link = sym c.want.ensures ∙ c.in-Publish.is in
-    omega (arith, c.loop-link.boards.ok.0, link-there c.args.net.now c.nodes.ensures.network c.args.actor.now c.loop-link.actor c.args.boards.now.items c.loop-link.boards.items c.requires.count c.loop-link.invariant.told c.in-Publish.link wants)
+    omega (arith, c.loop-link.boards.ok.0, link-there c.args.net.now c.law_of_network.ensures c.args.actor.now c.loop-link.actor c.args.boards.now.items c.loop-link.boards.items c.requires.count c.loop-link.invariant.told c.in-Publish.link wants)
 
 pub publish-requires-clause-below : goal.publish-requires-clause-below
 publish-requires-clause-below c =
     let wants : c.loop-link.actor.want ≡ Publish c.in-Publish.link = sym c.want.ensures ∙ c.in-Publish.is in
-    is-below c.args.net.now c.nodes.ensures.network c.args.actor.now c.loop-link.actor c.args.boards.now.items c.loop-link.boards.items c.requires.count c.loop-link.invariant.told c.in-Publish.link wants c.requires.below c.index_mut.result.now c.index_mut.ensures.value
+    is-below c.args.net.now c.law_of_network.ensures c.args.actor.now c.loop-link.actor c.args.boards.now.items c.loop-link.boards.items c.requires.count c.loop-link.invariant.told c.in-Publish.link wants c.requires.below c.index_mut.result.now c.index_mut.ensures.value
 
 pub loop-link-preserved : goal.loop-link-preserved
 loop-link-preserved c =
     let wants : c.loop-link.actor.want ≡ Publish c.in-Publish.link = sym c.want.ensures ∙ c.in-Publish.is in
     record {
-      told = told-more c.args.net.now c.nodes.ensures.network c.args.actor.now c.loop-link.actor c.args.boards.now.items c.loop-link.boards.items c.requires.count c.loop-link.invariant.told c.in-Publish.link wants c.publish.new.actor c.index_mut.result.now c.publish.new.board c.index_mut.ensures.value c.in_ok-publish.ensures.told c.in_ok-publish.ensures.board;
+      told = told-more c.args.net.now c.law_of_network.ensures c.args.actor.now c.loop-link.actor c.args.boards.now.items c.loop-link.boards.items c.requires.count c.loop-link.invariant.told c.in-Publish.link wants c.publish.new.actor c.index_mut.result.now c.publish.new.board c.index_mut.ensures.value c.in_ok-publish.ensures.told c.in_ok-publish.ensures.board;
       of = c.in_ok-publish.ensures.of;
     }
 
 pub loop-link-smaller : goal.loop-link-smaller
 loop-link-smaller c =
     let wants : c.loop-link.actor.want ≡ Publish c.in-Publish.link = sym c.want.ensures ∙ c.in-Publish.is in
-    less-left (length c.args.boards.now.items) c.in-Publish.link c.loop-link.actor.want c.publish.new.actor.want wants (inside c.args.net.now c.nodes.ensures.network c.args.actor.now c.loop-link.actor c.args.boards.now.items c.loop-link.boards.items c.requires.count c.loop-link.invariant.told c.in-Publish.link wants)
-    (λ other e. fewer c.args.net.now c.nodes.ensures.network c.args.actor.now c.loop-link.actor c.args.boards.now.items c.loop-link.boards.items c.requires.count c.loop-link.invariant.told c.in-Publish.link wants c.publish.new.actor c.in_ok-publish.ensures.told other e)
+    less-left (length c.args.boards.now.items) c.in-Publish.link c.loop-link.actor.want c.publish.new.actor.want wants (inside c.args.net.now c.law_of_network.ensures c.args.actor.now c.loop-link.actor c.args.boards.now.items c.loop-link.boards.items c.requires.count c.loop-link.invariant.told c.in-Publish.link wants)
+    (λ other e. fewer c.args.net.now c.law_of_network.ensures c.args.actor.now c.loop-link.actor c.args.boards.now.items c.loop-link.boards.items c.requires.count c.loop-link.invariant.told c.in-Publish.link wants c.publish.new.actor c.in_ok-publish.ensures.told other e)
 
 pub returns : goal.returns
 returns c =
@@ -37,7 +37,7 @@ returns c =
     let old = c.args.boards.now.items in
     let told = c.loop-link.invariant.told in
     record {
-      boards = all-published net c.nodes.ensures.network a c.loop-link.actor old c.loop-link.boards.items c.requires.count told (λ link e. c.in_default.not-Publish link (c.want.ensures ∙ e));
-      done = is-done net c.nodes.ensures.network a c.loop-link.actor old c.loop-link.boards.items c.requires.count told (λ link e. c.in_default.not-Publish link (c.want.ensures ∙ e));
+      boards = all-published net c.law_of_network.ensures a c.loop-link.actor old c.loop-link.boards.items c.requires.count told (λ link e. c.in_default.not-Publish link (c.want.ensures ∙ e));
+      done = is-done net c.law_of_network.ensures a c.loop-link.actor old c.loop-link.boards.items c.requires.count told (λ link e. c.in_default.not-Publish link (c.want.ensures ∙ e));
       of = c.loop-link.invariant.of;
     }

@@ -9,13 +9,13 @@ play_rounds-requires-clause-first c =
     (λ shown. c.in_ok-world.ensures.stands (arriving_of c.args.arrivals.now) (slice_index c.args.store.now) shown)
 
 pub returns-clause-run : goal.returns-clause-run
-returns-clause-run c = ended c.args.net.now c.nodes.ensures.network (arriving_of c.args.arrivals.now) (slice_index c.args.store.now) c.play_rounds.new.lines.items c.play_rounds.new.world c.totals.result c.in_ok-play_rounds.ensures c.totals.ensures.value
+returns-clause-run c = ended c.args.net.now c.law_of_network.ensures (arriving_of c.args.arrivals.now) (slice_index c.args.store.now) c.play_rounds.new.lines.items c.play_rounds.new.world c.totals.result c.in_ok-play_rounds.ensures c.totals.ensures.value
 
 pub returns-clause-lawful : goal.returns-clause-lawful
-returns-clause-lawful c is = last-lawful c.args.net.now c.nodes.ensures.network (arriving_of c.args.arrivals.now) (slice_index c.args.store.now) c.totals.result is
+returns-clause-lawful c is = last-lawful c.args.net.now c.law_of_network.ensures (arriving_of c.args.arrivals.now) (slice_index c.args.store.now) c.totals.result is
 
 pub returns-clause-safe : goal.returns-clause-safe
-returns-clause-safe c is = last-safe c.args.net.now c.nodes.ensures.network (arriving_of c.args.arrivals.now) (slice_index c.args.store.now) c.totals.result is
+returns-clause-safe c is = last-safe c.args.net.now c.law_of_network.ensures (arriving_of c.args.arrivals.now) (slice_index c.args.store.now) c.totals.result is
 
 pub returns-clause-greens : goal.returns-clause-greens
-returns-clause-greens c is = last-show c.args.net.now c.nodes.ensures.network (arriving_of c.args.arrivals.now) (slice_index c.args.store.now) c.totals.result is
+returns-clause-greens c is = last-show c.args.net.now c.law_of_network.ensures (arriving_of c.args.arrivals.now) (slice_index c.args.store.now) c.totals.result is

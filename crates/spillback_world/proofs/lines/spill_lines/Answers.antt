@@ -19,7 +19,7 @@ returns-clause-ample c wide =
     let net = c.args.net.now in
     let arrivals = c.args.arrivals.now in
     let shown = standing_by (line_in c.args.lines.now.all.now) in
-    let network = c.links.ensures.network in
+    let network = c.law_of_network.ensures in
     let all : (e : ℕ) → e < length net.link_names → slice_index c.args.store.now e ≡ 2000000000 = λ e inside. wide e 0 (omega (arith, inside, c.requires.store)) in
     counted net arrivals (slice_index c.args.store.now) shown _ _ _ c.totals.ensures.value (omega (arith, c.advance.ensures.second, c.in_ok-world.ensures.second, c.end_of_run-seconds.ensures.value)) c.advance.ensures.stands
     ∙ ample-totals net network (arriving_of arrivals) (few-of net network arrivals c.requires.arrivals) (sources-of net arrivals c.requires.arrivals) shown (end_of_run net) (slice_index c.args.store.now) all

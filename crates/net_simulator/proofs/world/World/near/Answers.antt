@@ -8,11 +8,11 @@ near_amount-requires-clause-fits c =
     let world = c.requires.world in
     omega (
       arith,
-      near-gathered c.args.net.now c.args.self.now _ _ _ _ c.args.gap c.args.link c.links.ensures.network c.self.view_is c.as_slice.ensures.value c.as_slice-2.ensures.value c.as_slice-3.ensures.value c.requires.link (arriving_of world.arrivals) world.lines world.stands,
-      near-fits c.args.net.now c.args.self.now c.args.gap c.args.link c.links.ensures.network world c.requires.link,
+      near-gathered c.args.net.now c.args.self.now _ _ _ _ c.args.gap c.args.link c.law_of_network.ensures c.self.view_is c.as_slice.ensures.value c.as_slice-2.ensures.value c.as_slice-3.ensures.value c.requires.link (arriving_of world.arrivals) world.lines world.stands,
+      near-fits c.args.net.now c.args.self.now c.args.gap c.args.link c.law_of_network.ensures world c.requires.link,
     )
 
 pub returns : goal.returns
 returns c arriving lines stands =
     c.near_amount.ensures
-    ∙ near-gathered c.args.net.now c.args.self.now _ _ _ _ c.args.gap c.args.link c.links.ensures.network c.self.view_is c.as_slice.ensures.value c.as_slice-2.ensures.value c.as_slice-3.ensures.value c.requires.link arriving lines stands
+    ∙ near-gathered c.args.net.now c.args.self.now _ _ _ _ c.args.gap c.args.link c.law_of_network.ensures c.self.view_is c.as_slice.ensures.value c.as_slice-2.ensures.value c.as_slice-3.ensures.value c.requires.link arriving lines stands
