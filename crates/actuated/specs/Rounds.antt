@@ -1,5 +1,6 @@
 -- How the lines of a run go on round by round, whatever the world is that the nodes sense.
 use Rattle.std.specs.Prelude.{◌≡◌, ℕ, ◌+◌, ◌<◌, ◌≤◌, List, length, slice_index}
+use Rattle.net_parts.specs.Limits.{most_of_all}
 use Rattle.control_flow.specs.Greens.{BeginBy, IsLawful, end_of, standing}
 use Rattle.control_flow.specs.declared.greens.Green.{Green}
 use Rattle.net_parts.specs.Numbers.{Net}
@@ -39,4 +40,4 @@ pub record AreRenewed (net : Net) (near : List ℕ) (second nodes : ℕ) (old ne
 -- a number for each link, which together are no more than may ever be on the road
 pub record AreAmounts (net : Net) (near : List ℕ) : Type 0 where
   pub count : length near ≡ length net.link_names
-  pub few : total (slice_index near) (length net.link_names) ≤ 2000000000
+  pub few : total (slice_index near) (length net.link_names) ≤ most_of_all

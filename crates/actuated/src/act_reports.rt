@@ -1,7 +1,7 @@
 //! The report of a run.
 
 ghost use Rattle.std.specs.Prelude.{◌≡◌, ◌≤◌, ℕ, IfOk};
-ghost use Rattle.arrivals.specs.Rows.{most_of_all};
+ghost use Rattle.net_parts.specs.Limits.{most_of_all};
 ghost use Rattle.audit.specs.Audits.{IsClean, IsCleanText};
 ghost use Rattle.net_simulator.specs.Sums.{arrived};
 ghost use Rattle.audit.specs.LineRuns.{sheet_of};

@@ -1,6 +1,7 @@
 //! What calls for a phase of a node, by what the node sensed.
 
 ghost use Rattle.std.specs.Prelude.{◌≡◌, ◌≢◌, ◌<◌, ◌≤◌, AllPairs, length, sum, sum_by};
+ghost use Rattle.net_parts.specs.Limits.{most_of_all};
 ghost use Rattle.net_parts.specs.Outline.{plan_at};
 ghost use Rattle.road_net.specs.Senses.{IsSensedOf, amount};
 ghost use Rattle.actuated.specs.Calls as spec;
@@ -26,7 +27,7 @@ pub fn calling(net: &Network, node: u32, sensed: &Sensed, phase: u8) -> u32
 
 /// What is near on these links.
 fn all_near_amounts(sensed: &Sensed, gap: u32, links: &[u32]) -> u32
-    requires amounts { sum_by amount sensed.now.links ≤ 2000000000 }
+    requires amounts { sum_by amount sensed.now.links ≤ most_of_all }
     requires links { AllPairs (λ a b. a ≢ b) links.now }
     ensures { result ≡ sum_by (amount_near sensed.entry.now gap) links.now }
 {
@@ -39,7 +40,7 @@ fn all_near_amounts(sensed: &Sensed, gap: u32, links: &[u32]) -> u32
 
 /// What waits at the end of a link, or reaches it now or within `gap` seconds after.
 fn amount_near(sensed: &Sensed, gap: u32, link: u32) -> u32
-    requires { sum_by amount sensed.now.links ≤ 2000000000 }
+    requires { sum_by amount sensed.now.links ≤ most_of_all }
     ensures { result ≡ spec.amount_near sensed.entry.now gap link }
 {
     let (queue, coming) = sensed_of(sensed, link);
@@ -49,7 +50,7 @@ fn amount_near(sensed: &Sensed, gap: u32, link: u32) -> u32
 
 /// The sum of amounts.
 fn sum_of(amounts: &[u32]) -> u32
-    requires { sum amounts.now ≤ 2000000000 }
+    requires { sum amounts.now ≤ most_of_all }
     ensures { result ≡ sum amounts.now }
 {
     let mut all = 0;

@@ -1,6 +1,7 @@
 //! What calls for the phases of a node, by what is near on each link.
 
 ghost use Rattle.std.specs.Prelude.{◌≡◌, ◌≢◌, ◌<◌, ◌≤◌, All, AllPairs, OnOk, length, slice_index, sum_by};
+ghost use Rattle.net_parts.specs.Limits.{most_of_all};
 ghost use Rattle.road_net.specs.Totals.{total};
 ghost use Rattle.actuated.specs.Calls.{calls_by};
 ghost use Rattle.actuated.specs.Rounds.{AreAmounts};
@@ -30,7 +31,7 @@ pub(crate) fn list_calls(
 fn sum_near(near: &[u32], links: &[u32]) -> u32
     requires links { All (λ l. l < length near.now) links.now }
     requires differ { AllPairs (λ a b. a ≢ b) links.now }
-    requires few { total (slice_index near.now) (length near.now) ≤ 2000000000 }
+    requires few { total (slice_index near.now) (length near.now) ≤ most_of_all }
     ensures { result ≡ sum_by (slice_index near.now) links.now }
 {
     let mut all = 0;

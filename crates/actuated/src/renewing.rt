@@ -1,6 +1,7 @@
 //! How the timelines of the nodes go on when a round begins.
 
 ghost use Rattle.std.specs.Prelude.{◌≡◌, ℕ, ◌<◌, ◌≤◌, IfOk, OnOk, length};
+ghost use Rattle.net_parts.specs.Limits.{most_seconds};
 ghost use Rattle.net_parts.specs.Outline.{plan_at};
 ghost use Rattle.net_simulator.specs.Worlds.{line_in};
 ghost use Rattle.actuated.specs.ActRuns as spec;
@@ -54,7 +55,7 @@ fn renew_line(
     calls: &[u32],
     line: &mut Timeline,
 ) -> Result<(), AllocError>
-    requires now { now ≤ 18000 }
+    requires now { now ≤ most_seconds }
     requires node { node < length net.now.node_names }
     requires calls { length calls.now ≡ length (plan_at net.now node) }
     requires ready { IsReady (plan_at net.now node) now line.old }
@@ -82,7 +83,7 @@ pub fn renew_lines(
     lines: &mut Vec<Timeline>,
     calls: &mut Vec<u32>,
 ) -> Result<(), AllocError>
-    requires now { now ≤ 18000 }
+    requires now { now ≤ most_seconds }
     requires near { AreAmounts net.now near.now }
     requires count { length lines.old.items ≡ length net.now.node_names }
     requires ready { (node : ℕ) → node < length net.now.node_names

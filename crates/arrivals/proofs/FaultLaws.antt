@@ -13,7 +13,8 @@ use Rattle.arrivals.specs.declared.rows.RowFault.TheVariants.{NoMemory, Link, Bo
 use Rattle.arrivals.specs.Amounts.{Amounts, AreArrivalsOf}
 use Rattle.arrivals.specs.Faults.{IsFirst, IsAtLink, IsAtBound, IsAtSum, IsRowFault, Refuses}
 use Rattle.arrivals.specs.Stored.{Adds}
-use Rattle.arrivals.specs.Rows.{most_of_all, IsSource, HasBounds, IsRow, AreRows, amount_of}
+use Rattle.net_parts.specs.Limits.{most_of_all}
+use Rattle.arrivals.specs.Rows.{IsSource, HasBounds, IsRow, AreRows, amount_of}
 
 -- with a first element at fault, where what is at fault can be no lawful row, not all are rows
 pub refuses : {X : Type 0} (read : X → Option ArrivalRow) (net : Net) (all : List X) (n : ℕ) (at_fault : List ArrivalRow → X → Type 0) → IsFirst read net all n at_fault

@@ -5,25 +5,25 @@ use Rattle.std.proofs.lemmas.List.{take_all, get_or_past}
 use Rattle.std.proofs.lemmas.List.Sums.{sum_by_more, sum_by-take-le}
 use Rattle.road_net.specs.Totals.{total}
 use Rattle.arrivals.specs.Amounts.{Amounts, is_kept, place, entering}
-use Rattle.arrivals.specs.Rows.{seconds, most_of_all}
+use Rattle.net_parts.specs.Limits.{most_of_all, most_seconds}
 use Rattle.arrivals.specs.Stored.{IsStored}
 
 -- what enters where the link is kept and there is such a second, and elsewhere
-pub entering-within : (a : Amounts) (l x : ℕ) → a.first ≤ l → l < a.first + a.width → x < seconds → entering a l x ≡ get_or a.amounts (place a l x) 0
-entering-within a l x low high second = rw (le-leb a.first l low, lt-ltb l (a.first + a.width) high, lt-ltb x seconds second) refl
+pub entering-within : (a : Amounts) (l x : ℕ) → a.first ≤ l → l < a.first + a.width → x < most_seconds → entering a l x ≡ get_or a.amounts (place a l x) 0
+entering-within a l x low high second = rw (le-leb a.first l low, lt-ltb l (a.first + a.width) high, lt-ltb x most_seconds second) refl
 
-pub entering-beyond : (a : Amounts) (l x : ℕ) → (a.first ≤ l → l < a.first + a.width → x < seconds → ⊥) → entering a l x ≡ 0
+pub entering-beyond : (a : Amounts) (l x : ℕ) → (a.first ≤ l → l < a.first + a.width → x < most_seconds → ⊥) → entering a l x ≡ 0
 entering-beyond a l x out =
-    cond_both (is_kept a l && nat_lt x seconds) (get_or a.amounts (place a l x) 0) 0 (λ n. n ≡ 0)
+    cond_both (is_kept a l && nat_lt x most_seconds) (get_or a.amounts (place a l x) 0) 0 (λ n. n ≡ 0)
     (λ in_both.
-    let both = and_parts (is_kept a l) (nat_lt x seconds) in_both in
+    let both = and_parts (is_kept a l) (nat_lt x most_seconds) in_both in
     let kept = and_parts (nat_le a.first l) (nat_lt l (a.first + a.width)) both.0 in
-    absurd (out (leb-true a.first l kept.0) (ltb-true l (a.first + a.width) kept.1) (ltb-true x seconds both.1)))
+    absurd (out (leb-true a.first l kept.0) (ltb-true l (a.first + a.width) kept.1) (ltb-true x most_seconds both.1)))
     (λ beyond. refl)
 
 -- never more than what stands at the place
 pub entering-most : (a : Amounts) (l x : ℕ) → entering a l x ≤ get_or a.amounts (place a l x) 0
-entering-most a l x = cond_both (is_kept a l && nat_lt x seconds) (get_or a.amounts (place a l x) 0) 0 (λ n. n ≤ get_or a.amounts (place a l x) 0) (λ e. omega arith) (λ e. omega arith)
+entering-most a l x = cond_both (is_kept a l && nat_lt x most_seconds) (get_or a.amounts (place a l x) 0) 0 (λ n. n ≤ get_or a.amounts (place a l x) 0) (λ e. omega arith) (λ e. omega arith)
 
 -- one more amount
 one_more : (xs : List ℕ) (k : ℕ) → sum (take k xs) + get_or xs k 0 ≤ sum (take (k + 1) xs)
@@ -50,7 +50,7 @@ module _ (a : Amounts) where
   abbrev AreWithin : ℕ → ℕ → Type 0
   AreWithin x m = total (λ l. entering a l x) m + sum (take (x * a.width) a.amounts) ≤ sum (take (x * a.width + before m) a.amounts)
 
-  not-kept : (x m : ℕ) → AreWithin x m → before m ≡ before (suc m) → (a.first ≤ m → m < a.first + a.width → x < seconds → ⊥) → AreWithin x (suc m)
+  not-kept : (x m : ℕ) → AreWithin x m → before m ≡ before (suc m) → (a.first ≤ m → m < a.first + a.width → x < most_seconds → ⊥) → AreWithin x (suc m)
   not-kept x m so_far same out = omega (arith, so_far, entering-beyond a m x out, ap (λ k. sum (take (x * a.width + k) a.amounts)) same)
 
   links_of : (x m : ℕ) → AreWithin x m

@@ -12,7 +12,8 @@ use Rattle.std.proofs.lemmas.List.Sums.{sum_by-append, sum_by-cons, sum_by-set}
 use Rattle.net_parts.specs.Numbers.{Net}
 use Rattle.arrivals.specs.declared.rows.ArrivalRow.{ArrivalRow}
 use Rattle.arrivals.specs.Amounts.{Amounts, place, entering, KeepsSources, AreArrivals}
-use Rattle.arrivals.specs.Rows.{seconds, most_of_all, IsSource, IsRow, amount_of, is_at, entering_by}
+use Rattle.net_parts.specs.Limits.{most_of_all, most_seconds}
+use Rattle.arrivals.specs.Rows.{IsSource, IsRow, amount_of, is_at, entering_by}
 use Rattle.arrivals.specs.Stored.{IsStored, IsTally, added, amounts_to, reaching}
 use Rattle.arrivals.proofs.SumLaws.{entering-within, entering-beyond, entering-most, few}
 
@@ -70,7 +71,7 @@ length-reaching xs count = omega (arith, length-append xs (replicate (count - le
 sum-reaching : (xs : List ℕ) (count : ℕ) → sum (reaching xs count) ≡ sum xs
 sum-reaching xs count = omega (arith, sum_by-append (λ n. n) xs (replicate (count - length xs) 0), sum_by-replicate (λ n. n) (count - length xs) 0)
 
-module _ (a : Amounts) (r : ArrivalRow) (low : a.first ≤ r.link) (high : r.link < a.first + a.width) (second : r.second < seconds) where
+module _ (a : Amounts) (r : ArrivalRow) (low : a.first ≤ r.link) (high : r.link < a.first + a.width) (second : r.second < most_seconds) where
   inside : place a r.link r.second < length (amounts_to a r.second)
   inside = omega (arith, mul-add-lt r.second a.width (r.link - a.first) (r.second + 1) (omega arith) (omega arith), length-reaching a.amounts ((r.second + 1) * a.width))
 
@@ -89,7 +90,7 @@ module _ (a : Amounts) (r : ArrivalRow) (low : a.first ≤ r.link) (high : r.lin
   entering-other l x other = elim (cases_lt l a.first) [
     | inl less ↦ none (λ first below late. omega (arith, first, less))
     | inr first ↦ elim (cases_lt l (a.first + a.width)) [
-      | inl below ↦ elim (cases_lt x seconds) [
+      | inl below ↦ elim (cases_lt x most_seconds) [
         | inl now ↦
             entering-within (added a r) l x first below now
             ∙ get_or-set_other (amounts_to a r.second) (place a r.link r.second) (place a l x) (get_or a.amounts (place a r.link r.second) 0 + r.amount) 0 (apart l x first below other)
@@ -101,7 +102,7 @@ module _ (a : Amounts) (r : ArrivalRow) (low : a.first ≤ r.link) (high : r.lin
     ]
   ]
     where
-      none : (a.first ≤ l → l < a.first + a.width → x < seconds → ⊥) → entering (added a r) l x ≡ entering a l x
+      none : (a.first ≤ l → l < a.first + a.width → x < most_seconds → ⊥) → entering (added a r) l x ≡ entering a l x
       none out = entering-beyond (added a r) l x out ∙ sym (entering-beyond a l x out)
 
   entering-added : (l x : ℕ) → entering (added a r) l x ≡ entering a l x + brings r l x

@@ -3,7 +3,8 @@ use Rattle.std.specs.Prelude.{◌≡◌, ℕ, ◌+◌, ◌-◌, ◌*◌, ◌≤�
 use Rattle.net_parts.specs.Numbers.{Net}
 use Rattle.road_net.specs.Totals.{total}
 use Rattle.arrivals.specs.declared.rows.ArrivalRow.{ArrivalRow}
-use Rattle.arrivals.specs.Rows.{seconds, most_of_all, IsSource, AreRows, entering_by}
+use Rattle.net_parts.specs.Limits.{most_of_all, most_seconds}
+use Rattle.arrivals.specs.Rows.{IsSource, AreRows, entering_by}
 
 -- The links that are kept, `width` ones from the first on, and their amounts in the first seconds, second by second. Nothing
 -- enters after these seconds, and no other link is entered.
@@ -22,7 +23,7 @@ place a link second = second * a.width + (link - a.first)
 
 -- what enters a link in a second; nothing where the link is not kept, and nothing after the amounts or the last second
 abbrev pub entering : Amounts → ℕ → ℕ → ℕ
-entering a link second = if is_kept a link && nat_lt second seconds then slice_index_or a.amounts (place a link second) 0 else 0
+entering a link second = if is_kept a link && nat_lt second most_seconds then slice_index_or a.amounts (place a link second) 0 else 0
 
 -- Each source of the network is one of these links, and the first and the last of them are sources.
 pub record KeepsSources (net : Net) (first width : ℕ) : Type 0 where

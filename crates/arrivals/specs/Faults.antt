@@ -6,7 +6,8 @@ use Rattle.record_text.specs.Faults.{IsFirstFault}
 use Rattle.arrivals.specs.declared.rows.ArrivalRow.{ArrivalRow}
 use Rattle.arrivals.specs.declared.rows.RowFault.{RowFault}
 use Rattle.arrivals.specs.declared.rows.RowFault.TheVariants.{NoMemory, Link, Bound, Sum}
-use Rattle.arrivals.specs.Rows.{most_of_all, IsSource, HasBounds, IsRow, amount_of, AreRows}
+use Rattle.net_parts.specs.Limits.{most_of_all}
+use Rattle.arrivals.specs.Rows.{IsSource, HasBounds, IsRow, amount_of, AreRows}
 
 -- these elements are read as these rows, which are lawful
 pub record AreReadAs {X : Type 0} (read : X → Option ArrivalRow) (net : Net) (elements : List X) (rows : List ArrivalRow) : Type 0 where

@@ -1,20 +1,13 @@
 -- Rows of arrivals: which are lawful, and what they bring.
 use Rattle.std.specs.Prelude.{◌≡◌, ℕ, ◌≤◌, ◌<◌, ◌==◌, ◌&&◌, Bool, List, None, length, filter, sum_by, All}
+use Rattle.net_parts.specs.Limits.{most_of_all, most_seconds}
 use Rattle.net_parts.specs.Numbers.{Net}
 use Rattle.net_parts.specs.Outline.{link_at}
 use Rattle.arrivals.specs.declared.rows.ArrivalRow.{ArrivalRow}
 
--- the seconds in which something may enter
-abbrev pub seconds : ℕ
-seconds = 18000
-
 -- the most that one row may bring
 abbrev pub most_of_row : ℕ
 most_of_row = 1000000
-
--- the most that all rows may bring
-abbrev pub most_of_all : ℕ
-most_of_all = 2000000000
 
 -- a link that is entered from outside: it comes from no node
 pub record IsSource (net : Net) (link : ℕ) : Type 0 where
@@ -23,7 +16,7 @@ pub record IsSource (net : Net) (link : ℕ) : Type 0 where
 
 -- the second and the amount of a row
 pub record HasBounds (r : ArrivalRow) : Type 0 where
-  pub second : r.second < seconds
+  pub second : r.second < most_seconds
   pub least : 1 ≤ r.amount
   pub most : r.amount ≤ most_of_row
 

@@ -8,7 +8,8 @@ use Rattle.arrivals.specs.declared.rows.RowFault.TheVariants.{NoMemory, Row, Lin
 use Rattle.arrivals.specs.Amounts.{Amounts, AreArrivalsOf, place}
 use Rattle.arrivals.specs.Faults.{IsAtLink, IsAtBound}
 use Rattle.arrivals.specs.Records.{told_of, row_of}
-use Rattle.arrivals.specs.Rows.{most_of_all, IsRow, amount_of}
+use Rattle.net_parts.specs.Limits.{most_of_all}
+use Rattle.arrivals.specs.Rows.{IsRow, amount_of}
 
 -- the amounts and their sum
 pub record IsStored (amounts : List ℕ) (whole : ℕ) : Type 0 where

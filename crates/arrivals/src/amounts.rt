@@ -57,9 +57,9 @@ impl CrossesThreads for Arrivals {}
 
 impl Arrivals {
     ghost use Rattle.std.specs.Prelude.{◌≡◌, ◌-◌, ◌<◌, ◌≤◌, ℕ, [], IfOk, IfErr, length, slice_index_or};
+    ghost use Rattle.net_parts.specs.Limits.{most_of_all, most_seconds};
     ghost use Rattle.road_net.specs.Network.{IsNetwork};
     ghost use Rattle.road_net.specs.Totals.{total};
-    ghost use Rattle.arrivals.specs.Rows.{most_of_all, seconds};
     ghost use Rattle.arrivals.specs.Amounts.{Amounts, entering, place, AreArrivals, AreArrivalsOf};
     ghost use Rattle.arrivals.specs.Faults.{IsRowFault, Refuses};
     ghost use Rattle.arrivals.specs.Stored.{Adds};
@@ -120,7 +120,7 @@ impl Arrivals {
     ///
     /// docs/RULES.md, "Arrivals".
     pub fn in_second(&self, second: u32) -> &[u32]
-        requires { second < seconds }
+        requires { second < most_seconds }
         ensures value { (link : ℕ) → self.now.first ≤ link
             → slice_index_or result.now (link - self.now.first) 0 ≡ entering self.now link second }
         ensures others { (link : ℕ) → link < self.now.first → entering self.now link second ≡ 0 }

@@ -1,5 +1,6 @@
 -- What the steps of the work make: an inflow, and the runs of a series. No public clause names these words.
 use Rattle.std.specs.Prelude.{◌≡◌, ℕ, ◌+◌, ◌-◌, ◌<◌, ◌≤◌, ◌⊎◌, Option, Some, None, IfSome, List, length, slice_index, sum, All, ◌==◌, if◌then◌else◌}
+use Rattle.net_parts.specs.Limits.{most_sat}
 use Rattle.board_model.specs.declared.boards.Heard.{Heard}
 use Rattle.phase_plan.specs.Phases.{phase_at}
 use Rattle.switch_rules.specs.declared.Head.{Head}
@@ -71,7 +72,7 @@ AreOfLinks net streams = All (λ s. s.link < length net.link_names) streams
 pub record AreStreams (look : ℕ) (streams : List Part) : Type 0 where
   pub few : length streams ≤ 16
   pub long : All (λ s. length s.amounts ≡ look) streams
-  pub small : All (λ s. All (λ amount. amount ≤ 5000) s.amounts) streams
+  pub small : All (λ s. All (λ amount. amount ≤ most_sat) s.amounts) streams
 
 -- what is seen of `look` seconds: of each as long as it takes to travel the link, the queue counting in the first; and then nothing
 pub record IsSeen (look travel queue : ℕ) (coming : List ℕ) (amounts : List ℕ) : Type 0 where

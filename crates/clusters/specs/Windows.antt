@@ -1,6 +1,7 @@
 -- The window: the platoons that one planning takes up.
 use Rattle.std.specs.Prelude.{◌≡◌, ℕ, ◌+◌, ◌<◌, ◌≤◌, List, length, map, slice_index, sum, take}
 use Rattle.std.specs.List.Sorted.{IsStrictlyIncreasing}
+use Rattle.net_parts.specs.Limits.{most_look}
 use Rattle.switch_rules.specs.Arriving.{ComesFirst}
 use Rattle.switch_rules.specs.Bounds.{most_clusters, most_orders}
 use Rattle.switch_rules.specs.Orders.{orders}
@@ -47,5 +48,5 @@ pub record IsWindow (lists : List (List Platoon)) (window : Window) : Type 0 whe
 
 -- a list of platoons that can be cut to a window: at most 180, each later than the one before it
 pub record IsRising (list : List Platoon) : Type 0 where
-  pub few : length list ≤ 180
+  pub few : length list ≤ most_look
   pub rising : IsStrictlyIncreasing (arrivals list)

@@ -1,5 +1,6 @@
 //! How what comes is cut into platoons.
 ghost use Rattle.std.specs.Prelude.{◌≡◌, ◌+◌, ◌<◌, ◌≤◌, ◌^◌, ℕ, All, IfOk, IfNone, IfSome, length, replicate, slice_index, sum};
+ghost use Rattle.net_parts.specs.Limits.{most_look, most_sat, most_seconds};
 ghost use Rattle.clusters.specs.Cuts.{filled, first_of};
 ghost use Rattle.clusters.specs.Platoons.{ArePlatoonsBy, platoon_within, together};
 ghost use Rattle.clusters.specs.Steps.{AreOfLinks, AreSpans, AreStreams, IsAge, IsEmpty, IsNext, IsRunUpTo, IsClosed, span_at};
@@ -111,11 +112,11 @@ pub(crate) fn gather_platoons(
     series: &[u32],
     streams: &PhaseStreams,
 ) -> Result<Vec<Platoon>, AllocError>
-    requires now { sensed.now.now ≤ 18000 }
+    requires now { sensed.now.now ≤ most_seconds }
     requires age { IsAge age }
     requires gap { cutting.gap ≤ 10 }
     requires spans { AreSpans cutting.first cutting.most }
-    requires look { length series.now ≤ 180 }
+    requires look { length series.now ≤ most_look }
     requires series { series.now ≡ together streams.now (length series.now) }
     requires streams { AreStreams (length series.now) streams.now }
     requires links { AreOfLinks net.now streams.now }
@@ -141,14 +142,14 @@ fn platoon(
     first: usize,
     end: usize,
 ) -> Result<Platoon, AllocError>
-    requires now { sensed.now.now ≤ 18000 }
+    requires now { sensed.now.now ≤ most_seconds }
     requires age { IsAge age }
     requires order { first ≤ end }
-    requires end { end ≤ 180 }
+    requires end { end ≤ most_look }
     requires few { length streams.now ≤ 16 }
     requires links { AreOfLinks net.now streams.now }
     requires long { All (λ s. end ≤ length s.amounts) streams.now }
-    requires amounts { All (λ s. All (λ amount. amount ≤ 5000) s.amounts) streams.now }
+    requires amounts { All (λ s. All (λ amount. amount ≤ most_sat) s.amounts) streams.now }
     ensures { IfOk result (λ platoon. platoon ≡
         platoon_within (aged_load_of age net.now sensed.entry.now) sensed.entry.now.now streams.now first end) }
 {

@@ -1,5 +1,6 @@
 //! What reaches the end of a link in the seconds that a planning looks ahead, and what leaves there.
 ghost use Rattle.std.specs.Prelude.{◌≡◌, ◌+◌, ◌-◌, ◌*◌, ◌++◌, replicate, ◌<◌, ◌≤◌, ◌^◌, ℕ, nat_lt, ◌==◌, find, option_copied, if◌then◌else◌, All, IfOk, length, slice_index, sum, sum_by, map};
+ghost use Rattle.net_parts.specs.Limits.{most_look, most_of_all, most_seconds, most_travel};
 ghost use Rattle.board_model.specs.Forecasts.{IsForecast, amount_at};
 ghost use Rattle.net_parts.specs.Outline.{link_at};
 ghost use Rattle.road_net.specs.Senses.{amount};
@@ -24,8 +25,8 @@ pub(crate) fn streams(
     heard: &[Heard],
 ) -> Result<PhaseStreams, AllocError>
     requires links { All (λ l. l < length net.now.link_names) links.now }
-    requires now { sensed.now.now ≤ 18000 }
-    requires amounts { sum_by amount sensed.now.links ≤ 2000000000 }
+    requires now { sensed.now.now ≤ most_seconds }
+    requires amounts { sum_by amount sensed.now.links ≤ most_of_all }
     ensures { IfOk result (λ streams. streams ≡ streams_of net.now sensed.entry.now heard.now links.now) }
 {
     let mut streams = Vec::with_capacity(alloc, links.len())?;
@@ -48,8 +49,8 @@ fn link_outflow(
     heard: &[Heard],
 ) -> Result<Vec<u32>, AllocError>
     requires link { l < length net.now.link_names }
-    requires now { sensed.now.now ≤ 18000 }
-    requires amounts { sum_by amount sensed.now.links ≤ 2000000000 }
+    requires now { sensed.now.now ≤ most_seconds }
+    requires amounts { sum_by amount sensed.now.links ≤ most_of_all }
     ensures { IfOk result (λ amounts. amounts.items ≡ leaving net.now sensed.entry.now heard.now l) }
 {
     let link = net.link(l);
@@ -122,10 +123,10 @@ fn inflow(
     coming: &[u32],
     rows: &[Row],
 ) -> Result<Vec<u32>, AllocError>
-    requires now { now ≤ 18000 }
-    requires look { (1 ≤ look) × (look ≤ 180) }
-    requires travel { (1 ≤ travel) × (travel ≤ 120) }
-    requires amounts { queue + sum coming.now ≤ 2000000000 }
+    requires now { now ≤ most_seconds }
+    requires look { (1 ≤ look) × (look ≤ most_look) }
+    requires travel { (1 ≤ travel) × (travel ≤ most_travel) }
+    requires amounts { queue + sum coming.now ≤ most_of_all }
     requires rows { IsForecast rows.now }
     ensures value { IfOk result (λ amounts. amounts.items ≡ inflow now look travel queue coming.now rows.now) }
     ensures sum { IfOk result (λ amounts. sum amounts.items ≤ 2014400000) }
@@ -144,9 +145,9 @@ fn seen_ahead(
     queue: u32,
     coming: &[u32],
 ) -> Result<Vec<u32>, AllocError>
-    requires look { (1 ≤ look) × (look ≤ 180) }
-    requires travel { (1 ≤ travel) × (travel ≤ 120) }
-    requires amounts { queue + sum coming.now ≤ 2000000000 }
+    requires look { (1 ≤ look) × (look ≤ most_look) }
+    requires travel { (1 ≤ travel) × (travel ≤ most_travel) }
+    requires amounts { queue + sum coming.now ≤ most_of_all }
     ensures { IfOk result (λ amounts. IsSeen look travel queue coming.now amounts.items) }
 {
     let seen = coming.len().min(travel.min(look) as usize);
@@ -169,9 +170,9 @@ fn pad_with_zeros(alloc: Global, front: &[u32], count: usize) -> Result<Vec<u32>
 /// Puts the amounts of the forecast in their seconds, those from the second `from` on; nothing stands there yet. The
 /// first amount is that of the second `now`.
 fn add_forecast(amounts: &mut [u32], now: u32, from: u32, rows: &[Row])
-    requires now { now ≤ 18000 }
+    requires now { now ≤ most_seconds }
     requires from { now ≤ from }
-    requires few { length amounts.old ≤ 180 }
+    requires few { length amounts.old ≤ most_look }
     requires none { (k : ℕ) → from ≤ now + k → slice_index amounts.old k ≡ 0 }
     requires rows { IsForecast rows.now }
     ensures value { (k : ℕ) → k < length amounts.old → slice_index amounts.new k ≡

@@ -1,5 +1,6 @@
 //! What platoons count: their loads.
 ghost use Rattle.std.specs.Prelude.{◌≡◌, ◌+◌, ◌*◌, ◌/◌, ◌<◌, ◌≤◌, ℕ, All, Some, length, min, sum, sum_by};
+ghost use Rattle.net_parts.specs.Limits.{most_sat};
 ghost use Rattle.net_parts.specs.Outline.{link_at};
 ghost use Rattle.clusters.specs.Inflow.{sense_of};
 ghost use Rattle.clusters.specs.Steps.{IsAge};
@@ -26,7 +27,7 @@ pub(crate) fn load_on(
     requires age { IsAge age }
     requires whole { whole ≡ sum amounts.now }
     requires few { whole ≤ 900000 }
-    requires small { All (λ amount. amount ≤ 5000) amounts.now }
+    requires small { All (λ amount. amount ≤ most_sat) amounts.now }
     ensures value { result ≡
         sum_by (amount_load age (link_at net.now link).weight (sense_of sensed.entry.now link).stood) amounts.now }
     ensures most { result ≤ greatest_weight * whole }
@@ -43,7 +44,7 @@ fn aged_load(age: u32, weight: u32, stood: u32, amounts: &[u32]) -> u32
     requires age { (1 ≤ age) × (age ≤ 3600) }
     requires weight { (1 ≤ weight) × (weight ≤ greatest_weight) }
     requires few { sum amounts.now ≤ 900000 }
-    requires small { All (λ amount. amount ≤ 5000) amounts.now }
+    requires small { All (λ amount. amount ≤ most_sat) amounts.now }
     ensures value { result ≡ sum_by (amount_load (Some age) weight stood) amounts.now }
     ensures most { result ≤ greatest_weight * sum amounts.now }
 {
@@ -69,7 +70,7 @@ fn grown_weight(age: u32, weight: u32, stood: u32) -> u32
 fn amount_load(age: u32, grown: u32, amount: u32) -> u32
     requires age { 1 ≤ age }
     requires grown { grown ≤ 288000 }
-    requires amount { amount ≤ 5000 }
+    requires amount { amount ≤ most_sat }
     ensures value { result ≡ min (greatest_weight * amount) (amount * grown / age) }
     ensures most { result ≤ greatest_weight * amount }
 {

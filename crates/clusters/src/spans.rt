@@ -1,5 +1,6 @@
 //! How many seconds the runs of a standing phase may span.
 ghost use Rattle.std.specs.Prelude.{◌≡◌, ◌-◌, ◌<◌, ◌≤◌, ℕ, IfSome, length};
+ghost use Rattle.net_parts.specs.Limits.{most_look, most_seconds};
 ghost use Rattle.clusters.specs.Steps.{AreSpans, span_at, span_with};
 ghost use Rattle.clusters.specs.UnderLoad.{span_in_green};
 ghost use Rattle.phase_plan.specs.Phases.{IsPhase};
@@ -18,8 +19,8 @@ pub(crate) fn first_in_green(
 ) -> Option<(usize, u32)>
     requires times { IsPhase times.now }
     requires head { IfSome split (λ head. head.since ≤ head.at) }
-    requires now { now ≤ 18000 }
-    requires look { length series.now ≤ 180 }
+    requires now { now ≤ most_seconds }
+    requires look { length series.now ≤ most_look }
     ensures value { (x : ℕ) → span_at result (times.now.greatest - times.now.loss) x ≡
         span_with split times.now.greatest (times.now.greatest - times.now.loss) now series.now x }
     ensures bounds { AreSpans result (times.now.greatest - times.now.loss) }

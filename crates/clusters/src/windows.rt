@@ -1,5 +1,6 @@
 //! The window: the platoons that one planning takes up.
 ghost use Rattle.std.specs.Prelude.{◌≡◌, ◌+◌, ◌<◌, ◌≤◌, ℕ, All, IfOk, length, replicate, take, slice_index, sum, map, vec_len};
+ghost use Rattle.net_parts.specs.Limits.{most_look};
 ghost use Rattle.net_parts.specs.Numbers.{Net};
 ghost use Rattle.clusters.specs.Platoons.{platoons_at};
 ghost use Rattle.clusters.specs.Sound.{AreOfNode, ArePlannable, AreSpacedClusters, cluster_lists};
@@ -96,7 +97,7 @@ fn earlier(first: Option<(u32, usize)>, arr: u32, phase: usize) -> (u32, usize)
 /// How many platoons are not taken.
 fn count_waiting(lists: &[Items<Platoon>], counts: &[u32]) -> u32
     requires phases { length lists.now ≤ 4 }
-    requires few { All (λ list. length list ≤ 180) lists.now }
+    requires few { All (λ list. length list ≤ most_look) lists.now }
     requires same { length counts.now ≡ length lists.now }
     requires there { (k : ℕ) → slice_index counts.now k ≤ length (platoons_at lists.now k) }
     ensures { result + sum counts.now ≡ sum (counts_of lists.now) }

@@ -4,7 +4,7 @@ use Rattle.std.specs.List.{AllZip, concat, range_with_len}
 use Rattle.actuated.specs.ActRuns.{IsActRun, ShowsGreens}
 use Rattle.actuated.specs.Reports.{act_text}
 use Rattle.audit.specs.declared.line_runs.LineRun.{LineRun}
-use Rattle.arrivals.specs.Rows.{most_of_all}
+use Rattle.net_parts.specs.Limits.{most_of_all}
 use Rattle.audit.specs.Audits.{AreLawful, IsClean, IsCleanText}
 use Rattle.net_simulator.specs.Shown.{all_shown}
 use Rattle.control_flow.specs.declared.greens.Green.{Green}

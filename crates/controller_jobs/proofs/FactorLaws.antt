@@ -5,7 +5,7 @@ use Rattle.std.specs.List.{AllZip, concat, range_with_len}
 use Rattle.std.proofs.lemmas.Bool.{cases_lt}
 use Rattle.std.proofs.lemmas.List.Folds.{concat-append}
 use Rattle.std.proofs.lemmas.List.FromFn.{get_or-map-range_with_len, length-map-range_with_len, map-range_with_len_more}
-use Rattle.arrivals.specs.Rows.{most_of_all}
+use Rattle.net_parts.specs.Limits.{most_of_all}
 use Rattle.outside_world.specs.Shelf.{ShelfState}
 use Rattle.net_parts.specs.Numbers.{Net}
 use Rattle.scaled_arrivals.specs.Scaling.{scaled_whole}

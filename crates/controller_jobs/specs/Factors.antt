@@ -1,6 +1,6 @@
 -- The lines of factors, and why a factor has none. No public clause names these definitions.
 use Rattle.std.specs.Prelude.{◌≡◌, ℕ, ◌<◌, List, ◌++◌}
-use Rattle.arrivals.specs.Rows.{most_of_all}
+use Rattle.net_parts.specs.Limits.{most_of_all}
 use Rattle.net_parts.specs.Numbers.{Net}
 use Rattle.scaled_arrivals.specs.Scaling.{scaled_whole}
 use Rattle.commands.specs.Controllers.{BringTooMuch, IsScaleLine}

@@ -1,7 +1,7 @@
 //! The command `fixed NET ARR PLAN`.
 ghost use Rattle.std.specs.Prelude.{◌≡◌, ◌≤◌, ℕ, IfOk};
 ghost use Rattle.arrivals.specs.Amounts.{AreArrivals, entering};
-ghost use Rattle.arrivals.specs.Rows.{most_of_all};
+ghost use Rattle.net_parts.specs.Limits.{most_of_all};
 ghost use Rattle.audit.specs.Audits.{IsClean, IsCleanText};
 ghost use Rattle.command_words.specs.Calls.{Fixed};
 ghost use Rattle.commands.specs.Controllers.{IsFixedReport, fixed_timelines};

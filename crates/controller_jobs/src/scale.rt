@@ -2,7 +2,7 @@
 ghost use Rattle.std.specs.Prelude.{◌≡◌, ◌+◌, ◌-◌, ◌*◌, ◌/◌, ◌≤◌, ◌∷◌, ◌++◌, IfErr, IfOk, OnOk};
 ghost use Rattle.std.specs.List.{join_with_byte};
 ghost use Rattle.arrivals.specs.Amounts.{AreArrivals, entering};
-ghost use Rattle.arrivals.specs.Rows.{most_of_all};
+ghost use Rattle.net_parts.specs.Limits.{most_of_all};
 ghost use Rattle.command_words.specs.Calls.{Scale};
 ghost use Rattle.command_words.specs.Factors.{AreFactors};
 ghost use Rattle.commands.specs.Controllers.{BringTooMuch, IsScaleTable, factors};

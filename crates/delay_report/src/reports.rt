@@ -1,6 +1,6 @@
 //! The report of a run.
 ghost use Rattle.std.specs.Prelude.{◌≡◌, ℕ, ◌≤◌, List, ◌++◌, IfOk, OnOk};
-ghost use Rattle.arrivals.specs.Rows.{most_of_all};
+ghost use Rattle.net_parts.specs.Limits.{most_of_all};
 ghost use Rattle.audit.specs.Audits.{IsCleanText};
 ghost use Rattle.histories.specs.Histories.{IsLawful};
 ghost use Rattle.net_simulator.specs.Sums.{arrived};

@@ -1,6 +1,7 @@
 //! The timelines of a fixed plan.
 ghost use Rattle.std.specs.Prelude.{◌≡◌, ◌+◌, ◌-◌, ◌%◌, ◌<◌, ◌≤◌, ◌++◌, ◌∷◌, [], ℕ, nat_lt, if◌then◌else◌, IfOk, OnOk, length, map, slice_index_or};
 ghost use Rattle.std.specs.List.{range_with_len};
+ghost use Rattle.net_parts.specs.Limits.{most_seconds};
 ghost use Rattle.control_flow.specs.Greens.{IsLawful, end_of};
 ghost use Rattle.net_parts.specs.Outline.{plan_at};
 ghost use Rattle.net_simulator.specs.Sums as sums;
@@ -84,7 +85,7 @@ fn cycle_line(
     end: u32,
 ) -> Result<Timeline, AllocError>
     requires cycle { IsCycle plan.now cycle.now }
-    requires end { end ≤ 18000 }
+    requires end { end ≤ most_seconds }
     ensures value { IfOk result (λ line. line ≡ cycle_line plan.now cycle.now end) }
     ensures lawful { IfOk result (IsLawful plan.now) }
     ensures end { IfOk result (λ line. end < end_of line) }

@@ -1,5 +1,6 @@
 -- Board steps: what a node does at the boards in each round.
 use Rattle.std.specs.Prelude.{◌≡◌, ℕ, ◌≤◌, ◌==◌, Bool, false, List, [], ◌∷◌, ◌++◌, Option, Some, None, is_some, length, map, filter, if◌then◌else◌, unwrap_or}
+use Rattle.net_parts.specs.Limits.{most_links}
 use Rattle.net_parts.specs.Numbers.{Net}
 use Rattle.net_parts.specs.Outline.{link_at}
 use Rattle.road_net.specs.Network.{heard_links, told_links}
@@ -40,5 +41,5 @@ pub record IsPlayedByEnds (net : Net) (link : ℕ) : Type 0 where
 -- play on it.
 pub record AreSteps (net : Net) : Type 0 where
   pub beyond : (node : ℕ) → length net.node_names ≤ node → board_steps net node ≡ []
-  pub few : (node : ℕ) → length (board_steps net node) ≤ 320
+  pub few : (node : ℕ) → length (board_steps net node) ≤ most_links
   pub players : (link : ℕ) → IsPlayedByEnds net link

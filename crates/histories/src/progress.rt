@@ -1,5 +1,6 @@
 //! How far a history has come, step by step.
 ghost use Rattle.std.specs.Prelude.{◌≡◌, ◌≤◌, ◌==◌, ℕ, All, if◌then◌else◌, length, slice_index_or, sum_by};
+ghost use Rattle.net_parts.specs.Limits.{most_links};
 ghost use Rattle.histories.specs.Steps.{board_steps};
 
 use crate::steps::step_count;
@@ -128,7 +129,7 @@ fn rounds_without_steps(whole: u32, rounds: u32) -> u32
 /// How many board steps each node has in a round; 0 where there is no such node.
 fn step_counts(net: &Network) -> [u32; 64]
     ensures counts { (n : ℕ) → slice_index_or result n 0 ≡ length (board_steps net.now n) }
-    ensures few { All (λ c. c ≤ 320) result }
+    ensures few { All (λ c. c ≤ most_links) result }
 {
     let mut counts = [0; 64];
     for node in 0..net.nodes() {
@@ -139,7 +140,7 @@ fn step_counts(net: &Network) -> [u32; 64]
 
 /// All these counts together.
 fn total(counts: &[u32; 64]) -> u32
-    requires { All (λ c. c ≤ 320) counts.now }
+    requires { All (λ c. c ≤ most_links) counts.now }
     ensures { result ≡ sum_by (λ c. c) counts.now }
 {
     let mut sum = 0;

@@ -1,5 +1,6 @@
 //! The board steps of a node in a round.
 ghost use Rattle.std.specs.Prelude.{◌≡◌, ◌<◌, ◌≤◌, ◌++◌, All, IfOk, OnOk, filter, length, map, vec_len};
+ghost use Rattle.net_parts.specs.Limits.{most_links};
 ghost use Rattle.histories.specs.Sides as sides;
 ghost use Rattle.histories.specs.Steps.{board_steps, AreSteps};
 
@@ -26,7 +27,7 @@ impl CrossesThreads for BoardStep {}
 pub fn step_count(net: &Network, node: u32) -> u32
     requires { node < length net.now.node_names }
     ensures value { result ≡ length (board_steps net.now node) }
-    ensures few { result ≤ 320 }
+    ensures few { result ≤ most_links }
 {
     joined_count(net, Side::Begin, net.entry_links(node))
         + joined_count(net, Side::End, net.exit_links(node))
@@ -38,7 +39,7 @@ pub fn step_count(net: &Network, node: u32) -> u32
 pub fn node_steps(alloc: Global, net: &Network, node: u32) -> Result<Vec<BoardStep>, AllocError>
     requires { node < length net.now.node_names }
     ensures value { IfOk result (λ steps. steps.items ≡ board_steps net.now node) }
-    ensures few { IfOk result (λ steps. vec_len steps ≤ 320) }
+    ensures few { IfOk result (λ steps. vec_len steps ≤ most_links) }
 {
     let mut steps = Vec::new(alloc);
     push_steps(net, Side::Begin, net.entry_links(node), &mut steps)?;
@@ -67,7 +68,7 @@ fn has_node(net: &Network, side: Side, link: u32) -> bool
 /// How many of these links have a node at a side.
 fn joined_count(net: &Network, side: Side, links: &[u32]) -> u32
     requires exist { All (λ l. l < length net.now.link_names) links.now }
-    requires few { length links.now ≤ 320 }
+    requires few { length links.now ≤ most_links }
     ensures { result ≡ length (filter (sides.has_node net.now side) links.now) }
 {
     let mut count = 0;

@@ -1,5 +1,6 @@
 -- Which actors are of a network, and what a commit makes of an actor.
 use Rattle.std.specs.Prelude.{◌≡◌, ℕ, ◌+◌, ◌*◌, ◌<◌, ◌≤◌, ◌++◌, [], ◌∷◌, Contains, length, map}
+use Rattle.net_parts.specs.Limits.{most_seconds}
 use Rattle.switch_rules.specs.Sequences.{AreNextServings}
 use Rattle.switch_rules.specs.declared.Head.{Head}
 use Rattle.control_flow.specs.Greens.{BeginBy, IsLawful, colour_at, end_of, standing}
@@ -32,7 +33,7 @@ pub record IsHearing (net : Net) (a : Acting) : Type 0 where
 -- servings those of these phases from some head.
 pub record IsTelling (net : Net) (a : Acting) (wanted : ℕ) : Type 0 where
   pub link : Contains (told_links net a.node) wanted
-  pub now : a.sensed.now ≤ 18000
+  pub now : a.sensed.now ≤ most_seconds
   pub platoons : AreOfNode net a.node a.sensed.now a.window.lists
   pub head : Head
   pub served : AreNextServings (plan_at net a.node) (cluster_lists a.window.lists) (counts_of a.window.lists) head a.phases a.served

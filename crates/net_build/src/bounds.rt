@@ -1,5 +1,6 @@
 //! The bounds of what stands in a draft.
 ghost use Rattle.std.specs.Prelude.{◌≡◌, ◌≤◌, ◌↔◌, OnOk, IfErr, IsTrue, All, length, count_by};
+ghost use Rattle.net_parts.specs.Limits.{most_links};
 ghost use Rattle.foundation.specs.Firsts.{IsFirstAt, IsFirstNot, FromOne};
 ghost use Rattle.phase_plan.specs.Phases.{is_unmarked};
 ghost use Rattle.net_build.specs.Outcome.{Checks, HasOptions};
@@ -139,7 +140,7 @@ fn is_bounded_phase(phase: &DraftPhase) -> bool
 
 /// Tests each link, and names the first fault of the first that is out of its bounds.
 fn check_links(links: &[DraftLink]) -> Result<(), NetFault>
-    requires { length links.now ≤ 320 }
+    requires { length links.now ≤ most_links }
     ensures { Checks (All IsBoundedLink links.now)
         (λ place. FromOne
         (IsFirstAt IsBoundedLink (λ l. IsLinkFault l place.part place.sub) links.now) place.item) result }

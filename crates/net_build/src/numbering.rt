@@ -1,5 +1,6 @@
 //! Numbers for the names of a draft.
 ghost use Rattle.std.specs.Prelude.{◌≡◌, ◌≤◌, ◌<◌, [], Some, IfOk, IfErr, IfSome, OnOk, All, Contains, length, map, count_by};
+ghost use Rattle.net_parts.specs.Limits.{most_links};
 ghost use Rattle.foundation.specs.Firsts.{IsFirstAt, IsFirstNot, FromOne};
 ghost use Rattle.foundation.specs.Options.{each};
 ghost use Rattle.phase_plan.specs.Phases.{is_unmarked};
@@ -127,7 +128,7 @@ fn add_node_names(alloc: Global, nodes: &[DraftNode], names: &mut Names) -> Resu
 
 /// Adds the names of the links, no two the same.
 fn add_link_names(alloc: Global, links: &[DraftLink], names: &mut Names) -> Result<(), NetFault>
-    requires few { length links.now ≤ 320 }
+    requires few { length links.now ≤ most_links }
     requires none { names.old ≡ [] }
     ensures { AreAdded Section.Link (map (λ l. l.name) links.now) names.new result }
 {
@@ -238,7 +239,7 @@ fn roads(
     names: &Tables,
     links: &[DraftLink],
 ) -> Result<(Vec<Link>, Vec<Items<Turn>>), NetFault>
-    requires few { length links.now ≤ 320 }
+    requires few { length links.now ≤ most_links }
     requires turns { All (λ l. length l.turns ≤ 16) links.now }
     requires nodes { length names.now.nodes.now ≤ length names.now.phase_links.now }
     requires phases { All (λ phases. length phases ≤ 4) names.now.phase_links.now }

@@ -1,5 +1,6 @@
 -- The bounds of what is in a draft.
 use Rattle.std.specs.Prelude.{◌≡◌, ℕ, ◌%◌, ◌≤◌, ◌⊎◌, IfSome, List, length, count_by, All}
+use Rattle.net_parts.specs.Limits.{most_links, most_look, most_sat, most_travel}
 use Rattle.phase_plan.specs.Phases.{IsPhase, is_unmarked}
 use Rattle.net_parts.specs.declared.drafts.Run.{Run}
 use Rattle.net_parts.specs.declared.drafts.Draft.{Draft}
@@ -25,7 +26,7 @@ pub record IsActStep (step act_step : ℕ) : Type 0 where
 -- the numbers of a run, and that a round is no longer than a planning looks ahead
 pub record IsRun (run : Run) : Type 0 where
   pub step : (1 ≤ run.step) × (run.step ≤ 30)
-  pub look : (10 ≤ run.look) × (run.look ≤ 180)
+  pub look : (10 ≤ run.look) × (run.look ≤ most_look)
   pub within : run.step ≤ run.look
   pub gap : run.gap ≤ 10
   pub rounds : (1 ≤ run.rounds) × (run.rounds ≤ 600)
@@ -56,8 +57,8 @@ IsBoundedTurn t = t.share ≤ 1000
 -- the bounds of a link itself, its turns apart
 pub record HasLinkBounds (l : DraftLink) : Type 0 where
   pub name : IsName l.name
-  pub travel : (1 ≤ l.travel) × (l.travel ≤ 120)
-  pub sat : (1 ≤ l.sat) × (l.sat ≤ 5000)
+  pub travel : (1 ≤ l.travel) × (l.travel ≤ most_travel)
+  pub sat : (1 ≤ l.sat) × (l.sat ≤ most_sat)
   pub weight : (1 ≤ l.weight) × (l.weight ≤ 20)
   pub count : length l.turns ≤ 16
 
@@ -69,7 +70,7 @@ pub record IsBoundedLink (l : DraftLink) : Type 0 where
 -- how many nodes, links and conflicts there are
 pub record HasCounts (d : Draft) : Type 0 where
   pub nodes : (1 ≤ length d.nodes) × (length d.nodes ≤ 64)
-  pub links : (1 ≤ length d.links) × (length d.links ≤ 320)
+  pub links : (1 ≤ length d.links) × (length d.links ≤ most_links)
   pub conflicts : length d.conflicts ≤ 1024
 
 -- a draft with all in it

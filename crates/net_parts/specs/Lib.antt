@@ -1,5 +1,6 @@
 pub mod Bounds
 pub mod FirstFaults
+pub mod Limits
 pub mod Numbers
 pub mod Outline
 pub mod Parts

@@ -1,5 +1,6 @@
 -- The parts of a network by number, and how many there are.
 use Rattle.std.specs.Prelude.{◌≡◌, ℕ, ◌<◌, ◌≤◌, List, [], IfSome, length, slice_index_or, All}
+use Rattle.net_parts.specs.Limits.{most_links, most_sat, most_travel}
 use Rattle.phase_plan.specs.declared.Phase.{Phase}
 use Rattle.phase_plan.specs.Phases.{IsPlan}
 use Rattle.net_parts.specs.declared.roads.Link.{Link}
@@ -39,8 +40,8 @@ link_name_at net l = slice_index_or net.link_names l []
 pub record IsLink (nodes : ℕ) (l : Link) : Type 0 where
   pub from : IfSome l.from (λ n. n < nodes)
   pub to : IfSome l.to (λ n. n < nodes)
-  pub travel : (1 ≤ l.travel) × (l.travel ≤ 120)
-  pub sat : (1 ≤ l.sat) × (l.sat ≤ 5000)
+  pub travel : (1 ≤ l.travel) × (l.travel ≤ most_travel)
+  pub sat : (1 ≤ l.sat) × (l.sat ≤ most_sat)
   pub weight : (1 ≤ l.weight) × (l.weight ≤ 20)
 
 -- turns into a network of this number of links
@@ -58,7 +59,7 @@ pub record ArePhaseLinks (links : ℕ) (numbers : List ℕ) : Type 0 where
 pub record IsOutline (net : Net) : Type 0 where
   pub run : IsRun net.run
   pub node_count : (1 ≤ length net.node_names) × (length net.node_names ≤ 64)
-  pub link_count : (1 ≤ length net.link_names) × (length net.link_names ≤ 320)
+  pub link_count : (1 ≤ length net.link_names) × (length net.link_names ≤ most_links)
   pub node_names : All IsName net.node_names
   pub nodes_differ : AreDistinct net.node_names
   pub link_names : All IsName net.link_names

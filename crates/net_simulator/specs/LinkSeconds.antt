@@ -7,7 +7,7 @@ use Rattle.net_parts.specs.Outline.{link_at, plan_at}
 use Rattle.road_net.specs.declared.senses.LinkSense.{LinkSense}
 use Rattle.control_flow.specs.declared.greens.Green.{Green}
 use Rattle.net_simulator.specs.Flow.{is_lost}
-use Rattle.net_simulator.specs.Rows.{cell}
+use Rattle.net_simulator.specs.Rows.{cell, kept_seconds}
 
 -- whether link l of a node may discharge in second x in this green, where `waits` has the queues after each second
 abbrev pub is_open : Net → List ℕ → ℕ → ℕ → ℕ → Option Green → Bool
@@ -16,7 +16,7 @@ is_open net waits x l node (Some green) = (green.phase == (link_at net l).phase)
 
 -- what waits at the end of link l: its queue, and what entered it one travel time ago
 abbrev pub waits_at : Net → List ℕ → List ℕ → ℕ → ℕ → ℕ
-waits_at net queues recent x l = slice_index queues l + cell recent l (x + 128 - (link_at net l).travel)
+waits_at net queues recent x l = slice_index queues l + cell recent l (x + kept_seconds - (link_at net l).travel)
 
 -- for how many seconds a queue has stood after one more of them, by the queue after it
 abbrev pub stands_on : ℕ → ℕ → ℕ
@@ -27,6 +27,6 @@ abbrev pub seen_by : Net → List ℕ → List ℕ → List ℕ → ℕ → ℕ 
 seen_by net queues recent standing n l = record {
   link = l;
   queue = slice_index queues l;
-  coming = map (λ i. cell recent l (n + 128 - (link_at net l).travel + i)) (range_with_len 0 (link_at net l).travel);
+  coming = map (λ i. cell recent l (n + kept_seconds - (link_at net l).travel + i)) (range_with_len 0 (link_at net l).travel);
   stood = slice_index standing l;
 }

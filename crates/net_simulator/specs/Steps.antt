@@ -1,5 +1,6 @@
 -- What the code does in one second of the world, by what it keeps. No public clause names these words.
 use Rattle.std.specs.Prelude.{ℕ, ◌+◌, ◌*◌, ◌≤◌, min, if◌then◌else◌, List, Option, Some, None, length, slice_index, slice_index_or}
+use Rattle.net_parts.specs.Limits.{most_of_all}
 use Rattle.net_parts.specs.Numbers.{Net}
 use Rattle.net_parts.specs.Outline.{link_at}
 use Rattle.control_flow.specs.declared.greens.Green.{Green}
@@ -27,6 +28,6 @@ counted t entering leaving queue = record { entered = t.entered + entering; left
 
 -- what the first n seconds can count
 pub record FitsSeconds (n : ℕ) (t : LinkTotals) : Type 0 where
-  pub entered : t.entered ≤ n * 2000000000
-  pub left : t.left ≤ n * 2000000000
-  pub delay : t.delay ≤ n * 2000000000
+  pub entered : t.entered ≤ n * most_of_all
+  pub left : t.left ≤ n * most_of_all
+  pub delay : t.delay ≤ n * most_of_all

@@ -1,5 +1,6 @@
 -- Sums over the links of a network.
 use Rattle.std.specs.Prelude.{ℕ, ◌+◌, ◌-◌, ◌*◌, ◌≤◌, Option, None, Some, length}
+use Rattle.net_parts.specs.Limits.{most_of_all}
 use Rattle.net_parts.specs.Numbers.{Net}
 use Rattle.net_parts.specs.Outline.{link_at}
 use Rattle.road_net.specs.Totals.{total}
@@ -18,7 +19,7 @@ arrived net arriving n = total (λ x. total (arriving x) (length net.link_names)
 
 -- All that ever arrives is at most 2,000,000,000. No public clause names it.
 abbrev pub AreFew : Net → (ℕ → ℕ → ℕ) → Type 0
-AreFew net arriving = (n : ℕ) → arrived net arriving n ≤ 2000000000
+AreFew net arriving = (n : ℕ) → arrived net arriving n ≤ most_of_all
 
 -- all that left the network in the first n seconds
 abbrev pub gone : Net → (ℕ → ℕ → Passed) → ℕ → ℕ

@@ -1,5 +1,6 @@
 -- What a world stands for.
 use Rattle.std.specs.Prelude.{◌≡◌, ℕ, ◌+◌, ◌-◌, ◌*◌, ◌<◌, ◌≤◌, List, [], Option, length, slice_index, slice_index_or}
+use Rattle.net_parts.specs.Limits.{most_seconds, most_travel}
 use Rattle.net_parts.specs.Numbers.{Net}
 use Rattle.control_flow.specs.declared.greens.Green.{Green}
 use Rattle.control_flow.specs.Greens.{standing}
@@ -7,7 +8,7 @@ use Rattle.net_simulator.specs.Flow.{Passed, queue, past_of}
 use Rattle.arrivals.specs.Amounts.{Amounts, AreArrivals}
 use Rattle.net_simulator.specs.Arriving.{arriving_of}
 use Rattle.net_simulator.specs.Sums.{link_totals, totals}
-use Rattle.net_simulator.specs.Rows.{cell}
+use Rattle.net_simulator.specs.Rows.{cell, kept_seconds}
 use Rattle.net_simulator.specs.Counts.{counts_at}
 use Rattle.net_simulator.specs.Senses.{stood}
 use Rattle.net_simulator.specs.declared.totals.LinkTotals.{LinkTotals}
@@ -37,8 +38,8 @@ pub record WorldState : Type 0 where
 pub record HasShape (net : Net) (w : WorldState) : Type 0 where
   pub nodes : w.nodes ≡ length net.node_names
   pub queues : length w.queues ≡ length net.link_names
-  pub recent : length w.recent ≡ length net.link_names * 128
-  pub waits : length w.waits ≡ length net.link_names * 128
+  pub recent : length w.recent ≡ length net.link_names * kept_seconds
+  pub waits : length w.waits ≡ length net.link_names * kept_seconds
   pub stood : length w.stood ≡ length net.link_names
   pub counts : length w.counts ≡ length net.link_names
 
@@ -46,13 +47,13 @@ pub record HasShape (net : Net) (w : WorldState) : Type 0 where
 -- seconds, and the queues after the last 120 seconds and now.
 pub record Keeps (net : Net) (past : ℕ → ℕ → Passed) (qs rs ws : List ℕ) (x : ℕ) : Type 0 where
   pub queues : (l : ℕ) → l < length net.link_names → slice_index qs l ≡ queue net past x l
-  pub recent : (l d : ℕ) → l < length net.link_names → 1 ≤ d → d ≤ 120 → cell rs l (x + 128 - d) ≡ (past (x + 1 - d) l).entered - (past (x - d) l).entered
-  pub waits : (l d : ℕ) → l < length net.link_names → d ≤ 120 → cell ws l (x + 128 - d) ≡ queue net past (x - d) l
+  pub recent : (l d : ℕ) → l < length net.link_names → 1 ≤ d → d ≤ most_travel → cell rs l (x + kept_seconds - d) ≡ (past (x + 1 - d) l).entered - (past (x - d) l).entered
+  pub waits : (l d : ℕ) → l < length net.link_names → d ≤ most_travel → cell ws l (x + kept_seconds - d) ≡ queue net past (x - d) l
 
 -- All that a world keeps is what the definition gives for a network, arrivals and what is shown over the seconds below its own.
 pub record Stands (net : Net) (arriving : ℕ → ℕ → ℕ) (shown : ℕ → ℕ → Option (ℕ × ℕ)) (w : WorldState) : Type 0 where
   pub shape : HasShape net w
-  pub by : w.second ≤ 18000
+  pub by : w.second ≤ most_seconds
   pub keeps : Keeps net (past_of net arriving shown w.second) w.queues w.recent w.waits w.second
   pub counts : (l : ℕ) → l < length net.link_names → counts_at w.counts l ≡ link_totals net (past_of net arriving shown w.second) w.second l
   pub totals : w.totals ≡ totals net arriving (past_of net arriving shown w.second) w.second

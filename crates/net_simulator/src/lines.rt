@@ -1,6 +1,7 @@
 //! Timelines that are given, one for each node, and the world under them.
 
 ghost use Rattle.std.specs.Prelude.{◌≡◌, ◌≤◌, IfOk};
+ghost use Rattle.net_parts.specs.Limits.{most_seconds};
 ghost use Rattle.arrivals.specs.Amounts.{AreArrivals};
 ghost use Rattle.net_simulator.specs.Arriving.{arriving_of};
 ghost use Rattle.net_simulator.specs.Sums as sums;
@@ -48,7 +49,7 @@ pub fn play<'a>(
     lines: &Lines<'a>,
     seconds: u32,
 ) -> Result<World, AllocError>
-    requires second { seconds ≤ 18000 }
+    requires second { seconds ≤ most_seconds }
     requires arrivals { AreArrivals net.now arrivals.now }
     ensures second { IfOk result (λ world. world.second ≡ seconds) }
     ensures stands { IfOk result (Stands net.now (arriving_of arrivals.now) (standing_by (line_in lines.now.all.now))) }
@@ -63,7 +64,7 @@ pub fn play<'a>(
 /// docs/RULES.md, "Run".
 pub fn end_of_run(net: &Network) -> u32
     ensures value { result ≡ sums.end_of_run net.now }
-    ensures bound { result ≤ 18000 }
+    ensures bound { result ≤ most_seconds }
 {
     net.run().rounds * net.run().step
 }

@@ -3,10 +3,11 @@
 //! They work on the slices that a world keeps, a number for each link, or a row of 128 seconds for each (`rows`).
 
 ghost use Rattle.std.specs.Prelude.{◌≡◌, ◌≢◌, ℕ, ◌*◌, ◌%◌, ◌≤◌, ◌<◌, ◌^◌, None, Some, IfSome, length, slice_index, slice_index_or};
+ghost use Rattle.net_parts.specs.Limits.{most_seconds};
 ghost use Rattle.control_flow.specs.Greens.{green_at};
 ghost use Rattle.net_parts.specs.Outline.{link_at};
 ghost use Rattle.net_simulator.specs.LinkSeconds.{is_open, stands_on, waits_at};
-ghost use Rattle.net_simulator.specs.Rows.{cell};
+ghost use Rattle.net_simulator.specs.Rows.{cell, kept_seconds};
 ghost use Rattle.net_simulator.specs.Sums.{outward};
 
 use super::lights::Lights;
@@ -42,7 +43,7 @@ pub fn is_open(
 ) -> bool
     requires link { l < length net.now.link_names }
     requires node { (link_at net.now l).to ≡ Some node }
-    requires waits { length waits.now ≡ length net.now.link_names * 128 }
+    requires waits { length waits.now ≡ length net.now.link_names * kept_seconds }
     requires begun { IfSome green (λ g. g.from ≤ second) }
     ensures { result ≡ is_open net.now waits.now second l node green }
 {
@@ -64,8 +65,8 @@ pub fn is_open(
 pub fn waiting_amount(net: &Network, queues: &[u32], recent: &[u32], second: u32, l: u32) -> u32
     requires link { l < length net.now.link_names }
     requires queues { length queues.now ≡ length net.now.link_names }
-    requires recent { length recent.now ≡ length net.now.link_names * 128 }
-    requires second { second < 18000 }
+    requires recent { length recent.now ≡ length net.now.link_names * kept_seconds }
+    requires second { second < most_seconds }
     requires fits { waits_at net.now queues.now recent.now second l < 2 ^ 32 }
     ensures { result ≡ waits_at net.now queues.now recent.now second l }
 {
@@ -92,12 +93,12 @@ pub fn outward(to: Option<u32>, amount: u32) -> u32
 ///
 /// docs/RULES.md, "World", "What a node sees".
 pub fn remember(waits: &mut [u32], stood: &mut [u32], queues: &[u32], links: u32, next: u32)
-    requires waits { length waits.old ≡ links * 128 }
+    requires waits { length waits.old ≡ links * kept_seconds }
     requires stood { length stood.old ≡ links }
     requires queues { length queues.now ≡ links }
-    requires fits { (l : ℕ) → l < links → slice_index stood.old l < 18000 }
+    requires fits { (l : ℕ) → l < links → slice_index stood.old l < most_seconds }
     ensures here { (l : ℕ) → l < links → cell waits.new l next ≡ slice_index queues.now l }
-    ensures others { (l y : ℕ) → y % 128 ≢ next % 128 → cell waits.new l y ≡ cell waits.old l y }
+    ensures others { (l y : ℕ) → y % kept_seconds ≢ next % kept_seconds → cell waits.new l y ≡ cell waits.old l y }
     ensures stood { (l : ℕ) → l < links
         → slice_index stood.new l ≡ stands_on (slice_index queues.now l) (slice_index stood.old l) }
 {

@@ -1,11 +1,12 @@
 //! What happens in one second of the world.
 
 ghost use Rattle.std.specs.Prelude.{◌≡◌, ◌≢◌, ℕ, ◌+◌, ◌-◌, ◌*◌, ◌/◌, ◌%◌, ◌≤◌, ◌<◌, ◌^◌, None, Some, IfSome, length, slice_index, slice_index_or};
+ghost use Rattle.net_parts.specs.Limits.{most_seconds};
 ghost use Rattle.net_parts.specs.Outline.{link_at, turns_at};
 ghost use Rattle.net_simulator.specs.Arriving.{arriving_of};
 ghost use Rattle.net_simulator.specs.Counts.{counts_at};
 ghost use Rattle.net_simulator.specs.LinkSeconds.{waits_at};
-ghost use Rattle.net_simulator.specs.Rows.{cell};
+ghost use Rattle.net_simulator.specs.Rows.{cell, kept_seconds};
 ghost use Rattle.net_simulator.specs.Steps.{goes, goes_out, all_of, counted, FitsSeconds};
 ghost use Rattle.net_simulator.specs.Sums as sums;
 ghost use Rattle.road_net.specs.Joins.{split_of};
@@ -32,10 +33,10 @@ fn amount_from(amounts: &[u32], first: u32, l: u32) -> u32
 
 /// Begins a second: what comes from outside enters. Tells how much that is.
 pub(crate) fn arrive(recent: &mut [u32], links: u32, arrivals: &Arrivals, second: u32) -> u64
-    requires recent { length recent.old ≡ links * 128 }
-    requires second { second < 18000 }
+    requires recent { length recent.old ≡ links * kept_seconds }
+    requires second { second < most_seconds }
     ensures here { (l : ℕ) → l < links → cell recent.new l second ≡ arriving_of arrivals.now second l }
-    ensures others { (l y : ℕ) → y % 128 ≢ second % 128 → cell recent.new l y ≡ cell recent.old l y }
+    ensures others { (l y : ℕ) → y % kept_seconds ≢ second % kept_seconds → cell recent.new l y ≡ cell recent.old l y }
     ensures all { result ≡ total (λ l. arriving_of arrivals.now second l) links }
 {
     let first = arrivals.first_link();
@@ -62,7 +63,7 @@ fn goes(
     requires greens { length greens.now ≡ length net.now.node_names }
     requires begun { (n : ℕ) → n < length net.now.node_names
         → IfSome (slice_index_or greens.now n None) (λ g. g.from ≤ second) }
-    requires waits { length waits.now ≡ length net.now.link_names * 128 }
+    requires waits { length waits.now ≡ length net.now.link_names * kept_seconds }
     ensures value { result ≡ goes net.now greens.now waits.now second l waiting (link_at net.now l).to }
     ensures most { result ≤ waiting }
 {
@@ -92,12 +93,12 @@ pub(crate) fn leave(
 )
     requires leaving { length leaving.old ≡ length net.now.link_names }
     requires queues { length queues.old ≡ length net.now.link_names }
-    requires recent { length recent.now ≡ length net.now.link_names * 128 }
-    requires waits { length waits.now ≡ length net.now.link_names * 128 }
+    requires recent { length recent.now ≡ length net.now.link_names * kept_seconds }
+    requires waits { length waits.now ≡ length net.now.link_names * kept_seconds }
     requires greens { length greens.now ≡ length net.now.node_names }
     requires begun { (n : ℕ) → n < length net.now.node_names
         → IfSome (slice_index_or greens.now n None) (λ g. g.from ≤ second) }
-    requires second { second < 18000 }
+    requires second { second < most_seconds }
     requires fits { (l : ℕ) → l < length net.now.link_names → waits_at net.now queues.old recent.now second l < 2 ^ 32 }
     ensures leaving { (l : ℕ) → l < length net.now.link_names → slice_index leaving.new l ≡
         goes net.now greens.now waits.now second l (waits_at net.now queues.old recent.now second l)
@@ -125,12 +126,12 @@ fn part_to(amount: u32, shares: u32) -> u32
 /// What link `l` discharges enters the links into which it turns. Tells how much leaves the network.
 fn turn(recent: &mut [u32], net: &Network, l: u32, amount: u32, second: u32) -> u32
     requires link { l < length net.now.link_names }
-    requires recent { length recent.old ≡ length net.now.link_names * 128 }
+    requires recent { length recent.old ≡ length net.now.link_names * kept_seconds }
     requires fits { (k : ℕ) → k < length net.now.link_names
         → cell recent.old k second + split_of (turns_at net.now l) amount k < 2 ^ 32 }
     ensures here { (k : ℕ) → k < length net.now.link_names
         → cell recent.new k second ≡ cell recent.old k second + split_of (turns_at net.now l) amount k }
-    ensures others { (k y : ℕ) → y % 128 ≢ second % 128 → cell recent.new k y ≡ cell recent.old k y }
+    ensures others { (k y : ℕ) → y % kept_seconds ≢ second % kept_seconds → cell recent.new k y ≡ cell recent.old k y }
     ensures out { result ≡ sums.outward (link_at net.now l).to amount }
 {
     if amount == 0 {
@@ -151,14 +152,14 @@ fn turn(recent: &mut [u32], net: &Network, l: u32, amount: u32, second: u32) -> 
 
 /// What all links discharge enters the links into which it turns. Tells how much leaves the network.
 pub(crate) fn enter(recent: &mut [u32], net: &Network, leaving: &[u32], second: u32) -> u64
-    requires recent { length recent.old ≡ length net.now.link_names * 128 }
+    requires recent { length recent.old ≡ length net.now.link_names * kept_seconds }
     requires leaving { length leaving.now ≡ length net.now.link_names }
     requires fits { (k : ℕ) → k < length net.now.link_names → cell recent.old k second
         + total (λ l. split_of (turns_at net.now l) (slice_index leaving.now l) k) (length net.now.link_names)
         < 2 ^ 32 }
     ensures here { (k : ℕ) → k < length net.now.link_names → cell recent.new k second ≡ cell recent.old k second
         + total (λ l. split_of (turns_at net.now l) (slice_index leaving.now l) k) (length net.now.link_names) }
-    ensures others { (k y : ℕ) → y % 128 ≢ second % 128 → cell recent.new k y ≡ cell recent.old k y }
+    ensures others { (k y : ℕ) → y % kept_seconds ≢ second % kept_seconds → cell recent.new k y ≡ cell recent.old k y }
     ensures out { result ≡ goes_out net.now leaving.now }
 {
     let mut out = 0;
@@ -178,11 +179,11 @@ pub(crate) fn count(
     second: u32,
 ) -> u64
     requires counts { length counts.old ≡ links }
-    requires recent { length recent.now ≡ links * 128 }
+    requires recent { length recent.now ≡ links * kept_seconds }
     requires leaving { length leaving.now ≡ links }
     requires queues { length queues.now ≡ links }
     requires fits { (l : ℕ) → l < links → FitsSeconds second (counts_at counts.old l) }
-    requires second { second < 18000 }
+    requires second { second < most_seconds }
     ensures counts { (l : ℕ) → l < links → counts_at counts.new l ≡
         counted (counts_at counts.old l) (cell recent.now l second) (slice_index leaving.now l)
         (slice_index queues.now l) }

@@ -1,7 +1,9 @@
 //! What a node sees, by what a world keeps.
 
 ghost use Rattle.std.specs.Prelude.{◌≡◌, ◌+◌, ◌-◌, ◌*◌, ◌≤◌, ◌<◌, ◌^◌, All, IfOk, OnOk, length, map, slice_index};
+ghost use Rattle.net_parts.specs.Limits.{most_seconds};
 ghost use Rattle.net_parts.specs.Outline.{link_at};
+ghost use Rattle.net_simulator.specs.Rows.{kept_seconds};
 ghost use Rattle.net_simulator.specs.LinkSeconds.{seen_by};
 ghost use Rattle.net_simulator.specs.Senses.{near_of};
 
@@ -42,9 +44,9 @@ pub fn sense_links(
 ) -> Result<Vec<LinkSense>, AllocError>
     requires links { All (λ l. l < length sight.now.net.now.link_names) links.now }
     requires queues { length sight.now.queues.now ≡ length sight.now.net.now.link_names }
-    requires recent { length sight.now.recent.now ≡ length sight.now.net.now.link_names * 128 }
+    requires recent { length sight.now.recent.now ≡ length sight.now.net.now.link_names * kept_seconds }
     requires stood { length sight.now.stood.now ≡ length sight.now.net.now.link_names }
-    requires second { sight.now.second ≤ 18000 }
+    requires second { sight.now.second ≤ most_seconds }
     ensures { IfOk result (λ s. s.items ≡ map (seen_by sight.now.net.now sight.now.queues.now sight.now.recent.now
         sight.now.stood.now sight.now.second) links.now) }
 {
@@ -63,8 +65,8 @@ pub fn sense_links(
 pub fn near_amount(sight: &Sight, link: u32, gap: u32) -> u32
     requires link { link < length sight.now.net.now.link_names }
     requires queues { length sight.now.queues.now ≡ length sight.now.net.now.link_names }
-    requires recent { length sight.now.recent.now ≡ length sight.now.net.now.link_names * 128 }
-    requires second { sight.now.second ≤ 18000 }
+    requires recent { length sight.now.recent.now ≡ length sight.now.net.now.link_names * kept_seconds }
+    requires second { sight.now.second ≤ most_seconds }
     requires fits { near_of (seen_by sight.now.net.now sight.now.queues.now sight.now.recent.now
         sight.now.stood.now sight.now.second link) gap < 2 ^ 32 }
     ensures { result ≡ near_of (seen_by sight.now.net.now sight.now.queues.now sight.now.recent.now
@@ -93,9 +95,9 @@ fn unseen(alloc: Global) -> LinkSense {
 fn see(alloc: Global, sight: &Sight, link: u32, sense: &mut LinkSense) -> Result<(), AllocError>
     requires link { link < length sight.now.net.now.link_names }
     requires queues { length sight.now.queues.now ≡ length sight.now.net.now.link_names }
-    requires recent { length sight.now.recent.now ≡ length sight.now.net.now.link_names * 128 }
+    requires recent { length sight.now.recent.now ≡ length sight.now.net.now.link_names * kept_seconds }
     requires stood { length sight.now.stood.now ≡ length sight.now.net.now.link_names }
-    requires second { sight.now.second ≤ 18000 }
+    requires second { sight.now.second ≤ most_seconds }
     ensures { OnOk result (sense.new ≡ seen_by sight.now.net.now sight.now.queues.now sight.now.recent.now
         sight.now.stood.now sight.now.second link) }
 {

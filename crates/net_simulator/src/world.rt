@@ -1,6 +1,7 @@
 //! The world.
 
 ghost use Rattle.std.specs.Prelude.{◌≡◌, ℕ, ◌+◌, ◌≤◌, ◌<◌, None, Option, IfOk, List, length, replicate, slice_index_or};
+ghost use Rattle.net_parts.specs.Limits.{most_seconds};
 ghost use Rattle.arrivals.specs.Amounts.{Amounts, AreArrivals};
 ghost use Rattle.control_flow.specs.declared.greens.Green.{Green};
 ghost use Rattle.control_flow.specs.Greens.{green_at, standing};
@@ -219,7 +220,7 @@ impl World {
         arrivals: &Arrivals,
         seconds: u32,
     )
-        requires second { self.old.second + seconds ≤ 18000 }
+        requires second { self.old.second + seconds ≤ most_seconds }
         requires arrivals { AreArrivals net.now arrivals.now }
         requires stands { Stands net.now (arriving_of arrivals.now) (standing_by (T.lines lights.now)) self.old }
         ensures second { self.new.second ≡ self.old.second + seconds }
@@ -232,7 +233,7 @@ impl World {
 
     /// Moves by one second.
     fn pass<T: Lights>(&mut self, net: &Network, lights: &T, arrivals: &Arrivals)
-        requires second { self.old.second < 18000 }
+        requires second { self.old.second < most_seconds }
         requires arrivals { AreArrivals net.now arrivals.now }
         requires stands { Stands net.now (arriving_of arrivals.now) (standing_by (T.lines lights.now)) self.old }
         ensures second { self.new.second ≡ self.old.second + 1 }
@@ -283,7 +284,7 @@ fn pass_second<T: Lights>(
     counts: &mut [LinkTotals],
     moment: &Moment<T>,
 ) -> Totals
-    requires second { moment.now.second < 18000 }
+    requires second { moment.now.second < most_seconds }
     requires leaving { length leaving.old ≡ length queues.old }
     requires arrivals { AreArrivals moment.now.net.now moment.now.arrivals.now }
     requires greens { (n : ℕ) → n < length moment.now.net.now.node_names

@@ -1,5 +1,6 @@
 //! The lights by which the world moves: the timelines of all nodes.
 ghost use Rattle.std.specs.Prelude.{◌≡◌, ◌+◌, ◌≤◌};
+ghost use Rattle.net_parts.specs.Limits.{most_seconds};
 ghost use Rattle.arrivals.specs.Amounts.{AreArrivals};
 ghost use Rattle.net_simulator.specs.Arriving.{arriving_of};
 ghost use Rattle.net_simulator.specs.Worlds.{Stands, standing_by};
@@ -36,7 +37,7 @@ pub(crate) fn move_world<'a, P, S: LinkSlot, G>(
     arrivals: &Arrivals,
     seconds: u32,
 )
-    requires second { world.old.second + seconds ≤ 18000 }
+    requires second { world.old.second + seconds ≤ most_seconds }
     requires arrivals { AreArrivals net.now arrivals.now }
     requires stands { Stands net.now (arriving_of arrivals.now)
         (standing_by (lines_of (actors_in nodes.now.all.items))) world.old }

@@ -1,7 +1,7 @@
 -- The report of a run is all that the headline says.
 use Rattle.std.proofs.Common.{◌≡◌, ℕ, ◌≤◌, List, sym, subst}
 use Rattle.arrivals.specs.Amounts.{Amounts, AreArrivals, entering}
-use Rattle.arrivals.specs.Rows.{most_of_all}
+use Rattle.net_parts.specs.Limits.{most_of_all}
 use Rattle.audit.specs.Audits.{IsCleanText}
 use Rattle.commands.specs.Headline.{Headline, IsRunOf}
 use Rattle.delay_report.specs.Reports.{report_text}

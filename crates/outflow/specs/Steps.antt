@@ -1,5 +1,6 @@
 -- What the steps of filling in a forecast make. No public clause names these words.
 use Rattle.std.specs.Prelude.{◌≡◌, ℕ, ◌+◌, ◌<◌, ◌≤◌, List, length, slice_index}
+use Rattle.net_parts.specs.Limits.{most_look}
 use Rattle.net_parts.specs.Numbers.{Net}
 use Rattle.net_parts.specs.Outline.{link_at}
 use Rattle.net_parts.specs.declared.roads.Turn.{Turn}
@@ -15,7 +16,7 @@ pub record IsShareInto (turns : List Turn) (exit : ℕ) (share : ℕ × ℕ) : T
 -- before it can have travelled the exit
 pub record AreArriving (net : Net) (exit now : ℕ) (leave : List Departure) (amounts : List ℕ) : Type 0 where
   pub count : length amounts ≡ net.run.look
-  pub few : length amounts ≤ 180
+  pub few : length amounts ≤ most_look
   pub value : (k : ℕ) → k < net.run.look → slice_index amounts k ≡ coming_in net exit leave (now + k)
   pub most : (k : ℕ) → slice_index amounts k ≤ 80000
   pub early : (d : ℕ) → d < now + (link_at net exit).travel → coming_in net exit leave d ≡ 0

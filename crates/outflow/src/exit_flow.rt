@@ -1,5 +1,6 @@
 //! What comes to the end of an exit link, second by second.
 ghost use Rattle.std.specs.Prelude.{◌≡◌, ◌+◌, ◌-◌, ◌<◌, ◌≤◌, ℕ, All, length, replicate, slice_get, slice_index, option_copied, sum_by};
+ghost use Rattle.net_parts.specs.Limits.{most_sat, most_seconds};
 ghost use Rattle.net_parts.specs.Outline.{plan_at};
 ghost use Rattle.road_net.specs.Joins.{part_between, share_of};
 ghost use Rattle.clusters.specs.Sound.{AreOfNode};
@@ -24,7 +25,7 @@ pub(crate) fn fill_exit_flow(
 )
     requires amounts { amounts.old ≡ replicate net.now.run.look 0 }
     requires node { node < length net.now.node_names }
-    requires now { now ≤ 18000 }
+    requires now { now ≤ most_seconds }
     requires exit { exit < length net.now.link_names }
     requires platoons { AreOfNode net.now node now window.now.lists }
     requires served { AreServed (plan_at net.now node) window.now.lists servings.now.phases.now
@@ -56,7 +57,7 @@ fn platoon_at(list: &[Platoon], place: usize) -> Option<&Platoon>
 fn add_platoon(amounts: &mut [u32], net: &Network, parts: &Parts, first: usize, exit: u32)
     requires links { All (λ part. part.link < length net.now.link_names) parts.now }
     requires few { length parts.now ≤ 16 }
-    requires small { All (λ part. All (λ amount. amount ≤ 5000) part.amounts) parts.now }
+    requires small { All (λ part. All (λ amount. amount ≤ most_sat) part.amounts) parts.now }
     requires none { (k : ℕ) → first ≤ k → slice_index amounts.old k ≡ 0 }
     ensures near { (k : ℕ) → k < first → slice_index amounts.new k ≡ slice_index amounts.old k }
     ensures far { (k : ℕ) → first ≤ k → k < length amounts.old
@@ -72,7 +73,7 @@ fn add_platoon(amounts: &mut [u32], net: &Network, parts: &Parts, first: usize, 
 /// Adds the part of each amount that has this share, the first of them in this place, as far as there are places.
 fn add_part(amounts: &mut [u32], part: &[u32], first: usize, share: (u32, u32))
     requires share { share.0 + share.1 ≤ 1000 }
-    requires small { All (λ amount. amount ≤ 5000) part.now }
+    requires small { All (λ amount. amount ≤ most_sat) part.now }
     requires fits { (k : ℕ) → first ≤ k → slice_index amounts.old k ≤ 80000 }
     ensures near { (k : ℕ) → k < first → slice_index amounts.new k ≡ slice_index amounts.old k }
     ensures far { (k : ℕ) → first ≤ k → k < length amounts.old → slice_index amounts.new k ≡
@@ -89,7 +90,7 @@ fn add_part(amounts: &mut [u32], part: &[u32], first: usize, share: (u32, u32))
 /// The part of what leaves in one second that makes a turn: `part_of_turn` of so small an amount, in 32 bits.
 fn part_of_amount(amount: u32, before: u32, share: u32) -> u32
     requires share { before + share ≤ 1000 }
-    requires small { amount ≤ 5000 }
+    requires small { amount ≤ most_sat }
     ensures value { result ≡ part_between amount before (before + share) }
     ensures bounds { result ≤ amount }
 {

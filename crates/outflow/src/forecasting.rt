@@ -1,6 +1,7 @@
 //! Forecasts of what comes to the end of an exit link.
 ghost use Rattle.std.specs.Prelude.{◌≡◌, ◌+◌, ◌-◌, ◌<◌, ◌≤◌, ℕ, All, Contains, IfOk, length, slice_index};
 ghost use Rattle.std.specs.List.{range_with_len};
+ghost use Rattle.net_parts.specs.Limits.{most_look, most_seconds};
 ghost use Rattle.clusters.specs.Sound.{AreOfNode};
 ghost use Rattle.clusters.specs.Windows.{counts_of};
 ghost use Rattle.net_parts.specs.Outline.{link_at, plan_at};
@@ -37,7 +38,7 @@ pub fn forecast(
     now: u32,
 ) -> Result<Forecast, AllocError>
     requires node { node < length net.now.node_names }
-    requires now { now ≤ 18000 }
+    requires now { now ≤ most_seconds }
     requires exit { Contains (exit_links net.now node) exit }
     requires platoons { AreOfNode net.now node now w.now.lists }
     requires served { AreServed (plan_at net.now node) w.now.lists phases.now served.now }
@@ -56,8 +57,8 @@ pub fn forecast(
 
 /// The rows of the seconds in which something comes, the first amount being that of the second `now`.
 fn rows(alloc: Global, now: u32, amounts: &[u32]) -> Result<Forecast, AllocError>
-    requires now { now ≤ 18000 }
-    requires few { length amounts.now ≤ 180 }
+    requires now { now ≤ most_seconds }
+    requires few { length amounts.now ≤ most_look }
     requires most { (k : ℕ) → slice_index amounts.now k ≤ 80000 }
     ensures { IfOk result (λ forecast. forecast ≡
         positive_rows (λ d. slice_index amounts.now (d - now)) (range_with_len now (length amounts.now))) }

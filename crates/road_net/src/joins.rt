@@ -1,6 +1,7 @@
 //! How the parts of a network are joined.
 ghost use Rattle.std.specs.Prelude.{◌≡◌, ◌≢◌, ◌≤◌, ◌<◌, ◌^◌, ◌↔◌, IsTrue, IfOk, OnOk, IfSome, ◌++◌, Some, [], All, AllPairs, length, slice_index_or, sum_by};
 ghost use Rattle.std.specs.List.{concat};
+ghost use Rattle.net_parts.specs.Limits.{most_links};
 ghost use Rattle.road_net.specs.Stored.{TestsEach, clash_at, HasFewAt};
 ghost use Rattle.road_net.specs.Joins.{HasEndsAt, link_at, node_at, is_node, links_of_node, AreByNode, HasShares, HasSharesAt, share_of, named_links, IsPhased, IsPhasedAt, IsConflict, IsConflictAt};
 
@@ -17,7 +18,7 @@ pub(crate) enum Side {
 
 /// Tests that each link comes from a node or ends at one, and not both at the same. The first that does not is named.
 pub(crate) fn check_ends(links: &[Link]) -> Result<(), NetFault>
-    requires { length links.now ≤ 320 }
+    requires { length links.now ≤ most_links }
     ensures { TestsEach NetFault.Ends (HasEndsAt links.now) (length links.now) result }
 {
     for (index, link) in links.iter().enumerate() {
@@ -35,7 +36,7 @@ pub(crate) fn links_by_node(
     nodes: u32,
     side: Side,
 ) -> Result<Vec<Items<u32>>, AllocError>
-    requires { length links.now ≤ 320 }
+    requires { length links.now ≤ most_links }
     ensures { IfOk result (λ lists. AreByNode side links.now nodes lists.items) }
 {
     let mut lists = Vec::new(alloc);
@@ -53,7 +54,7 @@ fn links_of_node(
     node: u32,
     side: Side,
 ) -> Result<Vec<u32>, AllocError>
-    requires { length links.now ≤ 320 }
+    requires { length links.now ≤ most_links }
     ensures { IfOk result (λ numbers. numbers.items ≡ links_of_node side links.now node) }
 {
     let mut numbers = Vec::new(alloc);
@@ -94,7 +95,7 @@ pub(crate) fn check_entries(entry_links: &[Items<u32>]) -> Result<(), NetFault>
 
 /// Tests the turns of each link. The first whose turns are not as they must be is named.
 pub(crate) fn check_shares(links: &[Link], turns: &[Items<Turn>]) -> Result<(), NetFault>
-    requires few { length links.now ≤ 320 }
+    requires few { length links.now ≤ most_links }
     requires same { length turns.now ≡ length links.now }
     requires exits { All (λ list. All (λ t. t.exit < length links.now) list) turns.now }
     requires sums { All (λ list. sum_by share_of list < 2 ^ 32) turns.now }
@@ -163,7 +164,7 @@ pub(crate) fn check_phases(
     links: &[Link],
     phase_links: &[Items<Items<u32>>],
 ) -> Result<(), NetFault>
-    requires few { length links.now ≤ 320 }
+    requires few { length links.now ≤ most_links }
     requires nodes { All (λ l. IfSome l.to (λ node. node < length phase_links.now)) links.now }
     requires phases { All (λ phases. length phases ≤ 4) phase_links.now }
     ensures { TestsEach NetFault.Phaseless (IsPhasedAt links.now phase_links.now) (length links.now) result }

@@ -1,5 +1,6 @@
 -- The first fault of the text of a state.
 use Rattle.std.specs.Prelude.{◌≡◌, ◌≢◌, ℕ, ◌≤◌, ◌<◌, List, ◌∷◌, Some, None, IsSomeAnd, length, sum_by}
+use Rattle.net_parts.specs.Limits.{most_of_all}
 use Rattle.foundation.specs.Firsts.{IsFirstWithout}
 use Rattle.foundation.specs.Options.{each}
 use Rattle.net_parts.specs.Numbers.{Net}
@@ -37,7 +38,7 @@ IsAtTime net es fields = IsSomeAnd (entry_of net fields) (λ e. ¬ FitsAfter net
 
 -- a node senses no more than it may
 abbrev pub SensesFew : Net → List Entry → ℕ → Type 0
-SensesFew net es node = sum_by amount (sensed_in net es node).links ≤ 2000000000
+SensesFew net es node = sum_by amount (sensed_in net es node).links ≤ most_of_all
 
 -- the greens of a node are its timeline as the round begins
 abbrev pub GoesOn : Net → List Entry → ℕ → Type 0

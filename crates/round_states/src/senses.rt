@@ -1,6 +1,7 @@
 //! What the nodes of a state sense.
 ghost use Rattle.std.specs.Prelude.{◌≡◌, ◌↔◌, ℕ, ◌+◌, ◌<◌, ◌≤◌, All, IfErr, IfOk, IsTrue, MatchOption, OnOk, length, map, sum, sum_by};
 ghost use Rattle.std.specs.List.{range_with_len};
+ghost use Rattle.net_parts.specs.Limits.{most_of_all, most_seconds, most_travel};
 ghost use Rattle.board_model.specs.Forecasts.{amount_at};
 ghost use Rattle.net_parts.specs.Outline.{link_at};
 ghost use Rattle.road_net.specs.Network.{entry_links};
@@ -62,7 +63,7 @@ pub(crate) fn senses(
     said: &Sayings,
 ) -> Result<Vec<Sensed>, StateFault>
     requires said { AreSayings net.now entries.now said.now }
-    requires now { now_of entries.now ≤ 18000 }
+    requires now { now_of entries.now ≤ most_seconds }
     requires senses { AreSensedOnce net.now entries.now }
     requires boards { AreBoardsOnce net.now entries.now }
     requires lines { AllGoOn net.now entries.now }
@@ -90,7 +91,7 @@ fn node_sense(
     node: u32,
 ) -> Result<Option<Sensed>, AllocError>
     requires said { AreSayings net.now entries.now said.now }
-    requires now { now_of entries.now ≤ 18000 }
+    requires now { now_of entries.now ≤ most_seconds }
     requires node { node < length net.now.node_names }
     ensures { IfOk result (λ sensed. MatchOption sensed (¬ SensesFew net.now entries.now node)
         (λ sensed. (sensed ≡ sensed_in net.now entries.now node) × SensesFew net.now entries.now node)) }
@@ -115,7 +116,7 @@ fn link_senses(
     node: u32,
 ) -> Result<Vec<LinkSense>, AllocError>
     requires said { AreSayings net.now entries.now said.now }
-    requires now { now_of entries.now ≤ 18000 }
+    requires now { now_of entries.now ≤ most_seconds }
     requires node { node < length net.now.node_names }
     ensures { IfOk result (λ links. links.items
         ≡ map (sense_in net.now entries.now) (entry_links net.now node)) }
@@ -138,7 +139,7 @@ fn sense(
     queues: &[Standing],
     rows: &[Row],
 ) -> Result<LinkSense, AllocError>
-    requires now { now_of entries.now ≤ 18000 }
+    requires now { now_of entries.now ≤ most_seconds }
     requires link { link < length net.now.link_names }
     requires queues { queues.now ≡ all_said queue_said entries.now link }
     requires rows { rows.now ≡ all_said coming_said entries.now link }
@@ -162,8 +163,8 @@ const NO_QUEUE: Standing = Standing {
 
 /// What comes in each of this number of seconds, from this one on. `Err`: out of memory.
 fn coming(alloc: Global, rows: &[Row], now: u32, travel: u32) -> Result<Vec<u32>, AllocError>
-    requires now { now ≤ 18000 }
-    requires travel { travel ≤ 120 }
+    requires now { now ≤ most_seconds }
+    requires travel { travel ≤ most_travel }
     ensures { IfOk result (λ all. all.items ≡ map (amount_at rows.now) (range_with_len now travel)) }
 {
     let mut all = Vec::new(alloc);
@@ -185,7 +186,7 @@ fn amount_in(rows: &[Row], second: u32) -> u32
 
 /// Whether what is sensed of all these links is no more than it may be.
 fn are_few(links: &[LinkSense]) -> bool
-    ensures { IsTrue result ↔ sum_by amount links.now ≤ 2000000000 }
+    ensures { IsTrue result ↔ sum_by amount links.now ≤ most_of_all }
 {
     let mut left = MOST;
     for sense in links {

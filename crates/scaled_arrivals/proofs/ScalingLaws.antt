@@ -12,7 +12,8 @@ use Rattle.road_net.specs.Totals.{total}
 use Rattle.road_net.proofs.TotalLaws.{total-le, total-same}
 use Rattle.arrivals.specs.Amounts.{Amounts, AreArrivals, AreArrivalsOf, entering}
 use Rattle.arrivals.specs.Faults.{IsRowFault}
-use Rattle.arrivals.specs.Rows.{IsRow, amount_of, entering_by, most_of_all, seconds}
+use Rattle.net_parts.specs.Limits.{most_of_all, most_seconds}
+use Rattle.arrivals.specs.Rows.{IsRow, amount_of, entering_by}
 use Rattle.arrivals.specs.declared.rows.ArrivalRow.{ArrivalRow}
 use Rattle.arrivals.specs.declared.rows.RowFault.TheVariants.{Bound, Link, Sum}
 use Rattle.arrivals.proofs.SumLaws.{entering-beyond}
@@ -50,7 +51,7 @@ whole-next : (sum before here all next : ℕ) → sum ≡ before + here → all 
 whole-next sum before here all next is adds none = omega (arith, is, adds, none)
 
 -- nothing enters after the last second, nor a link after those that are kept
-entering-late : (a : Amounts) (link x : ℕ) → seconds ≤ x → entering a link x ≡ 0
+entering-late : (a : Amounts) (link x : ℕ) → most_seconds ≤ x → entering a link x ≡ 0
 entering-late a link x late = entering-beyond a link x (λ _ _ below. omega (arith, below, late))
 
 entering-other : (a : Amounts) (link x : ℕ) → a.first + a.width ≤ link → entering a link x ≡ 0
@@ -103,7 +104,7 @@ module _ (net : Net) (factor : ℕ) (a : Amounts) where
         ]
 
   -- one link more
-  pub come-next : (link : ℕ) (rows : List ArrivalRow) → HaveCome net factor a link seconds rows → HaveCome net factor a (link + 1) 0 rows
+  pub come-next : (link : ℕ) (rows : List ArrivalRow) → HaveCome net factor a link most_seconds rows → HaveCome net factor a (link + 1) 0 rows
   come-next link rows come = record {
     lawful = come.lawful;
     before = λ l n h. before l n h;
@@ -111,18 +112,18 @@ module _ (net : Net) (factor : ℕ) (a : Amounts) where
     later = λ x h. come.others (link + 1) x (omega arith);
     others = λ l x h. come.others l x (omega (arith, h));
     whole =
-        whole-next (sum_by amount_of rows) (total (λ l. share_of factor (entered (entering a) l seconds)) link) (share_of factor (entered (entering a) link seconds)) (total (λ l. share_of factor (entered (entering a) l seconds)) (link + 1)) (share_of factor 0) come.whole
-        (total-next (λ l. share_of factor (entered (entering a) l seconds)) link) (share-none factor);
+        whole-next (sum_by amount_of rows) (total (λ l. share_of factor (entered (entering a) l most_seconds)) link) (share_of factor (entered (entering a) link most_seconds)) (total (λ l. share_of factor (entered (entering a) l most_seconds)) (link + 1)) (share_of factor 0) come.whole
+        (total-next (λ l. share_of factor (entered (entering a) l most_seconds)) link) (share-none factor);
   }
     where
       all : (n : ℕ) → total (entering_by rows link) n ≡ share_of factor (entered (entering a) link n)
-      all n = elim (cases_lt seconds n) [
+      all n = elim (cases_lt most_seconds n) [
         | inl more ↦
-            let d = n - seconds in
-            let e : seconds + d ≡ n = omega (arith, more) in
-            let left = total-flat (entering_by rows link) seconds d come.later in
-            let right = total-flat (entering a link) seconds d (λ x h. entering-late a link x h) in
-            subst (λ k. total (entering_by rows link) k ≡ share_of factor (entered (entering a) link k)) e (left ∙ come.here seconds (le_refl seconds) ∙ ap (share_of factor) (sym right))
+            let d = n - most_seconds in
+            let e : most_seconds + d ≡ n = omega (arith, more) in
+            let left = total-flat (entering_by rows link) most_seconds d come.later in
+            let right = total-flat (entering a link) most_seconds d (λ x h. entering-late a link x h) in
+            subst (λ k. total (entering_by rows link) k ≡ share_of factor (entered (entering a) link k)) e (left ∙ come.here most_seconds (le_refl most_seconds) ∙ ap (share_of factor) (sym right))
         | inr less ↦ come.here n less
       ]
 

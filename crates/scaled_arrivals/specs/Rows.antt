@@ -3,7 +3,8 @@ use Rattle.std.specs.Prelude.{◌≡◌, ℕ, ◌+◌, ◌<◌, ◌≤◌, ◌==
 use Rattle.net_parts.specs.Numbers.{Net}
 use Rattle.road_net.specs.Totals.{total}
 use Rattle.arrivals.specs.Amounts.{Amounts, entering}
-use Rattle.arrivals.specs.Rows.{IsRow, amount_of, entering_by, seconds}
+use Rattle.net_parts.specs.Limits.{most_seconds}
+use Rattle.arrivals.specs.Rows.{IsRow, amount_of, entering_by}
 use Rattle.arrivals.specs.declared.rows.ArrivalRow.{ArrivalRow}
 use Rattle.scaled_arrivals.specs.Scaling.{entered, share_of}
 
@@ -20,4 +21,4 @@ pub record HaveCome (net : Net) (factor : ℕ) (a : Amounts) (link second : ℕ)
   pub here : (n : ℕ) → n ≤ second → total (entering_by rows link) n ≡ share_of factor (entered (entering a) link n)
   pub later : (x : ℕ) → second ≤ x → entering_by rows link x ≡ 0
   pub others : (l x : ℕ) → link < l → entering_by rows l x ≡ 0
-  pub whole : sum_by amount_of rows ≡ total (λ l. share_of factor (entered (entering a) l seconds)) link + share_of factor (entered (entering a) link second)
+  pub whole : sum_by amount_of rows ≡ total (λ l. share_of factor (entered (entering a) l most_seconds)) link + share_of factor (entered (entering a) link second)

@@ -2,7 +2,7 @@
 use Rattle.std.specs.Prelude.{◌≡◌, ℕ, ◌*◌, ◌/◌, length}
 use Rattle.net_parts.specs.Numbers.{Net}
 use Rattle.road_net.specs.Totals.{total}
-use Rattle.arrivals.specs.Rows.{seconds}
+use Rattle.net_parts.specs.Limits.{most_seconds}
 
 -- the greatest factor
 abbrev pub greatest_factor : ℕ
@@ -22,4 +22,4 @@ IsScaled factor enters scaled = (link n : ℕ) → entered scaled link n ≡ sha
 
 -- all that then enters the links of a network
 abbrev pub scaled_whole : Net → ℕ → (ℕ → ℕ → ℕ) → ℕ
-scaled_whole net factor enters = total (λ link. share_of factor (entered enters link seconds)) (length net.link_names)
+scaled_whole net factor enters = total (λ link. share_of factor (entered enters link most_seconds)) (length net.link_names)

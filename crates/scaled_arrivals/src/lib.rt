@@ -3,8 +3,9 @@
 
 ghost use Rattle.std.specs.Prelude.{◌≡◌, ◌+◌, ◌<◌, ◌≤◌, IfOk, OnOk, length};
 ghost use Rattle.std.specs.Result.{IsErrOf};
+ghost use Rattle.net_parts.specs.Limits.{most_of_all, most_seconds};
 ghost use Rattle.arrivals.specs.Amounts.{AreArrivals, entering};
-ghost use Rattle.arrivals.specs.Rows.{IsSource, most_of_all};
+ghost use Rattle.arrivals.specs.Rows.{IsSource};
 ghost use Rattle.scaled_arrivals.specs.Rows.{Brings, HaveCome};
 ghost use Rattle.scaled_arrivals.specs.Scaling as spec;
 ghost use Rattle.scaled_arrivals.specs.Scaling.{IsScaled, greatest_factor, scaled_whole};
@@ -127,7 +128,7 @@ fn push_amount(
     rows: &mut Vec<ArrivalRow>,
 ) -> Result<(), AllocError>
     requires source { 0 < amount → IsSource net.now link }
-    requires second { second < 18000 }
+    requires second { second < most_seconds }
     ensures { OnOk result (Brings net.now link second amount rows.old.items rows.new.items) }
 {
     let mut left = amount;

@@ -19,7 +19,8 @@ use Rattle.arrivals.specs.declared.rows.ArrivalRow.{ArrivalRow}
 use Rattle.arrivals.specs.declared.rows.RowFault.{RowFault}
 use Rattle.arrivals.specs.declared.rows.RowFault.TheVariants as row_fault
 use Rattle.arrivals.specs.Faults.{IsAtBound, IsAtLink, IsFirst, IsRowFault}
-use Rattle.arrivals.specs.Rows.{AreRows, IsRow, IsSource, amount_of, most_of_all}
+use Rattle.net_parts.specs.Limits.{most_of_all}
+use Rattle.arrivals.specs.Rows.{AreRows, IsRow, IsSource, amount_of}
 use Rattle.rand_pcg.specs.Lcg.{Lcg}
 use Rattle.scenario_gen.specs.Arrivals.{after_words, generator, row_by, rows, rows_from, rows_of_second, sources, word}
 use Rattle.scenario_gen.specs.Grids.{AreRounds, HasGrid}

@@ -7,6 +7,7 @@ use Rattle.net_simulator.specs.LinkSeconds.{is_open}
 use Rattle.spillback_world.specs.Filling.{fitting, room_of}
 use Rattle.road_net.specs.Joins.{split_of}
 use Rattle.road_net.specs.Totals.{total}
+use Rattle.net_simulator.specs.Rows.{kept_seconds}
 use Rattle.spillback_world.specs.declared.totals.SpillTotals.{SpillTotals}
 use Rattle.spillback_world.specs.declared.worlds.Links.{Links}
 use Rattle.spillback_world.specs.Storage.{Opening, all_goes, inward}
@@ -113,8 +114,8 @@ pub record HaveScratch (links : Links) : Type 0 where
 -- what is kept of n links at second 0
 pub record AreEmpty (n : ℕ) (links : Links) : Type 0 where
   pub queues : links.queues.items ≡ replicate n 0
-  pub recent : links.recent.items ≡ replicate (n * 128) 0
-  pub waits : links.waits.items ≡ replicate (n * 128) 0
+  pub recent : links.recent.items ≡ replicate (n * kept_seconds) 0
+  pub waits : links.waits.items ≡ replicate (n * kept_seconds) 0
   pub stood : links.stood.items ≡ replicate n 0
   pub outside : links.outside.items ≡ replicate n 0
   pub held : links.held.items ≡ replicate n 0

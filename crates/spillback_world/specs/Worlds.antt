@@ -1,8 +1,10 @@
 -- What a world whose links hold so much and no more stands for.
 use Rattle.std.specs.Prelude.{◌≡◌, ℕ, ◌-◌, ◌*◌, ◌<◌, ◌≤◌, List, Option, length, slice_index}
+use Rattle.net_parts.specs.Limits.{most_seconds}
 use Rattle.control_flow.specs.declared.greens.Green.{Green}
 use Rattle.arrivals.specs.Amounts.{Amounts, AreArrivals}
 use Rattle.net_parts.specs.Numbers.{Net}
+use Rattle.net_simulator.specs.Rows.{kept_seconds}
 use Rattle.net_simulator.specs.Arriving.{arriving_of}
 use Rattle.net_simulator.specs.Senses.{stood}
 use Rattle.net_simulator.specs.Worlds.{Keeps, standing_by}
@@ -27,8 +29,8 @@ pub record SpillState : Type 0 where
 pub record HasShape (net : Net) (w : SpillState) : Type 0 where
   pub nodes : w.nodes ≡ length net.node_names
   pub queues : length w.queues ≡ length net.link_names
-  pub recent : length w.recent ≡ length net.link_names * 128
-  pub waits : length w.waits ≡ length net.link_names * 128
+  pub recent : length w.recent ≡ length net.link_names * kept_seconds
+  pub waits : length w.waits ≡ length net.link_names * kept_seconds
   pub stood : length w.stood ≡ length net.link_names
   pub outside : length w.outside ≡ length net.link_names
   pub held : length w.held ≡ length net.link_names
@@ -37,7 +39,7 @@ pub record HasShape (net : Net) (w : SpillState) : Type 0 where
 -- own.
 pub record Stands (net : Net) (arriving : ℕ → ℕ → ℕ) (store : ℕ → ℕ) (shown : ℕ → ℕ → Option (ℕ × ℕ)) (w : SpillState) : Type 0 where
   pub shape : HasShape net w
-  pub by : w.second ≤ 18000
+  pub by : w.second ≤ most_seconds
   pub keeps : Keeps net (past_in net arriving store shown w.second) w.queues w.recent w.waits w.second
   pub held : (l : ℕ) → l < length net.link_names → slice_index w.held l ≡ (past_in net arriving store shown w.second w.second l).entered - (past_in net arriving store shown w.second w.second l).left
   pub totals : w.totals ≡ spilled net arriving (past_in net arriving store shown w.second) w.second

@@ -1,10 +1,11 @@
 //! What happens at the ends of links, and before their begins, in a second.
 
 ghost use Rattle.std.specs.Prelude.{◌≡◌, ◌≢◌, ℕ, ◌+◌, ◌-◌, ◌*◌, ◌%◌, ◌≤◌, ◌<◌, ◌^◌, All, length, slice_index};
+ghost use Rattle.net_parts.specs.Limits.{most_seconds};
 ghost use Rattle.net_parts.specs.Outline.{link_at};
 ghost use Rattle.net_simulator.specs.Arriving.{arriving_of};
 ghost use Rattle.net_simulator.specs.LinkSeconds.{waits_at};
-ghost use Rattle.net_simulator.specs.Rows.{cell};
+ghost use Rattle.net_simulator.specs.Rows.{cell, kept_seconds};
 ghost use Rattle.net_simulator.specs.Sums.{outward};
 ghost use Rattle.road_net.specs.Totals.{total};
 ghost use Rattle.spillback_world.specs.Steps.{comes_of};
@@ -30,8 +31,8 @@ pub(crate) fn reach_ends(
     requires leaving { length leaving.old ≡ length net.now.link_names }
     requires queues { length queues.old ≡ length net.now.link_names }
     requires held { length held.old ≡ length net.now.link_names }
-    requires recent { length recent.now ≡ length net.now.link_names * 128 }
-    requires second { second < 18000 }
+    requires recent { length recent.now ≡ length net.now.link_names * kept_seconds }
+    requires second { second < most_seconds }
     requires there { (l : ℕ) → l < length net.now.link_names
         → waits_at net.now queues.old recent.now second l ≤ slice_index held.old l }
     ensures leaving { (l : ℕ) → l < length net.now.link_names → slice_index leaving.new l ≡
@@ -77,7 +78,7 @@ pub(crate) fn let_in(
     requires outside { length outside.old ≡ links }
     requires held { length held.old ≡ links }
     requires entering { length entering.now ≡ links }
-    requires recent { length recent.old ≡ links * 128 }
+    requires recent { length recent.old ≡ links * kept_seconds }
     requires fits { (l : ℕ) → l < links
         → slice_index outside.old l + arriving_of gate.now.arrivals.now gate.now.second l < 2 ^ 32 }
     requires there { (l : ℕ) → l < links → slice_index entering.now l ≤ slice_index held.old l }
@@ -90,7 +91,7 @@ pub(crate) fn let_in(
         + comes_of gate.now.store.now held.old outside.old (arriving_of gate.now.arrivals.now gate.now.second) l }
     ensures here { (l : ℕ) → l < links → cell recent.new l gate.now.second ≡ slice_index entering.now l
         + comes_of gate.now.store.now held.old outside.old (arriving_of gate.now.arrivals.now gate.now.second) l }
-    ensures others { (l y : ℕ) → y % 128 ≢ gate.now.second % 128 → cell recent.new l y ≡ cell recent.old l y }
+    ensures others { (l y : ℕ) → y % kept_seconds ≢ gate.now.second % kept_seconds → cell recent.new l y ≡ cell recent.old l y }
     ensures all { result ≡ total (comes_of gate.now.store.now held.old outside.old
         (arriving_of gate.now.arrivals.now gate.now.second)) links }
 {

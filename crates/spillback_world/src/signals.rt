@@ -2,6 +2,7 @@
 
 ghost use Rattle.std.specs.Prelude.{◌≡◌, ℕ, ◌*◌, ◌≤◌, ◌<◌, None, IfSome, false, length, slice_index_or};
 ghost use Rattle.net_parts.specs.Outline.{link_at};
+ghost use Rattle.net_simulator.specs.Rows.{kept_seconds};
 ghost use Rattle.spillback_world.specs.Steps.{served_at};
 
 use control_flow::greens::Green;
@@ -11,7 +12,7 @@ use road_net::Network;
 /// Whether link `l` ends at a node and may discharge in this second, where the nodes show these greens.
 fn is_served(net: &Network, waits: &[u32], greens: &[Option<Green>], second: u32, l: u32) -> bool
     requires link { l < length net.now.link_names }
-    requires waits { length waits.now ≡ length net.now.link_names * 128 }
+    requires waits { length waits.now ≡ length net.now.link_names * kept_seconds }
     requires greens { length greens.now ≡ length net.now.node_names }
     requires begun { (n : ℕ) → n < length net.now.node_names
         → IfSome (slice_index_or greens.now n None) (λ g. g.from ≤ second) }
@@ -32,7 +33,7 @@ pub(crate) fn serve(
     second: u32,
 )
     requires served { length served.old ≡ length net.now.link_names }
-    requires waits { length waits.now ≡ length net.now.link_names * 128 }
+    requires waits { length waits.now ≡ length net.now.link_names * kept_seconds }
     requires greens { length greens.now ≡ length net.now.node_names }
     requires begun { (n : ℕ) → n < length net.now.node_names
         → IfSome (slice_index_or greens.now n None) (λ g. g.from ≤ second) }

@@ -1,6 +1,7 @@
 //! The world in which a full link holds back those who want to enter it.
 
 ghost use Rattle.std.specs.Prelude.{◌≡◌, ℕ, ◌+◌, ◌≤◌, ◌<◌, None, Option, IfOk, List, length, replicate, slice_index, slice_index_or};
+ghost use Rattle.net_parts.specs.Limits.{most_seconds};
 ghost use Rattle.arrivals.specs.Amounts.{AreArrivals};
 ghost use Rattle.control_flow.specs.declared.greens.Green.{Green};
 ghost use Rattle.control_flow.specs.Greens.{green_at};
@@ -192,7 +193,7 @@ impl SpillWorld {
         arrivals: &Arrivals,
         seconds: u32,
     )
-        requires second { self.old.second + seconds ≤ 18000 }
+        requires second { self.old.second + seconds ≤ most_seconds }
         requires store { length store.now ≡ length net.now.link_names }
         requires arrivals { AreArrivals net.now arrivals.now }
         requires stands { Stands net.now (arriving_of arrivals.now) (slice_index store.now)
@@ -208,7 +209,7 @@ impl SpillWorld {
 
     /// Moves by one second.
     fn pass<T: Lights>(&mut self, net: &Network, store: &Store, lights: &T, arrivals: &Arrivals)
-        requires second { self.old.second < 18000 }
+        requires second { self.old.second < most_seconds }
         requires store { length store.now ≡ length net.now.link_names }
         requires arrivals { AreArrivals net.now arrivals.now }
         requires stands { Stands net.now (arriving_of arrivals.now) (slice_index store.now)
@@ -248,7 +249,7 @@ struct Moment<'a, T> {
 
 /// What happens in one second. Answers what is counted then of the whole network.
 fn pass_second<T: Lights>(links: &mut Links, moment: &Moment<T>) -> SpillTotals
-    requires second { moment.now.second < 18000 }
+    requires second { moment.now.second < most_seconds }
     requires scratch { HaveScratch links.old }
     requires store { length moment.now.store.now ≡ length moment.now.net.now.link_names }
     requires arrivals { AreArrivals moment.now.net.now moment.now.arrivals.now }

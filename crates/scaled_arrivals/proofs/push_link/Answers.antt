@@ -1,6 +1,6 @@
 use Rattle.std.proofs.Common.{◌≡◌, ◌+◌, ◌-◌, ap, subst, ◌∙◌, arith}
 use Rattle.arrivals.specs.Amounts.{entering}
-use Rattle.arrivals.specs.Rows.{seconds}
+use Rattle.net_parts.specs.Limits.{most_seconds}
 use Rattle.scaled_arrivals.specs.Rows.{HaveCome}
 use Rattle.scaled_arrivals.specs.Scaling.{entered, share_of}
 use Rattle.scaled_arrivals.proofs.ScalingLaws.{come-more, come-next, entered-most, entered-next, share-rises}
@@ -46,6 +46,6 @@ loop-second-preserved c =
 
 pub returns : goal.returns
 returns c =
-    let all : c.loop-second.second ≡ seconds = omega (arith, c.loop-second-test.false, c.loop-second.auto.second-end) in
+    let all : c.loop-second.second ≡ most_seconds = omega (arith, c.loop-second-test.false, c.loop-second.auto.second-end) in
     come-next c.args.net.now c.args.factor c.args.arrivals.now c.args.link c.loop-second.rows.items
     (subst (λ n. HaveCome c.args.net.now c.args.factor c.args.arrivals.now c.args.link n c.loop-second.rows.items) all c.loop-second.invariant.1)

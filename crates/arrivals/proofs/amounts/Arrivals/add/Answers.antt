@@ -1,6 +1,7 @@
 use Rattle.std.proofs.Common.{◌≡◌, ◌+◌, ◌≤◌, subst, sym, arith, rules}
 use Rattle.arrivals.specs.Amounts.{Amounts, KeepsSources, place}
-use Rattle.arrivals.specs.Rows.{IsRow, most_of_all}
+use Rattle.net_parts.specs.Limits.{most_of_all}
+use Rattle.arrivals.specs.Rows.{IsRow}
 use Rattle.arrivals.specs.contracts.amounts.Arrivals.{the_view}
 use Rattle.arrivals.proofs.TallyLaws.{stored-more}
 use Rattle.arrivals.proofs.amounts.Arrivals.add.Goals as goal
