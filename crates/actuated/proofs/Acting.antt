@@ -8,7 +8,7 @@ use Rattle.control_flow.specs.Greens.{standing}
 use Rattle.control_flow.specs.declared.greens.Green.{Green}
 use Rattle.net_parts.specs.Numbers.{Net}
 use Rattle.net_parts.specs.Outline.{plan_at}
-use Rattle.net_simulator.specs.Flow.{Passed}
+use Rattle.net_simulator.specs.Flow.{Cumulative}
 use Rattle.net_simulator.specs.Worlds.{line_in, standing_by}
 use Rattle.road_net.specs.Network.{IsNetwork}
 use Rattle.signal_safety.specs.Rounds.{line_before}
@@ -62,12 +62,12 @@ more-renewed net near s n old new line next below were is one = record {
 -- ---- the rounds
 
 -- an equal next line
-next-moved : (net : Net) (p q : ℕ → ℕ → Passed) (s t node : ℕ) (old older new newer : List Green) → p ≡ q → s ≡ t → old ≡ older → new ≡ newer → IsNextLine net p s node old new → IsNextLine net q t node older newer
+next-moved : (net : Net) (p q : ℕ → ℕ → Cumulative) (s t node : ℕ) (old older new newer : List Green) → p ≡ q → s ≡ t → old ≡ older → new ≡ newer → IsNextLine net p s node old new → IsNextLine net q t node older newer
 next-moved net p q s t node old older new newer a b c d next =
-    subst (IsNextLine net q t node older) d (subst (λ (o : List Green). IsNextLine net q t node o new) c (subst (λ r. IsNextLine net q r node old new) b (subst (λ (x : ℕ → ℕ → Passed). IsNextLine net x s node old new) a next)))
+    subst (IsNextLine net q t node older) d (subst (λ (o : List Green). IsNextLine net q t node o new) c (subst (λ r. IsNextLine net q r node old new) b (subst (λ (x : ℕ → ℕ → Cumulative). IsNextLine net x s node old new) a next)))
 
 -- before the first round
-pub none-acted : (net : Net) (under : (ℕ → ℕ → Option (ℕ × ℕ)) → ℕ → ℕ → ℕ → Passed) (lines : List (List Green)) → AreFirstLines net (length net.node_names) lines → HaveActed net under 0 lines
+pub none-acted : (net : Net) (under : (ℕ → ℕ → Option (ℕ × ℕ)) → ℕ → ℕ → ℕ → Cumulative) (lines : List (List Green)) → AreFirstLines net (length net.node_names) lines → HaveActed net under 0 lines
 none-acted net under lines first = record {
   made = λ r n. [];
   acts = λ r n less below. absurd (omega arith);
@@ -77,7 +77,7 @@ none-acted net under lines first = record {
   shown = λ x n less. absurd (omega arith);
 }
 
-module _ (net : Net) (network : IsNetwork net) (under : (ℕ → ℕ → Option (ℕ × ℕ)) → ℕ → ℕ → ℕ → Passed) (counts : CountsBefore under) (r : ℕ) (lines renewed : List (List Green)) (near : List ℕ)
+module _ (net : Net) (network : IsNetwork net) (under : (ℕ → ℕ → Option (ℕ × ℕ)) → ℕ → ℕ → ℕ → Cumulative) (counts : CountsBefore under) (r : ℕ) (lines renewed : List (List Green)) (near : List ℕ)
     (a : HaveActed net under r lines) (are : AreRenewed net near (r * act_step net) (length net.node_names) lines renewed) where
   -- the renewed lines show the same before
   pub same-before : (x n : ℕ) → x < r * act_step net → standing (line_in renewed n) x ≡ standing (line_in lines n) x

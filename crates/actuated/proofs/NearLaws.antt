@@ -9,7 +9,7 @@ use Rattle.clusters.proofs.SeenLaws.{sense-within}
 use Rattle.net_parts.specs.declared.roads.Link.{Link}
 use Rattle.net_parts.specs.Numbers.{Net, no_link}
 use Rattle.net_parts.specs.Outline.{link_at, phase_links_at, plan_at}
-use Rattle.net_simulator.specs.Flow.{Passed}
+use Rattle.net_simulator.specs.Flow.{Cumulative}
 use Rattle.net_simulator.specs.Senses.{link_sense, near_of, near_on, sense}
 use Rattle.net_simulator.proofs.Seeing.{differing-part}
 use Rattle.net_simulator.proofs.Sums.{range-same}
@@ -45,7 +45,7 @@ entry-of : (net : Net) → IsNetwork net → (l node : ℕ) → l < length net.l
 entry-of net network l node inside to = entry-all net node l (let e = network.outline.road_count in omega arith) to
 
 -- what is sensed of an entry link is what is seen of it
-seen-of : (net : Net) (past : ℕ → ℕ → Passed) (n : ℕ) (links : List ℕ) (l : ℕ) → Contains links l → (let s : Sensed = record { now = n; links = map (link_sense net past n) links } in sense_of s l) ≡ link_sense net past n l
+seen-of : (net : Net) (past : ℕ → ℕ → Cumulative) (n : ℕ) (links : List ℕ) (l : ℕ) → Contains links l → (let s : Sensed = record { now = n; links = map (link_sense net past n) links } in sense_of s l) ≡ link_sense net past n l
 unfolding sense_of
 seen-of net past n links l contained = ap (λ (o : Option LinkSense). unwrap_or o no_sense) (at contained.0 links contained.1 contained.2)
   where
@@ -126,7 +126,7 @@ module _ (net : Net) (network : IsNetwork net) (node : ℕ) (below : node < leng
       omega (arith, link-inside net network (slice_index (phase_links_at net node k) i) node (ends-at i inside), same)
 
   -- what is near by what the node senses is what is near on the link
-  near-seen : (past : ℕ → ℕ → Passed) (n gap i : ℕ) → i < length (phase_links_at net node k)
+  near-seen : (past : ℕ → ℕ → Cumulative) (n gap i : ℕ) → i < length (phase_links_at net node k)
       → near_on net past n gap (slice_index (phase_links_at net node k) i) ≡ amount_near (sense net past n node) gap (slice_index (phase_links_at net node k) i)
   near-seen past n gap i inside =
       let l : ℕ = slice_index (phase_links_at net node k) i in
@@ -134,7 +134,7 @@ module _ (net : Net) (network : IsNetwork net) (node : ℕ) (below : node < leng
       let entry : Contains (entry_links net node) l = entry-of net network l node (link-inside net network l node to) to in
       ap (λ (s : LinkSense). near_of s gap) (sym (seen-of net past n (entry_links net node) l entry))
 
-  pub sum-seen : (near : ℕ → ℕ) (past : ℕ → ℕ → Passed) (n gap : ℕ) → ((l : ℕ) → l < length net.link_names → near l ≡ near_on net past n gap l)
+  pub sum-seen : (near : ℕ → ℕ) (past : ℕ → ℕ → Cumulative) (n gap : ℕ) → ((l : ℕ) → l < length net.link_names → near l ≡ near_on net past n gap l)
       → sum_by near (phase_links_at net node k) ≡ sum_by (amount_near (sense net past n node) gap) (phase_links_at net node k)
   sum-seen near past n gap same =
       sum_by-same near (amount_near (sense net past n node) gap) (phase_links_at net node k)
@@ -144,7 +144,7 @@ module _ (net : Net) (network : IsNetwork net) (node : ℕ) (below : node < leng
       ∙ ap (amount_near (sense net past n node) gap) (sym at))
 
 -- so what calls is the same
-pub calls-are : (net : Net) → IsNetwork net → (near : ℕ → ℕ) (past : ℕ → ℕ → Passed) (n node : ℕ) → node < length net.node_names → ((l : ℕ) → l < length net.link_names → near l ≡ near_on net past n net.run.gap l) → calls_by net near node ≡ calls_at net past n node
+pub calls-are : (net : Net) → IsNetwork net → (near : ℕ → ℕ) (past : ℕ → ℕ → Cumulative) (n node : ℕ) → node < length net.node_names → ((l : ℕ) → l < length net.link_names → near l ≡ near_on net past n net.run.gap l) → calls_by net near node ≡ calls_at net past n node
 calls-are net network near past n node below same =
     range-same (λ k. sum_by near (phase_links_at net node k)) (calling net node (sense net past n node)) (length (plan_at net node)) (λ k phase. sum-seen net network node below k phase near past n net.run.gap same)
 

@@ -10,7 +10,7 @@ use Rattle.control_flow.specs.Greens.{spliced, standing}
 use Rattle.control_flow.specs.declared.greens.Green.{Green}
 use Rattle.net_parts.specs.Numbers.{Net}
 use Rattle.net_parts.specs.Outline.{plan_at}
-use Rattle.net_simulator.specs.Flow.{Passed, past_of}
+use Rattle.net_simulator.specs.Flow.{Cumulative, past_of}
 use Rattle.net_simulator.specs.Sums.{end_of_run, link_totals, totals}
 use Rattle.net_simulator.proofs.AtNodes.{past-at-nodes}
 use Rattle.road_net.specs.Network.{IsNetwork}
@@ -24,15 +24,15 @@ use Rattle.actuated.proofs.ActStepLaws.{act-rounds}
 use Rattle.audit.specs.declared.line_runs.LineRun.{LineRun}
 
 -- a line has one next line
-next-one : (net : Net) (n node : ℕ) (past seen : ℕ → ℕ → Passed) → past ≡ seen → (old older next other : List Green) → old ≡ older
+next-one : (net : Net) (n node : ℕ) (past seen : ℕ → ℕ → Cumulative) → past ≡ seen → (old older next other : List Green) → old ≡ older
     → IsNextLine net past n node old next → IsNextLine net seen n node older other → next ≡ other
 next-one net n node past seen same_past old older next other same_old is also =
     let moved : IsNextLine net seen n node older next =
-    subst (λ (p : ℕ → ℕ → Passed). IsNextLine net p n node older next) same_past (subst (λ (l : List Green). IsNextLine net past n node l next) same_old is) in
+    subst (λ (p : ℕ → ℕ → Cumulative). IsNextLine net p n node older next) same_past (subst (λ (l : List Green). IsNextLine net past n node l next) same_old is) in
     let head : moved.head ≡ also.head = same_Some moved.head also.head (sym moved.at ∙ also.at) in
     moved.is ∙ ap (λ (h : Head). spliced older (act_line (plan_at net node) h (calls_at net seen n node) (n + net.run.look))) head ∙ sym also.is
 
-module _ (net : Net) (network : IsNetwork net) (under : (ℕ → ℕ → Option (ℕ × ℕ)) → ℕ → ℕ → ℕ → Passed) (counts : CountsAtNodes net under) (made other : ℕ → ℕ → List Green) where
+module _ (net : Net) (network : IsNetwork net) (under : (ℕ → ℕ → Option (ℕ × ℕ)) → ℕ → ℕ → ℕ → Cumulative) (counts : CountsAtNodes net under) (made other : ℕ → ℕ → List Green) where
   -- the lines that were made before a round are the same
   abbrev pub SameBefore : ℕ → Type 0
   SameBefore r = (s n : ℕ) → s < r → n < length net.node_names → made s n ≡ other s n
@@ -88,7 +88,7 @@ one-run net network arriving one other a b = λ i. record { timelines = timeline
     timelines = a.by.timelines ∙ same-lists ∙ sym b.by.timelines
 
     links : one.links ≡ other.links
-    links = a.by.links ∙ ap (λ (p : ℕ → ℕ → Passed). map (link_totals net p (end_of_run net)) (range_with_len 0 (length net.link_names))) past ∙ sym b.by.links
+    links = a.by.links ∙ ap (λ (p : ℕ → ℕ → Cumulative). map (link_totals net p (end_of_run net)) (range_with_len 0 (length net.link_names))) past ∙ sym b.by.links
 
     all : one.totals ≡ other.totals
-    all = a.by.all ∙ ap (λ (p : ℕ → ℕ → Passed). totals net arriving p (end_of_run net)) past ∙ sym b.by.all
+    all = a.by.all ∙ ap (λ (p : ℕ → ℕ → Cumulative). totals net arriving p (end_of_run net)) past ∙ sym b.by.all

@@ -8,7 +8,7 @@ use Rattle.control_flow.specs.Greens.{standing}
 use Rattle.control_flow.specs.declared.greens.Green.{Green}
 use Rattle.net_parts.specs.Numbers.{Net}
 use Rattle.net_simulator.specs.Counts.{counts_at, no_totals}
-use Rattle.net_simulator.specs.Flow.{Passed, passed_in, past_of}
+use Rattle.net_simulator.specs.Flow.{Cumulative, passed_in, past_of}
 use Rattle.net_simulator.specs.Sums.{end_of_run, link_totals, totals}
 use Rattle.net_simulator.specs.Worlds.{Stands, WorldState, line_in, standing_by, IsWorldOf}
 use Rattle.net_simulator.specs.declared.totals.LinkTotals.{LinkTotals}
@@ -98,8 +98,8 @@ module _ (net : Net) (network : IsNetwork net) (arriving : ℕ → ℕ → ℕ) 
       acts = a.acted.acts;
       timelines = fill_by_all (line_before (first_line net) a.acted.made (act_rounds net)) run.timelines (length net.node_names) [] a.acted.count a.acted.are;
       links = fill_by_all (link_totals net (past_by net arriving a.acted.made) (end_of_run net)) run.links (length net.link_names) no_totals link-count
-          (λ l below. link-is l below ∙ ap (λ (p : ℕ → ℕ → Passed). link_totals net p (end_of_run net) l) past-is);
-      all = all-is ∙ ap (λ (p : ℕ → ℕ → Passed). totals net arriving p (end_of_run net)) past-is;
+          (λ l below. link-is l below ∙ ap (λ (p : ℕ → ℕ → Cumulative). link_totals net p (end_of_run net) l) past-is);
+      all = all-is ∙ ap (λ (p : ℕ → ℕ → Cumulative). totals net arriving p (end_of_run net)) past-is;
     };
   }
 

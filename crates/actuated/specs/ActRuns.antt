@@ -7,7 +7,7 @@ use Rattle.control_flow.specs.declared.greens.Green.{Green}
 use Rattle.switch_rules.specs.declared.Head.{Head}
 use Rattle.net_parts.specs.Numbers.{Net}
 use Rattle.net_parts.specs.Outline.{plan_at}
-use Rattle.net_simulator.specs.Flow.{Passed, past_of}
+use Rattle.net_simulator.specs.Flow.{Cumulative, past_of}
 use Rattle.net_simulator.specs.Senses.{sense}
 use Rattle.net_simulator.specs.Sums.{end_of_run, link_totals, totals}
 use Rattle.net_simulator.specs.Worlds.{line_in}
@@ -24,7 +24,7 @@ abbrev pub first_line : Net → ℕ → List Green
 first_line net node = rotation_of (plan_at net node) first_head 0
 
 -- what calls for each phase of a node in second n
-abbrev pub calls_at : Net → (ℕ → ℕ → Passed) → ℕ → ℕ → List ℕ
+abbrev pub calls_at : Net → (ℕ → ℕ → Cumulative) → ℕ → ℕ → List ℕ
 calls_at net past n node = map (calling net node (sense net past n node)) (range_with_len 0 (length (plan_at net node)))
 
 -- the next line of a node in second n by what calls for its phases: the old one, spliced with that from its head
@@ -34,7 +34,7 @@ pub record IsNextBy (net : Net) (calls : List ℕ) (n node : ℕ) (old next : Li
   pub is : next ≡ spliced old (act_line (plan_at net node) head calls (n + net.run.look))
 
 -- the same by what the node senses
-abbrev pub IsNextLine : Net → (ℕ → ℕ → Passed) → ℕ → ℕ → List Green → List Green → Type 0
+abbrev pub IsNextLine : Net → (ℕ → ℕ → Cumulative) → ℕ → ℕ → List Green → List Green → Type 0
 IsNextLine net past n node old next = IsNextBy net (calls_at net past n node) n node old next
 
 -- which phase is green in a second at a node, and since when, by the lines that the nodes make in the controller's rounds
@@ -42,17 +42,17 @@ abbrev pub shown_in : Net → (ℕ → ℕ → List Green) → ℕ → ℕ → O
 shown_in net = shown_every (act_step net)
 
 -- a node acts in a round: its line becomes the next one when the round begins
-abbrev pub Acts : Net → ((ℕ → ℕ → Option (ℕ × ℕ)) → ℕ → ℕ → ℕ → Passed) → (ℕ → ℕ → List Green) → ℕ → ℕ → Type 0
+abbrev pub Acts : Net → ((ℕ → ℕ → Option (ℕ × ℕ)) → ℕ → ℕ → ℕ → Cumulative) → (ℕ → ℕ → List Green) → ℕ → ℕ → Type 0
 Acts net under made round node =
     IsNextLine net (under (shown_in net made) (round * act_step net)) (round * act_step net) node
     (line_before (first_line net) made round node) (made round node)
 
 -- each node of the network acts in each of the first `rounds` rounds
-abbrev pub AllAct : Net → ((ℕ → ℕ → Option (ℕ × ℕ)) → ℕ → ℕ → ℕ → Passed) → (ℕ → ℕ → List Green) → ℕ → Type 0
+abbrev pub AllAct : Net → ((ℕ → ℕ → Option (ℕ × ℕ)) → ℕ → ℕ → ℕ → Cumulative) → (ℕ → ℕ → List Green) → ℕ → Type 0
 AllAct net under made rounds = (round node : ℕ) → round < rounds → node < length net.node_names → Acts net under made round node
 
 -- what passes the links until the last round is over
-abbrev pub past_by : Net → (ℕ → ℕ → ℕ) → (ℕ → ℕ → List Green) → ℕ → ℕ → Passed
+abbrev pub past_by : Net → (ℕ → ℕ → ℕ) → (ℕ → ℕ → List Green) → ℕ → ℕ → Cumulative
 past_by net arriving made = past_of net arriving (shown_in net made) (end_of_run net)
 
 -- The record of a run, where `arriving second link` comes from outside: the nodes act in all rounds; it has the last line of each

@@ -4,7 +4,7 @@ use Rattle.control_flow.specs.Greens.{standing}
 use Rattle.control_flow.specs.declared.greens.Green.{Green}
 use Rattle.net_parts.specs.Numbers.{Net}
 use Rattle.net_parts.specs.Outline.{plan_at}
-use Rattle.net_simulator.specs.Flow.{Passed, past_of}
+use Rattle.net_simulator.specs.Flow.{Cumulative, past_of}
 use Rattle.net_simulator.specs.Senses.{near_on}
 use Rattle.net_simulator.specs.Worlds.{Stands, WorldState, line_in, standing_by}
 use Rattle.signal_safety.specs.Rounds.{line_before}
@@ -13,20 +13,20 @@ use Rattle.actuated.specs.ActSteps.{act_step}
 use Rattle.actuated.specs.Rounds.{IsReady}
 
 -- what is near on each link in a second
-abbrev pub AreNear : Net → (ℕ → ℕ → Passed) → ℕ → List ℕ → Type 0
+abbrev pub AreNear : Net → (ℕ → ℕ → Cumulative) → ℕ → List ℕ → Type 0
 AreNear net past second near = (l : ℕ) → l < length net.link_names → slice_index near l ≡ near_on net past second net.run.gap l
 
 -- only what the signals show in the seconds below n counts for what passed the links in the first n seconds
-abbrev pub CountsBefore : ((ℕ → ℕ → Option (ℕ × ℕ)) → ℕ → ℕ → ℕ → Passed) → Type 0
+abbrev pub CountsBefore : ((ℕ → ℕ → Option (ℕ × ℕ)) → ℕ → ℕ → ℕ → Cumulative) → Type 0
 CountsBefore under = (shown seen : ℕ → ℕ → Option (ℕ × ℕ)) (n : ℕ) → ((x node : ℕ) → x < n → shown x node ≡ seen x node) → under shown n ≡ under seen n
 
 -- and of these only what the nodes of the network show
-abbrev pub CountsAtNodes : Net → ((ℕ → ℕ → Option (ℕ × ℕ)) → ℕ → ℕ → ℕ → Passed) → Type 0
+abbrev pub CountsAtNodes : Net → ((ℕ → ℕ → Option (ℕ × ℕ)) → ℕ → ℕ → ℕ → Cumulative) → Type 0
 CountsAtNodes net under = (shown seen : ℕ → ℕ → Option (ℕ × ℕ)) (n : ℕ) → ((x node : ℕ) → x < n → node < length net.node_names → shown x node ≡ seen x node) → under shown n ≡ under seen n
 
 -- after so many rounds: these are the lines that the nodes made, by what they sensed of a world in which `under shown n` is what
 -- passed the links in the first n seconds
-pub record HaveActed (net : Net) (under : (ℕ → ℕ → Option (ℕ × ℕ)) → ℕ → ℕ → ℕ → Passed) (rounds : ℕ) (lines : List (List Green)) : Type 0 where
+pub record HaveActed (net : Net) (under : (ℕ → ℕ → Option (ℕ × ℕ)) → ℕ → ℕ → ℕ → Cumulative) (rounds : ℕ) (lines : List (List Green)) : Type 0 where
   pub made : ℕ → ℕ → List Green
   pub acts : AllAct net under made rounds
   pub count : length lines ≡ length net.node_names

@@ -12,7 +12,7 @@ use Rattle.road_net.specs.Network.{IsNetwork}
 use Rattle.road_net.proofs.TotalLaws.{total-le}
 use Rattle.control_flow.specs.Greens.{IsGreen}
 use Rattle.control_flow.specs.declared.greens.Green.{Green}
-use Rattle.net_simulator.specs.Flow.{Passed}
+use Rattle.net_simulator.specs.Flow.{Cumulative}
 use Rattle.net_simulator.specs.Sums.{AreFew, delay, end_of_run, link_totals, totals}
 use Rattle.net_simulator.specs.Worlds.{line_in, standing_by}
 use Rattle.net_simulator.proofs.Conserving.{left-entered}
@@ -76,7 +76,7 @@ module _ (net : Net) (network : IsNetwork net) (arriving : ℕ → ℕ → ℕ) 
 
   told-sums : AreToldSums (totals net arriving (past_under net arriving lines) end)
   told-sums =
-      let past : ℕ → ℕ → Passed = past_under net arriving lines in
+      let past : ℕ → ℕ → Cumulative = past_under net arriving lines in
       let each = total-le (delay net past end) (λ l. 36000000000000) (length net.link_names) (λ l below. omega (arith, delay-small net network arriving shown few end l below, early)) in
       record {
         entered = omega (arith, few end);

@@ -9,7 +9,7 @@ use Rattle.net_parts.specs.Outline.{plan_at}
 use Rattle.control_flow.specs.Greens.{Follows, IsLawful, covers, green_at, row_at, standing}
 use Rattle.control_flow.specs.declared.greens.Green.{Green}
 use Rattle.control_flow.proofs.RowLaws.{lawful-cons, lawful-first, lawful-next, lawful-nil, lawful-tail}
-use Rattle.net_simulator.specs.Flow.{Passed, passed_in}
+use Rattle.net_simulator.specs.Flow.{Cumulative, passed_in}
 use Rattle.net_simulator.specs.Sums.{end_of_run, link_totals, totals}
 use Rattle.net_simulator.specs.Worlds.{line_in, standing_by}
 use Rattle.net_simulator.proofs.FlowLaws.{history-same}
@@ -81,6 +81,6 @@ module _ (net : Net) (arriving : ℕ → ℕ → ℕ) where
   pub cut-clean : (s : Sheet) → IsClean net arriving s → IsClean net arriving (cut_at (end_of_run net) s)
   cut-clean s clean = record {
     lawful = λ node below. subst (IsLawful (plan_at net node)) (sym (cut-line (end_of_run net) s.lines node)) (begun-lawful (plan_at net node) (end_of_run net) (line_in s.lines node) (clean.lawful node below));
-    links = λ l below. clean.links l below ∙ ap (λ (p : ℕ → ℕ → Passed). link_totals net p (end_of_run net) l) (sym (past-cut s.lines));
-    all = clean.all ∙ ap (λ (p : ℕ → ℕ → Passed). totals net arriving p (end_of_run net)) (sym (past-cut s.lines));
+    links = λ l below. clean.links l below ∙ ap (λ (p : ℕ → ℕ → Cumulative). link_totals net p (end_of_run net) l) (sym (past-cut s.lines));
+    all = clean.all ∙ ap (λ (p : ℕ → ℕ → Cumulative). totals net arriving p (end_of_run net)) (sym (past-cut s.lines));
   }

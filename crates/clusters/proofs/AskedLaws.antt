@@ -19,7 +19,7 @@ use Rattle.clusters.specs.Cuts.{filled, first_of}
 use Rattle.clusters.specs.Platoons.{ArePlatoons, ArePlatoonsBy, ArePlatoonsOf, load_of, most_of, platoons_at, streams_of, together}
 use Rattle.clusters.specs.Sound.{AreOfNode, AreSoundOf, AreSpacedClusters, IsPlatoon, cluster_lists, clusters_of}
 use Rattle.clusters.specs.Steps.{ArePlatoonsAsked, IsAge, IsHold, span_with}
-use Rattle.clusters.specs.UnderLoad.{AreExpected, AreExpectedIn, AsksNothing, aged_load_of, with_held_load, held_in, span_in_green, span_of, with_first_held}
+use Rattle.clusters.specs.Options.{AreExpected, AreExpectedIn, AsksNothing, aged_load_of, with_held_load, with_hold, span_in_green, span_of, first_with_hold}
 use Rattle.clusters.specs.Windows.{IsRising}
 use Rattle.clusters.proofs.LoadLaws.{aged_load-none}
 use Rattle.clusters.proofs.PlatoonLaws.{ArePhases, aged-sound, phases-clusters, phases-node, phases-rising}
@@ -74,7 +74,7 @@ spans-are net node head now k series split e =
 -- so they are expected, once the load of the first is held
 pub asked-expected : (net : Net) (node k : ℕ) (head : Head) (sensed : Sensed) (heard : List Heard) (age : Option ℕ) (split : Option Head) (plain list : List Platoon)
     → age ≡ net.run.age → split ≡ (if net.run.split && (k == head.phase) then Some head else None) → ArePlatoonsAsked age split net node k sensed heard plain
-    → list ≡ held_in net head k plain → AreExpectedIn net node head sensed k (streams_of net sensed heard (phase_links_at net node k)) list
+    → list ≡ with_hold net head k plain → AreExpectedIn net node head sensed k (streams_of net sensed heard (phase_links_at net node k)) list
 asked-expected net node k head sensed heard age split plain list a s are h =
     let streams : List Part = streams_of net sensed heard (phase_links_at net node k) in
     let series : List ℕ = together streams net.run.look in
@@ -118,7 +118,7 @@ held-sound net node phase now hold p ps some h =
       rising = record { few = h.rising.few; rising = h.rising.rising };
     }
 
-first-sound : (net : Net) (node phase now at : ℕ) (hold : Option ℕ) (list : List Platoon) → IsHold hold → AreSoundOf net node phase now list → AreSoundOf net node phase now (with_first_held hold at list)
+first-sound : (net : Net) (node phase now at : ℕ) (hold : Option ℕ) (list : List Platoon) → IsHold hold → AreSoundOf net node phase now list → AreSoundOf net node phase now (first_with_hold hold at list)
 first-sound net node phase now at None list ok h = h
 first-sound net node phase now at (Some hold) [] ok h = h
 first-sound net node phase now at (Some hold) (p ∷ ps) ok h = tested (nat_le p.cluster.arr at)
@@ -127,23 +127,23 @@ first-sound net node phase now at (Some hold) (p ∷ ps) ok h = tested (nat_le p
     tested true = held-sound net node phase now hold p ps ok.0 h
     tested false = h
 
-held-in-sound : (net : Net) (node phase now : ℕ) (head : Head) (list : List Platoon) → IsHold net.run.hold → AreSoundOf net node phase now list → AreSoundOf net node phase now (held_in net head phase list)
+held-in-sound : (net : Net) (node phase now : ℕ) (head : Head) (list : List Platoon) → IsHold net.run.hold → AreSoundOf net node phase now list → AreSoundOf net node phase now (with_hold net head phase list)
 held-in-sound net node phase now head list ok h = tested (phase == head.phase)
   where
-    tested : (standing : Bool) → AreSoundOf net node phase now (if standing then with_first_held net.run.hold head.at list else list)
+    tested : (standing : Bool) → AreSoundOf net node phase now (if standing then first_with_hold net.run.hold head.at list else list)
     tested true = first-sound net node phase now head.at net.run.hold list ok h
     tested false = h
 
 -- nor how many platoons there are
-first-length : (hold : Option ℕ) (at : ℕ) (list : List Platoon) → length (with_first_held hold at list) ≡ length list
+first-length : (hold : Option ℕ) (at : ℕ) (list : List Platoon) → length (first_with_hold hold at list) ≡ length list
 first-length None at list = refl
 first-length (Some hold) at [] = refl
 first-length (Some hold) at (p ∷ ps) = refl
 
-pub held-length : (net : Net) (head : Head) (k : ℕ) (list : List Platoon) → length (held_in net head k list) ≡ length list
+pub held-length : (net : Net) (head : Head) (k : ℕ) (list : List Platoon) → length (with_hold net head k list) ≡ length list
 held-length net head k list = tested (k == head.phase)
   where
-    tested : (standing : Bool) → length (if standing then with_first_held net.run.hold head.at list else list) ≡ length list
+    tested : (standing : Bool) → length (if standing then first_with_hold net.run.hold head.at list else list) ≡ length list
     tested true = first-length net.run.hold head.at list
     tested false = refl
 
@@ -180,8 +180,8 @@ pub expected-are : (net : Net) (node : ℕ) (head : Head) (sensed : Sensed) (hea
 expected-are net node head sensed heard lists i h e = record { count = omega (arith, h.count, e); each = λ k lt. h.each k (omega (arith, h.count)) }
 
 -- Where a network asks for nothing, what is expected is what the rules alone say.
-unheld : (standing : Bool) (hold : Option ℕ) (at : ℕ) (list : List Platoon) → hold ≡ None → (if standing then with_first_held hold at list else list) ≡ list
-unheld standing hold at list none = ap (λ h. if standing then with_first_held h at list else list) none ∙ plain standing
+unheld : (standing : Bool) (hold : Option ℕ) (at : ℕ) (list : List Platoon) → hold ≡ None → (if standing then first_with_hold hold at list else list) ≡ list
+unheld standing hold at list none = ap (λ h. if standing then first_with_hold h at list else list) none ∙ plain standing
   where
     plain : (b : Bool) → (if b then list else list) ≡ list
     plain true = refl

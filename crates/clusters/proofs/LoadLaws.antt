@@ -13,7 +13,7 @@ use Rattle.clusters.specs.declared.vehicle_groups.Part.{Part}
 use Rattle.clusters.specs.Inflow.{sense_of}
 use Rattle.clusters.specs.Platoons.{load_of, part_of, whole_of}
 use Rattle.clusters.specs.Steps.{AreOfLinks, IsAge}
-use Rattle.clusters.specs.UnderLoad.{amount_load, aged_load_of}
+use Rattle.clusters.specs.Options.{amount_load, aged_load_of}
 
 -- the weight of a link of a network
 pub weight-bounds : (net : Net) (l : ℕ) → IsOutline net → l < length net.link_names → (1 ≤ (link_at net l).weight) × ((link_at net l).weight ≤ greatest_weight)

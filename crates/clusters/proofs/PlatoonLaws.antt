@@ -24,7 +24,7 @@ use Rattle.clusters.specs.Platoons.{ArePlatoonsBy, platoons_at, part_of, platoon
 use Rattle.clusters.specs.Sound.{IsPart, IsPlatoon, AreOfNode, AreSoundOf, cluster_lists, AreSpacedClusters, clusters_of}
 use Rattle.clusters.specs.Windows.{IsRising, arrivals}
 use Rattle.clusters.specs.Steps.{AreOfLinks, AreStreams, IsAge}
-use Rattle.clusters.specs.UnderLoad.{aged_load_of}
+use Rattle.clusters.specs.Options.{aged_load_of}
 use Rattle.clusters.proofs.ListLaws.{get_or-push-at, get_or-push-other, length-push}
 use Rattle.clusters.proofs.LoadLaws.{IsLoading, loads-between}
 use Rattle.clusters.proofs.RunLaws.{AreInOrder, LiesIn, cut-in-order}

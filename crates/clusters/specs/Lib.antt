@@ -1,10 +1,10 @@
 pub mod Cuts
 pub mod Inflow
+pub mod Options
 pub mod Platoons
 pub mod Smoothing
 pub mod Sound
 pub mod Steps
 pub mod Streams
 pub mod Taking
-pub mod UnderLoad
 pub mod Windows

@@ -11,7 +11,7 @@ use Rattle.clusters.specs.declared.vehicle_groups.Part.{Part}
 use Rattle.clusters.specs.declared.vehicle_groups.Platoon.{Platoon}
 use Rattle.clusters.specs.Cuts.{IsRun, filled, filled_from, first_of, last_of}
 use Rattle.clusters.specs.Platoons.{ArePlatoonsBy, most_of, streams_of, together}
-use Rattle.clusters.specs.UnderLoad.{aged_load_of, span_in_green}
+use Rattle.clusters.specs.Options.{aged_load_of, span_in_green}
 
 -- from this second on, before `end`, all are empty
 abbrev pub IsEmpty : List ℕ → ℕ → ℕ → Type 0

@@ -4,7 +4,7 @@ ghost use Rattle.net_parts.specs.Limits.{most_look, most_sat, most_seconds};
 ghost use Rattle.clusters.specs.Cuts.{filled, first_of};
 ghost use Rattle.clusters.specs.Platoons.{ArePlatoonsBy, platoon_within, together};
 ghost use Rattle.clusters.specs.Steps.{AreOfLinks, AreSpans, AreStreams, IsAge, IsEmpty, IsNext, IsRunUpTo, IsClosed, span_at};
-ghost use Rattle.clusters.specs.UnderLoad.{aged_load_of};
+ghost use Rattle.clusters.specs.Options.{aged_load_of};
 
 use crate::loads::load_on;
 use crate::parts::{Parts, PhaseStreams};

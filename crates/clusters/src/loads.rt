@@ -5,7 +5,7 @@ ghost use Rattle.net_parts.specs.Outline.{link_at};
 ghost use Rattle.clusters.specs.Inflow.{sense_of};
 ghost use Rattle.clusters.specs.Steps.{IsAge};
 ghost use Rattle.clusters.specs.Sound.{AreSpacedClusters, clusters_of};
-ghost use Rattle.clusters.specs.UnderLoad.{amount_load, with_first_held};
+ghost use Rattle.clusters.specs.Options.{amount_load, first_with_hold};
 ghost use Rattle.switch_rules.specs.Bounds.{greatest_size, greatest_weight};
 
 use crate::inflows::stood_on;
@@ -80,7 +80,7 @@ fn amount_load(age: u32, grown: u32, amount: u32) -> u32
 /// Lets the load of the first of these platoons count so many times, where it has arrived by this second.
 pub(crate) fn hold_first(list: &mut [Platoon], hold: u32, at: u32)
     requires { AreSpacedClusters (clusters_of list.old) }
-    ensures { list.new ≡ with_first_held (Some hold) at list.old }
+    ensures { list.new ≡ first_with_hold (Some hold) at list.old }
 {
     if list.is_empty() || list[0].cluster.arr > at {
         return;

@@ -8,7 +8,7 @@ ghost use Rattle.clusters.specs.Inflow.{IsHeardOf};
 ghost use Rattle.clusters.specs.Platoons.{ArePlatoonsOf, streams_of};
 ghost use Rattle.clusters.specs.Sound.{AreOfNode, AreSpacedClusters, cluster_lists, clusters_of};
 ghost use Rattle.clusters.specs.Steps.{ArePlatoonsAsked, IsAge};
-ghost use Rattle.clusters.specs.UnderLoad.{AreExpected, AreExpectedIn, AsksNothing, held_in};
+ghost use Rattle.clusters.specs.Options.{AreExpected, AreExpectedIn, AsksNothing, with_hold};
 ghost use Rattle.clusters.specs.Windows.{IsRising};
 ghost use Rattle.switch_rules.specs.Serving.{IsHead};
 
@@ -48,7 +48,7 @@ pub fn platoons(
     ensures clusters { IfOk result (λ lists. All AreSpacedClusters (cluster_lists lists.items)) }
     ensures rising { IfOk result (λ lists. All IsRising lists.items) }
 {
-    let asked = Asked {
+    let asked = ClusterOptions {
         age: None,
         split: None,
     };
@@ -128,7 +128,7 @@ fn expected_in(
 }
 
 /// What a network asks of the platoons of a phase where a node has this head.
-fn asked_of(net: &Network, phase: u8, head: &Head) -> Asked
+fn asked_of(net: &Network, phase: u8, head: &Head) -> ClusterOptions
     ensures age { result.age ≡ net.now.run.age }
     ensures split { result.split ≡ (if net.now.run.split && (phase == head.now.phase) then Some head.now else None) }
     ensures network { IsNetwork net.now }
@@ -139,7 +139,7 @@ fn asked_of(net: &Network, phase: u8, head: &Head) -> Asked
     } else {
         None
     };
-    Asked {
+    ClusterOptions {
         age: run.age,
         split,
     }
@@ -149,7 +149,7 @@ fn asked_of(net: &Network, phase: u8, head: &Head) -> Asked
 /// it at once.
 fn hold_in(list: &mut [Platoon], net: &Network, phase: u8, head: &Head)
     requires { AreSpacedClusters (clusters_of list.old) }
-    ensures { list.new ≡ held_in net.now head.now phase list.old }
+    ensures { list.new ≡ with_hold net.now head.now phase list.old }
 {
     if phase == head.phase
         && let Some(hold) = net.run().hold
@@ -160,7 +160,7 @@ fn hold_in(list: &mut [Platoon], net: &Network, phase: u8, head: &Head)
 
 /// What is asked of the platoons of a phase beside the rules.
 #[derive(Clone, Copy)]
-struct Asked {
+struct ClusterOptions {
     /// In how many seconds the weight of a link whose queue stands grows by itself, if it grows.
     age: Option<u32>,
     /// The head in whose green the first platoon is to end, if it has to.
@@ -175,7 +175,7 @@ fn platoons_of(
     phase: u8,
     sensed: &Sensed,
     heard: &[Heard],
-    asked: Asked,
+    asked: ClusterOptions,
 ) -> Result<Vec<Platoon>, AllocError>
     requires node { node < length net.now.node_names }
     requires phase { phase < length (plan_at net.now node) }

@@ -2,7 +2,7 @@
 ghost use Rattle.std.specs.Prelude.{◌≡◌, ◌-◌, ◌<◌, ◌≤◌, ℕ, IfSome, length};
 ghost use Rattle.net_parts.specs.Limits.{most_look, most_seconds};
 ghost use Rattle.clusters.specs.Steps.{AreSpans, span_at, span_with};
-ghost use Rattle.clusters.specs.UnderLoad.{span_in_green};
+ghost use Rattle.clusters.specs.Options.{span_in_green};
 ghost use Rattle.phase_plan.specs.Phases.{IsPhase};
 
 use crate::cuts::first_filled;

@@ -15,7 +15,7 @@ use Rattle.net_parts.specs.Numbers.{Net}
 use Rattle.net_parts.specs.Outline.{node_name_at}
 use Rattle.road_net.specs.Network.{IsNetwork}
 use Rattle.net_simulator.specs.Counts.{counts_at, no_totals}
-use Rattle.net_simulator.specs.Flow.{Passed}
+use Rattle.net_simulator.specs.Flow.{Cumulative}
 use Rattle.net_simulator.specs.Sums.{AreFew, end_of_run, link_totals, totals}
 use Rattle.net_simulator.specs.Worlds.{line_in, standing_by}
 use Rattle.schedule_meaning.specs.declared.planners.Answer.{Answer}
@@ -69,8 +69,8 @@ module _ (net : Net) (network : IsNetwork net) (enters : ℕ → ℕ → ℕ) (f
   sheet-clean : IsClean net (arriving_by enters) sheet
   sheet-clean = record {
     lawful = kept.kept.lawful;
-    links = λ l below. counted l below ∙ ap (λ (p : ℕ → ℕ → Passed). link_totals net p end l) same-past;
-    all = kept.run.by.all ∙ ap (λ (p : ℕ → ℕ → Passed). totals net (arriving_by enters) p end) same-past;
+    links = λ l below. counted l below ∙ ap (λ (p : ℕ → ℕ → Cumulative). link_totals net p end l) same-past;
+    all = kept.run.by.all ∙ ap (λ (p : ℕ → ℕ → Cumulative). totals net (arriving_by enters) p end) same-past;
   }
 
   sheet-shape : HasShape net sheet

@@ -12,7 +12,7 @@ use Rattle.net_parts.specs.Numbers.{Net}
 use Rattle.road_net.specs.declared.senses.Sensed.{Sensed}
 use Rattle.clusters.specs.Platoons.{ArePlatoonsBy, platoon_of, platoons_at, together}
 use Rattle.clusters.specs.Sound.{cluster_lists, clusters_of}
-use Rattle.clusters.specs.UnderLoad.{AreExpected, AreExpectedIn, with_first_held, with_held_load}
+use Rattle.clusters.specs.Options.{AreExpected, AreExpectedIn, first_with_hold, with_held_load}
 use Rattle.clusters.specs.Windows.{IsWindow, counts_of}
 use Rattle.clusters.specs.declared.vehicle_groups.Part.{Part}
 use Rattle.clusters.specs.declared.vehicle_groups.Platoon.{Platoon}
@@ -37,7 +37,7 @@ list-soon load gap span now look streams list h =
     (All-weaker (LiesIn series) (λ run. ComesBy (now + look) (platoon_of load now streams run)) (λ run r. omega (arith, r.order, r.before, together-length streams look)) h.runs placed.each))
 
 -- also where the first counts more
-first-soon : (second : ℕ) (hold : Option ℕ) (at : ℕ) (list : List Platoon) → All (ComesBy second) list → All (ComesBy second) (with_first_held hold at list)
+first-soon : (second : ℕ) (hold : Option ℕ) (at : ℕ) (list : List Platoon) → All (ComesBy second) list → All (ComesBy second) (first_with_hold hold at list)
 first-soon second None at list h = h
 first-soon second (Some hold) at [] h = h
 first-soon second (Some hold) at (p ∷ ps) h =

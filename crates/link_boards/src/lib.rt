@@ -23,8 +23,8 @@ pub use opens::idle_passes;
 pub use pass::Pass;
 pub use reads::Drawn;
 pub use rule::{
-    Asked, BoardRule, DealPass, DrawPublish, DrawRead, EndPass, GiveTurn, HearCourier, SendCourier,
-    Stands, TakeTurn,
+    BoardRequest, BoardRule, DealPass, DrawPublish, DrawRead, EndPass, GiveTurn, HearCourier,
+    SendCourier, Stands, TakeTurn,
 };
 pub use slots::{LinkSlot, Settled};
 pub use views::{Entry, Flight, Terms, View};

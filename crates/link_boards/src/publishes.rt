@@ -8,7 +8,7 @@ ghost use Rattle.link_boards.specs.Steps.{HoldsSlot, Holding, CanDraw, CanNote, 
 
 use crate::boards::{Boards, Place};
 use crate::pass::Pass;
-use crate::rule::{Asked, DrawPublish};
+use crate::rule::{BoardRequest, DrawPublish};
 use crate::slots::LinkSlot;
 use board_model::{Forecast, Gate, Sent};
 use std::alloc::AllocError;
@@ -18,7 +18,7 @@ use std::thread::Threads;
 
 impl<S: LinkSlot> Boards<S> {
     // Draws a stamp to publish.
-    fn draw_publish<W: Asked>(
+    fn draw_publish<W: BoardRequest>(
         &self,
         seat: &mut Place<S>,
         _link: u32,

@@ -33,11 +33,11 @@ impl<S, Q: Stands<S>> TableRule<S, View, Terms> for BoardRule<Q> {
 /// What a publishing will tell, for the proof alone. A call at `Brand` picks it from its `requires`.
 ///
 /// docs/DESIGN.md, "Shared boards".
-pub trait Asked {
+pub trait BoardRequest {
     ghost forecast: { List Row };
 }
 
-impl Asked for Brand {
+impl BoardRequest for Brand {
     ghost use Rattle.std.specs.Prelude.{[]};
 
     ghost forecast = { [] };
@@ -70,7 +70,7 @@ pub struct DrawPublish<W> {
     asked: PhantomData<W>,
 }
 
-impl<S, W: Asked> Play<S, View> for DrawPublish<W> {
+impl<S, W: BoardRequest> Play<S, View> for DrawPublish<W> {
     ghost then = { draws_publish W.forecast };
 }
 

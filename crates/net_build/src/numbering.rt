@@ -14,7 +14,10 @@ ghost use Rattle.net_build.specs.Stages.{AreNames, AreTables, net_with};
 
 use foundation::items::Items;
 use foundation::text::Text;
-use net_parts::{Draft, DraftConflict, DraftLink, DraftNode, DraftPhase, DraftTurn, Link, Names, NetFault, Parts, Place, Section, Turn, phase_with};
+use net_parts::{
+    Draft, DraftConflict, DraftLink, DraftNode, DraftPhase, DraftTurn, Link, Names, NetFault,
+    Parts, Place, Section, Turn, phase_with,
+};
 use phase_plan::{Phase, PhasePlan};
 use std::alloc::{AllocError, Global};
 

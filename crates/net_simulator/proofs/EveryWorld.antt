@@ -12,10 +12,10 @@ use Rattle.road_net.specs.Joins.{split_of, HasShares}
 use Rattle.road_net.specs.Network.{IsNetwork}
 use Rattle.road_net.specs.Totals.{total}
 use Rattle.road_net.proofs.TotalLaws.{total-same, total-add}
-use Rattle.net_simulator.specs.Flow.{Passed, queue, waiting}
+use Rattle.net_simulator.specs.Flow.{Cumulative, queue, waiting}
 use Rattle.net_simulator.specs.Moves.{Moves}
 use Rattle.net_simulator.specs.Steps.{goes_out, all_of}
-use Rattle.net_simulator.specs.Sums.{outward, gone, on_road, delay}
+use Rattle.net_simulator.specs.Sums.{outward, total_left, on_road, delay}
 use Rattle.net_simulator.proofs.Sums.{total-most}
 use Rattle.net_simulator.proofs.Sound.{IsSound, AreMoved, next-one, is-sound}
 use Rattle.net_simulator.proofs.Keeping.{HasBounds}
@@ -59,7 +59,7 @@ outward-add : (to : Option ℕ) (a b : ℕ) → outward to (a + b) ≡ outward t
 outward-add None a b = refl
 outward-add (Some node) a b = omega arith
 
-module _ (net : Net) (network : IsNetwork net) (moves : ℕ → Moves) (past : ℕ → ℕ → ℕ → Passed) (course : AreMoved net moves past) where
+module _ (net : Net) (network : IsNetwork net) (moves : ℕ → Moves) (past : ℕ → ℕ → ℕ → Cumulative) (course : AreMoved net moves past) where
   travels : (l : ℕ) → l < length net.link_names → 1 ≤ (link_at net l).travel
   travels l h = (bounds-of net network).some l h
 
@@ -67,7 +67,7 @@ module _ (net : Net) (network : IsNetwork net) (moves : ℕ → Moves) (past : �
   are-sound n = is-sound net moves past course travels n
 
   -- what is on the links and what has left the network is what came from outside
-  pub all-there : (n : ℕ) → on_road net (past n) n + gone net (past n) n ≡ come net moves n
+  pub all-there : (n : ℕ) → on_road net (past n) n + total_left net (past n) n ≡ come net moves n
   all-there n = none-lost net (parts-of net network) moves past course n (λ l h. left-entered net (past n) n (are-sound n) l n h (omega arith))
 
   -- the first k seconds are the same later on
@@ -81,15 +81,15 @@ module _ (net : Net) (network : IsNetwork net) (moves : ℕ → Moves) (past : �
   pub queue-still : (n k l : ℕ) → k ≤ n → queue net (past n) k l ≡ queue net (past k) k l
   queue-still n k l h =
       let j : ℕ = k - (link_at net l).travel in
-      let one = ap (λ (q : Passed). q.entered) (past-still n j l (omega arith) ∙ sym (past-still k j l (omega arith))) in
-      let two = ap (λ (q : Passed). q.left) (past-still n k l h) in
+      let one = ap (λ (q : Cumulative). q.entered) (past-still n j l (omega arith) ∙ sym (past-still k j l (omega arith))) in
+      let two = ap (λ (q : Cumulative). q.left) (past-still n k l h) in
       omega (arith, one, two)
 
   -- one more second of the whole network
-  pub gone-more : (x : ℕ) (lv : List ℕ) → ((l : ℕ) → l < length net.link_names → slice_index lv l ≡ (moves x).goes l) → gone net (past (x + 1)) (x + 1) ≡ gone net (past x) x + goes_out net lv
+  pub gone-more : (x : ℕ) (lv : List ℕ) → ((l : ℕ) → l < length net.link_names → slice_index lv l ≡ (moves x).goes l) → total_left net (past (x + 1)) (x + 1) ≡ total_left net (past x) x + goes_out net lv
   gone-more x lv leaves =
       total-same (λ l. outward (link_at net l).to (past (x + 1) (x + 1) l).left) (λ l. outward (link_at net l).to (past x x l).left + outward (link_at net l).to (slice_index lv l)) (length net.link_names)
-      (λ l h. ap (λ (q : Passed). outward (link_at net l).to q.left) ((next-one net moves past course x).next l h) ∙ ap (λ d. outward (link_at net l).to ((past x x l).left + d)) (sym (leaves l h)) ∙ outward-add (link_at net l).to (past x x l).left (slice_index lv l))
+      (λ l h. ap (λ (q : Cumulative). outward (link_at net l).to q.left) ((next-one net moves past course x).next l h) ∙ ap (λ d. outward (link_at net l).to ((past x x l).left + d)) (sym (leaves l h)) ∙ outward-add (link_at net l).to (past x x l).left (slice_index lv l))
       ∙ total-add (λ l. outward (link_at net l).to (past x x l).left) (λ l. outward (link_at net l).to (slice_index lv l)) (length net.link_names)
 
   pub delay-more : (x l : ℕ) → delay net (past (x + 1)) (x + 1) l ≡ delay net (past x) x l + queue net (past (x + 1)) (x + 1) l
@@ -103,12 +103,12 @@ module _ (net : Net) (network : IsNetwork net) (moves : ℕ → Moves) (past : �
       total-same (delay net (past (x + 1)) (x + 1)) (λ l. delay net (past x) x l + slice_index qs l) (length net.link_names) (λ l h. delay-more x l ∙ ap (λ q. delay net (past x) x l + q) (sym (queues l h)))
       ∙ total-add (delay net (past x) x) (λ l. slice_index qs l) (length net.link_names)
 
-module _ (net : Net) (network : IsNetwork net) (moves : ℕ → Moves) (past : ℕ → ℕ → ℕ → Passed) (course : AreMoved net moves past) (few : (n : ℕ) → come net moves n ≤ 2000000000) where
+module _ (net : Net) (network : IsNetwork net) (moves : ℕ → Moves) (past : ℕ → ℕ → ℕ → Cumulative) (course : AreMoved net moves past) (few : (n : ℕ) → come net moves n ≤ 2000000000) where
   -- what is on the links at any time
   pub road-most : (n : ℕ) → on_road net (past n) n ≤ 2000000000
   road-most n = let most = few n in omega (arith, all-there net network moves past course n, most)
 
-  pub out-most : (n : ℕ) → gone net (past n) n ≤ 2000000000
+  pub out-most : (n : ℕ) → total_left net (past n) n ≤ 2000000000
   out-most n = let most = few n in omega (arith, all-there net network moves past course n, most)
 
   pub waits-most : (n l : ℕ) → l < length net.link_names → waiting net (past n) n l ≤ 2000000000
@@ -118,21 +118,21 @@ module _ (net : Net) (network : IsNetwork net) (moves : ℕ → Moves) (past : �
   pub enters-most : (x l : ℕ) → l < length net.link_names → (moves x).comes l + total (λ k. split_of (turns_at net k) ((moves x).goes k) l) (length net.link_names) ≤ 2000000000
   enters-most x l h =
       let sound = are-sound net network moves past course in
-      let next = ap (λ (q : Passed). q.entered) ((course.next x).next l h) in
+      let next = ap (λ (q : Cumulative). q.entered) ((course.next x).next l h) in
       let on = on-link net (past (suc x)) (suc x) (sound (suc x)) l h in
       let most = road-most (suc x) in
       let left = (sound (suc x)).within (suc x) l (omega arith) h in
       let some = travels net network moves past course l h in
-      let back = ap (λ (q : Passed). q.entered) ((course.next x).kept (suc x - (link_at net l).travel) l (omega arith)) in
+      let back = ap (λ (q : Cumulative). q.entered) ((course.next x).kept (suc x - (link_at net l).travel) l (omega arith)) in
       let before : (past x (suc x - (link_at net l).travel) l).entered ≤ (past x x l).entered =
       (let e : (suc x - (link_at net l).travel) + (x - (suc x - (link_at net l).travel)) ≡ x = omega arith in
       omega (arith, ap (λ i. (past x i l).entered) e, grown net (past x) x (sound x) l (suc x - (link_at net l).travel) (x - (suc x - (link_at net l).travel)) h (omega arith))) in
       omega (arith, next, on, most, left, back, before, ap (λ i. (past (suc x) i l).entered) (add-one x))
 
   pub entered-most : (n l : ℕ) → l < length net.link_names → (past n n l).entered ≤ n * 2000000000
-  entered-most zero l h = omega (arith, ap (λ (q : Passed). q.entered) (course.first l))
+  entered-most zero l h = omega (arith, ap (λ (q : Cumulative). q.entered) (course.first l))
   entered-most (suc x) l h =
-      let next = ap (λ (q : Passed). q.entered) ((course.next x).next l h) in
+      let next = ap (λ (q : Cumulative). q.entered) ((course.next x).next l h) in
       omega (arith, next, enters-most x l h, entered-most x l h, ap (λ i. (past (suc x) i l).entered) (add-one x))
 
   -- a queue is part of what is on the links

@@ -10,7 +10,7 @@ use Rattle.net_parts.specs.Outline.{link_at, plan_at, turns_at}
 use Rattle.road_net.specs.Joins.{split_of}
 use Rattle.control_flow.specs.declared.greens.Green.{Green}
 use Rattle.road_net.specs.Totals.{total}
-use Rattle.net_simulator.specs.Flow.{Passed, queue, waiting, is_lost, may_go, discharged_to, discharged}
+use Rattle.net_simulator.specs.Flow.{Cumulative, queue, waiting, is_lost, may_go, discharged_to, discharged}
 use Rattle.net_simulator.specs.Moves.{Moves}
 use Rattle.net_simulator.specs.Rows.{cell}
 use Rattle.net_simulator.specs.LinkSeconds.{is_open, waits_at}
@@ -40,7 +40,7 @@ pub record HasBounds (net : Net) : Type 0 where
   pub ends : (l node : ℕ) → l < length net.link_names → (link_at net l).to ≡ Some node → node < length net.node_names
   pub losses : (l node : ℕ) → l < length net.link_names → (link_at net l).to ≡ Some node → (phase_at (plan_at net node) (link_at net l).phase).loss ≤ 10
 
-module _ (net : Net) (x : ℕ) (before : ℕ → ℕ → Passed) (qs rs ws : List ℕ) (bounds : HasBounds net) (sound : IsSound net before x) (keeps : Keeps net before qs rs ws x) where
+module _ (net : Net) (x : ℕ) (before : ℕ → ℕ → Cumulative) (qs rs ws : List ℕ) (bounds : HasBounds net) (sound : IsSound net before x) (keeps : Keeps net before qs rs ws x) where
   -- what waits
   pub waits-same : (arrived : List ℕ) → ((l y : ℕ) → y % 128 ≢ x % 128 → cell arrived l y ≡ cell rs l y) → (l : ℕ) → l < length net.link_names → waits_at net qs arrived x l ≡ waiting net before x l
   waits-same arrived others l h =
@@ -95,15 +95,15 @@ module _ (net : Net) (x : ℕ) (before : ℕ → ℕ → Passed) (qs rs ws : Lis
       → goes net greens ws x l w (link_at net l).to ≡ discharged net shown before x l
   goes-same shown greens l w h begun seen same = goes-to shown greens l w (link_at net l).to h refl begun seen same
 
-module _ (net : Net) (m : Moves) (x : ℕ) (before after : ℕ → ℕ → Passed) (qs rs ws : List ℕ)
+module _ (net : Net) (m : Moves) (x : ℕ) (before after : ℕ → ℕ → Cumulative) (qs rs ws : List ℕ)
     (bounds : HasBounds net) (on : Continues net m x before after) (keeps : Keeps net before qs rs ws x) where
   -- the queues after the second
   pub queue-next : (l : ℕ) → l < length net.link_names → queue net after (x + 1) l ≡ waiting net before x l - m.goes l
   queue-next l h =
       let t = (link_at net l).travel in
       let some : 1 ≤ t = bounds.some l h in
-      let left = ap (λ (q : Passed). q.left) (on.next l h) in
-      let back = ap (λ (q : Passed). q.entered) (on.kept ((x + 1) - t) l (omega arith)) in
+      let left = ap (λ (q : Cumulative). q.left) (on.next l h) in
+      let back = ap (λ (q : Cumulative). q.entered) (on.kept ((x + 1) - t) l (omega arith)) in
       omega (arith, left, back)
 
   recent-next : (lv rs2 : List ℕ)
@@ -114,8 +114,8 @@ module _ (net : Net) (m : Moves) (x : ℕ) (before after : ℕ → ℕ → Passe
   recent-next lv rs2 leaves entered others l d h some most = elim (eqb_tells d 1) [
     | inl p ↦
         let turned = cell-turn rs2 l (x + 1 + 128 - d) x (let e = p.1 in omega arith) in
-        let next = ap (λ (q : Passed). q.entered) (on.next l h) in
-        let kept = ap (λ (q : Passed). q.entered) (on.kept x l (omega arith)) in
+        let next = ap (λ (q : Cumulative). q.entered) (on.next l h) in
+        let kept = ap (λ (q : Cumulative). q.entered) (on.kept x l (omega arith)) in
         let parts = total-same (λ k. split_of (turns_at net k) (slice_index lv k) l) (λ k. split_of (turns_at net k) (m.goes k) l) (length net.link_names) (λ k b. ap (λ a. split_of (turns_at net k) a l) (leaves k b)) in
         let one : x + 1 + 1 - d ≡ x + 1 = (let e = p.1 in omega arith) in
         let two : x + 1 - d ≡ x = (let e = p.1 in omega arith) in
@@ -127,15 +127,15 @@ module _ (net : Net) (m : Moves) (x : ℕ) (before after : ℕ → ℕ → Passe
         let was = keeps.recent l (d - 1) h (omega arith) (omega arith) in
         let up : x + 1 + 1 - d ≡ x + 1 - (d - 1) = omega arith in
         let to : x + 1 - d ≡ x - (d - 1) = omega arith in
-        let one = ap (λ (q : Passed). q.entered) (on.kept (x + 1 - (d - 1)) l (omega arith)) in
-        let two = ap (λ (q : Passed). q.entered) (on.kept (x - (d - 1)) l (omega arith)) in
+        let one = ap (λ (q : Cumulative). q.entered) (on.kept (x + 1 - (d - 1)) l (omega arith)) in
+        let two = ap (λ (q : Cumulative). q.entered) (on.kept (x - (d - 1)) l (omega arith)) in
         rw (place, up, to) (omega (arith, other, was, one, two))
   ]
 
   pub kept-queue : (n l : ℕ) → n ≤ x → queue net after n l ≡ queue net before n l
   kept-queue n l h =
-      let one = ap (λ (q : Passed). q.entered) (on.kept (n - (link_at net l).travel) l (omega arith)) in
-      let two = ap (λ (q : Passed). q.left) (on.kept n l h) in
+      let one = ap (λ (q : Cumulative). q.entered) (on.kept (n - (link_at net l).travel) l (omega arith)) in
+      let two = ap (λ (q : Cumulative). q.left) (on.kept n l h) in
       omega (arith, one, two)
 
   waits-next : (qs' ws' : List ℕ)

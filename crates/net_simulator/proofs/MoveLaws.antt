@@ -8,12 +8,12 @@ use Rattle.net_parts.specs.Numbers.{Net}
 use Rattle.net_parts.specs.Outline.{turns_at}
 use Rattle.road_net.specs.Joins.{split_of}
 use Rattle.road_net.proofs.TotalLaws.{total-same}
-use Rattle.net_simulator.specs.Flow.{Passed, nothing, passed_in, discharged, history}
+use Rattle.net_simulator.specs.Flow.{Cumulative, nothing, passed_in, discharged, history}
 use Rattle.net_simulator.specs.Moves.{Moves, moved, history_by}
 use Rattle.net_simulator.proofs.Sums.{range-same}
 
 -- what moves in a second, where each link discharges into links that take whatever enters, and all that arrives enters
-abbrev pub flowing : Net → (ℕ → ℕ → ℕ) → (ℕ → ℕ → Option (ℕ × ℕ)) → List (List Passed) → ℕ → Moves
+abbrev pub flowing : Net → (ℕ → ℕ → ℕ) → (ℕ → ℕ → Option (ℕ × ℕ)) → List (List Cumulative) → ℕ → Moves
 flowing net arriving shown before x = record { goes = discharged net (shown x) (passed_in before) x; comes = arriving x }
 
 -- the world of these moves is the world that stands
@@ -27,23 +27,23 @@ pub record MoveAlike (net : Net) (m k : Moves) : Type 0 where
   pub goes : (l : ℕ) → l < length net.link_names → m.goes l ≡ k.goes l
   pub comes : (l : ℕ) → l < length net.link_names → m.comes l ≡ k.comes l
 
-moved-alike : (net : Net) (m k : Moves) (past : ℕ → ℕ → Passed) (x : ℕ) → MoveAlike net m k → (l : ℕ) → l < length net.link_names → moved net m past x l ≡ moved net k past x l
+moved-alike : (net : Net) (m k : Moves) (past : ℕ → ℕ → Cumulative) (x : ℕ) → MoveAlike net m k → (l : ℕ) → l < length net.link_names → moved net m past x l ≡ moved net k past x l
 moved-alike net m k past x alike l inside =
     let parts = total-same (λ j. split_of (turns_at net j) (m.goes j) l) (λ j. split_of (turns_at net j) (k.goes j) l) (length net.link_names) (λ j h. ap (λ a. split_of (turns_at net j) a l) (alike.goes j h)) in
     let entered : (moved net m past x l).entered ≡ (moved net k past x l).entered = omega (arith, alike.comes l inside, parts) in
     let left : (moved net m past x l).left ≡ (moved net k past x l).left = ap (λ a. (past x l).left + a) (alike.goes l inside) in
     λ i. record { entered = entered i; left = left i }
 
-module _ (net : Net) (rule : List (List Passed) → ℕ → Moves) where
+module _ (net : Net) (rule : List (List Cumulative) → ℕ → Moves) where
   -- what passed each link in the first n seconds, for n up to `now`
-  abbrev pub past_by : ℕ → ℕ → ℕ → Passed
+  abbrev pub past_by : ℕ → ℕ → ℕ → Cumulative
   past_by now = passed_in (history_by net rule now)
 
   -- what moves in a second
   abbrev pub moves_by : ℕ → Moves
   moves_by x = rule (history_by net rule x) x
 
-  abbrev row : ℕ → List Passed
+  abbrev row : ℕ → List Cumulative
   row x = map (moved net (moves_by x) (past_by x) x) (range_with_len 0 (length net.link_names))
 
   -- there is one row more than seconds
@@ -79,11 +79,11 @@ module _ (net : Net) (rule : List (List Passed) → ℕ → Moves) where
   zero-by (suc n) l = refl
 
 -- only what moves in the seconds below n counts for the first n seconds
-pub by-same : (net : Net) (rule other : List (List Passed) → ℕ → Moves) (n : ℕ) → ((x : ℕ) → x < n → MoveAlike net (rule (history_by net other x) x) (other (history_by net other x) x)) → history_by net rule n ≡ history_by net other n
+pub by-same : (net : Net) (rule other : List (List Cumulative) → ℕ → Moves) (n : ℕ) → ((x : ℕ) → x < n → MoveAlike net (rule (history_by net other x) x) (other (history_by net other x) x)) → history_by net rule n ≡ history_by net other n
 unfolding history_by
 by-same net rule other zero same = refl
 by-same net rule other (suc x) same =
-    let H : List (List Passed) = history_by net other x in
+    let H : List (List Cumulative) = history_by net other x in
     let before = by-same net rule other x (λ y h. same y (omega arith)) in
     let here = range-same (moved net (rule H x) (passed_in H) x) (moved net (other H x) (passed_in H) x) (length net.link_names) (moved-alike net (rule H x) (other H x) (passed_in H) x (same x (omega arith))) in
-    ap (λ (h : List (List Passed)). h ++ map (moved net (rule h x) (passed_in h) x) (range_with_len 0 (length net.link_names)) ∷ []) before ∙ ap (λ (r : List Passed). H ++ r ∷ []) here
+    ap (λ (h : List (List Cumulative)). h ++ map (moved net (rule h x) (passed_in h) x) (range_with_len 0 (length net.link_names)) ∷ []) before ∙ ap (λ (r : List Cumulative). H ++ r ∷ []) here

@@ -9,7 +9,7 @@ use Rattle.road_net.specs.Network.{IsNetwork}
 use Rattle.road_net.specs.Totals.{total}
 use Rattle.road_net.proofs.Shares.{split-none}
 use Rattle.road_net.proofs.TotalLaws.{total-same, total-add, total-swap, total-le, total-zero}
-use Rattle.net_simulator.specs.Flow.{Passed}
+use Rattle.net_simulator.specs.Flow.{Cumulative}
 use Rattle.net_simulator.specs.Moves.{Moves}
 use Rattle.net_simulator.specs.Sums.{arrived, AreFew}
 use Rattle.net_simulator.proofs.Conserving.{come}
@@ -24,12 +24,12 @@ no-part links turns (Some node) shares l a out = split-none turns a l no_turn (�
     let both : Some node ≡ None = sym (shares.leave i no_turn h) ∙ ap (λ k. (get_or links k no_link).from) same ∙ out in
     absurd (cc))
 
-module _ (net : Net) (network : IsNetwork net) (moves : ℕ → Moves) (past : ℕ → ℕ → ℕ → Passed) (course : AreMoved net moves past) where
+module _ (net : Net) (network : IsNetwork net) (moves : ℕ → Moves) (past : ℕ → ℕ → ℕ → Cumulative) (course : AreMoved net moves past) where
   -- what entered a link that comes from no node is what came from outside
   pub only-comes : (x l : ℕ) → l < length net.link_names → (link_at net l).from ≡ None → (past x x l).entered ≡ total (λ y. (moves y).comes l) x
-  only-comes zero l inside out = ap (λ (q : Passed). q.entered) (course.first l)
+  only-comes zero l inside out = ap (λ (q : Cumulative). q.entered) (course.first l)
   only-comes (suc x) l inside out =
-      let next = ap (λ (q : Passed). q.entered) ((course.next x).next l inside) in
+      let next = ap (λ (q : Cumulative). q.entered) ((course.next x).next l inside) in
       let none = total-same (λ k. split_of (turns_at net k) ((moves x).goes k) l) (λ k. 0) (length net.link_names) (λ k h. no-part net.links (turns_at net k) (link_at net k).to (parts-of net network k h).0 l ((moves x).goes k) out) ∙ total-zero (length net.link_names) in
       omega (arith, next, none, only-comes x l inside out, ap (λ i. (past (suc x) i l).entered) (add-one x))
 

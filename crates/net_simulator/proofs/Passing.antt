@@ -11,10 +11,10 @@ use Rattle.control_flow.specs.Greens.{green_at, covers}
 use Rattle.net_simulator.specs.declared.totals.LinkTotals.{LinkTotals}
 use Rattle.net_simulator.specs.declared.totals.Totals.{Totals}
 use Rattle.road_net.specs.Totals.{total}
-use Rattle.net_simulator.specs.Flow.{Passed, passed_in, nothing, queue, waiting, discharged, entered_in, past_of}
+use Rattle.net_simulator.specs.Flow.{Cumulative, passed_in, nothing, queue, waiting, discharged, entered_in, past_of}
 use Rattle.arrivals.specs.Amounts.{Amounts, AreArrivals, entering as entering_at}
 use Rattle.net_simulator.specs.Arriving.{arriving_of}
-use Rattle.net_simulator.specs.Sums.{outward, arrived, gone, on_road, delay, link_totals, totals, AreFew}
+use Rattle.net_simulator.specs.Sums.{outward, arrived, total_left, on_road, delay, link_totals, totals, AreFew}
 use Rattle.net_simulator.specs.Moves.{Moves}
 use Rattle.net_simulator.specs.Rows.{cell}
 use Rattle.net_simulator.specs.Counts.{counts_at, no_totals}
@@ -60,14 +60,14 @@ module _ (net : Net) (network : IsNetwork net) (arriving : ℕ → ℕ → ℕ) 
   pub sound-at : (n : ℕ) → IsSound net (past_of net arriving shown n) n
   sound-at = are-sound net network (flows net arriving shown) (past_of net arriving shown) (flow-moved net arriving shown)
 
-  pub whole-at : (n : ℕ) → on_road net (past_of net arriving shown n) n + gone net (past_of net arriving shown n) n ≡ arrived net arriving n
+  pub whole-at : (n : ℕ) → on_road net (past_of net arriving shown n) n + total_left net (past_of net arriving shown n) n ≡ arrived net arriving n
   whole-at = all-there net network (flows net arriving shown) (past_of net arriving shown) (flow-moved net arriving shown)
 
 module _ (net : Net) (network : IsNetwork net) (arriving : ℕ → ℕ → ℕ) (shown : ℕ → ℕ → Option (ℕ × ℕ)) (arrivals : AreFew net arriving) where
   pub on-road-most : (n : ℕ) → on_road net (past_of net arriving shown n) n ≤ 2000000000
   on-road-most = road-most net network (flows net arriving shown) (past_of net arriving shown) (flow-moved net arriving shown) arrivals
 
-  pub gone-most : (n : ℕ) → gone net (past_of net arriving shown n) n ≤ 2000000000
+  pub gone-most : (n : ℕ) → total_left net (past_of net arriving shown n) n ≤ 2000000000
   gone-most = out-most net network (flows net arriving shown) (past_of net arriving shown) (flow-moved net arriving shown) arrivals
 
   pub entering-most : (x l : ℕ) → l < length net.link_names → entered_in net (arriving x) (shown x) (past_of net arriving shown x) x l ≤ 2000000000
@@ -97,10 +97,10 @@ pub record IsStep (net : Net) (arriving : ℕ → ℕ) (x : ℕ) (greens : List 
   pub on : v.totals.on ≡ v.totals.entered - v.totals.left
 
 module _ (net : Net) (network : IsNetwork net) (arriving : ℕ → ℕ → ℕ) (lines : ℕ → List Green) (arrivals : AreFew net arriving) (w : WorldState) (stands : Stands net arriving (standing_by lines) w) where
-  abbrev past : ℕ → ℕ → ℕ → Passed
+  abbrev past : ℕ → ℕ → ℕ → Cumulative
   past = past_of net arriving (standing_by lines)
 
-  abbrev before : ℕ → ℕ → Passed
+  abbrev before : ℕ → ℕ → Cumulative
   before = past_of net arriving (standing_by lines) w.second
 
   abbrev moves : ℕ → Moves
@@ -164,7 +164,7 @@ module _ (net : Net) (network : IsNetwork net) (arriving : ℕ → ℕ → ℕ) 
   stands-next greens rs1 lv v below second shape seen step =
       let x : ℕ = w.second in
       let S : ℕ → ℕ → Option (ℕ × ℕ) = standing_by lines in
-      let Q : ℕ → ℕ → Passed = past_of net arriving S (x + 1) in
+      let Q : ℕ → ℕ → Cumulative = past_of net arriving S (x + 1) in
       let on : Continues net (moves x) x before Q = next-one net moves past course x in
       let leaves = leaves-now greens rs1 lv seen step.arrives-others step.leaves in
       let recent : (l : ℕ) → l < length net.link_names → cell v.recent l x ≡ arriving x l + total (λ k. split_of (turns_at net k) (slice_index lv k) l) (length net.link_names) = λ l h. omega (arith, step.enters l h, step.arrives l h) in
@@ -173,16 +173,16 @@ module _ (net : Net) (network : IsNetwork net) (arriving : ℕ → ℕ → ℕ) 
       (λ l h. step.queues l h ∙ ap (λ n. n - slice_index lv l) (waits-now rs1 step.arrives-others l h)) recent (λ l y ne. step.enters-others l y ne ∙ step.arrives-others l y ne) step.remembers step.remembers-others in
       let kept : (l y : ℕ) → y ≤ x → queue net Q y l ≡ queue net before y l = λ l y h. kept-queue net (moves x) x before Q w.queues w.recent w.waits (bounds-of net network) on stands.keeps y l h in
       let entered : (l : ℕ) → l < length net.link_names → (counts_at v.counts l).entered ≡ (Q (x + 1) l).entered = λ l h.
-      omega (arith, ap (λ (q : LinkTotals). q.entered) (step.counts l h), ap (λ (q : LinkTotals). q.entered) (stands.counts l h), ap (λ (q : Passed). q.entered) (on.next l h), recent l h, enters-now lv leaves l) in
+      omega (arith, ap (λ (q : LinkTotals). q.entered) (step.counts l h), ap (λ (q : LinkTotals). q.entered) (stands.counts l h), ap (λ (q : Cumulative). q.entered) (on.next l h), recent l h, enters-now lv leaves l) in
       let left : (l : ℕ) → l < length net.link_names → (counts_at v.counts l).left ≡ (Q (x + 1) l).left = λ l h.
-      omega (arith, ap (λ (q : LinkTotals). q.left) (step.counts l h), ap (λ (q : LinkTotals). q.left) (stands.counts l h), ap (λ (q : Passed). q.left) (on.next l h), leaves l h) in
+      omega (arith, ap (λ (q : LinkTotals). q.left) (step.counts l h), ap (λ (q : LinkTotals). q.left) (stands.counts l h), ap (λ (q : Cumulative). q.left) (on.next l h), leaves l h) in
       let delays : (l : ℕ) → l < length net.link_names → (counts_at v.counts l).delay ≡ delay net Q (x + 1) l = λ l h.
       omega (arith, ap (λ (q : LinkTotals). q.delay) (step.counts l h), ap (λ (q : LinkTotals). q.delay) (stands.counts l h), keeps.queues l h, delay-more net network moves past course x l) in
       let counts : (l : ℕ) → l < length net.link_names → counts_at v.counts l ≡ link_totals net Q (x + 1) l = λ l h. same-link (counts_at v.counts l) (link_totals net Q (x + 1) l) (entered l h) (left l h) (delays l h) in
       let standing : (l : ℕ) → l < length net.link_names → slice_index v.stood l ≡ stood net Q (x + 1) l = λ l h.
       step.stands l h ∙ ap (λ q. stands_on q (slice_index w.stood l)) (keeps.queues l h) ∙ ap (stands_on (queue net Q (x + 1) l)) (stands.stood l h ∙ sym (stood-kept net Q before x l (kept l))) ∙ sym (stood-next net Q x l) in
       let all-entered : v.totals.entered ≡ arrived net arriving (x + 1) = omega (arith, step.entered, ap (λ (t : Totals). t.entered) stands.totals, ap (arrived net arriving) (add-one x)) in
-      let all-left : v.totals.left ≡ gone net Q (x + 1) = omega (arith, step.left, ap (λ (t : Totals). t.left) stands.totals, gone-more net network moves past course x lv leaves) in
+      let all-left : v.totals.left ≡ total_left net Q (x + 1) = omega (arith, step.left, ap (λ (t : Totals). t.left) stands.totals, gone-more net network moves past course x lv leaves) in
       let all-on : v.totals.on ≡ on_road net Q (x + 1) = omega (arith, step.on, all-entered, all-left, whole-at net network arriving S (x + 1)) in
       let all-delay : v.totals.delay ≡ total (delay net Q (x + 1)) (length net.link_names) = omega (arith, step.delay, ap (λ (t : Totals). t.delay) stands.totals, delays-more net network moves past course x v.queues keeps.queues) in
       record {
@@ -229,10 +229,10 @@ past-zero net arriving shown n l = rw (same-history net arriving shown 0) (zero-
 pub stands-new : (net : Net) (arriving : ℕ → ℕ → ℕ) (shown : ℕ → ℕ → Option (ℕ × ℕ)) (w : WorldState) → w.second ≡ 0 → HasShape net w → ((k : ℕ) → get_or w.queues k 0 ≡ 0) → ((k : ℕ) → get_or w.recent k 0 ≡ 0) → ((k : ℕ) → get_or w.waits k 0 ≡ 0) → ((k : ℕ) → get_or w.stood k 0 ≡ 0)
     → ((k : ℕ) → counts_at w.counts k ≡ no_totals) → w.totals ≡ record { entered = 0; left = 0; on = 0; delay = 0 } → Stands net arriving shown w
 stands-new net arriving shown w at shape qs rs ws ss cs ts =
-    let P : ℕ → ℕ → Passed = past_of net arriving shown w.second in
+    let P : ℕ → ℕ → Cumulative = past_of net arriving shown w.second in
     let none : (n l : ℕ) → P n l ≡ nothing = λ n l. ap (λ x. past_of net arriving shown x n l) at ∙ past-zero net arriving shown n l in
-    let in-none : (n l : ℕ) → (P n l).entered ≡ 0 = λ n l. ap (λ (q : Passed). q.entered) (none n l) in
-    let out-none : (n l : ℕ) → (P n l).left ≡ 0 = λ n l. ap (λ (q : Passed). q.left) (none n l) in
+    let in-none : (n l : ℕ) → (P n l).entered ≡ 0 = λ n l. ap (λ (q : Cumulative). q.entered) (none n l) in
+    let out-none : (n l : ℕ) → (P n l).left ≡ 0 = λ n l. ap (λ (q : Cumulative). q.left) (none n l) in
     let no-delay : (l : ℕ) → delay net P w.second l ≡ 0 = λ l. ap (λ n. delay net P n l) at in
     let left-none = total-same (λ l. outward (link_at net l).to (P w.second l).left) (λ l. 0) (length net.link_names) (λ l h. ap (outward (link_at net l).to) (out-none w.second l) ∙ outward-none (link_at net l).to) ∙ total-zero (length net.link_names) in
     let on-none = total-same (λ l. (P w.second l).entered - (P w.second l).left) (λ l. 0) (length net.link_names) (λ l h. omega (arith, in-none w.second l)) ∙ total-zero (length net.link_names) in

@@ -15,7 +15,7 @@ use Rattle.road_net.specs.Network.{IsNetwork, entry_links}
 use Rattle.road_net.specs.Senses.{amount, IsSensedOf}
 use Rattle.control_flow.specs.declared.greens.Green.{Green}
 use Rattle.road_net.specs.Totals.{total}
-use Rattle.net_simulator.specs.Flow.{Passed, past_of}
+use Rattle.net_simulator.specs.Flow.{Cumulative, past_of}
 use Rattle.net_simulator.specs.Rows.{cell}
 use Rattle.net_simulator.specs.Arriving.{arriving_of}
 use Rattle.net_simulator.specs.LinkSeconds.{seen_by}
@@ -44,7 +44,7 @@ sum_by-same f g (x ∷ xs) same =
     omega (arith, sum_by-cons f x xs, sum_by-cons g x xs, head, rest)
 
 -- what the row of a link tells is what is on its way
-pub seen-same : (net : Net) (past : ℕ → ℕ → Passed) (qs rs ws ss : List ℕ) (x l : ℕ) → Keeps net past qs rs ws x → slice_index ss l ≡ stood net past x l → l < length net.link_names → (link_at net l).travel ≤ 120 → seen_by net qs rs ss x l ≡ link_sense net past x l
+pub seen-same : (net : Net) (past : ℕ → ℕ → Cumulative) (qs rs ws ss : List ℕ) (x l : ℕ) → Keeps net past qs rs ws x → slice_index ss l ≡ stood net past x l → l < length net.link_names → (link_at net l).travel ≤ 120 → seen_by net qs rs ss x l ≡ link_sense net past x l
 seen-same net past qs rs ws ss x l keeps standing h most =
     let t : ℕ = (link_at net l).travel in
     let same = range-same (λ i. cell rs l (x + 128 - t + i)) (coming net past x l) t (λ i b.
@@ -55,7 +55,7 @@ seen-same net past qs rs ws ss x l keeps standing h most =
     let queues = keeps.queues l h in
     λ i. record { link = l; queue = queues i; coming = same i; stood = standing i }
 
-pub senses-same : (net : Net) (past : ℕ → ℕ → Passed) (qs rs ws ss : List ℕ) (x : ℕ) (links : List ℕ) → IsNetwork net → Keeps net past qs rs ws x → ((l : ℕ) → l < length net.link_names → slice_index ss l ≡ stood net past x l) → All (λ l. l < length net.link_names) links → map (seen_by net qs rs ss x) links ≡ map (link_sense net past x) links
+pub senses-same : (net : Net) (past : ℕ → ℕ → Cumulative) (qs rs ws ss : List ℕ) (x : ℕ) (links : List ℕ) → IsNetwork net → Keeps net past qs rs ws x → ((l : ℕ) → l < length net.link_names → slice_index ss l ≡ stood net past x l) → All (λ l. l < length net.link_names) links → map (seen_by net qs rs ss x) links ≡ map (link_sense net past x) links
 senses-same net past qs rs ws ss x links network keeps standing below =
     map-same (seen_by net qs rs ss x) (link_sense net past x) links (All-weaker (λ l. l < length net.link_names) (λ l. seen_by net qs rs ss x l ≡ link_sense net past x l) (λ l h. seen-same net past qs rs ws ss x l keeps (standing l h) h ((bounds-of net network).most l h)) links below)
 
@@ -71,7 +71,7 @@ differing-part f n (x ∷ xs) differ below =
 listed-part : (f : ℕ → ℕ) (n : ℕ) (xs : List ℕ) → AllPairs (λ a b. a < b) xs → All (λ x. x < n) xs → sum_by f xs ≤ total f n
 listed-part f n xs rises below = differing-part f n xs (λ i j d less b e. let r = rises i j d less b in absurd (omega (arith, r, e))) below
 
-module _ (net : Net) (past : ℕ → ℕ → Passed) (n : ℕ) (sound : IsSound net past n) where
+module _ (net : Net) (past : ℕ → ℕ → Cumulative) (n : ℕ) (sound : IsSound net past n) where
   -- what comes in the next i seconds
   coming-sum : (l i : ℕ) → l < length net.link_names → i ≤ (link_at net l).travel
       → sum_by (λ a. a) (map (coming net past n l) (range_with_len 0 i)) ≡ (past (n + i - (link_at net l).travel) l).entered - (past (n - (link_at net l).travel) l).entered
@@ -113,15 +113,15 @@ module _ (net : Net) (past : ℕ → ℕ → Passed) (n : ℕ) (sound : IsSound 
   sensed-on links rises below = omega (arith, amounts links below, listed-part (λ l. (past n l).entered - (past n l).left) (length net.link_names) links rises below)
 
 -- what is near on a link is on it
-pub near-on : (net : Net) (past : ℕ → ℕ → Passed) (n : ℕ) → IsSound net past n → (gap l : ℕ) → l < length net.link_names → near_on net past n gap l ≤ (past n l).entered - (past n l).left
+pub near-on : (net : Net) (past : ℕ → ℕ → Cumulative) (n : ℕ) → IsSound net past n → (gap l : ℕ) → l < length net.link_names → near_on net past n gap l ≤ (past n l).entered - (past n l).left
 near-on net past n sound gap l inside = omega (arith, amount-on net past n sound l inside, sum_by-take-le (λ a. a) (link_sense net past n l).coming (gap + 1))
 
 -- and what is near on all links is on the road
-pub near-road : (net : Net) (past : ℕ → ℕ → Passed) (n : ℕ) → IsSound net past n → (gap : ℕ) → on_road net past n ≤ 2000000000 → total (near_on net past n gap) (length net.link_names) ≤ 2000000000
+pub near-road : (net : Net) (past : ℕ → ℕ → Cumulative) (n : ℕ) → IsSound net past n → (gap : ℕ) → on_road net past n ≤ 2000000000 → total (near_on net past n gap) (length net.link_names) ≤ 2000000000
 near-road net past n sound gap most =
     omega (arith, total-le (near_on net past n gap) (λ l. (past n l).entered - (past n l).left) (length net.link_names) (λ l inside. near-on net past n sound gap l inside), most)
 
-pub near-few : (net : Net) (past : ℕ → ℕ → Passed) (n : ℕ) → IsSound net past n → (gap l : ℕ) → on_road net past n ≤ 2000000000 → l < length net.link_names → near_on net past n gap l ≤ 2000000000
+pub near-few : (net : Net) (past : ℕ → ℕ → Cumulative) (n : ℕ) → IsSound net past n → (gap l : ℕ) → on_road net past n ≤ 2000000000 → l < length net.link_names → near_on net past n gap l ≤ 2000000000
 near-few net past n sound gap l most inside =
     omega (arith, near-on net past n sound gap l inside, total-part (λ k. (past n k).entered - (past n k).left) (length net.link_names) l inside, most)
 
@@ -165,12 +165,12 @@ module _ (net : Net) (qs rs ss : List ℕ) (x l gap t : ℕ) (read : t ≡ (link
       ap (λ k. slice_index qs l + sum (map (λ j. cell rs l (x + 128 - k + j)) (range_with_len 0 (i + 1)))) read in
       omega (arith, part, same, near-more i near at before here)
 
-map-link : (net : Net) (past : ℕ → ℕ → Passed) (n : ℕ) (links : List ℕ) → map (λ s. s.link) (map (link_sense net past n) links) ≡ links
+map-link : (net : Net) (past : ℕ → ℕ → Cumulative) (n : ℕ) (links : List ℕ) → map (λ s. s.link) (map (link_sense net past n) links) ≡ links
 map-link net past n [] = refl
 map-link net past n (l ∷ ls) = ap (λ ks. l ∷ ks) (map-link net past n ls)
 
 -- what the definition gives is within the bounds of what a node sees
-pub are-sensed : (net : Net) (node n : ℕ) (past : ℕ → ℕ → Passed) → n ≤ 18000 → IsSound net past n → on_road net past n ≤ 2000000000 → All (λ l. l < length net.link_names) (entry_links net node) → IsStrictlyIncreasing (entry_links net node) → IsSensedOf net node (sense net past n node)
+pub are-sensed : (net : Net) (node n : ℕ) (past : ℕ → ℕ → Cumulative) → n ≤ 18000 → IsSound net past n → on_road net past n ≤ 2000000000 → All (λ l. l < length net.link_names) (entry_links net node) → IsStrictlyIncreasing (entry_links net node) → IsSensedOf net node (sense net past n node)
 are-sensed net node n past early sound most below rising = record {
   now = early;
   links = map-link net past n (entry_links net node);
@@ -187,7 +187,7 @@ pub below-names : (net : Net) (links names : List ℕ) → IsNetwork net → lin
 below-names net links names network is have = subst (All (λ l. l < length net.link_names)) is (λ k d h. let b = have k d h in let count = network.outline.road_count in omega arith)
 
 -- what is gathered of what a world keeps is what the definition gives
-pub gathered-by : (net : Net) (node n : ℕ) (past : ℕ → ℕ → Passed) (qs rs ws ss links : List ℕ) (out : List LinkSense) → IsNetwork net → Keeps net past qs rs ws n → ((l : ℕ) → l < length net.link_names → slice_index ss l ≡ stood net past n l)
+pub gathered-by : (net : Net) (node n : ℕ) (past : ℕ → ℕ → Cumulative) (qs rs ws ss links : List ℕ) (out : List LinkSense) → IsNetwork net → Keeps net past qs rs ws n → ((l : ℕ) → l < length net.link_names → slice_index ss l ≡ stood net past n l)
     → links ≡ entry_links net node → out ≡ map (seen_by net qs rs ss n) links → All (λ l. l < length net.link_names) (entry_links net node) → (let s : Sensed = record { now = n; links = out } in s) ≡ sense net past n node
 gathered-by net node n past qs rs ws ss links out network keeps standing entries all below =
     let senses : out ≡ map (link_sense net past n) (entry_links net node) = all ∙ ap (λ (ls : List ℕ). map (seen_by net qs rs ss n) ls) entries ∙ senses-same net past qs rs ws ss n (entry_links net node) network keeps standing below in

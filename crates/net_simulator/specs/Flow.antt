@@ -8,30 +8,30 @@ use Rattle.road_net.specs.Joins.{split_of}
 use Rattle.road_net.specs.Totals.{total}
 
 -- all that entered a link and all that left it
-pub record Passed : Type 0 where
+pub record Cumulative : Type 0 where
   pub entered : ℕ
   pub left : ℕ
 
 -- nothing passed
-abbrev pub nothing : Passed
+abbrev pub nothing : Cumulative
 nothing = record { entered = 0; left = 0 }
 
 -- what passed a link in the first n seconds, from a row of all links for each n
-abbrev pub passed_in : List (List Passed) → ℕ → ℕ → Passed
+abbrev pub passed_in : List (List Cumulative) → ℕ → ℕ → Cumulative
 passed_in history n l = slice_index_or (slice_index_or history n []) l nothing
 
 -- Below, `past n l` is what passed link l in the first n seconds.
 
 -- all that reached the end of a link in the first n seconds
-abbrev pub reached : Net → (ℕ → ℕ → Passed) → ℕ → ℕ → ℕ
+abbrev pub reached : Net → (ℕ → ℕ → Cumulative) → ℕ → ℕ → ℕ
 reached net past n l = (past (n - (link_at net l).travel) l).entered
 
 -- the queue after the first n seconds
-abbrev pub queue : Net → (ℕ → ℕ → Passed) → ℕ → ℕ → ℕ
+abbrev pub queue : Net → (ℕ → ℕ → Cumulative) → ℕ → ℕ → ℕ
 queue net past n l = reached net past n l - (past n l).left
 
 -- what waits at the end of the link in second x
-abbrev pub waiting : Net → (ℕ → ℕ → Passed) → ℕ → ℕ → ℕ
+abbrev pub waiting : Net → (ℕ → ℕ → Cumulative) → ℕ → ℕ → ℕ
 waiting net past x l = reached net past (x + 1) l - (past x l).left
 
 -- whether second x is lost to the start-up in a green that began in second `from`: it is one of the first `loss` seconds of the
@@ -40,40 +40,40 @@ abbrev pub is_lost : ℕ → ℕ → ℕ → ℕ → Bool
 is_lost loss from x before = nat_lt x (from + loss) && nat_lt 0 before
 
 -- whether a link may discharge in second x, where its node shows this green: a phase, and its begin
-abbrev pub may_go : Net → (ℕ → ℕ → Passed) → ℕ → ℕ → ℕ → Option (ℕ × ℕ) → Bool
+abbrev pub may_go : Net → (ℕ → ℕ → Cumulative) → ℕ → ℕ → ℕ → Option (ℕ × ℕ) → Bool
 may_go net past x l node None = false
 may_go net past x l node (Some green) = (green.0 == (link_at net l).phase) && not (is_lost (phase_at (plan_at net node) green.0).loss green.1 x (queue net past green.1 l))
 
 -- what a link discharges in second x, where the nodes show these greens: all that waits, where it ends at no node
-abbrev pub discharged_to : Net → (ℕ → Option (ℕ × ℕ)) → (ℕ → ℕ → Passed) → ℕ → ℕ → Option ℕ → ℕ
+abbrev pub discharged_to : Net → (ℕ → Option (ℕ × ℕ)) → (ℕ → ℕ → Cumulative) → ℕ → ℕ → Option ℕ → ℕ
 discharged_to net shown past x l None = waiting net past x l
 discharged_to net shown past x l (Some node) = if may_go net past x l node (shown node) then min (link_at net l).sat (waiting net past x l) else 0
 
 -- what a link discharges in second x, by the node where it ends
-abbrev pub discharged : Net → (ℕ → Option (ℕ × ℕ)) → (ℕ → ℕ → Passed) → ℕ → ℕ → ℕ
+abbrev pub discharged : Net → (ℕ → Option (ℕ × ℕ)) → (ℕ → ℕ → Cumulative) → ℕ → ℕ → ℕ
 discharged net shown past x l = discharged_to net shown past x l (link_at net l).to
 
 -- what enters a link in second x: what arrives, and its part of what each link discharges
-abbrev pub entered_in : Net → (ℕ → ℕ) → (ℕ → Option (ℕ × ℕ)) → (ℕ → ℕ → Passed) → ℕ → ℕ → ℕ
+abbrev pub entered_in : Net → (ℕ → ℕ) → (ℕ → Option (ℕ × ℕ)) → (ℕ → ℕ → Cumulative) → ℕ → ℕ → ℕ
 entered_in net arriving shown past x l = arriving l + total (λ k. split_of (turns_at net k) (discharged net shown past x k) l) (length net.link_names)
 
 -- what passed a link in the first x + 1 seconds
-abbrev pub passing : Net → (ℕ → ℕ) → (ℕ → Option (ℕ × ℕ)) → (ℕ → ℕ → Passed) → ℕ → ℕ → Passed
+abbrev pub passing : Net → (ℕ → ℕ) → (ℕ → Option (ℕ × ℕ)) → (ℕ → ℕ → Cumulative) → ℕ → ℕ → Cumulative
 passing net arriving shown past x l = record { entered = (past x l).entered + entered_in net arriving shown past x l; left = (past x l).left + discharged net shown past x l }
 
 -- The rows of what passed the links in the first 0, 1, .., x seconds, and one more, for the first x + 1 seconds. `arriving l` is
 -- what enters link l from outside in second x, and `shown node` the phase that is green at a node then, and the begin of that
 -- green.
-abbrev pub longer : Net → (ℕ → ℕ) → (ℕ → Option (ℕ × ℕ)) → ℕ → List (List Passed) → List (List Passed)
+abbrev pub longer : Net → (ℕ → ℕ) → (ℕ → Option (ℕ × ℕ)) → ℕ → List (List Cumulative) → List (List Cumulative)
 longer net arriving shown x history = history ++ map (passing net arriving shown (passed_in history) x) (range_with_len 0 (length net.link_names)) ∷ []
 
 -- What passed the links in the first 0, 1, .., n seconds: a row for each of these numbers, with a place for each link; the row for
 -- 0 seconds is empty. `arriving x l` is what enters link l from outside in second x, in thousandths of a vehicle; `shown x node` is
 -- the phase that is green at a node in second x, and the second in which that green began.
-unfoldable pub history : Net → (ℕ → ℕ → ℕ) → (ℕ → ℕ → Option (ℕ × ℕ)) → ℕ → List (List Passed)
+unfoldable pub history : Net → (ℕ → ℕ → ℕ) → (ℕ → ℕ → Option (ℕ × ℕ)) → ℕ → List (List Cumulative)
 history net arriving shown zero = [] ∷ []
 history net arriving shown (suc x) = longer net (arriving x) (shown x) x (history net arriving shown x)
 
 -- what passed each link in the first n seconds, for n up to `now`
-abbrev pub past_of : Net → (ℕ → ℕ → ℕ) → (ℕ → ℕ → Option (ℕ × ℕ)) → ℕ → ℕ → ℕ → Passed
+abbrev pub past_of : Net → (ℕ → ℕ → ℕ) → (ℕ → ℕ → Option (ℕ × ℕ)) → ℕ → ℕ → ℕ → Cumulative
 past_of net arriving shown now = passed_in (history net arriving shown now)

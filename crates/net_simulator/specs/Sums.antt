@@ -4,7 +4,7 @@ use Rattle.net_parts.specs.Limits.{most_of_all}
 use Rattle.net_parts.specs.Numbers.{Net}
 use Rattle.net_parts.specs.Outline.{link_at}
 use Rattle.road_net.specs.Totals.{total}
-use Rattle.net_simulator.specs.Flow.{Passed, queue}
+use Rattle.net_simulator.specs.Flow.{Cumulative, queue}
 use Rattle.net_simulator.specs.declared.totals.LinkTotals.{LinkTotals}
 use Rattle.net_simulator.specs.declared.totals.Totals.{Totals}
 
@@ -22,26 +22,26 @@ abbrev pub AreFew : Net → (ℕ → ℕ → ℕ) → Type 0
 AreFew net arriving = (n : ℕ) → arrived net arriving n ≤ most_of_all
 
 -- all that left the network in the first n seconds
-abbrev pub gone : Net → (ℕ → ℕ → Passed) → ℕ → ℕ
-gone net past n = total (λ l. outward (link_at net l).to (past n l).left) (length net.link_names)
+abbrev pub total_left : Net → (ℕ → ℕ → Cumulative) → ℕ → ℕ
+total_left net past n = total (λ l. outward (link_at net l).to (past n l).left) (length net.link_names)
 
 -- all that is on the links of the network after the first n seconds
-abbrev pub on_road : Net → (ℕ → ℕ → Passed) → ℕ → ℕ
+abbrev pub on_road : Net → (ℕ → ℕ → Cumulative) → ℕ → ℕ
 on_road net past n = total (λ l. (past n l).entered - (past n l).left) (length net.link_names)
 
 -- the delay of a link in the first n seconds: the sum of its queues after each of them
-abbrev pub delay : Net → (ℕ → ℕ → Passed) → ℕ → ℕ → ℕ
+abbrev pub delay : Net → (ℕ → ℕ → Cumulative) → ℕ → ℕ → ℕ
 delay net past n l = total (λ x. queue net past (x + 1) l) n
 
 -- what the first n seconds have counted of a link
-abbrev pub link_totals : Net → (ℕ → ℕ → Passed) → ℕ → ℕ → LinkTotals
+abbrev pub link_totals : Net → (ℕ → ℕ → Cumulative) → ℕ → ℕ → LinkTotals
 link_totals net past n l = record { entered = (past n l).entered; left = (past n l).left; delay = delay net past n l }
 
 -- what the first n seconds have counted of the whole network
-abbrev pub totals : Net → (ℕ → ℕ → ℕ) → (ℕ → ℕ → Passed) → ℕ → Totals
+abbrev pub totals : Net → (ℕ → ℕ → ℕ) → (ℕ → ℕ → Cumulative) → ℕ → Totals
 totals net arriving past n = record {
   entered = arrived net arriving n;
-  left = gone net past n;
+  left = total_left net past n;
   on = on_road net past n;
   delay = total (delay net past n) (length net.link_names);
 }

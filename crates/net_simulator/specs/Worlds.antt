@@ -4,7 +4,7 @@ use Rattle.net_parts.specs.Limits.{most_seconds, most_travel}
 use Rattle.net_parts.specs.Numbers.{Net}
 use Rattle.control_flow.specs.declared.greens.Green.{Green}
 use Rattle.control_flow.specs.Greens.{standing}
-use Rattle.net_simulator.specs.Flow.{Passed, queue, past_of}
+use Rattle.net_simulator.specs.Flow.{Cumulative, queue, past_of}
 use Rattle.arrivals.specs.Amounts.{Amounts, AreArrivals}
 use Rattle.net_simulator.specs.Arriving.{arriving_of}
 use Rattle.net_simulator.specs.Sums.{link_totals, totals}
@@ -45,7 +45,7 @@ pub record HasShape (net : Net) (w : WorldState) : Type 0 where
 
 -- What is kept of the links is what passed them in the first x seconds: the queues, what entered in each of the last 120
 -- seconds, and the queues after the last 120 seconds and now.
-pub record Keeps (net : Net) (past : ℕ → ℕ → Passed) (qs rs ws : List ℕ) (x : ℕ) : Type 0 where
+pub record Keeps (net : Net) (past : ℕ → ℕ → Cumulative) (qs rs ws : List ℕ) (x : ℕ) : Type 0 where
   pub queues : (l : ℕ) → l < length net.link_names → slice_index qs l ≡ queue net past x l
   pub recent : (l d : ℕ) → l < length net.link_names → 1 ≤ d → d ≤ most_travel → cell rs l (x + kept_seconds - d) ≡ (past (x + 1 - d) l).entered - (past (x - d) l).entered
   pub waits : (l d : ℕ) → l < length net.link_names → d ≤ most_travel → cell ws l (x + kept_seconds - d) ≡ queue net past (x - d) l

@@ -1,1 +1,1 @@
-pub mod WatchLaws
+pub mod LinkStateLaws

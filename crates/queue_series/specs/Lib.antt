@@ -1,3 +1,3 @@
 pub mod Series
-pub mod Watches
+pub mod LinkStates
 pub use Rattle.net_simulator.specs.Shown

@@ -2,8 +2,8 @@
 //! second, and the longest of each link.
 #![tactic(auto)]
 
+mod link_states;
 mod series;
-mod watches;
 
+pub use link_states::Peak;
 pub use series::queue_series;
-pub use watches::Peak;

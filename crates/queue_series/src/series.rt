@@ -10,9 +10,9 @@ ghost use Rattle.net_simulator.specs.Sums as sums;
 ghost use Rattle.net_simulator.specs.Worlds.{Stands, line_in, standing_by};
 ghost use Rattle.world_records.specs.Written.{Adds};
 ghost use Rattle.queue_series.specs.Series.{IsSeries, peak_record, second_records};
-ghost use Rattle.queue_series.specs.Watches.{AreWatches, CanGoOn, HaveMoved, are_same, kept_records, peak_of, watch_at, watch_record};
+ghost use Rattle.queue_series.specs.LinkStates.{AreLinkStates, CanGoOn, HaveMoved, are_same, kept_records, peak_of, state_at, state_record};
 
-use super::watches::{Peak, Watch, first_watches, next_watch};
+use super::link_states::{LinkState, Peak, first_link_states, next_state};
 use arrivals::Arrivals;
 use control_flow::greens::Timeline;
 use csv::Writer;
@@ -37,11 +37,11 @@ pub fn queue_series(
     ensures { IfOk result (λ text.
         IsSeries net.now (past_under net.now (arriving_of arrivals.now) lines.now) (sums.end_of_run net.now) text.items) }
 {
-    let mut watches = first_watches(alloc, net.links())?;
+    let mut link_states = first_link_states(alloc, net.links())?;
     let mut out = start(Vec::new(alloc));
     write_record(&mut out, &[b"second", b"link", b"queue", b"on"])?;
-    write_seconds(alloc, net, arrivals, lines, &mut watches, &mut out)?;
-    write_peaks(net, watches.as_slice(), &mut out)?;
+    write_seconds(alloc, net, arrivals, lines, &mut link_states, &mut out)?;
+    write_peaks(net, link_states.as_slice(), &mut out)?;
     finish(out)
 }
 
@@ -51,13 +51,13 @@ fn write_seconds(
     net: &Network,
     arrivals: &Arrivals,
     lines: &[Timeline],
-    watches: &mut Vec<Watch>,
+    link_states: &mut Vec<LinkState>,
     out: &mut Writer<Vec<u8>>,
 ) -> Result<(), AllocError>
     requires arrivals { AreArrivals net.now arrivals.now }
-    requires watches { AreWatches net.now (past_under net.now (arriving_of arrivals.now) lines.now) 0 watches.old.items }
-    ensures watches { OnOk result (AreWatches net.now (past_under net.now (arriving_of arrivals.now) lines.now)
-        (sums.end_of_run net.now) watches.new.items) }
+    requires link_states { AreLinkStates net.now (past_under net.now (arriving_of arrivals.now) lines.now) 0 link_states.old.items }
+    ensures link_states { OnOk result (AreLinkStates net.now (past_under net.now (arriving_of arrivals.now) lines.now)
+        (sums.end_of_run net.now) link_states.new.items) }
     ensures adds { OnOk result (Adds out.old out.new
         (flat_map (second_records net.now (past_under net.now (arriving_of arrivals.now) lines.now))
         (range_with_len 0 (sums.end_of_run net.now)))) }
@@ -66,7 +66,7 @@ fn write_seconds(
     let mut world = World::new(alloc, net)?;
     for _second in 0..end_of_run(net) {
         world.advance(net, &Lines { all: lines }, arrivals, 1);
-        write_second(net, &world, watches, out)?;
+        write_second(net, &world, link_states, out)?;
     }
     Ok(())
 }
@@ -75,22 +75,22 @@ fn write_seconds(
 fn write_second(
     net: &Network,
     world: &World,
-    watches: &mut Vec<Watch>,
+    link_states: &mut Vec<LinkState>,
     out: &mut Writer<Vec<u8>>,
 ) -> Result<(), AllocError>
-    requires watches { length watches.old.items ≡ length net.now.link_names }
+    requires link_states { length link_states.old.items ≡ length net.now.link_names }
     requires counts { length world.now.counts ≡ length net.now.link_names }
     requires grows { (l : ℕ) → l < length net.now.link_names
-        → CanGoOn (watch_at watches.old.items l) (counts_at world.now.counts l) }
-    ensures watches { OnOk result (HaveMoved world.now watches.old.items (length net.now.link_names) watches.new.items) }
-    ensures adds { OnOk result (Adds out.old out.new (flat_map (kept_records net.now world.now watches.old.items)
+        → CanGoOn (state_at link_states.old.items l) (counts_at world.now.counts l) }
+    ensures link_states { OnOk result (HaveMoved world.now link_states.old.items (length net.now.link_names) link_states.new.items) }
+    ensures adds { OnOk result (Adds out.old out.new (flat_map (kept_records net.now world.now link_states.old.items)
         (range_with_len 0 (length net.now.link_names)))) }
 {
     for link in 0..net.links() {
-        let before = watches[link as usize];
-        let after = next_watch(&before, &world.link_totals(link), world.now());
+        let before = link_states[link as usize];
+        let after = next_state(&before, &world.link_totals(link), world.now());
         write_change(net, link, world.now(), &before, &after, out)?;
-        watches[link as usize] = after;
+        link_states[link as usize] = after;
     }
     Ok(())
 }
@@ -100,13 +100,13 @@ fn write_change(
     net: &Network,
     link: u32,
     second: u32,
-    before: &Watch,
-    after: &Watch,
+    before: &LinkState,
+    after: &LinkState,
     out: &mut Writer<Vec<u8>>,
 ) -> Result<(), AllocError>
     requires { link < length net.now.link_names }
     ensures { OnOk result (Adds out.old out.new
-        (if are_same before.now after.now then [] else watch_record net.now link second after.now ∷ [])) }
+        (if are_same before.now after.now then [] else state_record net.now link second after.now ∷ [])) }
 {
     if before.queue == after.queue && before.on == after.on {
         return Ok(());
@@ -124,15 +124,15 @@ fn write_change(
 /// Writes the record of the longest queue of each link.
 fn write_peaks(
     net: &Network,
-    watches: &[Watch],
+    link_states: &[LinkState],
     out: &mut Writer<Vec<u8>>,
 ) -> Result<(), AllocError>
-    requires { length watches.now ≡ length net.now.link_names }
+    requires { length link_states.now ≡ length net.now.link_names }
     ensures { OnOk result (Adds out.old out.new
-        (map (peak_record net.now (peak_of watches.now)) (range_with_len 0 (length net.now.link_names)))) }
+        (map (peak_record net.now (peak_of link_states.now)) (range_with_len 0 (length net.now.link_names)))) }
 {
     for link in 0..net.links() {
-        write_peak(net, link, watches[link as usize].peak, out)?;
+        write_peak(net, link, link_states[link as usize].peak, out)?;
     }
     Ok(())
 }

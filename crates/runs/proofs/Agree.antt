@@ -7,7 +7,7 @@ use Rattle.control_flow.specs.Greens.{standing}
 use Rattle.control_flow.specs.declared.greens.Green.{Green}
 use Rattle.intersection_actor.specs.Commits.{Commitment, IsCommit}
 use Rattle.net_parts.specs.Numbers.{Net}
-use Rattle.net_simulator.specs.Flow.{Passed}
+use Rattle.net_simulator.specs.Flow.{Cumulative}
 use Rattle.net_simulator.specs.Senses.{sense}
 use Rattle.road_net.specs.Network.{IsNetwork}
 use Rattle.road_net.specs.declared.senses.Sensed.{Sensed}
@@ -28,7 +28,7 @@ module _ (net : Net) (network : IsNetwork net) (enters : ℕ → ℕ → ℕ) (m
   past-same r before = past-at-nodes net network (arriving_by enters) (shown_by net made) (shown_by net other) (r * net.run.step) (λ x n less below. ap (λ (c : Commitment). standing c.line x) (before (x / net.run.step) n (div_below x net.run.step r network.outline.run.step.0 less) below))
 
   pub sensed-same : (r n : ℕ) → SameBefore r → sensed_in net enters made r n ≡ sensed_in net enters other r n
-  sensed-same r n before = ap (λ (p : ℕ → ℕ → Passed). sense net p (r * net.run.step) n) (past-same r before)
+  sensed-same r n before = ap (λ (p : ℕ → ℕ → Cumulative). sense net p (r * net.run.step) n) (past-same r before)
 
   -- a commit that is made from the one is made from the other
   pub commit-moved : (r n : ℕ) (heard seen : List Heard) (c : Commitment) → SameBefore r → n < length net.node_names → heard ≡ seen

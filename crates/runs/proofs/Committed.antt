@@ -3,7 +3,7 @@ use Rattle.std.proofs.Common.{◌≡◌, ℕ, ◌+◌, List, sym, ap, subst, ◌
 use Rattle.std.proofs.lemmas.Option.{same_Some}
 use Rattle.board_model.specs.declared.boards.Heard.{Heard}
 use Rattle.clusters.specs.Sound.{cluster_lists}
-use Rattle.clusters.specs.UnderLoad.{AreExpected}
+use Rattle.clusters.specs.Options.{AreExpected}
 use Rattle.clusters.specs.Windows.{IsWindow}
 use Rattle.clusters.specs.declared.vehicle_groups.Platoon.{Platoon}
 use Rattle.clusters.specs.declared.vehicle_groups.Window.{Window}

@@ -9,7 +9,7 @@ use Rattle.std.proofs.lemmas.List.Sums.{sum_by-cons}
 use Rattle.board_model.specs.declared.boards.Heard.{Heard}
 use Rattle.clusters.specs.Cuts.{CannotJoin, IsRun, first_of, last_of, run_at}
 use Rattle.clusters.specs.Platoons.{ArePlatoonsBy, platoon_of, platoons_at, together}
-use Rattle.clusters.specs.UnderLoad.{AreExpected, AreExpectedIn, held_in}
+use Rattle.clusters.specs.Options.{AreExpected, AreExpectedIn, with_hold}
 use Rattle.clusters.specs.Windows.{IsLongest, IsWindow, counts_of}
 use Rattle.clusters.specs.declared.vehicle_groups.Part.{Part}
 use Rattle.clusters.specs.declared.vehicle_groups.Platoon.{Platoon}
@@ -93,7 +93,7 @@ same-platoons load gap span now look streams a b h g =
     ∙ sym g.each
 
 same-expected : (net : Net) (node : ℕ) (head : Head) (sensed : Sensed) (k : ℕ) (streams : List Part) (a b : List Platoon) → AreExpectedIn net node head sensed k streams a → AreExpectedIn net node head sensed k streams b → a ≡ b
-same-expected net node head sensed k streams a b h g = h.held ∙ ap (held_in net head k) (same-platoons _ _ _ _ _ _ _ _ h.are g.are) ∙ sym g.held
+same-expected net node head sensed k streams a b h g = h.held ∙ ap (with_hold net head k) (same-platoons _ _ _ _ _ _ _ _ h.are g.are) ∙ sym g.held
 
 -- the platoons of a node with a head are one
 pub one-expected : (net : Net) (node : ℕ) (head : Head) (sensed : Sensed) (heard : List Heard) (a b : List (List Platoon)) → AreExpected net node head sensed heard a → AreExpected net node head sensed heard b → a ≡ b

@@ -10,7 +10,7 @@ use Rattle.histories.specs.Histories.{IsLawful, version_at}
 use Rattle.histories.specs.Steps.{board_steps}
 use Rattle.histories.proofs.Versions.{version-law}
 use Rattle.net_parts.specs.Numbers.{Net}
-use Rattle.net_simulator.specs.Flow.{Passed}
+use Rattle.net_simulator.specs.Flow.{Cumulative}
 use Rattle.net_simulator.specs.Sums.{end_of_run, link_totals, totals}
 use Rattle.road_net.specs.Network.{IsNetwork, heard_links}
 use Rattle.runs.specs.Runs.{IsRun, arriving_by, forecast_at, hearing, line_before, past_by, sensed_in, told_in}
@@ -106,6 +106,6 @@ module _ (net : Net) (network : IsNetwork net) (enters : ℕ → ℕ → ℕ) (h
       let past : past_by net enters a.made (end_of_run net) ≡ past_by net enters b.made (end_of_run net) = past-same net network enters a.made b.made net.run.rounds every in
       let plans = a.by.plans ∙ plans-same net a.heard b.heard a.made b.made net.run.rounds (λ r n less below. heard-same r n less below (hears-same r n less below)) every ∙ sym b.by.plans in
       let timelines = a.by.timelines ∙ map-range-same (line_before net a.made net.run.rounds) (line_before net b.made net.run.rounds) 0 (length net.node_names) (λ n least below. lines-same net network enters a.made b.made net.run.rounds n every (omega arith)) ∙ sym b.by.timelines in
-      let links = a.by.links ∙ ap (λ (p : ℕ → ℕ → Passed). map (link_totals net p (end_of_run net)) (range_with_len 0 (length net.link_names))) past ∙ sym b.by.links in
-      let all = a.by.all ∙ ap (λ (p : ℕ → ℕ → Passed). totals net (arriving_by enters) p (end_of_run net)) past ∙ sym b.by.all in
+      let links = a.by.links ∙ ap (λ (p : ℕ → ℕ → Cumulative). map (link_totals net p (end_of_run net)) (range_with_len 0 (length net.link_names))) past ∙ sym b.by.links in
+      let all = a.by.all ∙ ap (λ (p : ℕ → ℕ → Cumulative). totals net (arriving_by enters) p (end_of_run net)) past ∙ sym b.by.all in
       λ i. record { plans = plans i; timelines = timelines i; links = links i; totals = all i }

@@ -4,7 +4,7 @@ use Rattle.std.proofs.lemmas.List.{length-map}
 use Rattle.board_model.specs.declared.boards.Heard.{Heard}
 use Rattle.clusters.specs.Sound.{ArePlannable, cluster_lists}
 use Rattle.clusters.specs.Taking.{AreFronts}
-use Rattle.clusters.specs.UnderLoad.{AreExpected}
+use Rattle.clusters.specs.Options.{AreExpected}
 use Rattle.clusters.specs.Windows.{IsWindow, counts_of}
 use Rattle.clusters.specs.declared.vehicle_groups.Platoon.{Platoon}
 use Rattle.clusters.specs.declared.vehicle_groups.Window.{Window}

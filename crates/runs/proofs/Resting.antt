@@ -10,7 +10,7 @@ use Rattle.intersection_actor.specs.Commits.{Commitment}
 use Rattle.intersection_actor.specs.Rounds.{IsNew, IsOf}
 use Rattle.intersection_actor.specs.declared.records.Want.TheVariants.{Done}
 use Rattle.net_parts.specs.Numbers.{Net}
-use Rattle.net_simulator.specs.Flow.{Passed, past_of}
+use Rattle.net_simulator.specs.Flow.{Cumulative, past_of}
 use Rattle.net_simulator.specs.Senses.{sense, stood}
 use Rattle.net_simulator.specs.Sums.{link_totals, totals}
 use Rattle.net_simulator.specs.Worlds.{Keeps, WorldState, Stands, standing_by}
@@ -46,10 +46,10 @@ stands-same net network arriving shown seen w same s =
     record {
       shape = s.shape;
       by = s.by;
-      keeps = subst (λ (p : ℕ → ℕ → Passed). Keeps net p w.queues w.recent w.waits w.second) e s.keeps;
-      counts = λ l below. s.counts l below ∙ ap (λ (p : ℕ → ℕ → Passed). link_totals net p w.second l) e;
-      totals = s.totals ∙ ap (λ (p : ℕ → ℕ → Passed). totals net arriving p w.second) e;
-      stood = λ l below. s.stood l below ∙ ap (λ (p : ℕ → ℕ → Passed). stood net p w.second l) e;
+      keeps = subst (λ (p : ℕ → ℕ → Cumulative). Keeps net p w.queues w.recent w.waits w.second) e s.keeps;
+      counts = λ l below. s.counts l below ∙ ap (λ (p : ℕ → ℕ → Cumulative). link_totals net p w.second l) e;
+      totals = s.totals ∙ ap (λ (p : ℕ → ℕ → Cumulative). totals net arriving p w.second) e;
+      stood = λ l below. s.stood l below ∙ ap (λ (p : ℕ → ℕ → Cumulative). stood net p w.second l) e;
     }
 
 -- the lines before a round show what the world moved by
@@ -66,7 +66,7 @@ module _ (net : Net) (network : IsNetwork net) (enters : ℕ → ℕ → ℕ) (r
       → sense net (past_of net (arriving_by enters) (standing_by (line_before net made round)) world.second) world.second n ≡ sensed_in net enters made round n
   sense-is world second n =
       ap (λ s. sense net (past_of net (arriving_by enters) (standing_by (line_before net made round)) s) s n) second
-      ∙ ap (λ (p : ℕ → ℕ → Passed). sense net p (round * net.run.step) n) (past-at-nodes net network (arriving_by enters) (standing_by (line_before net made round)) (shown_by net made) (round * net.run.step) (λ x node less below. before-shows x node less below))
+      ∙ ap (λ (p : ℕ → ℕ → Cumulative). sense net p (round * net.run.step) n) (past-at-nodes net network (arriving_by enters) (standing_by (line_before net made round)) (shown_by net made) (round * net.run.step) (λ x node less below. before-shows x node less below))
 
 pub zero-times : (s : ℕ) → 0 ≡ 0 * s
 zero-times s = omega arith

@@ -16,7 +16,7 @@ use Rattle.intersection_actor.specs.Rounds.{first_head}
 use Rattle.intersection_actor.specs.declared.records.PlanRecord.{PlanRecord}
 use Rattle.net_parts.specs.Numbers.{Net}
 use Rattle.net_parts.specs.Outline.{plan_at}
-use Rattle.net_simulator.specs.Flow.{Passed, past_of}
+use Rattle.net_simulator.specs.Flow.{Cumulative, past_of}
 use Rattle.net_simulator.specs.Senses.{sense}
 use Rattle.net_simulator.specs.Sums.{end_of_run, link_totals, totals}
 use Rattle.outflow.specs.Outflow.{departures, told_forecast}
@@ -41,7 +41,7 @@ abbrev pub arriving_by : (ℕ → ℕ → ℕ) → ℕ → ℕ → ℕ
 arriving_by enters second link = enters link second
 
 -- what passed the links in the first n seconds, where the signals show the timelines of the nodes' commits
-abbrev pub past_by : Net → (ℕ → ℕ → ℕ) → (ℕ → ℕ → Commitment) → ℕ → ℕ → ℕ → Passed
+abbrev pub past_by : Net → (ℕ → ℕ → ℕ) → (ℕ → ℕ → Commitment) → ℕ → ℕ → ℕ → Cumulative
 past_by net enters made n = past_of net (arriving_by enters) (shown_by net made) n
 
 -- what a node senses when a round begins

@@ -10,7 +10,7 @@ mod ends;
 mod newest;
 mod ready;
 mod slots;
-mod told;
+mod version_rule;
 
 pub use boards::{SnapBoards, SnapPass};
 pub use copies::CopyGate;

@@ -1,12 +1,12 @@
 //! What a reading has when it draws its stamp.
 ghost use Rattle.std.specs.Prelude.{◌≡◌, []};
 
-use crate::told::Look;
+use crate::version_rule::ReadGuard;
 use board_model::Forecast;
 
 /// A look that goes on when the turn is given back, and a forecast of no row that has the capacity for what it looks at.
 pub struct Beside {
-    pub(crate) look: Look,
+    pub(crate) look: ReadGuard,
     pub(crate) blank: Forecast,
     ghost empty: { blank ≡ [] },
 }

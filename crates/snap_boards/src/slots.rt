@@ -6,7 +6,9 @@ ghost use Rattle.snap_boards.specs.Slots.{forecast_in, log_of, is_settled, is_pr
 use crate::copies::OpenCopy;
 use crate::newest::Newest;
 use crate::ready::{Beside, Ready};
-use crate::told::{Learns, Look, Sees, Shower, Shows, Tells};
+use crate::version_rule::{
+    ReadGuard, ReaderLooks, ReaderReceives, VersionWriter, WriterPublishes, WriterShares,
+};
 use board_model::{BoardLog, Forecast};
 use core::mem::replace_with;
 use left_right::writer::Writer;
@@ -18,7 +20,7 @@ use std::sync::Wait;
 /// The log of a link, and what its reader is shown. Contracts see the log, and the versions that were shown.
 pub struct SnapLog {
     log: BoardLog,
-    shower: Shower,
+    shower: VersionWriter,
 }
 
 impl Model for SnapLog {
@@ -33,7 +35,11 @@ impl Model for SnapLog {
 }
 
 /// Shows the next version.
-fn show<R: Wait>(rt: &R, mut shower: Shower, next: Newest) -> (Shower, Result<(), AllocError>)
+fn show<R: Wait>(
+    rt: &R,
+    mut shower: VersionWriter,
+    next: Newest,
+) -> (VersionWriter, Result<(), AllocError>)
     requires full { length (shower.desk.place.me.0.client) ≡ shower.desk.shown.value.version }
     requires next { next.version ≡ shower.desk.shown.value.version + 1 }
     ensures told { MatchResult result.1
@@ -44,7 +50,7 @@ fn show<R: Wait>(rt: &R, mut shower: Shower, next: Newest) -> (Shower, Result<()
     let Ok(()) = shower.append(next) else {
         return (shower, Err(AllocError));
     };
-    shower.publish_as::<Shows, R>(rt)
+    shower.publish_as::<WriterPublishes, R>(rt)
 }
 
 impl SnapLog {
@@ -79,14 +85,14 @@ impl SnapLog {
     }
 
     /// Looks at the newest version, where a place for a reader is free.
-    fn look(&mut self) -> Option<Look>
+    fn look(&mut self) -> Option<ReadGuard>
         requires { self.old.told ≡ published self.old.events }
         ensures same { self.new ≡ self.old }
         ensures seen { IfSome result (λ look. look.part.value.forecast ≡ newest self.old.events) }
     {
         let mut looker = self.shower.factory().reader().ok()?;
-        looker.learn::<Learns>(self.shower.tell::<Tells>());
-        let look = looker.enter_as::<Sees>().ok()?;
+        looker.learn::<ReaderReceives>(self.shower.tell::<WriterShares>());
+        let look = looker.enter_as::<ReaderLooks>().ok()?;
         if look.get().version == self.log.version() as u64 {
             return Some(look);
         }

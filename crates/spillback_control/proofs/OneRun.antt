@@ -1,14 +1,14 @@
 -- In a world with a store a network has one run under actuated control for what arrives at it.
 use Rattle.std.proofs.Common.{◌≡◌, ℕ, ◌<◌, length, sym, ap, subst, ◌∙◌, arith}
 use Rattle.net_parts.specs.Numbers.{Net}
-use Rattle.net_simulator.specs.Flow.{Passed}
+use Rattle.net_simulator.specs.Flow.{Cumulative}
 use Rattle.net_simulator.specs.Sums.{end_of_run}
 use Rattle.road_net.specs.Network.{IsNetwork}
 use Rattle.actuated.specs.ActRuns.{shown_in}
 use Rattle.actuated.specs.ActSteps.{act_rounds}
 use Rattle.actuated.proofs.ActStepLaws.{act-rounds}
 use Rattle.actuated.proofs.OneRun.{past-same, same-before}
-use Rattle.spillback_world.specs.Spilled.{spilled}
+use Rattle.spillback_world.specs.StoredTotals.{stored_totals}
 use Rattle.spillback_world.specs.Storage.{past_in}
 use Rattle.spillback_world.specs.declared.totals.SpillTotals.{SpillTotals}
 use Rattle.spillback_world.proofs.Shown.{past-at-nodes}
@@ -22,5 +22,5 @@ one-spill net network arriving store one other a b =
     subst (λ n. past_in net arriving store (shown_in net a.made) n ≡ past_in net arriving store (shown_in net b.made) n) (act-rounds net network).whole
     (past-same net network (past_in net arriving store) (past-at-nodes net network arriving store) a.made b.made (act_rounds net) before) in
     a.are
-    ∙ ap (λ (p : ℕ → ℕ → Passed). spilled net arriving p (end_of_run net)) past
+    ∙ ap (λ (p : ℕ → ℕ → Cumulative). stored_totals net arriving p (end_of_run net)) past
     ∙ sym b.are

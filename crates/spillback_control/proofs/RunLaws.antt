@@ -21,7 +21,7 @@ use Rattle.actuated.specs.RunsSoFar.{AreNear}
 use Rattle.actuated.proofs.ActStepLaws.{act-rounds, begins-by, one-round, time-for}
 use Rattle.actuated.proofs.Acting.{more-acted, none-acted, same-before}
 use Rattle.actuated.proofs.LineLaws.{first-is-line, next-keeps}
-use Rattle.spillback_world.specs.Spilled.{spilled}
+use Rattle.spillback_world.specs.StoredTotals.{stored_totals}
 use Rattle.spillback_world.specs.Storage.{past_in}
 use Rattle.spillback_world.specs.Worlds.{SpillState, Stands, IsWorldOf}
 use Rattle.spillback_world.specs.declared.totals.SpillTotals.{SpillTotals}
@@ -73,8 +73,8 @@ ended net network arriving store lines w t a is =
       made = a.acted.made;
       acts = a.acted.acts;
       are =
-          is ∙ a.stands.totals ∙ ap (λ s. spilled net arriving (past_in net arriving store (standing_by (line_in lines)) s) s) (a.second ∙ whole)
-          ∙ ap (λ p. spilled net arriving p (end_of_run net)) (past-same net arriving store (standing_by (line_in lines)) (shown_in net a.acted.made) (end_of_run net) (λ x n less. a.acted.shown x n (omega (arith, less, whole))));
+          is ∙ a.stands.totals ∙ ap (λ s. stored_totals net arriving (past_in net arriving store (standing_by (line_in lines)) s) s) (a.second ∙ whole)
+          ∙ ap (λ p. stored_totals net arriving p (end_of_run net)) (past-same net arriving store (standing_by (line_in lines)) (shown_in net a.acted.made) (end_of_run net) (λ x n less. a.acted.shown x n (omega (arith, less, whole))));
     }
 
 -- ---- what every run keeps

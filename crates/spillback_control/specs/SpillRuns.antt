@@ -9,7 +9,7 @@ use Rattle.net_parts.specs.Numbers.{Net}
 use Rattle.net_simulator.specs.Sums.{end_of_run}
 use Rattle.net_simulator.specs.Worlds.{line_in}
 use Rattle.signal_safety.specs.Rounds.{line_before}
-use Rattle.spillback_world.specs.Spilled.{spilled}
+use Rattle.spillback_world.specs.StoredTotals.{stored_totals}
 use Rattle.spillback_world.specs.Storage.{past_in}
 use Rattle.spillback_world.specs.declared.totals.SpillTotals.{SpillTotals}
 
@@ -19,7 +19,7 @@ use Rattle.spillback_world.specs.declared.totals.SpillTotals.{SpillTotals}
 pub record IsActuatedIn (net : Net) (arriving : ℕ → ℕ → ℕ) (store : ℕ → ℕ) (totals : SpillTotals) : Type 0 where
   pub made : ℕ → ℕ → List Green
   pub acts : AllAct net (past_in net arriving store) made (act_rounds net)
-  pub are : totals ≡ spilled net arriving (past_in net arriving store (shown_in net made) (end_of_run net)) (end_of_run net)
+  pub are : totals ≡ stored_totals net arriving (past_in net arriving store (shown_in net made) (end_of_run net)) (end_of_run net)
 
 -- the line of each node after the last round
 abbrev pub last_lines : Net → (ℕ → ℕ → List Green) → List (List Green)

@@ -9,7 +9,7 @@ ghost use Rattle.net_simulator.specs.Worlds.{line_in};
 ghost use Rattle.signal_safety.specs.Safe.{IsSafe};
 ghost use Rattle.spillback_control.specs.SpillRounds.{HaveSpilled};
 ghost use Rattle.spillback_control.specs.SpillRuns.{IsActuatedIn, LastLinesShow, last_lines};
-ghost use Rattle.spillback_world.specs.Spilled.{IsBalanced};
+ghost use Rattle.spillback_world.specs.StoredTotals.{IsBalanced};
 ghost use Rattle.spillback_world.specs.declared.totals.SpillTotals as spec;
 
 use crate::sensing::sense_near;

@@ -14,7 +14,7 @@ use Rattle.road_net.specs.Network.{IsNetwork}
 use Rattle.road_net.specs.Totals.{total}
 use Rattle.road_net.proofs.Everywhere.{everywhere}
 use Rattle.road_net.proofs.TotalLaws.{total-same, total-add, total-swap}
-use Rattle.net_simulator.specs.Flow.{Passed, waiting, discharged, discharged_to, may_go}
+use Rattle.net_simulator.specs.Flow.{Cumulative, waiting, discharged, discharged_to, may_go}
 use Rattle.net_simulator.specs.Sums.{outward, on_road}
 use Rattle.net_simulator.proofs.Conserving.{onward, total-parts, grown}
 use Rattle.net_simulator.proofs.EveryWorld.{parts-of}
@@ -58,7 +58,7 @@ out-in : (to : Option ℕ) (a w on : ℕ) → a ≤ w → w ≤ on → inward to
 out-in None a w on less there = omega arith
 out-in (Some node) a w on less there = omega arith
 
-module _ (net : Net) (network : IsNetwork net) (shown : ℕ → Option (ℕ × ℕ)) (past : ℕ → ℕ → Passed) (x : ℕ) (sound : IsSound net past x) (few : on_road net past x ≤ 2000000000) (travels : (l : ℕ) → l < length net.link_names → 1 ≤ (link_at net l).travel) where
+module _ (net : Net) (network : IsNetwork net) (shown : ℕ → Option (ℕ × ℕ)) (past : ℕ → ℕ → Cumulative) (x : ℕ) (sound : IsSound net past x) (few : on_road net past x ≤ 2000000000) (travels : (l : ℕ) → l < length net.link_names → 1 ≤ (link_at net l).travel) where
   abbrev n : ℕ
   n = length net.link_names
 

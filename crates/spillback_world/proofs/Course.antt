@@ -9,7 +9,7 @@ use Rattle.road_net.specs.Joins.{HasShares}
 use Rattle.road_net.specs.Network.{IsNetwork}
 use Rattle.road_net.specs.Totals.{total}
 use Rattle.road_net.proofs.TotalLaws.{total-same, total-swap, total-zero}
-use Rattle.net_simulator.specs.Flow.{Passed, waiting}
+use Rattle.net_simulator.specs.Flow.{Cumulative, waiting}
 use Rattle.net_simulator.specs.Moves.{Moves}
 use Rattle.net_simulator.specs.Sums.{arrived, outward}
 use Rattle.net_simulator.proofs.Conserving.{come}
@@ -18,7 +18,7 @@ use Rattle.net_simulator.proofs.MoveLaws.{moves_by, past_by}
 use Rattle.net_simulator.proofs.Outside.{all-arrived, comes-none, only-comes}
 use Rattle.net_simulator.proofs.Sound.{AreMoved, rule-moved}
 use Rattle.spillback_world.specs.Filling.{fitting, greatest, has_room}
-use Rattle.spillback_world.specs.Spilled.{from_outside, spilled}
+use Rattle.spillback_world.specs.StoredTotals.{from_outside, stored_totals}
 use Rattle.spillback_world.specs.Storage.{AreWithin, Opening, held_by, inward, next_goes, opening, past_in, stored}
 use Rattle.spillback_world.proofs.Within.{at-last, before-last, first, held-given, past-last, within}
 
@@ -67,10 +67,10 @@ plain-any net network l to = elim (cases_lt l (length net.link_names)) [
 ]
 
 module _ (net : Net) (network : IsNetwork net) (arriving : ℕ → ℕ → ℕ) (store : ℕ → ℕ) (shown : ℕ → ℕ → Option (ℕ × ℕ)) where
-  abbrev rule : List (List Passed) → ℕ → Moves
+  abbrev rule : List (List Cumulative) → ℕ → Moves
   rule = stored net arriving store shown
 
-  abbrev past : ℕ → ℕ → ℕ → Passed
+  abbrev past : ℕ → ℕ → ℕ → Cumulative
   past = past_by net (stored net arriving store shown)
 
   abbrev moves : ℕ → Moves
@@ -92,13 +92,13 @@ module _ (net : Net) (network : IsNetwork net) (arriving : ℕ → ℕ → ℕ) 
   within-next : (x l : ℕ) → l < length net.link_names → (past x x l).entered ≤ (past x x l).left + store l → (past (suc x) (x + 1) l).entered ≤ (past (suc x) (x + 1) l).left + store l
   within-next x l inside was =
       let next = (course.next x).next l inside in
-      let entered = ap (λ (q : Passed). q.entered) next in
-      let left = ap (λ (q : Passed). q.left) next in
+      let entered = ap (λ (q : Cumulative). q.entered) next in
+      let left = ap (λ (q : Cumulative). q.left) next in
       let held = within net store (begin x) (plain-any net network) l (omega (arith, was)) (length net.link_names) in
       omega (arith, entered, left, held, held-given net store (begin x) (length net.link_names) l, own-goes x l inside (link_at net l).to refl)
 
   pub within-at : (k l : ℕ) → l < length net.link_names → (past k k l).entered ≤ (past k k l).left + store l
-  within-at zero l inside = omega (arith, ap (λ (q : Passed). q.entered) (course.first l))
+  within-at zero l inside = omega (arith, ap (λ (q : Cumulative). q.entered) (course.first l))
   within-at (suc k) l inside =
       let e = add-one k in
       omega (arith, within-next k l inside (within-at k l inside), ap (λ i. (past (suc k) i l).entered) e, ap (λ i. (past (suc k) i l).left) e)
@@ -106,7 +106,7 @@ module _ (net : Net) (network : IsNetwork net) (arriving : ℕ → ℕ → ℕ) 
   pub within-all : (n : ℕ) → AreWithin net store (past_in net arriving store shown n) n
   within-all n k l h inside =
       let still = past-still net network (moves_by net (stored net arriving store shown)) (past_by net (stored net arriving store shown)) course n k l h in
-      omega (arith, within-at k l inside, ap (λ (q : Passed). q.entered) still, ap (λ (q : Passed). q.left) still)
+      omega (arith, within-at k l inside, ap (λ (q : Cumulative). q.entered) still, ap (λ (q : Cumulative). q.left) still)
 
   -- Below, nothing arrives at a link that comes from a node.
   module _ (sources : (x l node : ℕ) → (link_at net l).from ≡ Some node → arriving x l ≡ 0) where
@@ -114,7 +114,7 @@ module _ (net : Net) (network : IsNetwork net) (arriving : ℕ → ℕ → ℕ) 
     let-in-most x l inside = omega arith
 
     -- what is counted as entered is what came in from outside
-    pub entered-come : (n : ℕ) → (spilled net arriving (past n) n).entered ≡ come net (moves_by net (stored net arriving store shown)) n
+    pub entered-come : (n : ℕ) → (stored_totals net arriving (past n) n).entered ≡ come net (moves_by net (stored net arriving store shown)) n
     entered-come n =
         let each = total-same (λ l. from_outside (link_at net l).from (past n n l).entered) (λ l. total (λ y. (moves y).comes l) n) (length net.link_names) (λ l h. by l h (link_at net l).from refl) in
         omega (arith, each, total-swap (λ y. (moves_by net (stored net arriving store shown) y).comes) (length net.link_names) n)
@@ -125,9 +125,9 @@ module _ (net : Net) (network : IsNetwork net) (arriving : ℕ → ℕ → ℕ) 
             sym (total-same (λ y. (moves y).comes l) (λ y. 0) n (λ y h. comes-none net network (moves_by net (stored net arriving store shown)) (past_by net (stored net arriving store shown)) course arriving let-in-most sources y l node inside from) ∙ total-zero n)
 
     -- what entered has left or is on the links
-    pub spilled-whole : (n : ℕ) → (spilled net arriving (past n) n).entered ≡ (spilled net arriving (past n) n).left + (spilled net arriving (past n) n).on
+    pub spilled-whole : (n : ℕ) → (stored_totals net arriving (past n) n).entered ≡ (stored_totals net arriving (past n) n).left + (stored_totals net arriving (past n) n).on
     spilled-whole n = omega (arith, entered-come n, all-there net network (moves_by net (stored net arriving store shown)) (past_by net (stored net arriving store shown)) course n)
 
     -- what arrived has entered or waits outside
-    pub spilled-all : (n : ℕ) → arrived net arriving n ≡ (spilled net arriving (past n) n).entered + (spilled net arriving (past n) n).outside
+    pub spilled-all : (n : ℕ) → arrived net arriving n ≡ (stored_totals net arriving (past n) n).entered + (stored_totals net arriving (past n) n).outside
     spilled-all n = omega (arith, entered-come n, all-arrived net network (moves_by net (stored net arriving store shown)) (past_by net (stored net arriving store shown)) course arriving let-in-most sources n)

@@ -8,12 +8,12 @@ use Rattle.road_net.specs.Joins.{split_of}
 use Rattle.road_net.specs.Network.{IsNetwork}
 use Rattle.road_net.specs.Totals.{total}
 use Rattle.road_net.proofs.TotalLaws.{total-same, total-le, total-swap, total-zero}
-use Rattle.net_simulator.specs.Flow.{Passed, queue, waiting, may_go}
+use Rattle.net_simulator.specs.Flow.{Cumulative, queue, waiting, may_go}
 use Rattle.net_simulator.specs.LinkSeconds.{stands_on, waits_at}
 use Rattle.net_simulator.specs.Moves.{Moves}
 use Rattle.net_simulator.specs.Rows.{cell}
 use Rattle.net_simulator.specs.Senses.{stood}
-use Rattle.net_simulator.specs.Sums.{AreFew, gone, outward}
+use Rattle.net_simulator.specs.Sums.{AreFew, total_left, outward}
 use Rattle.net_simulator.specs.Worlds.{Keeps}
 use Rattle.net_simulator.proofs.Conserving.{come, grown, left-entered}
 use Rattle.net_simulator.proofs.EveryWorld.{are-sound, bounds-of, gone-more, queue-still, queues-most}
@@ -24,7 +24,7 @@ use Rattle.net_simulator.proofs.Sound.{AreMoved, Continues, IsSound, next-one}
 use Rattle.net_simulator.proofs.Standing.{stood-kept, stood-most, stood-next}
 use Rattle.net_simulator.proofs.Sums.{total-most, total-of, total-part}
 use Rattle.spillback_world.specs.declared.totals.SpillTotals.{SpillTotals}
-use Rattle.spillback_world.specs.Spilled.{outside_all, spilled}
+use Rattle.spillback_world.specs.StoredTotals.{outside_all, stored_totals}
 use Rattle.spillback_world.specs.Steps.{AreHeld, HaveDischarged, HaveLeft, comes_of, first_given, first_goes, opening_by, served_at}
 use Rattle.spillback_world.specs.Storage.{goes_of, held_after, inward, opening, outside, stored}
 use Rattle.spillback_world.specs.Worlds.{HasShape, SpillState, Stands}
@@ -92,7 +92,7 @@ pub record IsEnded (net : Net) (arriving : ℕ → ℕ) (store : List ℕ) (w : 
 
 module _ (net : Net) (network : IsNetwork net) (arriving : ℕ → ℕ → ℕ) (store : List ℕ) (shown : ℕ → ℕ → Option (ℕ × ℕ))
     (few : AreFew net arriving) (sources : (x l node : ℕ) → (link_at net l).from ≡ Some node → arriving x l ≡ 0) (w : SpillState) (stands : Stands net arriving (slice_index store) shown w) where
-  abbrev past : ℕ → ℕ → ℕ → Passed
+  abbrev past : ℕ → ℕ → ℕ → Cumulative
   past = past_by net (stored net arriving (slice_index store) shown)
 
   abbrev moves : ℕ → Moves
@@ -101,7 +101,7 @@ module _ (net : Net) (network : IsNetwork net) (arriving : ℕ → ℕ → ℕ) 
   abbrev x : ℕ
   x = w.second
 
-  abbrev P : ℕ → ℕ → Passed
+  abbrev P : ℕ → ℕ → Cumulative
   P = past_by net (stored net arriving (slice_index store) shown) w.second
 
   moved-on : AreMoved net (moves_by net (stored net arriving (slice_index store) shown)) (past_by net (stored net arriving (slice_index store) shown))
@@ -139,7 +139,7 @@ module _ (net : Net) (network : IsNetwork net) (arriving : ℕ → ℕ → ℕ) 
   pub stood-small : w.second < 18000 → (l : ℕ) → l < length net.link_names → slice_index w.stood l < 18000
   stood-small early l h = omega (arith, stands.stood l h, stood-most net P x l)
 
-  outside-most : (past : ℕ → ℕ → Passed) (n : ℕ) → outside_all net arriving past n ≤ 2000000000
+  outside-most : (past : ℕ → ℕ → Cumulative) (n : ℕ) → outside_all net arriving past n ≤ 2000000000
   outside-most past n =
       let most = few n in
       omega (arith, most, total-swap arriving (length net.link_names) n, total-le (outside arriving past n) (λ l. total (λ y. arriving y l) n) (length net.link_names) (λ l h. omega arith))
@@ -210,12 +210,12 @@ module _ (net : Net) (network : IsNetwork net) (arriving : ℕ → ℕ → ℕ) 
             ∙ ap (λ a. min (outside arriving P x l + arriving x l) (slice_index store l - a)) (held-are l h)
 
         -- what has come in and what has left after the second
-        pub entered-next : w.totals.entered + total (comes_of store hs w.outside (arriving x)) (length net.link_names) ≡ (spilled net arriving (past (x + 1)) (x + 1)).entered
+        pub entered-next : w.totals.entered + total (comes_of store hs w.outside (arriving x)) (length net.link_names) ≡ (stored_totals net arriving (past (x + 1)) (x + 1)).entered
         entered-next =
             let each = total-same (comes_of store hs w.outside (arriving x)) (moves x).comes (length net.link_names) comes-are in
             omega (arith, each, ap (λ (t : SpillTotals). t.entered) stands.totals, entered-come net network arriving (slice_index store) shown sources x, entered-come net network arriving (slice_index store) shown sources (x + 1), ap (come net moves) (add-one x))
 
-        pub left-next : w.totals.left + total (λ l. outward (link_at net l).to (waits_at net w.queues w.recent x l)) (length net.link_names) ≡ gone net (past (x + 1)) (x + 1)
+        pub left-next : w.totals.left + total (λ l. outward (link_at net l).to (waits_at net w.queues w.recent x l)) (length net.link_names) ≡ total_left net (past (x + 1)) (x + 1)
         left-next =
             let each = total-same (λ l. outward (link_at net l).to (waits_at net w.queues w.recent x l)) (λ l. outward (link_at net l).to (slice_index lv l)) (length net.link_names) (λ l h.
             let into = ap (λ g. inward (link_at net l).to (slice_index g l)) same in
@@ -229,7 +229,7 @@ module _ (net : Net) (network : IsNetwork net) (arriving : ℕ → ℕ → ℕ) 
             ≤ w.totals.entered + total (comes_of store hs w.outside (arriving x)) (length net.link_names)
         room-left = omega (arith, entered-next, left-next, spilled-whole net network arriving (slice_index store) shown sources (x + 1))
 
-        abbrev Q : ℕ → ℕ → Passed
+        abbrev Q : ℕ → ℕ → Cumulative
         Q = past_by net (stored net arriving (slice_index store) shown) (w.second + 1)
 
         on : Continues net (moves x) x P Q
@@ -248,8 +248,8 @@ module _ (net : Net) (network : IsNetwork net) (arriving : ℕ → ℕ → ℕ) 
           held-next : (l : ℕ) → l < length net.link_names → slice_index v.held l ≡ (Q (x + 1) l).entered - (Q (x + 1) l).left
           held-next l h =
               let next = on.next l h in
-              let entered = ap (λ (q : Passed). q.entered) next in
-              let left = ap (λ (q : Passed). q.left) next in
+              let entered = ap (λ (q : Cumulative). q.entered) next in
+              let left = ap (λ (q : Cumulative). q.left) next in
               omega (arith, ended.held l h, comes-are l h, done.holds l, given-are l, begun.held l h, begun.leaving l h, stands.held l h, whole l h, goes-are l h, waits-held l h, queues-are l h, waits-now l h, done.waits l, begun.queues l h, entered, left, left-entered net P x (sound x) l x h (omega arith), outward-most (link_at net l).to (waits_at net w.queues w.recent w.second l))
 
           outside-next : (l : ℕ) → l < length net.link_names → slice_index v.outside l ≡ outside arriving Q (x + 1) l
@@ -270,12 +270,12 @@ module _ (net : Net) (network : IsNetwork net) (arriving : ℕ → ℕ → ℕ) 
                   let none = total-same (λ y. arriving y l) (λ y. 0) x (λ y b. sources y l node from) ∙ total-zero x in
                   omega (arith, ended.outside l h, comes-are l h, stands.outside l h, long, none, sources x l node from, comes-none net network moves past moved-on arriving most sources x l node h from)
 
-          delay-next : (spilled net arriving Q (x + 1)).delay ≡ (spilled net arriving P x).delay + (total (slice_index qs) (length net.link_names) + total (slice_index v.outside) (length net.link_names))
+          delay-next : (stored_totals net arriving Q (x + 1)).delay ≡ (stored_totals net arriving P x).delay + (total (slice_index qs) (length net.link_names) + total (slice_index v.outside) (length net.link_names))
           delay-next =
               let f : ℕ → ℕ = λ y. total (λ l. queue net Q (y + 1) l) (length net.link_names) + outside_all net arriving Q (y + 1) in
               let earlier = total-same (λ y. total (λ l. queue net Q (y + 1) l) (length net.link_names) + outside_all net arriving Q (y + 1)) (λ y. total (λ l. queue net P (y + 1) l) (length net.link_names) + outside_all net arriving P (y + 1)) x (λ y b.
               let queues = total-same (λ l. queue net Q (y + 1) l) (λ l. queue net P (y + 1) l) (length net.link_names) (λ l h. queue-still net network moves past moved-on (x + 1) (y + 1) l (omega arith) ∙ sym (queue-still net network moves past moved-on x (y + 1) l (omega arith))) in
-              let waits = total-same (outside arriving Q (y + 1)) (outside arriving P (y + 1)) (length net.link_names) (λ l h. ap (λ (q : Passed). total (λ z. arriving z l) (y + 1) - q.entered) (on.kept (y + 1) l (omega arith))) in
+              let waits = total-same (outside arriving Q (y + 1)) (outside arriving P (y + 1)) (length net.link_names) (λ l h. ap (λ (q : Cumulative). total (λ z. arriving z l) (y + 1) - q.entered) (on.kept (y + 1) l (omega arith))) in
               omega (arith, queues, waits)) in
               let queues = total-same (slice_index qs) (λ l. queue net Q (x + 1) l) (length net.link_names) keeps.queues in
               let waits = total-same (slice_index v.outside) (outside arriving Q (x + 1)) (length net.link_names) outside-next in
@@ -293,17 +293,17 @@ module _ (net : Net) (network : IsNetwork net) (arriving : ℕ → ℕ → ℕ) 
               → v.totals.delay ≡ w.totals.delay + (total (slice_index qs) (length net.link_names) + total (slice_index v.outside) (length net.link_names))
               → Stands net arriving (slice_index store) shown v
           stands-next early second queues shape entered left on_links waits delay =
-              let all-entered : v.totals.entered ≡ (spilled net arriving Q (x + 1)).entered = entered ∙ entered-next in
-              let all-left : v.totals.left ≡ gone net Q (x + 1) = left ∙ left-next in
-              let all-on : v.totals.on ≡ (spilled net arriving Q (x + 1)).on = omega (arith, on_links, all-entered, all-left, spilled-whole net network arriving (slice_index store) shown sources (x + 1)) in
+              let all-entered : v.totals.entered ≡ (stored_totals net arriving Q (x + 1)).entered = entered ∙ entered-next in
+              let all-left : v.totals.left ≡ total_left net Q (x + 1) = left ∙ left-next in
+              let all-on : v.totals.on ≡ (stored_totals net arriving Q (x + 1)).on = omega (arith, on_links, all-entered, all-left, spilled-whole net network arriving (slice_index store) shown sources (x + 1)) in
               let all-outside : v.totals.outside ≡ outside_all net arriving Q (x + 1) = waits ∙ total-same (slice_index v.outside) (outside arriving Q (x + 1)) (length net.link_names) outside-next in
-              let all-delay : v.totals.delay ≡ (spilled net arriving Q (x + 1)).delay = omega (arith, delay, delay-next, ap (λ (t : SpillTotals). t.delay) stands.totals) in
+              let all-delay : v.totals.delay ≡ (stored_totals net arriving Q (x + 1)).delay = omega (arith, delay, delay-next, ap (λ (t : SpillTotals). t.delay) stands.totals) in
               record {
                 shape = shape;
                 by = omega (arith, second);
                 keeps = subst (λ n. Keeps net (past n) v.queues v.recent v.waits n) (sym second) (subst (λ q. Keeps net Q q v.recent v.waits (x + 1)) (sym queues) keeps);
                 held = λ l h. subst (λ n. slice_index v.held l ≡ (past n n l).entered - (past n n l).left) (sym second) (held-next l h);
-                totals = subst (λ n. v.totals ≡ spilled net arriving (past n) n) (sym second) (same-totals v.totals (spilled net arriving Q (x + 1)) all-entered all-left all-on all-outside all-delay);
+                totals = subst (λ n. v.totals ≡ stored_totals net arriving (past n) n) (sym second) (same-totals v.totals (stored_totals net arriving Q (x + 1)) all-entered all-left all-on all-outside all-delay);
                 stood = λ l h. subst (λ n. slice_index v.stood l ≡ stood net (past n) n l) (sym second) (stood-now l h);
                 outside = λ l h. subst (λ n. slice_index v.outside l ≡ outside arriving (past n) n l) (sym second) (outside-next l h);
               }

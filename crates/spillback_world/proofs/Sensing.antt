@@ -10,7 +10,7 @@ use Rattle.road_net.specs.Network.{IsNetwork, entry_links}
 use Rattle.road_net.specs.Senses.{IsSensedOf}
 use Rattle.road_net.proofs.TotalLaws.{total-same, total-zero}
 use Rattle.net_simulator.specs.Arriving.{arriving_of}
-use Rattle.net_simulator.specs.Flow.{Passed, nothing}
+use Rattle.net_simulator.specs.Flow.{Cumulative, nothing}
 use Rattle.net_simulator.specs.LinkSeconds.{seen_by}
 use Rattle.net_simulator.specs.Senses.{near_of, near_on, sense}
 use Rattle.net_simulator.specs.Sums.{on_road, outward}
@@ -25,7 +25,7 @@ use Rattle.road_net.specs.Totals.{total}
 use Rattle.net_simulator.proofs.Standing.{stood-none}
 use Rattle.spillback_world.specs.declared.totals.SpillTotals.{SpillTotals}
 use Rattle.spillback_world.specs.declared.worlds.Links.{Links}
-use Rattle.spillback_world.specs.Spilled.{from_outside, spilled}
+use Rattle.spillback_world.specs.StoredTotals.{from_outside, stored_totals}
 use Rattle.spillback_world.specs.Steps.{AreEmpty, state_of}
 use Rattle.spillback_world.specs.Storage.{outside, past_in, stored}
 use Rattle.spillback_world.specs.Worlds.{IsWorldOf, SpillState, Stands}
@@ -69,10 +69,10 @@ outward-none (Some node) a none = refl
 pub stands-new : (net : Net) (arriving : ℕ → ℕ → ℕ) (store : ℕ → ℕ) (shown : ℕ → ℕ → Option (ℕ × ℕ)) (nodes n : ℕ) (links : Links) → AreEmpty n links → n ≡ length net.link_names → nodes ≡ length net.node_names
     → Stands net arriving store shown (state_of links 0 nodes (record { entered = 0; left = 0; on = 0; outside = 0; delay = 0 }))
 stands-new net arriving store shown nodes n links empty long there =
-    let P : ℕ → ℕ → Passed = past_in net arriving store shown 0 in
+    let P : ℕ → ℕ → Cumulative = past_in net arriving store shown 0 in
     let none : (k l : ℕ) → P k l ≡ nothing = λ k l. zero-by net (stored net arriving store shown) k l in
-    let in-none : (k l : ℕ) → (P k l).entered ≡ 0 = λ k l. ap (λ (q : Passed). q.entered) (none k l) in
-    let out-none : (k l : ℕ) → (P k l).left ≡ 0 = λ k l. ap (λ (q : Passed). q.left) (none k l) in
+    let in-none : (k l : ℕ) → (P k l).entered ≡ 0 = λ k l. ap (λ (q : Cumulative). q.entered) (none k l) in
+    let out-none : (k l : ℕ) → (P k l).left ≡ 0 = λ k l. ap (λ (q : Cumulative). q.left) (none k l) in
     let one : (v : List ℕ) → v ≡ replicate n 0 → length v ≡ length net.link_names = λ v is. ap length is ∙ length-replicate n 0 ∙ long in
     let rows : (v : List ℕ) → v ≡ replicate (n * 128) 0 → length v ≡ length net.link_names * 128 = λ v is. ap length is ∙ length-replicate (n * 128) 0 ∙ ap (λ (k : ℕ). k * 128) long in
     let zero-at : (v : List ℕ) (m : ℕ) → v ≡ replicate m 0 → (k : ℕ) → slice_index v k ≡ 0 = λ v m is k. ap (λ u. slice_index u k) is ∙ zeros m k 0 in
@@ -90,7 +90,7 @@ stands-new net arriving store shown nodes n links empty long there =
         waits = λ l d h most. omega (arith, zero-at _ (n * 128) empty.waits (l * 128 + (0 + 128 - d) % 128), in-none (0 - d - (link_at net l).travel) l);
       };
       held = λ l h. omega (arith, zero-at _ n empty.held l, in-none 0 l);
-      totals = same-totals zero (spilled net arriving P 0) (sym entered) (sym left) (sym on) (sym waits) refl;
+      totals = same-totals zero (stored_totals net arriving P 0) (sym entered) (sym left) (sym on) (sym waits) refl;
       stood = λ l h. zero-at _ n empty.stood l ∙ sym (stood-none net P l);
       outside = λ l h. omega (arith, zero-at _ n empty.outside l);
     }
@@ -108,7 +108,7 @@ near-gathered net w v qs rs ss gap l network view queues recent standing inside 
 
 -- what is on the road of such a world is within bounds
 module _ (net : Net) (network : IsNetwork net) (w : SpillState) (world : IsWorldOf net w) where
-  abbrev seen : ℕ → ℕ → Passed
+  abbrev seen : ℕ → ℕ → Cumulative
   seen = past_in net (arriving_of world.arrivals) world.store (standing_by world.lines) w.second
 
   all-moved : AreMoved net (moves_by net (stored net (arriving_of world.arrivals) world.store (standing_by world.lines))) (past_by net (stored net (arriving_of world.arrivals) world.store (standing_by world.lines)))

@@ -8,13 +8,13 @@ use Rattle.net_parts.specs.Numbers.{Net, no_link}
 use Rattle.net_parts.specs.Outline.{IsLink, link_at, turns_at}
 use Rattle.net_parts.specs.declared.roads.Link.{Link}
 use Rattle.road_net.specs.Network.{IsNetwork}
-use Rattle.net_simulator.specs.Flow.{Passed, passed_in, waiting, may_go}
+use Rattle.net_simulator.specs.Flow.{Cumulative, passed_in, waiting, may_go}
 use Rattle.net_simulator.specs.Moves.{history_by}
 use Rattle.net_simulator.specs.Senses.{stood}
 use Rattle.net_simulator.specs.Worlds.{Keeps}
 use Rattle.net_simulator.proofs.MoveLaws.{MoveAlike, by-same}
 use Rattle.spillback_world.specs.Filling.{fitting}
-use Rattle.spillback_world.specs.Spilled.{spilled}
+use Rattle.spillback_world.specs.StoredTotals.{stored_totals}
 use Rattle.spillback_world.specs.Storage.{all_goes, goes_of, held_by, let_in, next_goes, opening, outside, past_in, stored}
 use Rattle.spillback_world.specs.Worlds.{SpillState, Stands}
 
@@ -22,7 +22,7 @@ module _ (net : Net) (arriving : ℕ → ℕ → ℕ) (store : ℕ → ℕ) (sho
   pub history-same : history_by net (stored net arriving store shown) n ≡ history_by net (stored net arriving store seen) n
   history-same =
       by-same net (stored net arriving store shown) (stored net arriving store seen) n (λ x less.
-      let past : ℕ → ℕ → Passed = passed_in (history_by net (stored net arriving store seen) x) in
+      let past : ℕ → ℕ → Cumulative = passed_in (history_by net (stored net arriving store seen) x) in
       let e : shown x ≡ seen x = λ i node. same x node less i in
       record {
         goes = λ l inside. ap (λ (g : ℕ → Option (ℕ × ℕ)). slice_index (goes_of net store g past x (length net.link_names)) l) e;
@@ -39,11 +39,11 @@ stands-under net arriving store shown seen w same stands =
     record {
       shape = stands.shape;
       by = stands.by;
-      keeps = subst (λ (p : ℕ → ℕ → Passed). Keeps net p w.queues w.recent w.waits w.second) e stands.keeps;
-      held = λ l h. subst (λ (p : ℕ → ℕ → Passed). slice_index w.held l ≡ (p w.second l).entered - (p w.second l).left) e (stands.held l h);
-      totals = subst (λ (p : ℕ → ℕ → Passed). w.totals ≡ spilled net arriving p w.second) e stands.totals;
-      stood = λ l h. subst (λ (p : ℕ → ℕ → Passed). slice_index w.stood l ≡ stood net p w.second l) e (stands.stood l h);
-      outside = λ l h. subst (λ (p : ℕ → ℕ → Passed). slice_index w.outside l ≡ outside arriving p w.second l) e (stands.outside l h);
+      keeps = subst (λ (p : ℕ → ℕ → Cumulative). Keeps net p w.queues w.recent w.waits w.second) e stands.keeps;
+      held = λ l h. subst (λ (p : ℕ → ℕ → Cumulative). slice_index w.held l ≡ (p w.second l).entered - (p w.second l).left) e (stands.held l h);
+      totals = subst (λ (p : ℕ → ℕ → Cumulative). w.totals ≡ stored_totals net arriving p w.second) e stands.totals;
+      stood = λ l h. subst (λ (p : ℕ → ℕ → Cumulative). slice_index w.stood l ≡ stood net p w.second l) e (stands.stood l h);
+      outside = λ l h. subst (λ (p : ℕ → ℕ → Cumulative). slice_index w.outside l ≡ outside arriving p w.second l) e (stands.outside l h);
     }
 
 -- ---- at the nodes of the network
@@ -55,7 +55,7 @@ end-below net network l = elim (cases_lt l (length net.links)) [
   | inr past ↦ subst (λ (link : Link). IfSome link.to (λ n. n < length net.node_names)) (sym (get_or_past net.links l no_link past)) tt
 ]
 
-module _ (net : Net) (network : IsNetwork net) (store : ℕ → ℕ) (one other : ℕ → Option (ℕ × ℕ)) (past : ℕ → ℕ → Passed) (x : ℕ) (same : (n : ℕ) → n < length net.node_names → one n ≡ other n) where
+module _ (net : Net) (network : IsNetwork net) (store : ℕ → ℕ) (one other : ℕ → Option (ℕ × ℕ)) (past : ℕ → ℕ → Cumulative) (x : ℕ) (same : (n : ℕ) → n < length net.node_names → one n ≡ other n) where
   next-same : (goes : List ℕ) (l : ℕ) (to : Option ℕ) → IfSome to (λ n. n < length net.node_names) → next_goes net store (opening net one past x) goes l to ≡ next_goes net store (opening net other past x) goes l to
   next-same goes l None below = refl
   next-same goes l (Some node) below =

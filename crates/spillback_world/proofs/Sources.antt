@@ -10,7 +10,7 @@ use Rattle.road_net.proofs.TotalLaws.{total-same, total-zero}
 use Rattle.net_simulator.specs.Arriving.{arriving_of}
 use Rattle.net_simulator.specs.Flow.{past_of}
 use Rattle.net_simulator.specs.Sums.{AreFew}
-use Rattle.spillback_world.specs.Spilled.{outside_all}
+use Rattle.spillback_world.specs.StoredTotals.{outside_all}
 use Rattle.spillback_world.specs.Storage.{outside}
 use Rattle.spillback_world.proofs.Whole.{all-entered}
 

@@ -7,7 +7,7 @@ use Rattle.road_net.specs.Joins.{split_of}
 use Rattle.road_net.specs.Network.{IsNetwork}
 use Rattle.road_net.specs.Totals.{total}
 use Rattle.road_net.proofs.TotalLaws.{total-same}
-use Rattle.net_simulator.specs.Flow.{Passed, passed_in, passing, discharged, history, past_of}
+use Rattle.net_simulator.specs.Flow.{Cumulative, passed_in, passing, discharged, history, past_of}
 use Rattle.net_simulator.specs.Sums.{AreFew}
 use Rattle.net_simulator.proofs.EveryWorld.{bounds-of}
 use Rattle.net_simulator.proofs.Passing.{sound-at, whole-at, on-road-most}
@@ -24,7 +24,7 @@ module _ (net : Net) (network : IsNetwork net) (arriving : ℕ → ℕ → ℕ) 
   abbrev n : ℕ
   n = length net.link_names
 
-  abbrev P : ℕ → ℕ → ℕ → Passed
+  abbrev P : ℕ → ℕ → ℕ → Cumulative
   P x = past_of net arriving shown x
 
   -- all that arrived at a link has entered it
@@ -32,7 +32,7 @@ module _ (net : Net) (network : IsNetwork net) (arriving : ℕ → ℕ → ℕ) 
   all-entered zero l inside = omega arith
   all-entered (suc x) l inside =
       let before = all-entered x l inside in
-      let next = ap (λ (q : Passed). q.entered) (((flow-moved net arriving shown).next x).next l inside) in
+      let next = ap (λ (q : Cumulative). q.entered) (((flow-moved net arriving shown).next x).next l inside) in
       omega (arith, before, next, ap (λ i. (P (suc x) i l).entered) (add-one x))
 
   module _ (store : ℕ → ℕ) (wide : (e : ℕ) → e < n → store e ≡ 2000000000) where

@@ -7,13 +7,13 @@ use Rattle.net_simulator.specs.Flow.{past_of}
 use Rattle.net_simulator.specs.Sums.{arrived, totals}
 use Rattle.net_simulator.specs.declared.totals.Totals.{Totals}
 use Rattle.spillback_world.specs.declared.totals.SpillTotals.{SpillTotals}
-use Rattle.spillback_world.specs.Spilled.{spilled}
+use Rattle.spillback_world.specs.StoredTotals.{stored_totals}
 use Rattle.spillback_world.specs.Storage.{AreWithin, past_in}
 use Rattle.spillback_world.specs.StoreRows.{most_of_link}
 
 -- what is counted in the first n seconds
 abbrev pub spilled_in : Net → Amounts → (ℕ → ℕ) → (ℕ → ℕ → Option (ℕ × ℕ)) → ℕ → SpillTotals
-spilled_in net arrivals store shown n = spilled net (arriving_of arrivals) (past_in net (arriving_of arrivals) store shown n) n
+spilled_in net arrivals store shown n = stored_totals net (arriving_of arrivals) (past_in net (arriving_of arrivals) store shown n) n
 
 -- Nothing is lost and no link holds more than its storage: what entered has left or is on the links, and what arrived has entered or
 -- waits outside.

@@ -1,10 +1,10 @@
 pub mod Filling
 pub mod Laws
+pub mod Steps
 pub mod Storage
 pub mod StoreDrafts
 pub mod StoreRecords
 pub mod StoreRows
 pub mod StoreTexts
-pub mod Spilled
-pub mod Steps
+pub mod StoredTotals
 pub mod Worlds

@@ -9,7 +9,7 @@ use Rattle.net_simulator.specs.Arriving.{arriving_of}
 use Rattle.net_simulator.specs.Senses.{stood}
 use Rattle.net_simulator.specs.Worlds.{Keeps, standing_by}
 use Rattle.spillback_world.specs.declared.totals.SpillTotals.{SpillTotals}
-use Rattle.spillback_world.specs.Spilled.{spilled}
+use Rattle.spillback_world.specs.StoredTotals.{stored_totals}
 use Rattle.spillback_world.specs.Storage.{outside, past_in}
 
 -- what a world keeps: its second, how many nodes its network has, and for each link its queue, rows of what entered it and of its
@@ -42,7 +42,7 @@ pub record Stands (net : Net) (arriving : ℕ → ℕ → ℕ) (store : ℕ → 
   pub by : w.second ≤ most_seconds
   pub keeps : Keeps net (past_in net arriving store shown w.second) w.queues w.recent w.waits w.second
   pub held : (l : ℕ) → l < length net.link_names → slice_index w.held l ≡ (past_in net arriving store shown w.second w.second l).entered - (past_in net arriving store shown w.second w.second l).left
-  pub totals : w.totals ≡ spilled net arriving (past_in net arriving store shown w.second) w.second
+  pub totals : w.totals ≡ stored_totals net arriving (past_in net arriving store shown w.second) w.second
   pub stood : (l : ℕ) → l < length net.link_names → slice_index w.stood l ≡ stood net (past_in net arriving store shown w.second) w.second l
   pub outside : (l : ℕ) → l < length net.link_names → slice_index w.outside l ≡ outside arriving (past_in net arriving store shown w.second) w.second l
 

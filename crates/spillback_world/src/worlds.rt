@@ -9,7 +9,7 @@ ghost use Rattle.net_simulator.specs.Arriving.{arriving_of};
 ghost use Rattle.net_simulator.specs.Senses.{near_on, sense};
 ghost use Rattle.net_simulator.specs.Worlds.{standing_by};
 ghost use Rattle.road_net.specs.Senses.{IsSensedOf};
-ghost use Rattle.spillback_world.specs.Spilled.{IsBalanced};
+ghost use Rattle.spillback_world.specs.StoredTotals.{IsBalanced};
 ghost use Rattle.spillback_world.specs.Storage.{past_in};
 ghost use Rattle.spillback_world.specs.Steps.{AreEmpty, HaveScratch, state_of};
 ghost use Rattle.spillback_world.specs.Worlds.{SpillState, Stands, IsWorldOf};
@@ -62,7 +62,7 @@ pub struct SpillWorld {
 
 impl Model for SpillWorld {
     ghost use Rattle.std.specs.Prelude.{length};
-    ghost use Rattle.spillback_world.specs.Spilled.{IsBalanced};
+    ghost use Rattle.spillback_world.specs.StoredTotals.{IsBalanced};
     ghost use Rattle.spillback_world.specs.Steps.{HaveScratch, state_of};
     ghost use Rattle.spillback_world.specs.Worlds.{SpillState};
 

@@ -1,6 +1,6 @@
 use Rattle.std.proofs.Common.{◌-◌, length}
 use Rattle.clusters.specs.Steps.{span_at}
-use Rattle.clusters.specs.UnderLoad.{aged_load_of}
+use Rattle.clusters.specs.Options.{aged_load_of}
 use Rattle.clusters.proofs.GatherLaws.{IsGathering}
 use Rattle.clusters.proofs.cuts.gather_platoons.Given as goal
 

@@ -1,7 +1,7 @@
 use Rattle.std.proofs.Common.{◌∙◌, ◌≤◌, ap, arith, length, sum, sum_by, slice_range}
 use Rattle.net_parts.specs.Outline.{link_at}
 use Rattle.clusters.specs.Inflow.{sense_of}
-use Rattle.clusters.specs.UnderLoad.{amount_load, aged_load_of}
+use Rattle.clusters.specs.Options.{amount_load, aged_load_of}
 use Rattle.clusters.proofs.TogetherLaws.{All-slice_range, sizing-more, stream-few, stream-small}
 use Rattle.clusters.proofs.cuts.platoon.Goals as goal
 

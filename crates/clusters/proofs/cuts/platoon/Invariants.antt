@@ -1,4 +1,4 @@
-use Rattle.clusters.specs.UnderLoad.{aged_load_of}
+use Rattle.clusters.specs.Options.{aged_load_of}
 use Rattle.clusters.proofs.TogetherLaws.{IsSizing}
 use Rattle.clusters.proofs.cuts.platoon.Given as goal
 

@@ -1,6 +1,6 @@
 use Rattle.std.proofs.Common.{◌∙◌, get_or, arith}
 use Rattle.std.specs.Prelude.{Some}
-use Rattle.clusters.specs.UnderLoad.{amount_load}
+use Rattle.clusters.specs.Options.{amount_load}
 use Rattle.clusters.proofs.LoadLaws.{aged-grown, counted-more}
 use Rattle.clusters.proofs.loads.aged_load.Goals as goal
 

@@ -1,5 +1,5 @@
 use Rattle.std.specs.Prelude.{Some}
-use Rattle.clusters.specs.UnderLoad.{amount_load}
+use Rattle.clusters.specs.Options.{amount_load}
 use Rattle.clusters.proofs.LoadLaws.{IsCounted}
 use Rattle.clusters.proofs.loads.aged_load.Given as goal
 

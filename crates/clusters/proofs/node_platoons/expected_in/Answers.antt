@@ -1,6 +1,6 @@
 use Rattle.std.proofs.Common.{◌∙◌, ap, subst, sym, arith, length}
 use Rattle.clusters.specs.Steps.{IsAge}
-use Rattle.clusters.specs.UnderLoad.{held_in}
+use Rattle.clusters.specs.Options.{with_hold}
 use Rattle.clusters.proofs.AskedLaws.{asked-expected, asked-sound, held-length}
 use Rattle.clusters.proofs.SeenLaws.{written}
 use Rattle.clusters.proofs.node_platoons.expected_in.Goals as goal
@@ -14,7 +14,7 @@ hold_in-requires c =
 
 pub returns : goal.returns
 returns c =
-    let kept = c.hold_in.ensures ∙ ap (held_in c.args.net.now c.args.head.now c.args.phase) c.as_mut_slice.ensures.value in
+    let kept = c.hold_in.ensures ∙ ap (with_hold c.args.net.now c.args.head.now c.args.phase) c.as_mut_slice.ensures.value in
     asked-expected c.args.net.now c.args.node c.args.phase c.args.head.now c.args.sensed.now c.args.heard.now c.asked_of-asked.result.age c.asked_of-asked.result.split c.in_ok-list.list.items _
     c.asked_of-asked.ensures.age c.asked_of-asked.ensures.split c.in_ok-list.ensures
     (written c.in_ok-list.list.items c.hold_in.new.list c.in_ok-list.list.len (omega arith)

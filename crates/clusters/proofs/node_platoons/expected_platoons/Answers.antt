@@ -1,7 +1,7 @@
 use Rattle.std.proofs.Common.{◌≡◌, ap, length, arith}
 use Rattle.net_parts.specs.Outline.{phase_links_at, plan_at}
 use Rattle.clusters.specs.Platoons.{streams_of}
-use Rattle.clusters.specs.UnderLoad.{AreExpectedIn}
+use Rattle.clusters.specs.Options.{AreExpectedIn}
 use Rattle.clusters.proofs.AskedLaws.{expected-are, expected-clusters, expected-node, expected-rising}
 use Rattle.clusters.proofs.PlatoonLaws.{phases-more}
 use Rattle.clusters.proofs.node_platoons.expected_platoons.Goals as goal

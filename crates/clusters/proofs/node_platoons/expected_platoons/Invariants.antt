@@ -1,6 +1,6 @@
 use Rattle.net_parts.specs.Outline.{phase_links_at}
 use Rattle.clusters.specs.Platoons.{streams_of}
-use Rattle.clusters.specs.UnderLoad.{AreExpectedIn}
+use Rattle.clusters.specs.Options.{AreExpectedIn}
 use Rattle.clusters.proofs.PlatoonLaws.{ArePhases}
 use Rattle.clusters.proofs.node_platoons.expected_platoons.Given as goal
 

@@ -5,19 +5,19 @@ use Rattle.net_simulator.specs.Sums.{end_of_run}
 use Rattle.world_records.specs.Written.{HasWritten}
 use Rattle.net_simulator.specs.Shown.{past_under}
 use Rattle.queue_series.specs.Series.{IsSeries}
-use Rattle.queue_series.specs.Watches.{first_watch}
-use Rattle.queue_series.proofs.WatchLaws.{first-watches, series-is}
+use Rattle.queue_series.specs.LinkStates.{first_state}
+use Rattle.queue_series.proofs.LinkStateLaws.{first-states, series-is}
 use Rattle.queue_series.proofs.series.queue_series.Goals as goal
 
-pub write_seconds-requires-clause-watches : goal.write_seconds-requires-clause-watches
-write_seconds-requires-clause-watches c =
-    first-watches c.args.net.now (arriving_of c.args.arrivals.now) c.args.lines.now c.in_ok-watches.watches.items (c.in_ok-watches.ensures ∙ ap (λ n. replicate n first_watch) c.links.ensures.value)
+pub write_seconds-requires-clause-link_states : goal.write_seconds-requires-clause-link_states
+write_seconds-requires-clause-link_states c =
+    first-states c.args.net.now (arriving_of c.args.arrivals.now) c.args.lines.now c.in_ok-link_states.link_states.items (c.in_ok-link_states.ensures ∙ ap (λ n. replicate n first_state) c.links.ensures.value)
 
 pub returns : goal.returns
 returns c =
     IfOk-weaker c.finish.result _ (λ (text : Vec ℕ Global). IsSeries c.args.net.now (past_under c.args.net.now (arriving_of c.args.arrivals.now) c.args.lines.now) (end_of_run c.args.net.now) text.items)
-    (λ text gives. series-is c.args.net.now (past_under c.args.net.now (arriving_of c.args.arrivals.now) c.args.lines.now) (end_of_run c.args.net.now) c.write_seconds.new.watches.items c.as_slice.result.now text.items
+    (λ text gives. series-is c.args.net.now (past_under c.args.net.now (arriving_of c.args.arrivals.now) c.args.lines.now) (end_of_run c.args.net.now) c.write_seconds.new.link_states.items c.as_slice.result.now text.items
     c.start-out.result c.write_record.new.out c.write_seconds.new.out c.write_peaks.new.out
-    c.in_ok-write_seconds.ensures.watches c.as_slice.ensures.value (subst (HasWritten c.start-out.result) c.new.ensures.items c.start-out.ensures)
+    c.in_ok-write_seconds.ensures.link_states c.as_slice.ensures.value (subst (HasWritten c.start-out.result) c.new.ensures.items c.start-out.ensures)
     c.in_ok-write_record.ensures c.in_ok-write_seconds.ensures.adds c.in_ok-write_peaks.ensures gives)
     c.finish.ensures

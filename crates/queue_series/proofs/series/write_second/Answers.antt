@@ -2,9 +2,9 @@ use Rattle.std.proofs.Common.{◌≡◌, List, ap, ◌∙◌, subst, arith}
 use Rattle.world_records.specs.Written.{Adds}
 use Rattle.world_records.proofs.WrittenLaws.{adds-part}
 use Rattle.net_simulator.specs.declared.totals.LinkTotals.{LinkTotals}
-use Rattle.queue_series.specs.declared.watches.Watch.{Watch}
-use Rattle.queue_series.specs.Watches.{kept_records, next_at, next_watch, watch_at}
-use Rattle.queue_series.proofs.WatchLaws.{kept-is, more-moved, watch-is}
+use Rattle.queue_series.specs.declared.link_states.LinkState.{LinkState}
+use Rattle.queue_series.specs.LinkStates.{kept_records, next_at, next_state, state_at}
+use Rattle.queue_series.proofs.LinkStateLaws.{kept-is, more-moved, state-is}
 use Rattle.queue_series.proofs.series.write_second.Goals as goal
 
 pub loop-link-preserved : goal.loop-link-preserved
@@ -12,14 +12,14 @@ loop-link-preserved c =
     let l = c.loop-link in
     let net = c.args.net.now in
     let world = c.args.world.now in
-    let old : List Watch = c.args.watches.now.items in
-    let before : c.index.result.now ≡ watch_at old l.link =
-    watch-is l.watches.items l.link c.index.result.now (omega (arith, c.loop-link-test.true, c.links-link-end.ensures.value, c.requires.watches, l.invariant.0.count)) c.index.ensures
+    let old : List LinkState = c.args.link_states.now.items in
+    let before : c.index.result.now ≡ state_at old l.link =
+    state-is l.link_states.items l.link c.index.result.now (omega (arith, c.loop-link-test.true, c.links-link-end.ensures.value, c.requires.link_states, l.invariant.0.count)) c.index.ensures
     ∙ l.invariant.0.rest l.link (omega arith) in
-    let after : c.next_watch-after.result ≡ next_at world old l.link =
-    c.next_watch-after.ensures ∙ ap (λ (w : Watch). next_watch w c.link_totals.result c.now.result) before
-    ∙ ap (λ (t : LinkTotals). next_watch (watch_at old l.link) t c.now.result) c.link_totals.ensures ∙ ap (next_watch (watch_at old l.link) _) c.now.ensures in (
-      more-moved world old l.watches.items l.link c.next_watch-after.result (omega (arith, c.loop-link-test.true, c.links-link-end.ensures.value, c.requires.watches)) l.invariant.0 after,
+    let after : c.next_state-after.result ≡ next_at world old l.link =
+    c.next_state-after.ensures ∙ ap (λ (w : LinkState). next_state w c.link_totals.result c.now.result) before
+    ∙ ap (λ (t : LinkTotals). next_state (state_at old l.link) t c.now.result) c.link_totals.ensures ∙ ap (next_state (state_at old l.link) _) c.now.ensures in (
+      more-moved world old l.link_states.items l.link c.next_state-after.result (omega (arith, c.loop-link-test.true, c.links-link-end.ensures.value, c.requires.link_states)) l.invariant.0 after,
       adds-part (kept_records net world old) l.link c.args.out.now l.out c.write_change.new.out l.invariant.1
-          (subst (Adds l.out c.write_change.new.out) (kept-is net world old l.link c.index.result.now c.next_watch-after.result c.now-in-loop-link.result before after c.now-in-loop-link.ensures) c.in_ok-write_change.ensures),
+          (subst (Adds l.out c.write_change.new.out) (kept-is net world old l.link c.index.result.now c.next_state-after.result c.now-in-loop-link.result before after c.now-in-loop-link.ensures) c.in_ok-write_change.ensures),
     )

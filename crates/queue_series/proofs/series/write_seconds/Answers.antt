@@ -5,15 +5,15 @@ use Rattle.world_records.specs.Written.{Adds}
 use Rattle.world_records.proofs.WrittenLaws.{adds-none, adds-part, adds-parts}
 use Rattle.net_simulator.specs.Shown.{past_under}
 use Rattle.queue_series.specs.Series.{second_records}
-use Rattle.queue_series.specs.Watches.{AreWatches}
-use Rattle.queue_series.proofs.WatchLaws.{can-all, records-are, watches-next}
+use Rattle.queue_series.specs.LinkStates.{AreLinkStates}
+use Rattle.queue_series.proofs.LinkStateLaws.{can-all, records-are, link_states-next}
 use Rattle.queue_series.proofs.series.write_seconds.Goals as goal
 
 pub write_second-requires-clause-grows : goal.write_second-requires-clause-grows
 write_second-requires-clause-grows c =
     let l = c.loop-second in
     can-all c.args.net.now c.law_of_network.ensures (arriving_of c.args.arrivals.now) c.args.lines.now l._second (omega (arith, c.loop-second-test.true, c.end_of_run-second-end.ensures.value)) c.advance.new.self
-    (c.advance.ensures.second ∙ ap (λ s. s + 1) l.invariant.0) c.advance.ensures.stands l.watches.items l.invariant.2
+    (c.advance.ensures.second ∙ ap (λ s. s + 1) l.invariant.0) c.advance.ensures.stands l.link_states.items l.invariant.2
 
 pub loop-second-preserved : goal.loop-second-preserved
 loop-second-preserved c =
@@ -25,17 +25,17 @@ loop-second-preserved c =
     let second : c.advance.new.self.second ≡ l._second + 1 = c.advance.ensures.second ∙ ap (λ s. s + 1) l.invariant.0 in (
       second,
       c.advance.ensures.stands,
-      watches-next net c.law_of_network.ensures arriving lines l._second before c.advance.new.self second c.advance.ensures.stands l.watches.items l.invariant.2 c.write_second.new.watches.items c.in_ok-write_second.ensures.watches,
+      link_states-next net c.law_of_network.ensures arriving lines l._second before c.advance.new.self second c.advance.ensures.stands l.link_states.items l.invariant.2 c.write_second.new.link_states.items c.in_ok-write_second.ensures.link_states,
       adds-part (second_records net (past_under net arriving lines)) l._second c.args.out.now l.out c.write_second.new.out l.invariant.3
-          (subst (Adds l.out c.write_second.new.out) (records-are net c.law_of_network.ensures arriving lines l._second before c.advance.new.self second c.advance.ensures.stands l.watches.items l.invariant.2) c.in_ok-write_second.ensures.adds),
+          (subst (Adds l.out c.write_second.new.out) (records-are net c.law_of_network.ensures arriving lines l._second before c.advance.new.self second c.advance.ensures.stands l.link_states.items l.invariant.2) c.in_ok-write_second.ensures.adds),
     )
 
 pub loop-second-init : goal.loop-second-init
-loop-second-init c = (c.in_ok-world.ensures.second, c.in_ok-world.ensures.stands _ _, c.requires.watches, adds-none c.args.out.now)
+loop-second-init c = (c.in_ok-world.ensures.second, c.in_ok-world.ensures.stands _ _, c.requires.link_states, adds-none c.args.out.now)
 
-pub returns-clause-watches : goal.returns-clause-watches
-returns-clause-watches c =
-    subst (λ n. AreWatches c.args.net.now (past_under c.args.net.now (arriving_of c.args.arrivals.now) c.args.lines.now) n c.loop-second.watches.items)
+pub returns-clause-link_states : goal.returns-clause-link_states
+returns-clause-link_states c =
+    subst (λ n. AreLinkStates c.args.net.now (past_under c.args.net.now (arriving_of c.args.arrivals.now) c.args.lines.now) n c.loop-second.link_states.items)
     (omega (arith, c.end_of_run-second-end.ensures.value)) c.loop-second.invariant.2
 
 pub returns-clause-adds : goal.returns-clause-adds

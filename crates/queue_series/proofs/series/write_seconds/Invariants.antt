@@ -5,11 +5,11 @@ use Rattle.net_simulator.specs.Arriving.{arriving_of}
 use Rattle.net_simulator.specs.Worlds.{Stands, line_in, standing_by}
 use Rattle.world_records.specs.Written.{Adds}
 use Rattle.queue_series.specs.Series.{second_records}
-use Rattle.queue_series.specs.Watches.{AreWatches}
+use Rattle.queue_series.specs.LinkStates.{AreLinkStates}
 use Rattle.queue_series.proofs.series.write_seconds.Given as goal
 
 abbrev pub invariant-loop-second : goal.invariant-loop-second
 invariant-loop-second l =
     (l.world.second ≡ l._second) × Stands l.net (arriving_of l.arrivals) (standing_by (line_in l.lines)) l.world
-    × AreWatches l.net (past_under l.net (arriving_of l.arrivals) l.lines) l._second l.watches.items
+    × AreLinkStates l.net (past_under l.net (arriving_of l.arrivals) l.lines) l._second l.link_states.items
     × Adds l.fn.out l.out (flat_map (second_records l.net (past_under l.net (arriving_of l.arrivals) l.lines)) (range_with_len 0 l._second))

@@ -2,7 +2,7 @@ use Rattle.std.proofs.Common.{refl, ap, ◌∙◌}
 use Rattle.net_simulator.specs.Arriving.{arriving_of}
 use Rattle.net_simulator.specs.Flow.{passed_in}
 use Rattle.net_simulator.proofs.Passing.{few-of}
-use Rattle.spillback_world.specs.Spilled.{outside_all}
+use Rattle.spillback_world.specs.StoredTotals.{outside_all}
 use Rattle.spillback_world.proofs.AmpleTotals.{ample-totals}
 use Rattle.spillback_world.proofs.Sources.{none-outside, sources-of}
 use Rattle.spillback_world.proofs.Whole.{ample}

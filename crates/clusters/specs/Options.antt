@@ -42,21 +42,21 @@ abbrev pub with_held_load : ℕ → Platoon → Platoon
 with_held_load hold p = record { cluster = record p.cluster { load = min (greatest_weight * p.cluster.size) (hold * p.cluster.load) }; parts = p.parts }
 
 -- these platoons, of which the first counts so many times where it has arrived by this second; without a hold as they are
-abbrev pub with_first_held : Option ℕ → ℕ → List Platoon → List Platoon
-with_first_held None at list = list
-with_first_held (Some hold) at [] = []
-with_first_held (Some hold) at (p ∷ ps) = (if nat_le p.cluster.arr at then with_held_load hold p else p) ∷ ps
+abbrev pub first_with_hold : Option ℕ → ℕ → List Platoon → List Platoon
+first_with_hold None at list = list
+first_with_hold (Some hold) at [] = []
+first_with_hold (Some hold) at (p ∷ ps) = (if nat_le p.cluster.arr at then with_held_load hold p else p) ∷ ps
 
 -- The platoons of phase k, with the load of the first multiplied by the network's `hold`, up to 20 times its size, where its phase
 -- is green in the head and it has arrived by the second from which that green is free.
-abbrev pub held_in : Net → Head → ℕ → List Platoon → List Platoon
-held_in net head k list = if k == head.phase then with_first_held net.run.hold head.at list else list
+abbrev pub with_hold : Net → Head → ℕ → List Platoon → List Platoon
+with_hold net head k list = if k == head.phase then first_with_hold net.run.hold head.at list else list
 
 -- the platoons of phase k that a node with this head expects
 pub record AreExpectedIn (net : Net) (node : ℕ) (head : Head) (sensed : Sensed) (k : ℕ) (streams : List Part) (platoons : List Platoon) : Type 0 where
   pub plain : List Platoon
   pub are : ArePlatoonsBy (aged_load_of net.run.age net sensed) net.run.gap (span_of net node head sensed.now k (together streams net.run.look)) sensed.now net.run.look streams plain
-  pub held : platoons ≡ held_in net head k plain
+  pub held : platoons ≡ with_hold net head k plain
 
 -- the platoons that a node with this head expects, phase by phase
 pub record AreExpected (net : Net) (node : ℕ) (head : Head) (sensed : Sensed) (heard : List Heard) (lists : List (List Platoon)) : Type 0 where

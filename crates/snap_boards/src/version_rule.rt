@@ -11,48 +11,48 @@ use left_right::writer::Writer;
 use std::collections::LinkedList;
 
 /// The versions of a link grow, and what is shown is the last one. A view is a beginning of them.
-pub struct Told;
+pub struct VersionRule;
 
-impl Protocol<Newest, LinkedList<Forecast>> for Told {
+impl Protocol<Newest, LinkedList<Forecast>> for VersionRule {
     ghost holds = { AreVersions };
 
     ghost first = { [] };
 }
 
 /// A reader looks.
-pub(crate) struct Sees;
+pub(crate) struct ReaderLooks;
 
-impl Outcome<Newest, LinkedList<Forecast>> for Sees {
+impl Outcome<Newest, LinkedList<Forecast>> for ReaderLooks {
     ghost then = { sees };
 }
 
 /// The writer shows one version more.
-pub(crate) struct Shows;
+pub(crate) struct WriterPublishes;
 
-impl Outcome<Newest, LinkedList<Forecast>> for Shows {
+impl Outcome<Newest, LinkedList<Forecast>> for WriterPublishes {
     ghost then = { shows };
 }
 
 /// The writer tells all that it knows.
-pub(crate) struct Tells;
+pub(crate) struct WriterShares;
 
-impl Split<LinkedList<Forecast>> for Tells {
+impl Split<LinkedList<Forecast>> for WriterShares {
     ghost left = { λ told. told };
 
     ghost right = { λ told. told };
 }
 
 /// A reader takes in what the writer told.
-pub(crate) struct Learns;
+pub(crate) struct ReaderReceives;
 
-impl Join<LinkedList<Forecast>> for Learns {
+impl Join<LinkedList<Forecast>> for ReaderReceives {
     ghost both = { λ known told. told };
 
     ghost spent = { [] };
 }
 
-pub(crate) type Shower = Writer<Newest, Newest, LinkedList<Forecast>, Told>;
+pub(crate) type VersionWriter = Writer<Newest, Newest, LinkedList<Forecast>, VersionRule>;
 
-pub(crate) type Looker = Reader<Newest, LinkedList<Forecast>, Told>;
+pub(crate) type VersionReader = Reader<Newest, LinkedList<Forecast>, VersionRule>;
 
-pub(crate) type Look = Reading<Newest, LinkedList<Forecast>, Told>;
+pub(crate) type ReadGuard = Reading<Newest, LinkedList<Forecast>, VersionRule>;

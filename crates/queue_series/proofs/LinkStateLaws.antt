@@ -14,7 +14,7 @@ use Rattle.road_net.specs.Network.{IsNetwork}
 use Rattle.road_net.specs.Totals.{total}
 use Rattle.road_net.proofs.TotalLaws.{total-same}
 use Rattle.net_simulator.specs.Counts.{counts_at}
-use Rattle.net_simulator.specs.Flow.{Passed, nothing, past_of, queue}
+use Rattle.net_simulator.specs.Flow.{Cumulative, nothing, past_of, queue}
 use Rattle.net_simulator.specs.Sums.{delay, end_of_run, link_totals}
 use Rattle.net_simulator.specs.Worlds.{Stands, WorldState, line_in, standing_by}
 use Rattle.net_simulator.specs.declared.totals.LinkTotals.{LinkTotals}
@@ -25,9 +25,9 @@ use Rattle.net_simulator.specs.Shown.{past_under}
 use Rattle.world_records.specs.Written.{Adds, HasWritten}
 use Rattle.world_records.proofs.WrittenLaws.{adds-then}
 use Rattle.queue_series.specs.Series.{IsPeak, IsSeries, change_records, header, peak_record, second_records}
-use Rattle.queue_series.specs.declared.watches.Peak.{Peak}
-use Rattle.queue_series.specs.declared.watches.Watch.{Watch}
-use Rattle.queue_series.specs.Watches.{AreWatches, CanGoOn, HaveMoved, IsWatch, are_same, first_watch, kept_records, next_at, next_peak, next_watch, peak_of, watch_at, watch_record}
+use Rattle.queue_series.specs.declared.link_states.Peak.{Peak}
+use Rattle.queue_series.specs.declared.link_states.LinkState.{LinkState}
+use Rattle.queue_series.specs.LinkStates.{AreLinkStates, CanGoOn, HaveMoved, IsLinkState, are_same, first_state, kept_records, next_at, next_peak, next_state, peak_of, state_at, state_record}
 
 -- ---- the past up to a second is part of a longer one
 
@@ -43,7 +43,7 @@ module _ (net : Net) (arriving : ℕ → ℕ → ℕ) (shown : ℕ → ℕ → O
   queue-longer m n l within longer =
       let reaches = past-longer m (n - (link_at net l).travel) l (omega (arith, within)) longer in
       let leaves = past-longer m n l within longer in
-      ap (λ (p : Passed). p.entered - (past_of net arriving shown m n l).left) reaches ∙ ap (λ (p : Passed). (past_of net arriving shown x (n - (link_at net l).travel) l).entered - p.left) leaves
+      ap (λ (p : Cumulative). p.entered - (past_of net arriving shown m n l).left) reaches ∙ ap (λ (p : Cumulative). (past_of net arriving shown x (n - (link_at net l).travel) l).entered - p.left) leaves
 
   delay-longer : (m l : ℕ) → x ≤ m → delay net (past_of net arriving shown m) x l ≡ delay net (past_of net arriving shown x) x l
   delay-longer m l longer =
@@ -58,7 +58,7 @@ module _ (net : Net) (arriving : ℕ → ℕ → ℕ) (shown : ℕ → ℕ → O
 
 -- ---- what is kept of a link
 
-module _ (net : Net) (past : ℕ → ℕ → Passed) (l : ℕ) where
+module _ (net : Net) (past : ℕ → ℕ → Cumulative) (l : ℕ) where
   -- with one more second
   delay-next : (n : ℕ) → delay net past (n + 1) l ≡ delay net past n l + queue net past (n + 1) l
   delay-next n = (let e : n + 1 ≡ suc n = omega arith in ap (λ k. total (λ x. queue net past (x + 1) l) k) e)
@@ -92,8 +92,8 @@ module _ (net : Net) (past : ℕ → ℕ → Passed) (l : ℕ) where
       not-more : nat_lt peak.queue q ≡ false → q ≤ peak.queue
       not-more none = elim (cases_lt peak.queue q) [ inl more ↦ absurd (true≢false (sym (lt-ltb peak.queue q more) ∙ none)) | inr less ↦ less ]
 
-  pub watch-next : (n : ℕ) (before : Watch) (totals : LinkTotals) → IsWatch net past n l before → totals ≡ link_totals net past (n + 1) l → IsWatch net past (n + 1) l (next_watch before totals (n + 1))
-  watch-next n before totals was counted =
+  pub state-next : (n : ℕ) (before : LinkState) (totals : LinkTotals) → IsLinkState net past n l before → totals ≡ link_totals net past (n + 1) l → IsLinkState net past (n + 1) l (next_state before totals (n + 1))
+  state-next n before totals was counted =
       let grown : totals.delay ≡ delay net past (n + 1) l = ap (λ (t : LinkTotals). t.delay) counted in
       let waits : totals.delay - before.delay ≡ queue net past (n + 1) l = omega (arith, grown, delay-next n, was.delay) in
       record {
@@ -103,7 +103,7 @@ module _ (net : Net) (past : ℕ → ℕ → Passed) (l : ℕ) where
         peak = peak-next n before.peak (totals.delay - before.delay) was.peak waits;
       }
 
-  pub can-go-on : (n : ℕ) (before : Watch) (totals : LinkTotals) → IsWatch net past n l before → totals ≡ link_totals net past (n + 1) l → (past (n + 1) l).left ≤ (past (n + 1) l).entered → CanGoOn before totals
+  pub can-go-on : (n : ℕ) (before : LinkState) (totals : LinkTotals) → IsLinkState net past n l before → totals ≡ link_totals net past (n + 1) l → (past (n + 1) l).left ≤ (past (n + 1) l).entered → CanGoOn before totals
   can-go-on n before totals was counted sound = record {
     delay = omega (arith, ap (λ (t : LinkTotals). t.delay) counted, delay-next n, was.delay);
     on = omega (arith, ap (λ (t : LinkTotals). t.left) counted, ap (λ (t : LinkTotals). t.entered) counted, sound);
@@ -111,24 +111,24 @@ module _ (net : Net) (past : ℕ → ℕ → Passed) (l : ℕ) where
 
 -- ---- one link after another
 
-pub more-moved : (world : WorldState) (old new : List Watch) (k : ℕ) (after : Watch) → k < length old → HaveMoved world old k new → after ≡ next_at world old k → HaveMoved world old (k + 1) (set new k after)
+pub more-moved : (world : WorldState) (old new : List LinkState) (k : ℕ) (after : LinkState) → k < length old → HaveMoved world old k new → after ≡ next_at world old k → HaveMoved world old (k + 1) (set new k after)
 more-moved world old new k after below were is = record {
   count = length-set new k after ∙ were.count;
   moved = λ l less. elim (cases_eq l k) [
-    | inl e ↦ ap (watch_at (set new k after)) e ∙ get_or-set_same new k after first_watch (omega (arith, below, were.count)) ∙ is ∙ ap (next_at world old) (sym e)
-    | inr other ↦ get_or-set_other new k l after first_watch other ∙ were.moved l (omega (arith, less, other))
+    | inl e ↦ ap (state_at (set new k after)) e ∙ get_or-set_same new k after first_state (omega (arith, below, were.count)) ∙ is ∙ ap (next_at world old) (sym e)
+    | inr other ↦ get_or-set_other new k l after first_state other ∙ were.moved l (omega (arith, less, other))
   ];
-  rest = λ l past. get_or-set_other new k l after first_watch (λ e. omega (arith, e, past)) ∙ were.rest l (omega (arith, past));
+  rest = λ l past. get_or-set_other new k l after first_state (λ e. omega (arith, e, past)) ∙ were.rest l (omega (arith, past));
 }
 
--- what the code reads of a list of watches
-pub watch-is : (watches : List Watch) (l : ℕ) (w : Watch) → l < length watches → w ≡ get_or watches l w → w ≡ watch_at watches l
-watch-is watches l w below is = is ∙ sym (get_or_default watches l first_watch w below)
+-- what the code reads of a list of link_states
+pub state-is : (link_states : List LinkState) (l : ℕ) (w : LinkState) → l < length link_states → w ≡ get_or link_states l w → w ≡ state_at link_states l
+state-is link_states l w below is = is ∙ sym (get_or_default link_states l first_state w below)
 
 -- the record of a link by what the code has of it
-pub kept-is : (net : Net) (world : WorldState) (old : List Watch) (l : ℕ) (before after : Watch) (second : ℕ) → before ≡ watch_at old l → after ≡ next_at world old l → second ≡ world.second
-    → (if are_same before after then [] else watch_record net l second after ∷ []) ≡ kept_records net world old l
-kept-is net world old l before after second b a s = λ i. if are_same (b i) (a i) then [] else watch_record net l (s i) (a i) ∷ []
+pub kept-is : (net : Net) (world : WorldState) (old : List LinkState) (l : ℕ) (before after : LinkState) (second : ℕ) → before ≡ state_at old l → after ≡ next_at world old l → second ≡ world.second
+    → (if are_same before after then [] else state_record net l second after ∷ []) ≡ kept_records net world old l
+kept-is net world old l before after second b a s = λ i. if are_same (b i) (a i) then [] else state_record net l (s i) (a i) ∷ []
 
 -- ---- all links, and the world
 
@@ -147,8 +147,8 @@ flat-same f g (suc n) same =
         ap (flat_map h) (range-push 0 k ∙ ap (λ (j : ℕ). range_with_len 0 k ++ j ∷ []) at) ∙ flat_map-append h (range_with_len 0 k) (k ∷ []) ∙ ap (λ t. flat_map h (range_with_len 0 k) ++ t) (append-nil (h k))
 
 module _ (net : Net) (network : IsNetwork net) (arriving : ℕ → ℕ → ℕ) (lines : List (List Green)) (n : ℕ) (before : n < end_of_run net) (world : WorldState) (second : world.second ≡ n + 1)
-    (stands : Stands net arriving (standing_by (line_in lines)) world) (watches : List Watch) (are : AreWatches net (past_under net arriving lines) n watches) where
-  abbrev past : ℕ → ℕ → Passed
+    (stands : Stands net arriving (standing_by (line_in lines)) world) (link_states : List LinkState) (are : AreLinkStates net (past_under net arriving lines) n link_states) where
+  abbrev past : ℕ → ℕ → Cumulative
   past = past_under net arriving lines
 
   counted : (l : ℕ) → l < length net.link_names → counts_at world.counts l ≡ link_totals net past (n + 1) l
@@ -156,34 +156,34 @@ module _ (net : Net) (network : IsNetwork net) (arriving : ℕ → ℕ → ℕ) 
       stands.counts l below ∙ ap (λ s. link_totals net (past_of net arriving (standing_by (line_in lines)) s) s l) second
       ∙ totals-longer net arriving (standing_by (line_in lines)) (n + 1) (end_of_run net) l (omega (arith, before))
 
-  pub can-all : (l : ℕ) → l < length net.link_names → CanGoOn (watch_at watches l) (counts_at world.counts l)
+  pub can-all : (l : ℕ) → l < length net.link_names → CanGoOn (state_at link_states l) (counts_at world.counts l)
   can-all l below =
-      can-go-on net past l n (watch_at watches l) (counts_at world.counts l) (are.are l below) (counted l below)
+      can-go-on net past l n (state_at link_states l) (counts_at world.counts l) (are.are l below) (counted l below)
       (left-entered net past (end_of_run net) (sound-at net network arriving (standing_by (line_in lines)) (end_of_run net)) l (n + 1) below (omega (arith, before)))
 
-  next-is : (l : ℕ) → l < length net.link_names → IsWatch net past (n + 1) l (next_at world watches l)
+  next-is : (l : ℕ) → l < length net.link_names → IsLinkState net past (n + 1) l (next_at world link_states l)
   next-is l below =
-      subst (λ s. IsWatch net past (n + 1) l (next_watch (watch_at watches l) (counts_at world.counts l) s)) (sym second)
-      (watch-next net past l n (watch_at watches l) (counts_at world.counts l) (are.are l below) (counted l below))
+      subst (λ s. IsLinkState net past (n + 1) l (next_state (state_at link_states l) (counts_at world.counts l) s)) (sym second)
+      (state-next net past l n (state_at link_states l) (counts_at world.counts l) (are.are l below) (counted l below))
 
-  pub watches-next : (new : List Watch) → HaveMoved world watches (length net.link_names) new → AreWatches net past (n + 1) new
-  watches-next new moved = record {
+  pub link_states-next : (new : List LinkState) → HaveMoved world link_states (length net.link_names) new → AreLinkStates net past (n + 1) new
+  link_states-next new moved = record {
     count = moved.count ∙ are.count;
-    are = λ l below. subst (IsWatch net past (n + 1) l) (sym (moved.moved l below)) (next-is l below);
+    are = λ l below. subst (IsLinkState net past (n + 1) l) (sym (moved.moved l below)) (next-is l below);
   }
 
-  record-is : (l : ℕ) → l < length net.link_names → kept_records net world watches l ≡ change_records net past n l
+  record-is : (l : ℕ) → l < length net.link_names → kept_records net world link_states l ≡ change_records net past n l
   record-is l below =
       let was = are.are l below in
       let now = next-is l below in
       λ i. if (was.queue i == now.queue i) && (was.on i == now.on i) then [] else (decimal (second i) ∷ link_name_at net l ∷ decimal (now.queue i) ∷ decimal (now.on i) ∷ []) ∷ []
 
-  pub records-are : flat_map (kept_records net world watches) (range_with_len 0 (length net.link_names)) ≡ second_records net past n
-  records-are = flat-same (kept_records net world watches) (change_records net past n) (length net.link_names) record-is
+  pub records-are : flat_map (kept_records net world link_states) (range_with_len 0 (length net.link_names)) ≡ second_records net past n
+  records-are = flat-same (kept_records net world link_states) (change_records net past n) (length net.link_names) record-is
 
 -- before the first second
 module _ (net : Net) (arriving : ℕ → ℕ → ℕ) (lines : List (List Green)) where
-  abbrev no_past : ℕ → ℕ → Passed
+  abbrev no_past : ℕ → ℕ → Cumulative
   no_past = past_under net arriving lines
 
   none : (l : ℕ) → no_past 0 l ≡ nothing
@@ -192,13 +192,13 @@ module _ (net : Net) (arriving : ℕ → ℕ → ℕ) (lines : List (List Green)
   no-queue : (l : ℕ) → 0 ≡ queue net no_past 0 l
   no-queue l =
       let early : 0 ≡ 0 - (link_at net l).travel = omega arith in
-      ap (λ (p : Passed). p.entered - 0) (sym (none l) ∙ ap (λ k. no_past k l) early) ∙ ap (λ (p : Passed). (no_past (0 - (link_at net l).travel) l).entered - p.left) (sym (none l))
+      ap (λ (p : Cumulative). p.entered - 0) (sym (none l) ∙ ap (λ k. no_past k l) early) ∙ ap (λ (p : Cumulative). (no_past (0 - (link_at net l).travel) l).entered - p.left) (sym (none l))
 
-  empty : (l : ℕ) → IsWatch net no_past 0 l first_watch
+  empty : (l : ℕ) → IsLinkState net no_past 0 l first_state
   empty l = record {
     delay = refl;
     queue = no-queue l;
-    on = ap (λ (p : Passed). p.entered - p.left) (sym (none l));
+    on = ap (λ (p : Cumulative). p.entered - p.left) (sym (none l));
     peak = record {
       by = omega arith;
       is = sym (no-queue l);
@@ -207,18 +207,18 @@ module _ (net : Net) (arriving : ℕ → ℕ → ℕ) (lines : List (List Green)
     };
   }
 
-  pub first-watches : (watches : List Watch) → watches ≡ replicate (length net.link_names) first_watch → AreWatches net no_past 0 watches
-  first-watches watches is = record {
-    count = ap length is ∙ length-replicate (length net.link_names) first_watch;
-    are = λ l below. subst (IsWatch net no_past 0 l) (sym (ap (λ (ws : List Watch). watch_at ws l) is ∙ zeros (length net.link_names) l first_watch)) (empty l);
+  pub first-states : (link_states : List LinkState) → link_states ≡ replicate (length net.link_names) first_state → AreLinkStates net no_past 0 link_states
+  first-states link_states is = record {
+    count = ap length is ∙ length-replicate (length net.link_names) first_state;
+    are = λ l below. subst (IsLinkState net no_past 0 l) (sym (ap (λ (ws : List LinkState). state_at ws l) is ∙ zeros (length net.link_names) l first_state)) (empty l);
   }
 
 -- the parts of the text, one after another
-pub series-is : {Z : Type 0} (net : Net) (past : ℕ → ℕ → Passed) (end : ℕ) (watches all : List Watch) (bytes : List ℕ) (o0 o1 o2 o3 : Writer (Vec ℕ Z))
-    → AreWatches net past end watches → all ≡ watches → HasWritten o0 [] → Adds o0 o1 (header ∷ []) → Adds o1 o2 (flat_map (second_records net past) (range_with_len 0 end))
+pub series-is : {Z : Type 0} (net : Net) (past : ℕ → ℕ → Cumulative) (end : ℕ) (link_states all : List LinkState) (bytes : List ℕ) (o0 o1 o2 o3 : Writer (Vec ℕ Z))
+    → AreLinkStates net past end link_states → all ≡ link_states → HasWritten o0 [] → Adds o0 o1 (header ∷ []) → Adds o1 o2 (flat_map (second_records net past) (range_with_len 0 end))
     → Adds o2 o3 (map (peak_record net (peak_of all)) (range_with_len 0 (length net.link_names))) → ((text : List ℕ) → HasWritten o3 text → bytes ≡ text) → IsSeries net past end bytes
-series-is net past end watches all bytes o0 o1 o2 o3 are same begun first seconds last gives = record {
+series-is net past end link_states all bytes o0 o1 o2 o3 are same begun first seconds last gives = record {
   peaks = peak_of all;
-  are = λ l below. subst (λ (ws : List Watch). IsPeak net past end l (peak_of ws l)) (sym same) (are.are l below).peak;
+  are = λ l below. subst (λ (ws : List LinkState). IsPeak net past end l (peak_of ws l)) (sym same) (are.are l below).peak;
   text = gives _ ((adds-then o0 o1 o3 _ _ first (adds-then o1 o2 o3 _ _ seconds last)).adds [] begun);
 }

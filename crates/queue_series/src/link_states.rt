@@ -1,8 +1,8 @@
 //! What is kept of a link while its queues are written.
 
 ghost use Rattle.std.specs.Prelude.{◌≡◌, ◌≤◌, IfOk, length, replicate};
-ghost use Rattle.queue_series.specs.Watches as watches;
-ghost use Rattle.queue_series.specs.Watches.{next_peak, next_watch};
+ghost use Rattle.queue_series.specs.LinkStates as link_states;
+ghost use Rattle.queue_series.specs.LinkStates.{next_peak, next_state};
 
 use foundation::threads::CrossesThreads;
 use net_simulator::LinkTotals;
@@ -23,7 +23,7 @@ impl CrossesThreads for Peak {}
 
 /// What is kept of a link at a second: what the next one is compared with, and the longest queue so far.
 #[derive(Debug, Clone, Copy, PartialEq, Eq)]
-pub(crate) struct Watch {
+pub(crate) struct LinkState {
     /// The delay up to this second, in thousandths of a vehicle times seconds.
     pub(crate) delay: u64,
     /// The queue, in thousandths of a vehicle.
@@ -35,10 +35,10 @@ pub(crate) struct Watch {
 }
 
 /// What is kept of empty links at second 0. `Err`: out of memory.
-pub(crate) fn first_watches(alloc: Global, links: u32) -> Result<Vec<Watch>, AllocError>
-    ensures { IfOk result (λ all. all.items ≡ replicate links watches.first_watch) }
+pub(crate) fn first_link_states(alloc: Global, links: u32) -> Result<Vec<LinkState>, AllocError>
+    ensures { IfOk result (λ all. all.items ≡ replicate links link_states.first_state) }
 {
-    let first = Watch {
+    let first = LinkState {
         delay: 0,
         queue: 0,
         on: 0,
@@ -52,13 +52,13 @@ pub(crate) fn first_watches(alloc: Global, links: u32) -> Result<Vec<Watch>, All
 
 /// What is kept of a link at a second, after this was kept at the second before, where this is counted up to now: the delay of a
 /// link grows by its queue each second.
-pub(crate) fn next_watch(before: &Watch, totals: &LinkTotals, second: u32) -> Watch
+pub(crate) fn next_state(before: &LinkState, totals: &LinkTotals, second: u32) -> LinkState
     requires delay { before.now.delay ≤ totals.now.delay }
     requires on { totals.now.left ≤ totals.now.entered }
-    ensures { result ≡ next_watch before.now totals.now second }
+    ensures { result ≡ next_state before.now totals.now second }
 {
     let queue = totals.delay - before.delay;
-    Watch {
+    LinkState {
         delay: totals.delay,
         queue,
         on: totals.entered - totals.left,
