@@ -1,5 +1,5 @@
 -- The first record at fault.
-use Rattle.std.proofs.Common.{◌≡◌, ℕ, List, [], ◌∷◌, ◌++◌, Some, None, IsSomeAnd, IfErr, OnOk, Ok, Err, Result, refl, sym, ap, ◌∙◌, inl, inr, arith}
+use Rattle.std.proofs.Common.{◌≡◌, ◌≢◌, ℕ, List, [], ◌∷◌, ◌++◌, Some, None, IsSomeAnd, IfErr, OnOk, Ok, Err, Result, refl, sym, ap, ◌∙◌, inl, inr, arith}
 use Rattle.std.proofs.lemmas.Option.{same_Some, none-some}
 use Rattle.foundation.specs.Options.{◌>>=◌}
 use Rattle.foundation.proofs.EachLaws.{each-push, each-length}
@@ -9,16 +9,16 @@ use Rattle.arrivals.specs.declared.rows.ArrivalRow.{ArrivalRow}
 use Rattle.arrivals.specs.declared.rows.RowFault.{RowFault}
 use Rattle.arrivals.specs.declared.rows.RowFault.TheVariants.{NoMemory, Header, Row, Link, Bound, Sum}
 use Rattle.arrivals.specs.Amounts.{Amounts, KeepsSources}
-use Rattle.arrivals.specs.Faults.{IsFirst, AreReadAs, IsAtLink, IsAtBound, IsAtSum, Refuses}
+use Rattle.arrivals.specs.Faults.{IsAtLink, IsAtBound, IsAtSum}
 use Rattle.arrivals.specs.Records.{Told, told_of, row_of, header}
-use Rattle.arrivals.specs.Rows.{IsSource}
+use Rattle.arrivals.specs.Rows.{AreRows, IsSource}
 use Rattle.arrivals.specs.Stored.{Adds, HasTaken, IsRefused}
-use Rattle.arrivals.specs.Texts.{AreArrivalRecords, IsSourceName, AreFaulty}
+use Rattle.arrivals.specs.Texts.{IsSourceName, cause_of, form}
 use Rattle.record_text.specs.Faults.{HasAfterHeader}
+use Rattle.record_text.specs.Forms.{AreReadAs, AreRecordsOf, AreRefusedFor}
 use Rattle.record_text.specs.Walks.{AreCounted, IsFaultAmong, OrMemory}
-use Rattle.record_text.proofs.FaultLaws.{one-after}
-use Rattle.record_text.proofs.WalkLaws.{fault-after}
-use Rattle.arrivals.proofs.FaultLaws.{refuses}
+use Rattle.record_text.proofs.FormLaws.{IsHere, Refutes, first-cause, refuted}
+use Rattle.arrivals.proofs.FaultLaws.{row-amid}
 use Rattle.arrivals.proofs.TallyLaws.{tally-none, tally-more, tally-count}
 
 -- what a row was read from
@@ -64,52 +64,44 @@ pub taken-few : (net : Net) (all : List (List (List ℕ))) → AreCounted (HasTa
 taken-few net all = λ header front here rest a are taken. omega (arith, each-length (row_of net) front taken.rows taken.reads, tally-count net taken.rows a taken.tally)
 
 -- all records were taken
-pub taken-all : (net : Net) (all : List (List (List ℕ))) (a : Amounts) → HasAfterHeader header all (λ records. HasTaken net records a) → AreArrivalRecords net all a
-taken-all net all a taken = record { records = taken.records; are = taken.are; rows = taken.after.rows; reads = taken.after.reads; arrivals = taken.after.tally.of_rows }
+pub taken-all : (net : Net) (all : List (List (List ℕ))) (a : Amounts) → HasAfterHeader header all (λ records. HasTaken net records a) → AreRecordsOf (form net) all a
+taken-all net all a taken = record { records = taken.records; are = taken.are; told = taken.after.rows; reads = taken.after.reads; is = taken.after.tally.of_rows }
 
-module _ (net : Net) (all : List (List (List ℕ))) (why : RowFault) (stop : HasAfterHeader header all (IsFaultAmong (HasTaken net) (IsRefused net) why)) where
-  here-first : (n : ℕ) (at_fault : List ArrivalRow → List (List ℕ) → Type 0) → n ≡ stop.after.0 → at_fault stop.after.1.reads.rows stop.after.1.here → HasAfterHeader header all (λ records. IsFirst (row_of net) net records n at_fault)
-  here-first n at_fault same fault =
-      let taken = stop.after.1.reads in
-      fault-after (IsRefused net) (AreReadAs (row_of net) net) at_fault n stop taken.rows same (record { reads = taken.reads; lawful = taken.tally.of_rows.lawful }) fault
+-- the cause to refuse a record after those that were taken
+module _ (net : Net) (before : List (List (List ℕ))) (a : Amounts) (here : List (List ℕ)) (number : ℕ) (taken : HasTaken net before a) where
+  so-far : AreReadAs (row_of net) (AreRows net) before taken.rows
+  so-far = record { reads = taken.reads; lawful = taken.tally.of_rows.lawful }
 
-  fault-at : (fault : RowFault) → IsRefused net stop.after.1.so_far stop.after.1.here stop.after.0 fault → AreFaulty net all fault
+  refused-here : (fault : RowFault) → IsRefused net a here number fault → IsHere (form net) before here number (cause_of net fault)
   -- the record is no row
-  fault-at (Row n) (inl h) = here-first n (λ before fields. told_of fields ≡ None) h.0 h.1
-  fault-at (Link n) (inl h) =
-      here-first n (λ before fields. IsSomeAnd (told_of fields) (λ t. IsSourceName net t.name → ⊥)) h.0
-      (and-weaker (λ t. number_of net.link_names t.name ≡ None) (λ t. IsSourceName net t.name → ⊥) (told_of stop.after.1.here) (λ t none. none-and (IsSource net) (number_of net.link_names t.name) none) h.1)
-  fault-at _ (inl h) = absurd h
+  refused-here (Row n) (inl h) = (h.0, taken.rows, so-far, h.1)
+  refused-here (Link n) (inl h) =
+      (h.0, taken.rows, so-far, and-weaker (λ t. number_of net.link_names t.name ≡ None) (λ t. IsSourceName net t.name → ⊥) (told_of here) (λ t none. none-and (IsSource net) (number_of net.link_names t.name) none) h.1)
+  refused-here _ (inl h) = absurd h
   -- the row cannot be added
-  fault-at (Link n) (inr (r, is, new, h)) = here-first n (λ before fields. IsSomeAnd (told_of fields) (λ t. IsSourceName net t.name → ⊥)) h.0 (no-source-name net stop.after.1.here r is h.1)
-  fault-at (Bound n) (inr (r, is, new, h)) = here-first n (λ before fields. IsSomeAnd (row_of net fields) (IsAtBound net)) h.0 (and-some (IsAtBound net) (row_of net stop.after.1.here) r is h.1)
-  fault-at (Sum n) (inr (r, is, new, h)) =
-      here-first n (λ before fields. IsSomeAnd (row_of net fields) (IsAtSum net before)) h.0
-      (and-some (IsAtSum net stop.after.1.reads.rows) (row_of net stop.after.1.here) r is (h.1, omega (arith, h.2, stop.after.1.reads.tally.whole)))
-  fault-at NoMemory (inr (r, is, new, h)) = tt
-  fault-at _ (inr (r, is, new, h)) = absurd h
+  refused-here (Link n) (inr (r, is, new, h)) = (h.0, taken.rows, so-far, no-source-name net here r is h.1)
+  refused-here (Bound n) (inr (r, is, new, h)) = (h.0, taken.rows, so-far, and-some (IsAtBound net) (row_of net here) r is h.1)
+  refused-here (Sum n) (inr (r, is, new, h)) = (h.0, taken.rows, so-far, and-some (IsAtSum net taken.rows) (row_of net here) r is (h.1, omega (arith, h.2, taken.tally.whole)))
+  refused-here NoMemory (inr (r, is, new, h)) = tt
+  refused-here _ (inr (r, is, new, h)) = absurd h
 
 -- the first record that is not taken is at fault
-pub first-fault : (net : Net) (all : List (List (List ℕ))) (fault : RowFault) → OrMemory (λ _ why. why ≡ NoMemory) fault (HasAfterHeader header all (IsFaultAmong (HasTaken net) (IsRefused net) fault)) → AreFaulty net all fault
-first-fault net all fault (inl (e, memory)) = rw memory tt
-first-fault net all fault (inr stop) = fault-at net all fault stop fault stop.after.1.faulty
+pub first-fault : (net : Net) (all : List (List (List ℕ))) (fault : RowFault) → OrMemory (λ _ why. why ≡ NoMemory) fault (HasAfterHeader header all (IsFaultAmong (HasTaken net) (IsRefused net) fault)) → AreRefusedFor (form net) all (cause_of net fault)
+first-fault net all fault =
+    first-cause (form net) all (cause_of net fault) (λ _ why. why ≡ NoMemory) (HasTaken net) (IsRefused net) fault
+    (λ e memory. rw memory tt) (λ before a here number taken refused. refused-here net before a here number taken fault refused)
 
--- records with a fault bring no arrivals
-pub records-refuse : (net : Net) (all : List (List (List ℕ))) (fault : RowFault) → AreFaulty net all fault → Refuses fault ((a : Amounts) → AreArrivalRecords net all a → ⊥)
-records-refuse net all NoMemory h = tt
-records-refuse net all Header h = λ a is. h is.records is.are
-records-refuse net all (Row n) h =
-    λ a is. refuses (row_of net) net h.records n (λ before fields. told_of fields ≡ None) h.after
-    (λ before r x none reads row few. let by = told-by net x r reads in none-some by.told (sym none ∙ by.is)) is.rows (rw (one-after header is.records h.records (sym is.are ∙ h.are)) at is.reads) is.arrivals.lawful
-records-refuse net all (Link n) h =
-    λ a is. refuses (row_of net) net h.records n (λ before fields. IsSomeAnd (told_of fields) (λ t. IsSourceName net t.name → ⊥)) h.after
-    (λ before r x none reads row few.
-    let by = told-by net x r reads in
-    and-at (λ t. IsSourceName net t.name → ⊥) (told_of x) by.told by.is none (and-at (λ t. IsSourceName net t.name) (told_of x) by.told by.is (source-name net x r reads row.source)))
-    is.rows (rw (one-after header is.records h.records (sym is.are ∙ h.are)) at is.reads) is.arrivals.lawful
-records-refuse net all (Bound n) h =
-    λ a is. refuses (row_of net) net h.records n (λ before fields. IsSomeAnd (row_of net fields) (IsAtBound net)) h.after
-    (λ before r x out reads row few. (and-at (IsAtBound net) (row_of net x) r reads out).1 row.bounds) is.rows (rw (one-after header is.records h.records (sym is.are ∙ h.are)) at is.reads) is.arrivals.lawful
-records-refuse net all (Sum n) h =
-    λ a is. refuses (row_of net) net h.records n (λ before fields. IsSomeAnd (row_of net fields) (IsAtSum net before)) h.after
-    (λ before r x over reads row few. absurd (omega (arith, (and-at (IsAtSum net before) (row_of net x) r reads over).1, few))) is.rows (rw (one-after header is.records h.records (sym is.are ∙ h.are)) at is.reads) is.arrivals.lawful
+-- what is at fault is told by no records of arrivals
+refutes : (net : Net) (fault : RowFault) → fault ≢ NoMemory → Refutes (form net) (cause_of net fault)
+refutes net NoMemory other = other refl
+refutes net Header other = tt
+refutes net (Row n) other = λ before here r rest a lawful none reads is. let by = told-by net here r reads in none-some by.told (sym none ∙ by.is)
+refutes net (Link n) other = λ before here r rest a lawful none reads is.
+    let by = told-by net here r reads in
+    and-at (λ t. IsSourceName net t.name → ⊥) (told_of here) by.told by.is none (and-at (λ t. IsSourceName net t.name) (told_of here) by.told by.is (source-name net here r reads (row-amid net before r rest is.lawful).0.source))
+refutes net (Bound n) other = λ before here r rest a lawful out reads is. (and-at (IsAtBound net) (row_of net here) r reads out).1 (row-amid net before r rest is.lawful).0.bounds
+refutes net (Sum n) other = λ before here r rest a lawful over reads is. omega (arith, (and-at (IsAtSum net before) (row_of net here) r reads over).1, (row-amid net before r rest is.lawful).1)
+
+-- a text with a fault stands for no arrivals
+pub fault-refutes : (net : Net) (all : List (List (List ℕ))) (fault : RowFault) → AreRefusedFor (form net) all (cause_of net fault) → fault ≢ NoMemory → (a : Amounts) → AreRecordsOf (form net) all a → ⊥
+fault-refutes net all fault refused other = refuted (form net) all (cause_of net fault) (refutes net fault other) refused

@@ -1,23 +1,18 @@
 -- The first row at fault.
-use Rattle.std.specs.Prelude.{◌≡◌, ℕ, ◌+◌, ◌<◌, List, Option, Some, sum_by}
-use Rattle.foundation.specs.Options.{each}
+use Rattle.std.specs.Prelude.{ℕ, ◌+◌, ◌<◌, List, Option, Some, sum_by}
 use Rattle.net_parts.specs.Numbers.{Net}
 use Rattle.record_text.specs.Faults.{IsFirstFault}
+use Rattle.record_text.specs.Forms.{AreReadAs}
 use Rattle.arrivals.specs.declared.rows.ArrivalRow.{ArrivalRow}
 use Rattle.arrivals.specs.declared.rows.RowFault.{RowFault}
 use Rattle.arrivals.specs.declared.rows.RowFault.TheVariants.{NoMemory, Link, Bound, Sum}
 use Rattle.net_parts.specs.Limits.{most_of_all}
 use Rattle.arrivals.specs.Rows.{IsSource, HasBounds, IsRow, amount_of, AreRows}
 
--- these elements are read as these rows, which are lawful
-pub record AreReadAs {X : Type 0} (read : X → Option ArrivalRow) (net : Net) (elements : List X) (rows : List ArrivalRow) : Type 0 where
-  pub reads : each read elements ≡ Some rows
-  pub lawful : AreRows net rows
-
 -- The element with this number, counted from 1, is the first at fault: those before it are read as rows that are lawful, and
 -- `at_fault` holds of these rows and of the element.
 abbrev pub IsFirst : {X : Type 0} → (X → Option ArrivalRow) → Net → List X → ℕ → (List ArrivalRow → X → Type 0) → Type 0
-IsFirst read net all number at_fault = IsFirstFault (AreReadAs read net) all number at_fault
+IsFirst read net all number at_fault = IsFirstFault (AreReadAs read (AreRows net)) all number at_fault
 
 -- a row whose link is no source
 abbrev pub IsAtLink : Net → ArrivalRow → Type 0
@@ -38,8 +33,3 @@ IsRowFault net rows (Link n) = IsFirst Some net rows n (λ before r. IsAtLink ne
 IsRowFault net rows (Bound n) = IsFirst Some net rows n (λ before r. IsAtBound net r)
 IsRowFault net rows (Sum n) = IsFirst Some net rows n (λ before r. IsAtSum net before r)
 IsRowFault net rows _ = ⊥
-
--- the fact holds, unless the fault is out of memory
-abbrev pub Refuses : RowFault → Type 0 → Type 0
-Refuses NoMemory fact = Unit {0}
-Refuses _ fact = fact

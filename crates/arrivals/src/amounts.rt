@@ -56,12 +56,12 @@ impl Model for Arrivals {
 impl CrossesThreads for Arrivals {}
 
 impl Arrivals {
-    ghost use Rattle.std.specs.Prelude.{◌≡◌, ◌-◌, ◌<◌, ◌≤◌, ℕ, [], IfOk, IfErr, length, slice_index_or};
+    ghost use Rattle.std.specs.Prelude.{◌≡◌, ◌≢◌, ◌-◌, ◌<◌, ◌≤◌, ℕ, [], IfOk, IfErr, length, slice_index_or};
     ghost use Rattle.net_parts.specs.Limits.{most_of_all, most_seconds};
     ghost use Rattle.road_net.specs.Network.{IsNetwork};
     ghost use Rattle.road_net.specs.Totals.{total};
     ghost use Rattle.arrivals.specs.Amounts.{Amounts, entering, place, AreArrivals, AreArrivalsOf};
-    ghost use Rattle.arrivals.specs.Faults.{IsRowFault, Refuses};
+    ghost use Rattle.arrivals.specs.Faults.{IsRowFault};
     ghost use Rattle.arrivals.specs.Stored.{Adds};
 
     /// The arrivals of these rows, which may stand in any order; rows of one link and second are added.
@@ -72,7 +72,8 @@ impl Arrivals {
     pub fn new(alloc: Global, net: &Network, rows: Vec<ArrivalRow>) -> Result<Arrivals, RowFault>
         ensures ok { IfOk result (AreArrivalsOf net.now rows.items) }
         ensures arrivals { IfOk result (AreArrivals net.now) }
-        ensures refused { IfErr result (λ fault. Refuses fault ((a : Amounts) → ¬ AreArrivalsOf net.now rows.items a)) }
+        ensures refused { IfErr result (λ fault. fault ≢ RowFault.NoMemory
+            → (a : Amounts) → ¬ AreArrivalsOf net.now rows.items a) }
         ensures first { IfErr result (IsRowFault net.now rows.items) }
     {
         Arrivals::of_rows(alloc, net, rows.as_slice())
@@ -82,7 +83,8 @@ impl Arrivals {
     fn of_rows(alloc: Global, net: &Network, rows: &[ArrivalRow]) -> Result<Arrivals, RowFault>
         ensures ok { IfOk result (AreArrivalsOf net.now rows.now) }
         ensures arrivals { IfOk result (AreArrivals net.now) }
-        ensures refused { IfErr result (λ fault. Refuses fault ((a : Amounts) → ¬ AreArrivalsOf net.now rows.now a)) }
+        ensures refused { IfErr result (λ fault. fault ≢ RowFault.NoMemory
+            → (a : Amounts) → ¬ AreArrivalsOf net.now rows.now a) }
         ensures first { IfErr result (IsRowFault net.now rows.now) }
     {
         let mut arrivals = Arrivals::none(alloc, net);

@@ -1,7 +1,6 @@
 //! The file of arrivals.
-ghost use Rattle.std.specs.Prelude.{IfOk, IfErr};
+ghost use Rattle.std.specs.Prelude.{◌≢◌, IfOk, IfErr};
 ghost use Rattle.arrivals.specs.Amounts.{Amounts, AreArrivals};
-ghost use Rattle.arrivals.specs.Faults.{Refuses};
 ghost use Rattle.arrivals.specs.Texts.{IsArrivalText, IsTextFault};
 
 use crate::amounts::Arrivals;
@@ -21,7 +20,8 @@ use std::alloc::Global;
 pub fn read_arrivals(alloc: Global, bytes: &[u8], net: &Network) -> Result<Arrivals, RowFault>
     ensures ok { IfOk result (IsArrivalText net.now bytes.now) }
     ensures arrivals { IfOk result (AreArrivals net.now) }
-    ensures refused { IfErr result (λ fault. Refuses fault ((a : Amounts) → ¬ IsArrivalText net.now bytes.now a)) }
+    ensures refused { IfErr result (λ fault. fault ≢ RowFault.NoMemory
+        → (a : Amounts) → ¬ IsArrivalText net.now bytes.now a) }
     ensures first { IfErr result (IsTextFault net.now bytes.now) }
 {
     let mut arrivals = Arrivals::none(alloc, net);

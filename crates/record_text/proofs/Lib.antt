@@ -1,4 +1,5 @@
 pub mod FaultLaws
+pub mod FormLaws
 pub mod NameLaws
 pub mod RecordLaws
 pub mod ShapeLaws

@@ -4,7 +4,7 @@ use Rattle.record_text.proofs.WalkLaws.{taken-after}
 use Rattle.arrivals.specs.Records.{header}
 use Rattle.arrivals.specs.Stored.{HasTaken}
 use Rattle.arrivals.proofs.TallyLaws.{tally-arrivals}
-use Rattle.arrivals.proofs.TextLaws.{first-fault, records-refuse, taken-few, taken-none}
+use Rattle.arrivals.proofs.TextLaws.{fault-refutes, first-fault, taken-few, taken-none}
 use Rattle.arrivals.proofs.texts.read_arrivals.Goals as goal
 
 pub take_records-requires-clause-few : goal.take_records-requires-clause-few
@@ -17,7 +17,7 @@ pub returns-in-Err-clause-first : goal.returns-in-Err-clause-first
 returns-in-Err-clause-first c = first-fault c.args.net.now (records_of c.args.bytes.now) _ c.in-Err.ensures.first
 
 pub returns-in-Err-clause-refused : goal.returns-in-Err-clause-refused
-returns-in-Err-clause-refused c = records-refuse c.args.net.now (records_of c.args.bytes.now) _ (returns-in-Err-clause-first c)
+returns-in-Err-clause-refused c = fault-refutes c.args.net.now (records_of c.args.bytes.now) _ (returns-in-Err-clause-first c)
 
 pub returns-in-Ok-true-clause-arrivals : goal.returns-in-Ok-true-clause-arrivals
 returns-in-Ok-true-clause-arrivals c =
