@@ -1,17 +1,17 @@
 -- The first record at fault.
-use Rattle.std.proofs.Common.{◌≡◌, ℕ, ◌<◌, ◌≤◌, List, [], ◌∷◌, ◌++◌, length, map, replicate, Some, None, IsSome, IsSomeAnd, IfErr, OnOk, Ok, Err, Option, Result, Contains, refl, sym, ap, ◌∙◌, subst, inl, inr, arith}
+use Rattle.std.proofs.Common.{◌≡◌, ◌≢◌, ℕ, ◌<◌, ◌≤◌, List, [], ◌∷◌, ◌++◌, length, map, replicate, Some, None, IsSome, IfErr, OnOk, Ok, Err, Option, Result, Contains, refl, sym, ap, ◌∙◌, subst, inl, inr, arith}
 use Rattle.std.proofs.lemmas.List.{map-append}
 use Rattle.std.proofs.lemmas.Option.{same_Some, none-some}
-use Rattle.foundation.specs.Options.{◌>>=◌, each}
+use Rattle.foundation.specs.Options.{◌>>=◌}
 use Rattle.foundation.proofs.EachLaws.{each-length, each-push}
 use Rattle.foundation.proofs.ListLaws.{All-middle}
 use Rattle.foundation.proofs.OptionLaws.{bind-some, and-some, and-at}
 use Rattle.net_parts.specs.Numbers.{Net, number_of}
 use Rattle.net_parts.proofs.DraftParts.{number_of-within}
 use Rattle.record_text.specs.Faults.{HasAfterHeader}
+use Rattle.record_text.specs.Forms.{AreReadAs, AreRecordsOf, AreRefusedFor}
 use Rattle.record_text.specs.Walks.{AreCounted, IsFaultAmong, OrMemory}
-use Rattle.record_text.proofs.FaultLaws.{cut-at, one-after}
-use Rattle.record_text.proofs.WalkLaws.{fault-after}
+use Rattle.record_text.proofs.FormLaws.{IsHere, Refutes, first-cause, refuted}
 use Rattle.spillback_world.specs.declared.store_drafts.Draft.{Draft}
 use Rattle.spillback_world.specs.declared.store_drafts.StoreRow.{StoreRow}
 use Rattle.spillback_world.specs.declared.store_faults.StoreFault.{StoreFault}
@@ -19,7 +19,7 @@ use Rattle.spillback_world.specs.declared.store_faults.StoreFault.TheVariants.{N
 use Rattle.spillback_world.specs.StoreDrafts.{Adds, HasTaken, IsRefused, StopsAt, Takes, storages_of}
 use Rattle.spillback_world.specs.StoreRecords.{Told, told_of, row_of, header}
 use Rattle.spillback_world.specs.StoreRows.{AreRows, IsRow, link_of}
-use Rattle.spillback_world.specs.StoreTexts.{AreFaulty, AreReadAs, AreStoreRecords, IsAtBound, IsAtTwice, IsFirst, Refuses}
+use Rattle.spillback_world.specs.StoreTexts.{IsAtBound, IsAtTwice, cause_of, form}
 use Rattle.spillback_world.proofs.StoreDraftLaws.{draft-count, draft-more, draft-none, draft-store, has-row, not-twice}
 
 -- what a row was read from
@@ -59,58 +59,47 @@ pub taken-few : (net : Net) (all : List (List (List ℕ))) → length net.link_n
 taken-few net all links = λ header front here rest draft are taken. omega (arith, links, each-length (row_of net) front taken.rows taken.reads, draft-count net taken.rows draft.storages.items taken.draft)
 
 -- all records were taken
-pub taken-all : (net : Net) (all : List (List (List ℕ))) (draft : Draft) (store : List ℕ) → HasAfterHeader header all (λ records. Takes net records draft) → store ≡ storages_of draft.storages.items → AreStoreRecords net all store
-taken-all net all draft store taken is = rw is (record { records = taken.records; are = taken.are; rows = taken.after.rows; reads = taken.after.reads; of_rows = draft-store net taken.after.rows draft.storages.items taken.after.draft })
+pub taken-all : (net : Net) (all : List (List (List ℕ))) (draft : Draft) (store : List ℕ) → HasAfterHeader header all (λ records. Takes net records draft) → store ≡ storages_of draft.storages.items → AreRecordsOf (form net) all store
+taken-all net all draft store taken is = rw is (record { records = taken.records; are = taken.are; told = taken.after.rows; reads = taken.after.reads; is = draft-store net taken.after.rows draft.storages.items taken.after.draft })
 
-module _ (net : Net) (all : List (List (List ℕ))) (why : StoreFault) (stop : HasAfterHeader header all (IsFaultAmong (Takes net) (StopsAt net) why)) where
-  here-first : (n : ℕ) (at_fault : List StoreRow → List (List ℕ) → Type 0) → n ≡ stop.after.0 → at_fault stop.after.1.reads.rows stop.after.1.here → HasAfterHeader header all (λ records. IsFirst net records n at_fault)
-  here-first n at_fault same fault =
-      let taken = stop.after.1.reads in
-      fault-after (StopsAt net) (AreReadAs net) at_fault n stop taken.rows same (record { reads = taken.reads; lawful = taken.draft.lawful }) fault
+-- the cause to refuse a record after those that were taken
+module _ (net : Net) (before : List (List (List ℕ))) (draft : Draft) (here : List (List ℕ)) (number : ℕ) (taken : Takes net before draft) where
+  so-far : AreReadAs (row_of net) (AreRows net) before taken.rows
+  so-far = record { reads = taken.reads; lawful = taken.draft.lawful }
 
-  fault-at : (fault : StoreFault) → StopsAt net stop.after.1.so_far stop.after.1.here stop.after.0 fault → AreFaulty net all fault
+  refused-here : (fault : StoreFault) → StopsAt net draft here number fault → IsHere (form net) before here number (cause_of net fault)
   -- the record is no row
-  fault-at (Row n) (inl h) = here-first n (λ before fields. told_of fields ≡ None) h.0 h.1
-  fault-at (Link n) (inl h) = here-first n (λ before fields. IsSomeAnd (told_of fields) (λ t. number_of net.link_names t.name ≡ None)) h.0 h.1
-  fault-at _ (inl h) = absurd h
+  refused-here (Row n) (inl h) = (h.0, taken.rows, so-far, h.1)
+  refused-here (Link n) (inl h) = (h.0, taken.rows, so-far, h.1)
+  refused-here _ (inl h) = absurd h
   -- the row cannot be added
-  fault-at (Bound n) (inr (r, is, new, h)) = here-first n (λ before fields. IsSomeAnd (row_of net fields) IsAtBound) h.0 (and-some IsAtBound (row_of net stop.after.1.here) r is h.1)
-  fault-at (Twice n) (inr (r, is, new, h)) =
-      let taken = stop.after.1.reads in
-      here-first n (λ before fields. IsSomeAnd (row_of net fields) (IsAtTwice before)) h.0
-      (and-some (IsAtTwice taken.rows) (row_of net stop.after.1.here) r is (h.1, has-row taken.rows r.link (subst IsSome (taken.draft.are r.link) h.2)))
-  fault-at _ (inr (r, is, new, h)) = absurd h
+  refused-here (Bound n) (inr (r, is, new, h)) = (h.0, taken.rows, so-far, and-some IsAtBound (row_of net here) r is h.1)
+  refused-here (Twice n) (inr (r, is, new, h)) = (h.0, taken.rows, so-far, and-some (IsAtTwice taken.rows) (row_of net here) r is (h.1, has-row taken.rows r.link (subst IsSome (taken.draft.are r.link) h.2)))
+  refused-here _ (inr (r, is, new, h)) = absurd h
 
 -- the first record that is not taken is at fault
-pub first-fault : (net : Net) (all : List (List (List ℕ))) (fault : StoreFault) → OrMemory (λ _ why. why ≡ NoMemory) fault (HasAfterHeader header all (IsFaultAmong (Takes net) (StopsAt net) fault)) → AreFaulty net all fault
-first-fault net all fault (inl (e, memory)) = rw memory tt
-first-fault net all fault (inr stop) = fault-at net all fault stop fault stop.after.1.faulty
+pub first-fault : (net : Net) (all : List (List (List ℕ))) (fault : StoreFault) → OrMemory (λ _ why. why ≡ NoMemory) fault (HasAfterHeader header all (IsFaultAmong (Takes net) (StopsAt net) fault)) → AreRefusedFor (form net) all (cause_of net fault)
+first-fault net all fault =
+    first-cause (form net) all (cause_of net fault) (λ _ why. why ≡ NoMemory) (Takes net) (StopsAt net) fault
+    (λ e memory. rw memory tt) (λ before draft here number taken stops. refused-here net before draft here number taken fault stops)
 
--- with a first record at fault, where what is at fault can be no row of a store, not all are rows of one
-refuses : (net : Net) (all : List (List (List ℕ))) (n : ℕ) (at_fault : List StoreRow → List (List ℕ) → Type 0) → IsFirst net all n at_fault
-    → ((rows : List StoreRow) (r : StoreRow) (x : List (List ℕ)) → at_fault rows x → row_of net x ≡ Some r → IsRow net r → (Contains (map link_of rows) r.link → ⊥) → ⊥)
-    → (rows : List StoreRow) → each (row_of net) all ≡ Some rows → AreRows net rows → ⊥
-refuses net all n at_fault first clash rows reads are =
-    let (r, rest, is, whole) = cut-at (row_of net) first.before first.after first.here rows first.so_far (rw first.are at reads) first.reads.reads in
-    let links = ap (map link_of) whole ∙ map-append link_of first.so_far (r ∷ rest) in
-    clash first.so_far r first.here first.faulty is (All-middle (IsRow net) first.so_far rest r (rw whole at are.each)) (not-twice (map link_of first.so_far) (map link_of rest) r.link (rw links at are.once))
+-- a row in the middle of lawful rows is lawful, and none before it has its link
+row-amid : (net : Net) (before : List StoreRow) (r : StoreRow) (rest : List StoreRow) → AreRows net (before ++ r ∷ rest) → IsRow net r × (Contains (map link_of before) r.link → ⊥)
+row-amid net before r rest are =
+    let links = map-append link_of before (r ∷ rest) in
+    (All-middle (IsRow net) before rest r are.each, not-twice (map link_of before) (map link_of rest) r.link (rw links at are.once))
 
--- records with a fault are those of no store
-pub records-refuse : (net : Net) (all : List (List (List ℕ))) (fault : StoreFault) → AreFaulty net all fault → Refuses fault ((store : List ℕ) → AreStoreRecords net all store → ⊥)
-records-refuse net all NoMemory h = tt
-records-refuse net all Header h = λ store is. h is.records is.are
-records-refuse net all (Row n) h =
-    λ store is. refuses net h.records n (λ before fields. told_of fields ≡ None) h.after
-    (λ before r x none reads row new. let by = told-by net x r reads in none-some by.told (sym none ∙ by.is)) is.rows (rw (one-after header is.records h.records (sym is.are ∙ h.are)) at is.reads) is.of_rows.lawful
-records-refuse net all (Link n) h =
-    λ store is. refuses net h.records n (λ before fields. IsSomeAnd (told_of fields) (λ t. number_of net.link_names t.name ≡ None)) h.after
-    (λ before r x none reads row new.
-    let by = told-by net x r reads in
-    none-some r.link (sym (and-at (λ t. number_of net.link_names t.name ≡ None) (told_of x) by.told by.is none) ∙ by.named))
-    is.rows (rw (one-after header is.records h.records (sym is.are ∙ h.are)) at is.reads) is.of_rows.lawful
-records-refuse net all (Bound n) h =
-    λ store is. refuses net h.records n (λ before fields. IsSomeAnd (row_of net fields) IsAtBound) h.after
-    (λ before r x out reads row new. and-at IsAtBound (row_of net x) r reads out row.bounds) is.rows (rw (one-after header is.records h.records (sym is.are ∙ h.are)) at is.reads) is.of_rows.lawful
-records-refuse net all (Twice n) h =
-    λ store is. refuses net h.records n (λ before fields. IsSomeAnd (row_of net fields) (IsAtTwice before)) h.after
-    (λ before r x twice reads row new. new (and-at (IsAtTwice before) (row_of net x) r reads twice).1) is.rows (rw (one-after header is.records h.records (sym is.are ∙ h.are)) at is.reads) is.of_rows.lawful
+-- what is at fault is told by no records of a store
+refutes : (net : Net) (fault : StoreFault) → fault ≢ NoMemory → Refutes (form net) (cause_of net fault)
+refutes net NoMemory other = other refl
+refutes net Header other = tt
+refutes net (Row n) other = λ before here r rest store lawful none reads is. let by = told-by net here r reads in none-some by.told (sym none ∙ by.is)
+refutes net (Link n) other = λ before here r rest store lawful none reads is.
+    let by = told-by net here r reads in
+    none-some r.link (sym (and-at (λ t. number_of net.link_names t.name ≡ None) (told_of here) by.told by.is none) ∙ by.named)
+refutes net (Bound n) other = λ before here r rest store lawful out reads is. and-at IsAtBound (row_of net here) r reads out (row-amid net before r rest is.lawful).0.bounds
+refutes net (Twice n) other = λ before here r rest store lawful twice reads is. (row-amid net before r rest is.lawful).1 (and-at (IsAtTwice before) (row_of net here) r reads twice).1
+
+-- a text with a fault stands for no store
+pub fault-refutes : (net : Net) (all : List (List (List ℕ))) (fault : StoreFault) → AreRefusedFor (form net) all (cause_of net fault) → fault ≢ NoMemory → (store : List ℕ) → AreRecordsOf (form net) all store → ⊥
+fault-refutes net all fault refused other = refuted (form net) all (cause_of net fault) (refutes net fault other) refused

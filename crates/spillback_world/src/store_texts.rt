@@ -1,6 +1,6 @@
 //! The file of a store.
-ghost use Rattle.std.specs.Prelude.{◌≡◌, ℕ, List, IfErr, IfOk, length};
-ghost use Rattle.spillback_world.specs.StoreTexts.{IsStoreText, IsTextFault, Refuses};
+ghost use Rattle.std.specs.Prelude.{◌≡◌, ◌≢◌, ℕ, List, IfErr, IfOk, length};
+ghost use Rattle.spillback_world.specs.StoreTexts.{IsStoreText, IsTextFault};
 
 use crate::store::Store;
 use crate::store_drafts::Draft;
@@ -21,7 +21,8 @@ use std::alloc::Global;
 pub fn read_store(alloc: Global, bytes: &[u8], net: &Network) -> Result<Store, StoreFault>
     ensures ok { IfOk result (IsStoreText net.now bytes.now) }
     ensures links { IfOk result (λ store. length store ≡ length net.now.link_names) }
-    ensures refused { IfErr result (λ fault. Refuses fault ((store : List ℕ) → ¬ IsStoreText net.now bytes.now store)) }
+    ensures refused { IfErr result (λ fault. fault ≢ StoreFault.NoMemory
+        → (store : List ℕ) → ¬ IsStoreText net.now bytes.now store) }
     ensures first { IfErr result (IsTextFault net.now bytes.now) }
 {
     let mut draft = Draft::new(alloc, net)?;

@@ -3,9 +3,9 @@ use Rattle.record_text.specs.Records.{records_of}
 use Rattle.record_text.proofs.WalkLaws.{taken-after}
 use Rattle.spillback_world.specs.StoreDrafts.{Takes}
 use Rattle.spillback_world.specs.StoreRecords.{header}
-use Rattle.spillback_world.specs.StoreTexts.{AreFaulty}
+use Rattle.spillback_world.specs.StoreTexts.{IsTextFault}
 use Rattle.spillback_world.proofs.StoreDraftLaws.{draft-storages}
-use Rattle.spillback_world.proofs.StoreTextLaws.{first-fault, records-refuse, taken-all, taken-few, taken-none}
+use Rattle.spillback_world.proofs.StoreTextLaws.{fault-refutes, first-fault, taken-all, taken-few, taken-none}
 use Rattle.spillback_world.proofs.store_texts.read_store.Goals as goal
 
 pub take_records-requires-clause-few : goal.take_records-requires-clause-few
@@ -21,8 +21,7 @@ returns-in_err-take_records-clause-first c =
 
 pub returns-in_err-take_records-clause-refused : goal.returns-in_err-take_records-clause-refused
 returns-in_err-take_records-clause-refused c =
-    let all = records_of c.args.bytes.now in
-    IfErr-weaker c.from_residual-in_err-take_records.result (AreFaulty c.args.net.now all) _ (records-refuse c.args.net.now all) (returns-in_err-take_records-clause-first c)
+    IfErr-weaker c.from_residual-in_err-take_records.result (IsTextFault c.args.net.now c.args.bytes.now) _ (fault-refutes c.args.net.now (records_of c.args.bytes.now)) (returns-in_err-take_records-clause-first c)
 
 pub end-requires : goal.end-requires
 end-requires c =
