@@ -1,5 +1,5 @@
 -- The records of a fixed plan, one after another, and the first at fault.
-use Rattle.std.proofs.Common.{◌≡◌, ℕ, ◌<◌, ◌≤◌, List, [], ◌∷◌, ◌++◌, length, Option, Some, None, IfSome, IsSomeAnd, IfErr, OnOk, Result, Ok, Err, sym, ap, ◌∙◌, subst, inl, inr, arith}
+use Rattle.std.proofs.Common.{◌≡◌, ◌≢◌, ℕ, ◌<◌, ◌≤◌, List, [], ◌∷◌, ◌++◌, length, Option, Some, None, IfSome, IfErr, OnOk, Result, Ok, Err, refl, sym, ap, ◌∙◌, subst, inl, inr, arith}
 use Rattle.std.proofs.lemmas.Option.{same_Some, none-some}
 use Rattle.foundation.specs.Options.{each, ◌>>=◌}
 use Rattle.foundation.proofs.EachLaws.{each-length, each-push}
@@ -9,14 +9,14 @@ use Rattle.net_parts.specs.Outline.{plan_at}
 use Rattle.net_parts.proofs.DraftParts.{number_of-within}
 use Rattle.road_net.specs.Network.{IsNetwork}
 use Rattle.record_text.specs.Faults.{HasAfterHeader}
+use Rattle.record_text.specs.Forms.{AreReadAs, AreRecordsOf, AreRefusedFor}
 use Rattle.record_text.specs.Walks.{AreCounted, IsFaultAmong, OrMemory}
-use Rattle.record_text.proofs.FaultLaws.{cut-at, one-after}
-use Rattle.record_text.proofs.WalkLaws.{fault-after}
+use Rattle.record_text.proofs.FormLaws.{IsHere, Refutes, first-cause, refuted}
 use Rattle.fixed_plans.specs.declared.drafts.Draft.{Draft}
 use Rattle.fixed_plans.specs.declared.faults.FixedFault.{FixedFault}
 use Rattle.fixed_plans.specs.declared.faults.FixedFault.TheVariants.{NoMemory, Header, Row, Node, Phase, Green, Offset, Short}
 use Rattle.fixed_plans.specs.declared.rows.FixedRow.{FixedRow}
-use Rattle.fixed_plans.specs.Faults.{AreFaulty, ArePlanRecords, IsAtGreen, IsAtNode, IsAtOffset, IsAtPhase, IsAtRow, IsFirst, IsRecordFault, Refuses, TellRows}
+use Rattle.fixed_plans.specs.Faults.{IsAtGreen, IsAtOffset, IsAtPhase, cause_of, form}
 use Rattle.fixed_plans.specs.Records.{Told, header, row_of, told_of}
 use Rattle.fixed_plans.specs.Rows.{AreRowsAfter, ComesNext, HasOffset, IsEnd, IsRow, last_of}
 use Rattle.fixed_plans.specs.Drafts.{Adds, HasTaken, IsPlaced, IsRefused}
@@ -74,102 +74,66 @@ module _ (net : Net) (fields : List (List ℕ)) (number : ℕ) (old new : Draft)
   refused-row (Ok done) adds = tt
   refused-row (Err fault) adds = inr (r, is, new, adds)
 
-module _ (net : Net) (all : List (List (List ℕ))) (why : FixedFault) (stop : HasAfterHeader header all (IsFaultAmong (HasTaken net) (IsRefused net) why)) where
-  here-first : (n : ℕ) (at_fault : List FixedRow → List (List ℕ) → Type 0) → n ≡ stop.after.0 → at_fault stop.after.1.so_far.rows.items stop.after.1.here → HasAfterHeader header all (λ records. IsFirst net records n at_fault)
-  here-first n at_fault same fault =
-      let taken = stop.after.1.reads in
-      fault-after (IsRefused net) (TellRows net) at_fault n stop stop.after.1.so_far.rows.items same (record { reads = taken.reads; lawful = taken.lawful }) fault
+-- the cause to refuse a record after those that were taken
+module _ (net : Net) (before : List (List (List ℕ))) (draft : Draft) (here : List (List ℕ)) (number : ℕ) (taken : HasTaken net before draft) where
+  so-far : AreReadAs (row_of net) (AreRowsAfter net None) before draft.rows.items
+  so-far = record { reads = taken.reads; lawful = taken.lawful }
 
   -- what was known of the last row is known of the rows
-  of-rows : (P : Option FixedRow → Type 0) → P stop.after.1.so_far.last → P (last_of None stop.after.1.so_far.rows.items)
-  of-rows P h = subst P stop.after.1.reads.last h
+  of-rows : (P : Option FixedRow → Type 0) → P draft.last → P (last_of None draft.rows.items)
+  of-rows P h = subst P taken.last h
 
-  fault-at : (fault : FixedFault) → IsRefused net stop.after.1.so_far stop.after.1.here stop.after.0 fault → AreFaulty net all fault
+  refused-here : (fault : FixedFault) → IsRefused net draft here number fault → IsHere (form net) before here number (cause_of net fault)
   -- the record is no row
-  fault-at (Row n) (inl h) = here-first n (λ before fields. IsAtRow fields) h.0 h.1
-  fault-at (Node n) (inl h) = here-first n (λ before fields. IsAtNode net fields) h.0 h.1
-  fault-at _ (inl h) = absurd h
+  refused-here (Row n) (inl h) = (h.0, draft.rows.items, so-far, h.1)
+  refused-here (Node n) (inl h) = (h.0, draft.rows.items, so-far, h.1)
+  refused-here _ (inl h) = absurd h
   -- the row cannot be added
-  fault-at (Phase n) (inr (r, is, new, h)) = here-first n (λ before fields. IsSomeAnd (row_of net fields) (IsAtPhase net before)) h.0 (and-some (IsAtPhase net stop.after.1.so_far.rows.items) (row_of net stop.after.1.here) r is (of-rows (λ o. ComesNext net o r → ⊥) h.1))
-  fault-at (Green n) (inr (r, is, new, h)) =
-      here-first n (λ before fields. IsSomeAnd (row_of net fields) (IsAtGreen net before)) h.0
-      (and-some (IsAtGreen net stop.after.1.so_far.rows.items) (row_of net stop.after.1.here) r is (of-rows (λ o. ComesNext net o r) h.1, h.2))
-  fault-at (Offset n) (inr (r, is, new, h)) =
-      here-first n (λ before fields. IsSomeAnd (row_of net fields) (IsAtOffset net before)) h.0
-      (and-some (IsAtOffset net stop.after.1.so_far.rows.items) (row_of net stop.after.1.here) r is (of-rows (λ o. ComesNext net o r) h.1, h.2, of-rows (λ o. HasOffset o r → ⊥) h.3))
-  fault-at NoMemory (inr (r, is, new, h)) = tt
-  fault-at _ (inr (r, is, new, h)) = absurd h
+  refused-here (Phase n) (inr (r, is, new, h)) = (h.0, draft.rows.items, so-far, and-some (IsAtPhase net draft.rows.items) (row_of net here) r is (of-rows (λ o. ComesNext net o r → ⊥) h.1))
+  refused-here (Green n) (inr (r, is, new, h)) = (h.0, draft.rows.items, so-far, and-some (IsAtGreen net draft.rows.items) (row_of net here) r is (of-rows (λ o. ComesNext net o r) h.1, h.2))
+  refused-here (Offset n) (inr (r, is, new, h)) =
+      (h.0, draft.rows.items, so-far, and-some (IsAtOffset net draft.rows.items) (row_of net here) r is (of-rows (λ o. ComesNext net o r) h.1, h.2, of-rows (λ o. HasOffset o r → ⊥) h.3))
+  refused-here NoMemory (inr (r, is, new, h)) = tt
+  refused-here _ (inr (r, is, new, h)) = absurd h
 
 -- the first record that is not taken is at fault
-pub first-fault : (net : Net) (all : List (List (List ℕ))) (fault : FixedFault) → OrMemory (λ _ why. why ≡ NoMemory) fault (HasAfterHeader header all (IsFaultAmong (HasTaken net) (IsRefused net) fault)) → AreFaulty net all fault
-first-fault net all fault (inl (e, memory)) = rw memory tt
-first-fault net all fault (inr stop) = fault-at net all fault stop fault stop.after.1.faulty
+pub first-fault : (net : Net) (all : List (List (List ℕ))) (fault : FixedFault) → OrMemory (λ _ why. why ≡ NoMemory) fault (HasAfterHeader header all (IsFaultAmong (HasTaken net) (IsRefused net) fault)) → AreRefusedFor (form net) all (cause_of net fault)
+first-fault net all fault =
+    first-cause (form net) all (cause_of net fault) (λ _ why. why ≡ NoMemory) (HasTaken net) (IsRefused net) fault
+    (λ e memory. rw memory tt) (λ before draft here number taken refused. refused-here net before draft here number taken fault refused)
 
 module _ (net : Net) (all : List (List (List ℕ))) (draft : Draft) (taken : HasAfterHeader header all (λ records. HasTaken net records draft)) where
   -- all rows were taken
-  pub taken-all : IsEnd net draft.last → ArePlanRecords net all draft.rows.items
+  pub taken-all : IsEnd net draft.last → AreRecordsOf (form net) all draft.rows.items
   taken-all end = record {
     records = taken.records;
     are = taken.are;
+    told = draft.rows.items;
     reads = taken.after.reads;
-    is = record { each = taken.after.lawful; whole = subst (IsEnd net) taken.after.last end };
+    is = record { same = refl; is = record { each = taken.after.lawful; whole = subst (IsEnd net) taken.after.last end } };
   }
 
   -- or not all
-  pub taken-short : (IsEnd net draft.last → ⊥) → AreFaulty net all Short
+  pub taken-short : (IsEnd net draft.last → ⊥) → AreRefusedFor (form net) all (cause_of net Short)
   taken-short early = record {
     records = taken.records;
     are = taken.are;
-    after = record {
-      rows = draft.rows.items;
-      tell = record { reads = taken.after.reads; lawful = taken.after.lawful };
-      early = subst (λ (o : Option FixedRow). IsEnd net o → ⊥) taken.after.last early;
-    };
+    after = (draft.rows.items, so-far net taken.records draft [] 0 taken.after, subst (λ (o : Option FixedRow). IsEnd net o → ⊥) taken.after.last early);
   }
 
-module _ (net : Net) (records : List (List (List ℕ))) (rows : List FixedRow) (is : ArePlanRecords net (header ∷ records) rows) where
-  reads-all : each (row_of net) records ≡ Some rows
-  reads-all = rw (one-after header is.records records (sym is.are)) at is.reads
+-- what is at fault is told by no records of a fixed plan
+refutes : (net : Net) (fault : FixedFault) → fault ≢ NoMemory → Refutes (form net) (cause_of net fault)
+refutes net NoMemory other = other refl
+refutes net Header other = tt
+refutes net (Row n) other = λ before here r rest plan lawful none reads is. let by = told-by net here r reads in none-some by.told (sym none ∙ by.is)
+refutes net (Node n) other = λ before here r rest plan lawful none reads is.
+    let by = told-by net here r reads in
+    none-some r.node (sym (and-at (λ (t : Told). number_of net.node_names t.name ≡ None) (told_of here) by.told by.is none) ∙ by.named)
+refutes net (Phase n) other = λ before here r rest plan lawful at reads is. and-at (IsAtPhase net before) (row_of net here) r reads at (row-amid net None before r rest is.is.each).next
+refutes net (Green n) other = λ before here r rest plan lawful at reads is. (and-at (IsAtGreen net before) (row_of net here) r reads at).1 (row-amid net None before r rest is.is.each).green
+refutes net (Offset n) other = λ before here r rest plan lawful at reads is. (and-at (IsAtOffset net before) (row_of net here) r reads at).2 (row-amid net None before r rest is.is.each).offset
+refutes net Short other = λ rows plan lawful early is. early is.is.whole
 
-  -- the row of the record at fault is lawful after those before it
-  cut : (n : ℕ) (at_fault : List FixedRow → List (List ℕ) → Type 0) (first : IsFirst net records n at_fault) → (r : FixedRow) × (row_of net first.here ≡ Some r) × IsRow net (last_of None first.so_far) r
-  cut n at_fault first =
-      let (r, back, told, all) = cut-at (row_of net) first.before first.after first.here rows first.so_far (rw first.are at reads-all) first.reads.reads in
-      (r, told, row-amid net None first.so_far r back (subst (AreRowsAfter net None) all is.is.each))
-
-  -- records with a fault have no plan
-  clash : (fault : FixedFault) → IsRecordFault net records fault → ⊥
-  clash NoMemory f = absurd f
-  clash Header f = absurd f
-  clash (Row n) f =
-      let (r, reads, row) = cut n (λ before fields. IsAtRow fields) f in
-      let by = told-by net f.here r reads in none-some by.told (sym f.faulty ∙ by.is)
-  clash (Node n) f =
-      let (r, reads, row) = cut n (λ before fields. IsAtNode net fields) f in
-      let by = told-by net f.here r reads in
-      none-some r.node (sym (and-at (λ (t : Told). number_of net.node_names t.name ≡ None) (told_of f.here) by.told by.is f.faulty) ∙ by.named)
-  clash (Phase n) f =
-      let (r, reads, row) = cut n (λ before fields. IsSomeAnd (row_of net fields) (IsAtPhase net before)) f in
-      and-at (IsAtPhase net f.so_far) (row_of net f.here) r reads f.faulty row.next
-  clash (Green n) f =
-      let (r, reads, row) = cut n (λ before fields. IsSomeAnd (row_of net fields) (IsAtGreen net before)) f in
-      (and-at (IsAtGreen net f.so_far) (row_of net f.here) r reads f.faulty).1 row.green
-  clash (Offset n) f =
-      let (r, reads, row) = cut n (λ before fields. IsSomeAnd (row_of net fields) (IsAtOffset net before)) f in
-      (and-at (IsAtOffset net f.so_far) (row_of net f.here) r reads f.faulty).2 row.offset
-  clash Short f =
-      let same : rows ≡ f.rows = same_Some rows f.rows (sym reads-all ∙ f.tell.reads) in
-      f.early (subst (λ (l : List FixedRow). IsEnd net (last_of None l)) same is.is.whole)
-
-fault-refuses : (net : Net) (all : List (List (List ℕ))) (fault : FixedFault) → HasAfterHeader header all (λ records. IsRecordFault net records fault) → (rows : List FixedRow) → ArePlanRecords net all rows → ⊥
-fault-refuses net all fault f rows is = clash net f.records rows (subst (λ (l : List (List (List ℕ))). ArePlanRecords net l rows) f.are is) fault f.after
-
-pub records-refuse : (net : Net) (all : List (List (List ℕ))) (fault : FixedFault) → AreFaulty net all fault → Refuses fault ((rows : List FixedRow) → ArePlanRecords net all rows → ⊥)
-records-refuse net all NoMemory f = tt
-records-refuse net all Header f = λ rows is. f is.records is.are
-records-refuse net all (Row n) f = fault-refuses net all (Row n) f
-records-refuse net all (Node n) f = fault-refuses net all (Node n) f
-records-refuse net all (Phase n) f = fault-refuses net all (Phase n) f
-records-refuse net all (Green n) f = fault-refuses net all (Green n) f
-records-refuse net all (Offset n) f = fault-refuses net all (Offset n) f
-records-refuse net all Short f = fault-refuses net all Short f
+-- a text with a fault stands for no fixed plan
+pub fault-refutes : (net : Net) (all : List (List (List ℕ))) (fault : FixedFault) → AreRefusedFor (form net) all (cause_of net fault) → fault ≢ NoMemory → (rows : List FixedRow) → AreRecordsOf (form net) all rows → ⊥
+fault-refutes net all fault refused other = refuted (form net) all (cause_of net fault) (refutes net fault other) refused

@@ -69,3 +69,8 @@ IsEnd net (Some b) = (b.node + 1 ≡ length net.node_names) × IsLastRow net b
 pub record IsFixedPlan (net : Net) (rows : List FixedRow) : Type 0 where
   pub each : AreRowsAfter net None rows
   pub whole : IsEnd net (last_of None rows)
+
+-- these rows are this fixed plan
+pub record IsPlanOf (net : Net) (rows plan : List FixedRow) : Type 0 where
+  pub same : plan ≡ rows
+  pub is : IsFixedPlan net rows

@@ -1,6 +1,6 @@
 //! The file of a fixed plan.
-ghost use Rattle.std.specs.Prelude.{IfErr, IfOk, List};
-ghost use Rattle.fixed_plans.specs.Faults.{IsPlanFault, IsPlanText, Refuses};
+ghost use Rattle.std.specs.Prelude.{◌≢◌, IfErr, IfOk, List};
+ghost use Rattle.fixed_plans.specs.Faults.{IsPlanFault, IsPlanText};
 ghost use Rattle.fixed_plans.specs.Rows.{IsFixedPlan};
 ghost use Rattle.fixed_plans.specs.declared.rows.FixedRow as spec;
 
@@ -25,8 +25,8 @@ use std::alloc::Global;
 pub fn read_fixed_plan(alloc: Global, bytes: &[u8], net: &Network) -> Result<FixedPlan, FixedFault>
     ensures ok { IfOk result (IsPlanText net.now bytes.now) }
     ensures plan { IfOk result (IsFixedPlan net.now) }
-    ensures refused { IfErr result (λ fault.
-        Refuses fault ((rows : List spec.FixedRow) → ¬ IsPlanText net.now bytes.now rows)) }
+    ensures refused { IfErr result (λ fault. fault ≢ FixedFault.NoMemory
+        → (rows : List spec.FixedRow) → ¬ IsPlanText net.now bytes.now rows) }
     ensures first { IfErr result (IsPlanFault net.now bytes.now) }
 {
     law_of_network(net);

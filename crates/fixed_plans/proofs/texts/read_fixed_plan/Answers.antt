@@ -1,10 +1,10 @@
 use Rattle.std.proofs.lemmas.Result.{err_from_is_err_and, IfErr-weaker}
 use Rattle.record_text.specs.Records.{records_of}
 use Rattle.record_text.proofs.WalkLaws.{taken-after}
-use Rattle.fixed_plans.specs.Faults.{AreFaulty}
+use Rattle.fixed_plans.specs.Faults.{IsPlanFault}
 use Rattle.fixed_plans.specs.Records.{header}
 use Rattle.fixed_plans.specs.Drafts.{HasTaken}
-use Rattle.fixed_plans.proofs.TextLaws.{first-fault, records-refuse, taken-few, taken-none, taken-placed}
+use Rattle.fixed_plans.proofs.TextLaws.{fault-refutes, first-fault, taken-few, taken-none, taken-placed}
 use Rattle.fixed_plans.proofs.texts.read_fixed_plan.Goals as goal
 
 pub take_records-requires-clause-few : goal.take_records-requires-clause-few
@@ -20,8 +20,7 @@ returns-in_err-take_records-clause-first c =
 
 pub returns-in_err-take_records-clause-refused : goal.returns-in_err-take_records-clause-refused
 returns-in_err-take_records-clause-refused c =
-    let all = records_of c.args.bytes.now in
-    IfErr-weaker c.from_residual.result (AreFaulty c.args.net.now all) _ (records-refuse c.args.net.now all) (returns-in_err-take_records-clause-first c)
+    IfErr-weaker c.from_residual.result (IsPlanFault c.args.net.now c.args.bytes.now) _ (fault-refutes c.args.net.now (records_of c.args.bytes.now)) (returns-in_err-take_records-clause-first c)
 
 pub is_end-requires : goal.is_end-requires
 is_end-requires c =
