@@ -17,8 +17,8 @@ use Rattle.road_net.specs.Network.{IsNetwork}
 use Rattle.audit.specs.declared.sheet_drafts.Draft.{Draft}
 use Rattle.audit.specs.declared.sheet.Sheet.{Sheet}
 use Rattle.audit.specs.SheetEntries.{HasCome, sums_if}
-use Rattle.audit.specs.SheetFaults.{IsEarly, links_told}
-use Rattle.audit.specs.SheetTexts.{HasShape, IsSheetOf, NamesNode, counts_of, green_of, link_of, sums_of}
+use Rattle.audit.specs.SheetFaults.{IsEarly}
+use Rattle.audit.specs.SheetTexts.{HasShape, IsSheetOf, NamesNode, counts_of, green_of, link_of, links_told, sums_of}
 use Rattle.audit.specs.SheetRecords.{Counts, Passed, Shows, Sums, Told}
 
 -- an option that was tested

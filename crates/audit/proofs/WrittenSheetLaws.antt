@@ -21,7 +21,8 @@ use Rattle.road_net.specs.Network.{IsNetwork}
 use Rattle.world_records.specs.Records.{green_record, green_records, header, link_record, link_record_of, records_text, total_record}
 use Rattle.world_records.proofs.RecordLaws.{HasField, header-first, read-records}
 use Rattle.audit.specs.declared.sheet.Sheet.{Sheet}
-use Rattle.audit.specs.SheetTexts.{AreSheetRecords, IsSheetOf, IsSheetText, NamesNode, counts_of, green_of, link_of, sums_of}
+use Rattle.audit.specs.SheetTexts.{IsSheetOf, IsSheetText, NamesNode, counts_of, form, green_of, link_of, sums_of}
+use Rattle.record_text.specs.Forms.{AreRecordsOf}
 use Rattle.audit.specs.SheetRecords.{Counts, Passed, Shows, Sums, Told, told, told_of, green_told, counts_told, sums_told}
 use Rattle.audit.specs.WrittenSheets.{AreToldCounts, AreToldSums, CanBeTold, IsPassedOver, IsToldGreen, begun_before, cut_at, sheet_records}
 use Rattle.audit.proofs.SheetFieldLaws.{some-number}
@@ -273,7 +274,7 @@ module _ (net : Net) (network : IsNetwork net) (passed : List (List (List ℕ)))
   -- the text of the records is that of the sheet
   pub written-sheet : IsSheetText net (records_text (header ∷ (passed ++ sheet_records net end s))) (cut_at end s)
   written-sheet =
-      let are : AreSheetRecords net (header ∷ (passed ++ sheet_records net end s)) (cut_at end s) = record { records = _; are = refl; told = all_told; reads = reads-all; is = is-sheet } in
+      let are : AreRecordsOf (form net) (header ∷ (passed ++ sheet_records net end s)) (cut_at end s) = record { records = _; are = refl; told = all_told; reads = reads-all; is = is-sheet } in
       let (rest, begins) = header-first (passed ++ sheet_records net end s) in
       let some : All HasField (header ∷ (passed ++ sheet_records net end s)) = All-cons HasField header _ (omega arith) (each-good told_of HasField has-field (passed ++ sheet_records net end s) all_told reads-all) in
-      subst (λ (l : List (List (List ℕ))). AreSheetRecords net l (cut_at end s)) (sym (read-records (header ∷ (passed ++ sheet_records net end s)) rest begins some)) are
+      subst (λ (l : List (List (List ℕ))). AreRecordsOf (form net) l (cut_at end s)) (sym (read-records (header ∷ (passed ++ sheet_records net end s)) rest begins some)) are

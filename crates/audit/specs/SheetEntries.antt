@@ -9,8 +9,8 @@ use Rattle.audit.specs.declared.sheet_entries.Entry.{Entry}
 use Rattle.audit.specs.declared.sheet_entries.Entry.TheVariants as entry
 use Rattle.audit.specs.declared.sheet_faults.SheetFault.{SheetFault}
 use Rattle.audit.specs.declared.sheet_faults.SheetFault.TheVariants.{NoMemory, Row, Extra, Name}
-use Rattle.audit.specs.SheetFaults.{IsAtExtra, IsAtName, IsAtRow, IsExtra, IsMisnamed, links_told}
-use Rattle.audit.specs.SheetTexts.{NamesNode, counts_of, green_of, link_of, sums_of}
+use Rattle.audit.specs.SheetFaults.{IsAtExtra, IsAtName, IsAtRow, IsExtra, IsMisnamed}
+use Rattle.audit.specs.SheetTexts.{NamesNode, counts_of, green_of, link_of, links_told, sums_of}
 use Rattle.audit.specs.SheetRecords.{Counts, Passed, Shows, Sums, Told, told_of}
 
 -- an entry, in the terms of what is told

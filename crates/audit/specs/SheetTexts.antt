@@ -1,12 +1,11 @@
 -- Which sheet a text stands for.
-use Rattle.std.specs.Prelude.{◌≡◌, ℕ, if◌then◌else◌, List, [], ◌∷◌, Option, Some, None, All, Contains, filter_map, length, map}
+use Rattle.std.specs.Prelude.{◌≡◌, ℕ, ◌≤◌, if◌then◌else◌, List, [], ◌∷◌, Option, Some, None, All, Contains, filter_map, length, map, take}
 use Rattle.std.specs.Str.{bytes_eq}
-use Rattle.foundation.specs.Options.{each}
 use Rattle.control_flow.specs.declared.greens.Green.{Green}
 use Rattle.net_parts.specs.Numbers.{Net}
 use Rattle.net_simulator.specs.declared.totals.LinkTotals.{LinkTotals}
 use Rattle.net_simulator.specs.declared.totals.Totals.{Totals}
-use Rattle.record_text.specs.Records.{records_of}
+use Rattle.record_text.specs.Forms.{Form, IsTextOf}
 use Rattle.world_records.specs.Records.{header}
 use Rattle.audit.specs.declared.sheet.Sheet.{Sheet}
 use Rattle.audit.specs.SheetRecords.{Counts, Shows, Sums, Told, told_of}
@@ -45,17 +44,24 @@ pub record IsSheetOf (net : Net) (told : List Told) (sheet : Sheet) : Type 0 whe
   pub counted : sheet.links ≡ filter_map counts_of told
   pub once : filter_map sums_of told ≡ sheet.totals ∷ []
 
--- the first of all records is the header, and this is the sheet of what the others tell
-pub record AreSheetRecords (net : Net) (all : List (List (List ℕ))) (sheet : Sheet) : Type 0 where
-  pub records : List (List (List ℕ))
-  pub are : all ≡ header ∷ records
-  pub told : List Told
-  pub reads : each told_of records ≡ Some told
-  pub is : IsSheetOf net told sheet
+-- of how many links totals are told
+abbrev pub links_told : List Told → ℕ
+links_told told = length (filter_map link_of told)
 
--- the sheet of a text is that of its records
+-- What was told so far is in order: greens are those of nodes, links are the first ones in their order, and totals of the whole
+-- network are told once at most.
+pub record IsInOrder (net : Net) (told : List Told) : Type 0 where
+  pub nodes : All (NamesNode net) told
+  pub names : filter_map link_of told ≡ take (links_told told) net.link_names
+  pub once : length (filter_map sums_of told) ≤ 1
+
+-- the form of the text: records after the first tell in order what a sheet has
+abbrev pub form : Net → Form Told Sheet
+form net = record { header = header; read = told_of; lawful = IsInOrder net; is_of = IsSheetOf net }
+
+-- the sheet of a text
 abbrev pub IsSheetText : Net → List ℕ → Sheet → Type 0
-IsSheetText net bytes sheet = AreSheetRecords net (records_of bytes) sheet
+IsSheetText net bytes sheet = IsTextOf (form net) bytes sheet
 
 -- a line for each node, and totals of each link
 pub record HasShape (net : Net) (sheet : Sheet) : Type 0 where

@@ -1,6 +1,6 @@
 //! The file of a report, read as a sheet.
-ghost use Rattle.std.specs.Prelude.{◌<◌, ◌^◌, All, IfErr, IfOk, length};
-ghost use Rattle.audit.specs.SheetFaults.{IsSheetFault, Refuses};
+ghost use Rattle.std.specs.Prelude.{◌≢◌, ◌<◌, ◌^◌, All, IfErr, IfOk, length};
+ghost use Rattle.audit.specs.SheetFaults.{IsSheetFault};
 ghost use Rattle.audit.specs.SheetTexts.{HasShape, IsSheetText};
 ghost use Rattle.audit.specs.declared.sheet.Sheet as spec;
 
@@ -29,8 +29,8 @@ pub fn read_sheet(alloc: Global, bytes: &[u8], net: &Network) -> Result<Sheet, S
     ensures ok { IfOk result (IsSheetText net.now bytes.now) }
     ensures shape { IfOk result (HasShape net.now) }
     ensures rows { IfOk result (λ sheet. All (λ rows. length rows < 2 ^ 32) sheet.lines) }
-    ensures refused { IfErr result (λ fault.
-        Refuses fault ((sheet : spec.Sheet) → ¬ IsSheetText net.now bytes.now sheet)) }
+    ensures refused { IfErr result (λ fault. fault ≢ SheetFault.NoMemory
+        → (sheet : spec.Sheet) → ¬ IsSheetText net.now bytes.now sheet) }
     ensures first { IfErr result (IsSheetFault net.now bytes.now) }
 {
     let mut draft = Draft::new(alloc, net)?;

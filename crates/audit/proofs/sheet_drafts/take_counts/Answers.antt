@@ -1,6 +1,6 @@
 use Rattle.std.proofs.Common.{◌≡◌, refl, ap, sym, ◌∙◌, arith}
 use Rattle.net_parts.specs.Outline.{link_name_at}
-use Rattle.audit.specs.SheetFaults.{links_told}
+use Rattle.audit.specs.SheetTexts.{links_told}
 use Rattle.record_text.proofs.ShapeLaws.{other-bytes, same-bytes}
 use Rattle.audit.proofs.SheetDraftLaws.{come-counts, come-links, links-most}
 use Rattle.audit.proofs.sheet_drafts.take_counts.Goals as goal

@@ -5,8 +5,8 @@ use Rattle.record_text.proofs.WalkLaws.{counted-few, taken-after}
 use Rattle.world_records.proofs.RecordLaws.{few-records}
 use Rattle.world_records.specs.Records.{header}
 use Rattle.audit.specs.SheetEntries.{AreTaken}
-use Rattle.audit.specs.SheetFaults.{AreFaulty}
-use Rattle.audit.proofs.SheetTextLaws.{first-fault, records-refuse, taken-all, taken-rows, taken-shape, taken-short}
+use Rattle.audit.specs.SheetFaults.{IsSheetFault}
+use Rattle.audit.proofs.SheetTextLaws.{fault-refutes, first-fault, taken-all, taken-rows, taken-shape, taken-short}
 use Rattle.audit.proofs.sheet_texts.read_sheet.Goals as goal
 
 pub take_records-requires-clause-few : goal.take_records-requires-clause-few
@@ -19,8 +19,7 @@ returns-in_err-take_records-clause-first c =
 
 pub returns-in_err-take_records-clause-refused : goal.returns-in_err-take_records-clause-refused
 returns-in_err-take_records-clause-refused c =
-    let all = records_of c.args.bytes.now in
-    IfErr-weaker c.from_residual-in_err-take_records.result (AreFaulty c.args.net.now all) _ (records-refuse c.args.net.now all) (returns-in_err-take_records-clause-first c)
+    IfErr-weaker c.from_residual-in_err-take_records.result (IsSheetFault c.args.net.now c.args.bytes.now) _ (fault-refutes c.args.net.now (records_of c.args.bytes.now)) (returns-in_err-take_records-clause-first c)
 
 pub returns-in-Some-clause-ok : goal.returns-in-Some-clause-ok
 returns-in-Some-clause-ok c = taken-all c.args.net.now _ _ (taken-after header (AreTaken c.args.net.now) (records_of c.args.bytes.now) c.take_records.new.taker _ c.if-not-branch.false c.in_ok-take_records.ensures.taken) c.in-Some.sheet c.in-Some.ensures.some
