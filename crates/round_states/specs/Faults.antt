@@ -1,30 +1,18 @@
 -- The first fault of the text of a state.
-use Rattle.std.specs.Prelude.{◌≡◌, ◌≢◌, ℕ, ◌≤◌, ◌<◌, List, ◌∷◌, Some, None, IsSomeAnd, length, sum_by}
+use Rattle.std.specs.Prelude.{◌≡◌, ℕ, ◌≤◌, ◌<◌, List, None, IsSomeAnd, length, sum_by}
 use Rattle.net_parts.specs.Limits.{most_of_all}
 use Rattle.foundation.specs.Firsts.{IsFirstWithout}
-use Rattle.foundation.specs.Options.{each}
 use Rattle.net_parts.specs.Numbers.{Net}
 use Rattle.net_parts.specs.Outline.{plan_at}
-use Rattle.record_text.specs.Faults.{HasAfterHeader, IsFirstFault}
-use Rattle.record_text.specs.Records.{records_of}
+use Rattle.record_text.specs.Forms.{IsRefusedFor, Cause, OutOfMemory, NoHeader, AtRecord, AtEnd}
 use Rattle.road_net.specs.Senses.{amount}
 use Rattle.round_states.specs.declared.entries.Entry.{Entry}
 use Rattle.round_states.specs.declared.faults.StateFault.{StateFault}
 use Rattle.round_states.specs.declared.faults.StateFault.TheVariants.{NoMemory, Header, Row, Name, Time, Sense, Board, Line, Sum}
-use Rattle.round_states.specs.Order.{AreInOrder, FitsAfter, now_of}
+use Rattle.round_states.specs.Order.{FitsAfter, now_of}
 use Rattle.round_states.specs.States.{IsLineAt}
-use Rattle.round_states.specs.Texts.{IsBoardOnce, IsSensedOnce, all_said, green_said, sensed_in}
-use Rattle.round_states.specs.Told.{entry_of, header, name_of, place_of, told_of}
-
--- records are read as these, which stand in order
-pub record AreReadAs (net : Net) (records : List (List (List ℕ))) (es : List Entry) : Type 0 where
-  pub reads : each (entry_of net) records ≡ Some es
-  pub order : AreInOrder net es
-
--- The record with this number, counted from 1, is the first at fault: those before it are read and stand in order, and `at_fault`
--- holds of what they tell and of the record.
-abbrev pub IsFirst : Net → List (List (List ℕ)) → ℕ → (List Entry → List (List ℕ) → Type 0) → Type 0
-IsFirst net all number at_fault = IsFirstFault (AreReadAs net) all number at_fault
+use Rattle.round_states.specs.Texts.{IsBoardOnce, IsSensedOnce, all_said, form, green_said, sensed_in}
+use Rattle.round_states.specs.Told.{entry_of, name_of, place_of, told_of}
 
 -- a record that tells nothing; one with a name of which it cannot speak; and one that may not stand after those before it
 abbrev pub IsAtRow : List (List ℕ) → Type 0
@@ -63,30 +51,15 @@ IsEntryFault net es (Line node) = AreSensedOnce net es × AreBoardsOnce net es �
 IsEntryFault net es (Sum node) = AreSensedOnce net es × AreBoardsOnce net es × AllGoOn net es × IsFirstWithout (SensesFew net es) (length net.node_names) node
 IsEntryFault net es _ = ⊥
 
--- the records are read and stand in order, and what they tell is no state
-pub record TellNone (net : Net) (records : List (List (List ℕ))) (fault : StateFault) : Type 0 where
-  pub entries : List Entry
-  pub read_as : AreReadAs net records entries
-  pub why : IsEntryFault net entries fault
+-- what each fault says of a text
+abbrev pub cause_of : Net → StateFault → Cause Entry
+cause_of net NoMemory = OutOfMemory
+cause_of net Header = NoHeader
+cause_of net (Row n) = AtRecord n (λ es fields. IsAtRow fields)
+cause_of net (Name n) = AtRecord n (λ es fields. IsAtName net fields)
+cause_of net (Time n) = AtRecord n (IsAtTime net)
+cause_of net fault = AtEnd (λ es. IsEntryFault net es fault)
 
--- why the records after the header tell no state
-abbrev pub IsRecordFault : Net → List (List (List ℕ)) → StateFault → Type 0
-IsRecordFault net records (Row n) = IsFirst net records n (λ es fields. IsAtRow fields)
-IsRecordFault net records (Name n) = IsFirst net records n (λ es fields. IsAtName net fields)
-IsRecordFault net records (Time n) = IsFirst net records n (IsAtTime net)
-IsRecordFault net records fault = TellNone net records fault
-
--- Why records are refused: they do not begin with the header, or else the first of the others at fault, or else what they tell.
-abbrev pub AreFaulty : Net → List (List (List ℕ)) → StateFault → Type 0
-AreFaulty net all NoMemory = Unit {0}
-AreFaulty net all Header = (records : List (List (List ℕ))) → all ≢ header ∷ records
-AreFaulty net all fault = HasAfterHeader header all (λ records. IsRecordFault net records fault)
-
--- the fault of a text is that of its records
+-- the first fault of a text that stands for no state
 abbrev pub IsStateFault : Net → List ℕ → StateFault → Type 0
-IsStateFault net bytes fault = AreFaulty net (records_of bytes) fault
-
--- the fact holds, unless memory ran out
-abbrev pub Refuses : StateFault → Type 0 → Type 0
-Refuses NoMemory fact = Unit {0}
-Refuses _ fact = fact
+IsStateFault net bytes fault = IsRefusedFor (form net) bytes (cause_of net fault)

@@ -8,8 +8,9 @@ use Rattle.round_states.specs.declared.faults.StateFault.{StateFault}
 use Rattle.round_states.specs.declared.faults.StateFault.TheVariants.{NoMemory, Row, Name, Time}
 use Rattle.round_states.specs.declared.sayings.Sayings.{Sayings}
 use Rattle.round_states.specs.declared.texts.Entries.{Entries}
-use Rattle.round_states.specs.Faults.{AreReadAs, IsAtName, IsAtRow}
-use Rattle.round_states.specs.Order.{FitsAfter}
+use Rattle.record_text.specs.Forms.{AreReadAs}
+use Rattle.round_states.specs.Faults.{IsAtName, IsAtRow}
+use Rattle.round_states.specs.Order.{AreInOrder, FitsAfter}
 use Rattle.round_states.specs.Texts.{all_said, coming_said, green_said, queue_said, row_said, version_said}
 use Rattle.round_states.specs.Told.{entry_of}
 
@@ -29,7 +30,7 @@ Adds net e number old new (Err _) = ⊥
 
 -- these records were taken
 abbrev pub HasTaken : Net → List (List (List ℕ)) → Entries → Type 0
-HasTaken net records taker = AreReadAs net records taker.all.items
+HasTaken net records taker = AreReadAs (entry_of net) (AreInOrder net) records taker.all.items
 
 -- the record with this number tells nothing, or what it tells cannot be added
 abbrev pub IsRefused : Net → Entries → List (List ℕ) → ℕ → StateFault → Type 0

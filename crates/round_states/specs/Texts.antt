@@ -1,14 +1,13 @@
 -- Which state a text stands for.
-use Rattle.std.specs.Prelude.{◌≡◌, ℕ, ◌/◌, ◌<◌, ◌≤◌, ◌==◌, if◌then◌else◌, List, ◌∷◌, Option, Some, None, filter_map, length, map, slice_index_or}
+use Rattle.std.specs.Prelude.{◌≡◌, ℕ, ◌/◌, ◌<◌, ◌≤◌, ◌==◌, if◌then◌else◌, List, Option, Some, None, filter_map, length, map, slice_index_or}
 use Rattle.std.specs.List.{range_with_len}
 use Rattle.std.specs.List.Sorted.{IsStrictlyIncreasing}
-use Rattle.foundation.specs.Options.{each}
 use Rattle.board_model.specs.declared.forecasts.Row.{Row}
 use Rattle.board_model.specs.Forecasts.{amount_at, seconds}
 use Rattle.control_flow.specs.declared.greens.Green.{Green}
 use Rattle.net_parts.specs.Numbers.{Net}
 use Rattle.net_parts.specs.Outline.{link_at}
-use Rattle.record_text.specs.Records.{records_of}
+use Rattle.record_text.specs.Forms.{Form, IsTextOf}
 use Rattle.road_net.specs.declared.senses.LinkSense.{LinkSense}
 use Rattle.road_net.specs.declared.senses.Sensed.{Sensed}
 use Rattle.road_net.specs.Network.{entry_links}
@@ -110,14 +109,10 @@ pub record TellState (net : Net) (es : List Entry) (state : RoundState) : Type 0
   pub told : state ≡ state_in net es
   pub is : IsStateOf net state
 
--- the first of all records is the header, and the others tell this state
-pub record AreStateRecords (net : Net) (all : List (List (List ℕ))) (state : RoundState) : Type 0 where
-  pub records : List (List (List ℕ))
-  pub are : all ≡ header ∷ records
-  pub entries : List Entry
-  pub reads : each (entry_of net) records ≡ Some entries
-  pub tell : TellState net entries state
+-- the form of the text: records after the first tell a state in order
+abbrev pub form : Net → Form Entry RoundState
+form net = record { header = header; read = entry_of net; lawful = AreInOrder net; is_of = TellState net }
 
--- the state of a text is that of its records
+-- the state of a text
 abbrev pub IsStateText : Net → List ℕ → RoundState → Type 0
-IsStateText net bytes state = AreStateRecords net (records_of bytes) state
+IsStateText net bytes state = IsTextOf (form net) bytes state

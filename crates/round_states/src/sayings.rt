@@ -2,7 +2,6 @@
 ghost use Rattle.std.specs.Prelude.{◌≡◌, [], IfOk, OnOk, length, map, slice_index_or};
 ghost use Rattle.std.specs.List.{range_with_len};
 ghost use Rattle.round_states.specs.Taking.{AreSayings, HasAllSaid, lists_of, with_said};
-ghost use Rattle.round_states.specs.Texts.{coming_said, green_said, queue_said, row_said, version_said};
 
 use crate::entries::{Entry, Said, Standing};
 use board_model::Row;
@@ -25,6 +24,22 @@ pub(crate) struct Sayings {
     pub rows: Vec<Vec<Row>>,
 }
 
+/// A kind of records that say something of a node or link.
+trait RecordKind {
+    ghost use Rattle.std.specs.Prelude.{◌≡◌, Option};
+    ghost use Rattle.round_states.specs.declared.entries.Said as spec;
+
+    /// What such a record says.
+    type Value: Copy + Drop;
+
+    /// What a record says, where it is one of this kind.
+    ghost value_of: { spec.Said → Option Self.Value };
+
+    /// What a record says, where it is one of this kind.
+    fn value(said: &Said) -> Option<Self::Value>
+        ensures { result ≡ value_of said.now };
+}
+
 /// What these records say of each node and link of a network. `Err`: out of memory.
 pub(crate) fn sort_entries(
     alloc: Global,
@@ -33,11 +48,11 @@ pub(crate) fn sort_entries(
 ) -> Result<Sayings, AllocError>
     ensures { IfOk result (AreSayings net.now entries.now) }
 {
-    let greens = all_greens(alloc, entries, net.nodes())?;
-    let queues = all_queues(alloc, entries, net.links())?;
-    let coming = all_coming(alloc, entries, net.links())?;
-    let versions = all_versions(alloc, entries, net.links())?;
-    let rows = all_rows(alloc, entries, net.links())?;
+    let greens = all_said::<Greens>(alloc, entries, net.nodes())?;
+    let queues = all_said::<Queues>(alloc, entries, net.links())?;
+    let coming = all_said::<Coming>(alloc, entries, net.links())?;
+    let versions = all_said::<Versions>(alloc, entries, net.links())?;
+    let rows = all_said::<Rows>(alloc, entries, net.links())?;
     Ok(Sayings {
         greens,
         queues,
@@ -57,61 +72,17 @@ pub(crate) fn list_of<T>(lists: &[Vec<T>], place: u32) -> &[T]
     }
 }
 
-/// The greens of each of this number of nodes. `Err`: out of memory.
-fn all_greens(alloc: Global, entries: &[Entry], nodes: u32) -> Result<Vec<Vec<Green>>, AllocError>
-    ensures { IfOk result (λ all. HasAllSaid green_said entries.now nodes all.items) }
-{
-    let mut all = no_lists(alloc, nodes)?;
-    for entry in entries {
-        keep(&mut all, entry.place, green_said(&entry.said))?;
-    }
-    Ok(all)
-}
-
-/// The queues of each of this number of links. `Err`: out of memory.
-fn all_queues(
+/// What the records of a kind say of each of this number of places. `Err`: out of memory.
+fn all_said<K: RecordKind>(
     alloc: Global,
     entries: &[Entry],
-    links: u32,
-) -> Result<Vec<Vec<Standing>>, AllocError>
-    ensures { IfOk result (λ all. HasAllSaid queue_said entries.now links all.items) }
+    places: u32,
+) -> Result<Vec<Vec<K::Value>>, AllocError>
+    ensures { IfOk result (λ all. HasAllSaid K.value_of entries.now places all.items) }
 {
-    let mut all = no_lists(alloc, links)?;
+    let mut all = no_lists(alloc, places)?;
     for entry in entries {
-        keep(&mut all, entry.place, queue_said(&entry.said))?;
-    }
-    Ok(all)
-}
-
-/// What comes on each of this number of links. `Err`: out of memory.
-fn all_coming(alloc: Global, entries: &[Entry], links: u32) -> Result<Vec<Vec<Row>>, AllocError>
-    ensures { IfOk result (λ all. HasAllSaid coming_said entries.now links all.items) }
-{
-    let mut all = no_lists(alloc, links)?;
-    for entry in entries {
-        keep(&mut all, entry.place, coming_said(&entry.said))?;
-    }
-    Ok(all)
-}
-
-/// The versions of each of this number of links. `Err`: out of memory.
-fn all_versions(alloc: Global, entries: &[Entry], links: u32) -> Result<Vec<Vec<u32>>, AllocError>
-    ensures { IfOk result (λ all. HasAllSaid version_said entries.now links all.items) }
-{
-    let mut all = no_lists(alloc, links)?;
-    for entry in entries {
-        keep(&mut all, entry.place, version_said(&entry.said))?;
-    }
-    Ok(all)
-}
-
-/// The rows of the forecast of each of this number of links. `Err`: out of memory.
-fn all_rows(alloc: Global, entries: &[Entry], links: u32) -> Result<Vec<Vec<Row>>, AllocError>
-    ensures { IfOk result (λ all. HasAllSaid row_said entries.now links all.items) }
-{
-    let mut all = no_lists(alloc, links)?;
-    for entry in entries {
-        keep(&mut all, entry.place, row_said(&entry.said))?;
+        keep(&mut all, entry.place, K::value(&entry.said))?;
     }
     Ok(all)
 }
@@ -142,52 +113,92 @@ fn keep<T: Copy>(all: &mut Vec<Vec<T>>, place: u32, said: Option<T>) -> Result<(
     Ok(())
 }
 
-/// The green that is said, if one is.
-fn green_said(said: &Said) -> Option<Green>
-    ensures { result ≡ green_said said.now }
-{
-    match said {
-        Said::Shows(green) => Some(*green),
-        _ => None,
+/// The greens of nodes.
+struct Greens;
+
+impl RecordKind for Greens {
+    ghost use Rattle.round_states.specs.Texts.{green_said};
+
+    type Value = Green;
+
+    ghost value_of = { green_said };
+
+    fn value(said: &Said) -> Option<Green> {
+        match said {
+            Said::Shows(green) => Some(*green),
+            _ => None,
+        }
     }
 }
 
-/// The queue that is said, if one is.
-fn queue_said(said: &Said) -> Option<Standing>
-    ensures { result ≡ queue_said said.now }
-{
-    match said {
-        Said::Stands(queue) => Some(*queue),
-        _ => None,
+/// The queues of links.
+struct Queues;
+
+impl RecordKind for Queues {
+    ghost use Rattle.round_states.specs.Texts.{queue_said};
+
+    type Value = Standing;
+
+    ghost value_of = { queue_said };
+
+    fn value(said: &Said) -> Option<Standing> {
+        match said {
+            Said::Stands(queue) => Some(*queue),
+            _ => None,
+        }
     }
 }
 
-/// What is said to come, if something is.
-fn coming_said(said: &Said) -> Option<Row>
-    ensures { result ≡ coming_said said.now }
-{
-    match said {
-        Said::Comes(row) => Some(*row),
-        _ => None,
+/// What comes on links.
+struct Coming;
+
+impl RecordKind for Coming {
+    ghost use Rattle.round_states.specs.Texts.{coming_said};
+
+    type Value = Row;
+
+    ghost value_of = { coming_said };
+
+    fn value(said: &Said) -> Option<Row> {
+        match said {
+            Said::Comes(row) => Some(*row),
+            _ => None,
+        }
     }
 }
 
-/// The version that is said, if one is.
-fn version_said(said: &Said) -> Option<u32>
-    ensures { result ≡ version_said said.now }
-{
-    match said {
-        Said::Publishes(version) => Some(*version),
-        _ => None,
+/// The versions of links.
+struct Versions;
+
+impl RecordKind for Versions {
+    ghost use Rattle.round_states.specs.Texts.{version_said};
+
+    type Value = u32;
+
+    ghost value_of = { version_said };
+
+    fn value(said: &Said) -> Option<u32> {
+        match said {
+            Said::Publishes(version) => Some(*version),
+            _ => None,
+        }
     }
 }
 
-/// The row of a forecast that is said, if one is.
-fn row_said(said: &Said) -> Option<Row>
-    ensures { result ≡ row_said said.now }
-{
-    match said {
-        Said::Tells(row) => Some(*row),
-        _ => None,
+/// The rows of forecasts of links.
+struct Rows;
+
+impl RecordKind for Rows {
+    ghost use Rattle.round_states.specs.Texts.{row_said};
+
+    type Value = Row;
+
+    ghost value_of = { row_said };
+
+    fn value(said: &Said) -> Option<Row> {
+        match said {
+            Said::Tells(row) => Some(*row),
+            _ => None,
+        }
     }
 }

@@ -1,8 +1,8 @@
 //! The text of a state.
-ghost use Rattle.std.specs.Prelude.{◌≡◌, ◌<◌, ◌^◌, [], IfErr, IfOk, length};
+ghost use Rattle.std.specs.Prelude.{◌≡◌, ◌≢◌, ◌<◌, ◌^◌, [], IfErr, IfOk, length};
 ghost use Rattle.csv.specs.Records.{fields_of};
 ghost use Rattle.road_net.specs.Network.{IsNetwork};
-ghost use Rattle.round_states.specs.Faults.{IsEntryFault, IsStateFault, Refuses};
+ghost use Rattle.round_states.specs.Faults.{IsEntryFault, IsStateFault};
 ghost use Rattle.round_states.specs.Order.{AreInOrder};
 ghost use Rattle.round_states.specs.States.{IsStateOf};
 ghost use Rattle.round_states.specs.Taking.{Adds, AreSayings, Reads};
@@ -36,8 +36,8 @@ pub fn read_state(alloc: Global, bytes: &[u8], net: &Network) -> Result<RoundSta
     requires { length bytes.now < 2 ^ 32 }
     ensures ok { IfOk result (IsStateText net.now bytes.now) }
     ensures state { IfOk result (IsStateOf net.now) }
-    ensures refused { IfErr result (λ fault.
-        Refuses fault ((state : spec.RoundState) → ¬ IsStateText net.now bytes.now state)) }
+    ensures refused { IfErr result (λ fault. fault ≢ StateFault.NoMemory
+        → (state : spec.RoundState) → ¬ IsStateText net.now bytes.now state) }
     ensures first { IfErr result (IsStateFault net.now bytes.now) }
 {
     let mut taker = Entries::none(alloc, net);

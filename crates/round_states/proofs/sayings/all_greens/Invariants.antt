@@ -1,8 +1,0 @@
-use Rattle.std.proofs.Common.{take}
-use Rattle.round_states.specs.Taking.{HasAllSaid}
-use Rattle.round_states.specs.Texts.{green_said}
-use Rattle.round_states.proofs.sayings.all_greens.Given as goal
-
--- what the records so far say
-abbrev pub invariant-loop-entry : goal.invariant-loop-entry
-invariant-loop-entry l = HasAllSaid green_said (take l.entry-index l.entries) l.nodes l.all.items
