@@ -25,7 +25,8 @@ use Rattle.world_records.specs.Records.{green_record, green_records, header, lin
 use Rattle.audit.proofs.WrittenSheetLaws.{each-both}
 use Rattle.delay_report.specs.Entries.{steps_of}
 use Rattle.delay_report.specs.Reports.{answer_fields, plan_record, report_records, report_text, step_record, step_record_at}
-use Rattle.delay_report.specs.Texts.{AreHistoryRecords, IsHistoryText}
+use Rattle.delay_report.specs.Texts.{IsHistoryText, form}
+use Rattle.record_text.specs.Forms.{AreRecordsOf}
 use Rattle.world_records.proofs.RecordLaws.{HasField, header-first, read-records}
 use Rattle.delay_report.proofs.WalkLaws.{node-below}
 
@@ -130,7 +131,7 @@ module _ (net : Net) (network : IsNetwork net) (run : RunRecord) (h : List ℕ) 
       let greens = greens-tell (range_with_len 0 (length net.node_names)) in
       let links = links-tell (range_with_len 0 (length net.link_names)) in
       let told = tells-both net _ _ h [] steps-tell (tells-both net _ _ [] [] plans-tell (tells-both net _ _ [] [] greens (tells-both net _ _ [] [] links totals-tell))) in
-      let are : AreHistoryRecords net (report_records net run h) h = record { records = _; are = refl; steps = told.steps; reads = told.reads; history_is = sym (told.are ∙ append-nil h); lawful = lawful } in
+      let are : AreRecordsOf (form net) (report_records net run h) h = record { records = _; are = refl; told = told.steps; reads = told.reads; is = record { history_is = sym (told.are ∙ append-nil h); lawful = lawful } } in
       let (rest, begins) = header-first are.records in
-      let some : All HasField (report_records net run h) = All-cons HasField header are.records (omega arith) (each-good (steps_of net) HasField (has-field net) are.records are.steps are.reads) in
-      subst (λ (l : List (List (List ℕ))). AreHistoryRecords net l h) (sym (read-records (report_records net run h) rest begins some)) are
+      let some : All HasField (report_records net run h) = All-cons HasField header are.records (omega arith) (each-good (steps_of net) HasField (has-field net) are.records are.told are.reads) in
+      subst (λ (l : List (List (List ℕ))). AreRecordsOf (form net) l h) (sym (read-records (report_records net run h) rest begins some)) are

@@ -1,10 +1,9 @@
 -- The records of a history, one after another, and the first at fault.
-use Rattle.std.proofs.Common.{◌≡◌, ℕ, List, [], ◌∷◌, ◌++◌, Option, Some, None, IsSomeAnd, Result, Ok, Err, OnOk, refl, sym, ap, ◌∙◌, subst, inl, inr, arith, append-nil}
+use Rattle.std.proofs.Common.{◌≡◌, ◌≢◌, ℕ, ◌<◌, List, [], ◌∷◌, ◌++◌, Option, Some, None, IsSomeAnd, Result, Ok, Err, OnOk, refl, sym, ap, ◌∙◌, subst, inl, inr, arith, append-nil}
 use Rattle.std.specs.List.{concat}
 use Rattle.std.proofs.lemmas.List.Folds.{concat-append}
 use Rattle.std.proofs.lemmas.Option.{same_Some, none-some}
 use Rattle.std.proofs.lemmas.Bool.{cases_lt}
-use Rattle.foundation.specs.Options.{each}
 use Rattle.foundation.proofs.EachLaws.{each-push}
 use Rattle.foundation.proofs.OptionLaws.{bind-some}
 use Rattle.net_parts.specs.Numbers.{Net, number_of}
@@ -17,14 +16,14 @@ use Rattle.delay_report.specs.declared.faults.HistoryFault.{HistoryFault}
 use Rattle.delay_report.specs.declared.faults.HistoryFault.TheVariants.{NoMemory, Header, Row, Node, Extra, Turn, Short}
 use Rattle.world_records.specs.Records.{header}
 use Rattle.delay_report.specs.Entries.{steps_by, steps_of, node_field_of}
-use Rattle.delay_report.specs.Faults.{AreFaulty, AreUnderWay, IsAtExtra, IsAtNode, IsAtRow, IsAtTurn, IsFirst, IsRecordFault, Refuses, TellUnderWay}
+use Rattle.delay_report.specs.Faults.{IsAtExtra, IsAtNode, IsAtTurn, cause_of}
 use Rattle.record_text.specs.Faults.{HasAfterHeader}
+use Rattle.record_text.specs.Forms.{AreReadAs, AreRecordsOf, AreRefusedFor}
 use Rattle.record_text.specs.Walks.{IsFaultAmong, OrMemory}
-use Rattle.record_text.proofs.FaultLaws.{cut-at, one-after}
-use Rattle.record_text.proofs.WalkLaws.{fault-after}
+use Rattle.record_text.proofs.FormLaws.{IsHere, Refutes, first-cause, one-told, refuted}
 use Rattle.delay_report.specs.declared.texts.HistoryDraft.{HistoryDraft}
-use Rattle.delay_report.specs.Taken.{AreTaken, HasTaken, IsEntryFault, IsRefused}
-use Rattle.delay_report.specs.Texts.{AreHistoryRecords}
+use Rattle.delay_report.specs.Taken.{AreTaken, HasTaken, IsRefused}
+use Rattle.delay_report.specs.Texts.{AreStepsOf, AreUnderWay, form}
 
 -- nothing was taken
 pub taken-none : (net : Net) (draft : HistoryDraft) → draft.steps.items ≡ [] → HasCome net [] draft.progress → HasTaken net [] draft
@@ -46,51 +45,46 @@ taken-more net fields old new (Err fault) more = tt
 way-of : (net : Net) (history : List ℕ) (p : Course) → HasCome net history p → IsUnderWay (board_steps net) net.run.rounds p.done history
 way-of net history p come = subst (λ r. IsUnderWay (board_steps net) r p.done history) come.rounds come.way
 
--- what was taken is under way
-under-way : (net : Net) (records : List (List (List ℕ))) (draft : HistoryDraft) → HasTaken net records draft → AreUnderWay net records draft.steps.items draft.progress.done
-under-way net records draft taken =
-    record { steps = taken.steps; reads = taken.reads; history_is = taken.history_is; way = way-of net draft.steps.items draft.progress taken.come }
+-- the cause to refuse a record after those that were taken
+module _ (net : Net) (before : List (List (List ℕ))) (draft : HistoryDraft) (here : List (List ℕ)) (number : ℕ) (taken : HasTaken net before draft) where
+  so-far : AreReadAs (steps_of net) (AreUnderWay net) before taken.steps
+  so-far = record {
+    reads = taken.reads;
+    lawful = record { done = draft.progress.done; way = subst (IsUnderWay (board_steps net) net.run.rounds draft.progress.done) taken.history_is (way-of net draft.steps.items draft.progress taken.come) };
+  }
 
-module _ (net : Net) (all : List (List (List ℕ))) (why : HistoryFault) (stop : HasAfterHeader header all (IsFaultAmong (HasTaken net) (IsRefused net) why)) where
-  here-first : (n : ℕ) (at_fault : List ℕ → List (List ℕ) → Type 0) → n ≡ stop.after.0 → at_fault stop.after.1.so_far.steps.items stop.after.1.here → HasAfterHeader header all (λ records. IsFirst net records n at_fault)
-  here-first n at_fault same fault =
-      let draft = stop.after.1.so_far in
-      fault-after (IsRefused net) (TellUnderWay net) at_fault n stop draft.steps.items same (record { done = draft.progress.done; under_way = under-way net stop.after.1.before draft stop.after.1.reads }) fault
-
-  fault-at : (fault : HistoryFault) → IsEntryFault net stop.after.1.so_far.steps.items stop.after.1.here stop.after.0 fault → AreFaulty net all fault
-  fault-at NoMemory h = tt
-  fault-at Header h = absurd h
-  fault-at (Row n) h = here-first n (λ history fields. IsAtRow fields) h.0 h.1
-  fault-at (Node n) h = here-first n (λ history fields. IsAtNode net fields) h.0 h.1
-  fault-at (Extra n) h = here-first n (IsAtExtra net) h.0 h.1
-  fault-at (Turn n) h = here-first n (IsAtTurn net) h.0 h.1
-  fault-at Short h = absurd h
+  refused-here : (fault : HistoryFault) → IsRefused net draft here number fault → IsHere (form net) before here number (cause_of net fault)
+  refused-here NoMemory h = tt
+  refused-here Header h = h
+  refused-here (Row n) h = (h.0, taken.steps, so-far, h.1)
+  refused-here (Node n) h = (h.0, taken.steps, so-far, h.1)
+  refused-here (Extra n) h = (h.0, taken.steps, so-far, subst (λ (l : List ℕ). IsAtExtra net l here) taken.history_is h.1)
+  refused-here (Turn n) h = (h.0, taken.steps, so-far, subst (λ (l : List ℕ). IsAtTurn net l here) taken.history_is h.1)
+  refused-here Short h = h
 
 -- the first record that is not taken is at fault
-pub first-fault : (net : Net) (all : List (List (List ℕ))) (fault : HistoryFault) → OrMemory (λ _ why. why ≡ NoMemory) fault (HasAfterHeader header all (IsFaultAmong (HasTaken net) (IsRefused net) fault)) → AreFaulty net all fault
-first-fault net all fault (inl (e, memory)) = rw memory tt
-first-fault net all fault (inr stop) = fault-at net all fault stop fault stop.after.1.faulty
+pub first-fault : (net : Net) (all : List (List (List ℕ))) (fault : HistoryFault) → OrMemory (λ _ why. why ≡ NoMemory) fault (HasAfterHeader header all (IsFaultAmong (HasTaken net) (IsRefused net) fault)) → AreRefusedFor (form net) all (cause_of net fault)
+first-fault net all fault =
+    first-cause (form net) all (cause_of net fault) (λ _ why. why ≡ NoMemory) (HasTaken net) (IsRefused net) fault
+    (λ e memory. rw memory tt) (λ before draft here number taken refused. refused-here net before draft here number taken fault refused)
 
 module _ (net : Net) (all : List (List (List ℕ))) (draft : HistoryDraft) (taken : HasAfterHeader header all (λ records. HasTaken net records draft)) where
   -- all rounds are done
-  pub taken-all : IsLawful net draft.steps.items → AreHistoryRecords net all draft.steps.items
-  taken-all lawful = record { records = taken.records; are = taken.are; steps = taken.after.steps; reads = taken.after.reads; history_is = taken.after.history_is; lawful = lawful }
+  pub taken-all : IsLawful net draft.steps.items → AreRecordsOf (form net) all draft.steps.items
+  taken-all lawful = record { records = taken.records; are = taken.are; told = taken.after.steps; reads = taken.after.reads; is = record { history_is = taken.after.history_is; lawful = lawful } }
 
   -- or not all
-  pub taken-short : (IsLawful net draft.steps.items → ⊥) → AreFaulty net all Short
-  taken-short other = record {
-    records = taken.records;
-    are = taken.are;
-    after = record {
-      history = draft.steps.items;
-      done = draft.progress.done;
-      under_way = under-way net taken.records draft taken.after;
-      early = (
-          let most = taken.after.come.way.most in
-          let rounds = taken.after.come.rounds in
-          elim (cases_lt draft.progress.done draft.progress.rounds) [ inl less ↦ omega (arith, less, rounds) | inr more ↦ absurd (other (come-over net draft.steps.items draft.progress taken.after.come (omega (arith, most, more)))) ]);
-    };
-  }
+  pub taken-short : (IsLawful net draft.steps.items → ⊥) → AreRefusedFor (form net) all (cause_of net Short)
+  unfolding so-far
+  taken-short other =
+      let read = so-far net taken.records draft [] 0 taken.after in
+      let most = taken.after.come.way.most in
+      let rounds = taken.after.come.rounds in
+      let early : draft.progress.done < net.run.rounds = elim (cases_lt draft.progress.done draft.progress.rounds) [
+        | inl less ↦ omega (arith, less, rounds)
+        | inr more ↦ absurd (other (come-over net draft.steps.items draft.progress taken.after.come (omega (arith, most, more))))
+      ] in
+      record { records = taken.records; are = taken.are; after = (taken.after.steps, read, record { under_way = read.lawful; early = early }) }
 
 -- a record that tells nothing, or names no node, has no steps
 none-told : (net : Net) (fields : List (List ℕ)) (more : List ℕ) → node_field_of fields ≡ None → steps_of net fields ≡ Some more → ⊥
@@ -105,63 +99,36 @@ none-named net fields more at some = let (name, is, rest) = bind-some (node_fiel
     by None at rest = absurd at
     by (Some n) at rest = let (node, is, last) = bind-some (number_of net.node_names n) (λ node. Some (node ∷ [])) more rest in none-some node (sym at ∙ is)
 
-module _ (net : Net) (records : List (List (List ℕ))) (h : List ℕ) (is : AreHistoryRecords net (header ∷ records) h) where
-  reads-all : each (steps_of net) records ≡ Some is.steps
-  reads-all = rw (one-after header is.records records (sym is.are)) at is.reads
+-- a node that comes next in a lawful history
+goes-on : (net : Net) (before : List (List ℕ)) (more : List ℕ) (rest : List (List ℕ)) (h : List ℕ) (node : ℕ) → AreStepsOf net (before ++ more ∷ rest) h → more ≡ node ∷ [] → (back : List ℕ) × IsLawful net (concat before ++ node ∷ back)
+goes-on net before more rest h node is same =
+    (concat rest, subst (IsLawful net) (is.history_is ∙ concat-append before (more ∷ rest) ∙ ap (λ l. concat before ++ (l ++ concat rest)) same) is.lawful)
 
-  module _ (n : ℕ) (at_fault : List ℕ → List (List ℕ) → Type 0) (first : IsFirst net records n at_fault) where
-    -- the steps of the record at fault, and the whole history, cut there
-    cut : (more rest : List ℕ) × (steps_of net first.here ≡ Some more) × (h ≡ first.so_far ++ (more ++ rest))
-    cut =
-        let way = first.reads.under_way in
-        let (more, others, told, whole) = cut-at (steps_of net) first.before first.after first.here is.steps way.steps (rw first.are at reads-all) way.reads in
-        (more, concat others, told, is.history_is ∙ ap concat whole ∙ concat-append way.steps (more ∷ others) ∙ ap (λ l. l ++ (more ++ concat others)) (sym way.history_is))
+-- what is at fault is told by no records of a history
+refutes : (net : Net) (fault : HistoryFault) → fault ≢ NoMemory → Refutes (form net) (cause_of net fault)
+refutes net NoMemory other = other refl
+refutes net Header other = tt
+refutes net (Row n) other = λ before here more rest h lawful none reads is. none-told net here more none reads
+refutes net (Node n) other = λ before here more rest h lawful at reads is. none-named net here more at reads
+refutes net (Extra n) other = λ before here more rest h lawful at reads is.
+    let (node, one, over) = at in
+    let (back, all) = goes-on net before more rest h node is (same_Some more (node ∷ []) (sym reads ∙ one)) in
+    let less = (next (board_steps net) net.run.rounds lawful.done (concat before) lawful.way node back all).0 in
+    let done = all-done (board_steps net) net.run.rounds lawful.done (concat before) lawful.way over in
+    omega arith
+refutes net (Turn n) other = λ before here more rest h lawful at reads is.
+    let (node, one, own) = at in
+    let (back, all) = goes-on net before more rest h node is (same_Some more (node ∷ []) (sym reads ∙ one)) in
+    let less = (next (board_steps net) net.run.rounds own.done (concat before) own.way node back all).1 in
+    omega (arith, own.all)
+refutes net Short other = λ steps h lawful early is.
+    let done = all-done (board_steps net) net.run.rounds early.under_way.done (concat steps) early.under_way.way (subst (IsLawful net) is.history_is is.lawful) in
+    omega (arith, early.early)
 
-    -- a node that comes next in a lawful history
-    goes-on : (node : ℕ) → steps_of net first.here ≡ Some (node ∷ []) → (rest : List ℕ) × IsLawful net (first.so_far ++ node ∷ rest)
-    goes-on node one =
-        let (more, rest, told, whole) = cut in
-        let same : more ≡ node ∷ [] = same_Some more (node ∷ []) (sym told ∙ one) in
-        (rest, subst (IsLawful net) (whole ∙ ap (λ l. first.so_far ++ (l ++ rest)) same) is.lawful)
-
-  -- records with a fault are no history
-  clash : (fault : HistoryFault) → IsRecordFault net records fault → ⊥
-  clash NoMemory f = absurd f
-  clash Header f = absurd f
-  clash (Row n) f = let (more, rest, told, whole) = cut n (λ history fields. IsAtRow fields) f in none-told net f.here more f.faulty told
-  clash (Node n) f = let (more, rest, told, whole) = cut n (λ history fields. IsAtNode net fields) f in none-named net f.here more f.faulty told
-  clash (Extra n) f =
-      let (node, one, over) = f.faulty in
-      let (rest, all) = goes-on n (IsAtExtra net) f node one in
-      let less = (next (board_steps net) net.run.rounds f.reads.done f.so_far f.reads.under_way.way node rest all).0 in
-      let done = all-done (board_steps net) net.run.rounds f.reads.done f.so_far f.reads.under_way.way over in
-      omega arith
-  clash (Turn n) f =
-      let (node, one, own) = f.faulty in
-      let (rest, all) = goes-on n (IsAtTurn net) f node one in
-      let less = (next (board_steps net) net.run.rounds own.done f.so_far own.way node rest all).1 in
-      omega (arith, own.all)
-  clash Short f =
-      let same : is.steps ≡ f.under_way.steps = same_Some is.steps f.under_way.steps (sym reads-all ∙ f.under_way.reads) in
-      let whole : h ≡ f.history = is.history_is ∙ ap concat same ∙ sym f.under_way.history_is in
-      let done = all-done (board_steps net) net.run.rounds f.done f.history f.under_way.way (subst (IsLawful net) whole is.lawful) in
-      omega (arith, f.early)
-
-fault-refuses : (net : Net) (all : List (List (List ℕ))) (fault : HistoryFault) → HasAfterHeader header all (λ records. IsRecordFault net records fault) → (h : List ℕ) → AreHistoryRecords net all h → ⊥
-fault-refuses net all fault f h is = clash net f.records h (subst (λ (l : List (List (List ℕ))). AreHistoryRecords net l h) f.are is) fault f.after
-
-pub records-refuse : (net : Net) (all : List (List (List ℕ))) (fault : HistoryFault) → AreFaulty net all fault → Refuses fault ((h : List ℕ) → AreHistoryRecords net all h → ⊥)
-records-refuse net all NoMemory f = tt
-records-refuse net all Header f = λ h is. f is.records is.are
-records-refuse net all (Row n) f = fault-refuses net all (Row n) f
-records-refuse net all (Node n) f = fault-refuses net all (Node n) f
-records-refuse net all (Extra n) f = fault-refuses net all (Extra n) f
-records-refuse net all (Turn n) f = fault-refuses net all (Turn n) f
-records-refuse net all Short f = fault-refuses net all Short f
+-- a text with a fault stands for no history
+pub fault-refutes : (net : Net) (all : List (List (List ℕ))) (fault : HistoryFault) → AreRefusedFor (form net) all (cause_of net fault) → fault ≢ NoMemory → (h : List ℕ) → AreRecordsOf (form net) all h → ⊥
+fault-refutes net all fault refused other = refuted (form net) all (cause_of net fault) (refutes net fault other) refused
 
 -- records are those of one history at most
-pub one-history : (net : Net) (all : List (List (List ℕ))) (one other : List ℕ) → AreHistoryRecords net all one → AreHistoryRecords net all other → one ≡ other
-one-history net all one other a b =
-    let records : a.records ≡ b.records = one-after header a.records b.records (sym a.are ∙ b.are) in
-    let steps : a.steps ≡ b.steps = same_Some a.steps b.steps (sym a.reads ∙ ap (each (steps_of net)) records ∙ b.reads) in
-    a.history_is ∙ ap concat steps ∙ sym b.history_is
+pub one-history : (net : Net) (all : List (List (List ℕ))) (one other : List ℕ) → AreRecordsOf (form net) all one → AreRecordsOf (form net) all other → one ≡ other
+one-history net all one other a b = a.is.history_is ∙ ap concat (one-told (form net) all one other a b) ∙ sym b.is.history_is

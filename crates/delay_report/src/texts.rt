@@ -1,10 +1,10 @@
 //! The file of a history.
-ghost use Rattle.std.specs.Prelude.{◌<◌, ◌^◌, ℕ, List, IfErr, IfOk, OnOk, length};
+ghost use Rattle.std.specs.Prelude.{◌≢◌, ◌<◌, ◌^◌, ℕ, List, IfErr, IfOk, OnOk, length};
 ghost use Rattle.csv.specs.Records.{fields_of};
 ghost use Rattle.histories.specs.Histories.{IsLawful};
 ghost use Rattle.histories.specs.Progress.{HasCome};
 ghost use Rattle.road_net.specs.Network.{IsNetwork};
-ghost use Rattle.delay_report.specs.Faults.{IsTextFault, Refuses};
+ghost use Rattle.delay_report.specs.Faults.{IsTextFault};
 ghost use Rattle.delay_report.specs.Taken.{AreTaken, IsEntryFault};
 ghost use Rattle.delay_report.specs.Texts.{IsHistoryText};
 
@@ -29,7 +29,8 @@ pub fn read_history(alloc: Global, bytes: &[u8], net: &Network) -> Result<Histor
     requires { length bytes.now < 2 ^ 32 }
     ensures ok { IfOk result (IsHistoryText net.now bytes.now) }
     ensures lawful { IfOk result (IsLawful net.now) }
-    ensures refused { IfErr result (λ fault. Refuses fault ((h : List ℕ) → ¬ IsHistoryText net.now bytes.now h)) }
+    ensures refused { IfErr result (λ fault. fault ≢ HistoryFault.NoMemory
+        → (h : List ℕ) → ¬ IsHistoryText net.now bytes.now h) }
     ensures first { IfErr result (IsTextFault net.now bytes.now) }
 {
     let mut draft = HistoryDraft {

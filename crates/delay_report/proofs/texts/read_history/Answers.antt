@@ -1,10 +1,13 @@
-use Rattle.std.proofs.Common.{arith}
+use Rattle.std.proofs.Common.{sym, ◌∙◌, arith}
+use Rattle.std.proofs.lemmas.Bool.{false≢true}
 use Rattle.std.proofs.lemmas.Result.{err_from_is_err_and, IfErr-weaker}
 use Rattle.record_text.specs.Records.{records_of}
-use Rattle.record_text.proofs.WalkLaws.{counted-few}
+use Rattle.record_text.proofs.WalkLaws.{counted-few, taken-after}
 use Rattle.world_records.proofs.RecordLaws.{few-records}
-use Rattle.delay_report.specs.Faults.{AreFaulty}
-use Rattle.delay_report.proofs.TextLaws.{first-fault, records-refuse}
+use Rattle.world_records.specs.Records.{header}
+use Rattle.delay_report.specs.Faults.{IsTextFault}
+use Rattle.delay_report.specs.Taken.{HasTaken}
+use Rattle.delay_report.proofs.TextLaws.{fault-refutes, first-fault, taken-short}
 use Rattle.delay_report.proofs.texts.read_history.Goals as goal
 
 pub take_records-requires-clause-few : goal.take_records-requires-clause-few
@@ -17,5 +20,10 @@ returns-in_err-take_records-clause-first c =
 
 pub returns-in_err-take_records-clause-refused : goal.returns-in_err-take_records-clause-refused
 returns-in_err-take_records-clause-refused c =
-    let all = records_of c.args.bytes.now in
-    IfErr-weaker c.from_residual.result (AreFaulty c.args.net.now all) _ (records-refuse c.args.net.now all) (returns-in_err-take_records-clause-first c)
+    IfErr-weaker c.from_residual.result (IsTextFault c.args.net.now c.args.bytes.now) _ (fault-refutes c.args.net.now (records_of c.args.bytes.now)) (returns-in_err-take_records-clause-first c)
+
+pub returns-then-not-is_over-clause-first : goal.returns-then-not-is_over-clause-first
+returns-then-not-is_over-clause-first c =
+    let draft = c.take_records.new.taker in
+    let taken = taken-after header (HasTaken c.args.net.now) (records_of c.args.bytes.now) draft _ c.if-not-branch.false c.in_ok-take_records.ensures.taken in
+    taken-short c.args.net.now (records_of c.args.bytes.now) draft taken (λ lawful. false≢true (sym c.if-not-is_over.true ∙ (c.is_over.ensures c.args.net.now draft.steps.items taken.after.come).1 lawful))
