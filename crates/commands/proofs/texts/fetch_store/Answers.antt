@@ -3,7 +3,6 @@ use Rattle.spillback_world.specs.StoreTexts.{IsTextFault, IsStoreText}
 use Rattle.commands.specs.Texts.{StoreText}
 use Rattle.text_faults.specs.declared.bad_texts.BadText.TheVariants.{Store}
 use Rattle.commands.proofs.Fetching.{fetched-bad}
-use Rattle.commands.proofs.NoReading.{no_store}
 use Rattle.commands.proofs.texts.fetch_store.Goals as goal
 
 pub returns-clause-refused : goal.returns-clause-refused
@@ -11,5 +10,5 @@ returns-clause-refused g c =
     let fault = c.in-Err.fault in
     let text = c.deref.ensures.value in
     fetched-bad _ _ _ (StoreText c.args.net.now) _ c.in_ok-text.text.items (Store fault) c.in_ok-text.ensures.ok c.in_ok-text.ensures.text
-    (λ said reads. no_store fault _ c.in-Err.ensures.refused (λ e. search rules) said (subst (λ (t : List ℕ). IsStoreText c.args.net.now t said) (sym text) reads.1))
+    (λ said reads. c.in-Err.ensures.refused (λ e. search rules) said (subst (λ (t : List ℕ). IsStoreText c.args.net.now t said) (sym text) reads.1))
     (c.in_ok-text.ensures.limit, (subst (λ (t : List ℕ). IsTextFault c.args.net.now t fault) text c.in-Err.ensures.first, λ e. search rules))
