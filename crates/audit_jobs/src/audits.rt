@@ -12,7 +12,7 @@ ghost use Rattle.audit_jobs.specs.Findings.{NamesPart};
 
 use arrivals::Arrivals;
 use audit::{AuditWhy, Finding, Sheet, audit};
-use commands::{Made, Refusal, SheetScene, Status, end, fetch_sheet_scene};
+use commands::{Made, Refusal, SceneWith, Status, end, fetch_scene_with};
 use outside_world::{Shelf, Sink};
 use road_net::Network;
 use std::alloc::{AllocError, Global};
@@ -102,7 +102,10 @@ fn audit_files<S: Shelf>(
 ) -> Result<Made, Refusal>
     ensures { Makes (Audit net.now arr.now report.now) (S.state shelf.old) (S.state shelf.new) result }
 {
-    let SheetScene { scene, sheet } = fetch_sheet_scene(alloc, shelf, net, arr, report)?;
+    let SceneWith {
+        scene,
+        value: sheet,
+    } = fetch_scene_with(alloc, shelf, net, arr, report)?;
     let made = verdict(alloc, &scene.network, &scene.arrivals, sheet)?;
     Ok(made)
 }

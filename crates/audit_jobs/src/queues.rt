@@ -9,7 +9,7 @@ ghost use Rattle.commands.specs.Outcome.{Outcome};
 use super::audits::unclean_line;
 use arrivals::Arrivals;
 use audit::{Audited, Sheet, audit_lines};
-use commands::{Made, Refusal, SheetScene, Status, end, fetch_sheet_scene};
+use commands::{Made, Refusal, SceneWith, Status, end, fetch_scene_with};
 use outside_world::{Shelf, Sink};
 use queue_series::queue_series;
 use road_net::Network;
@@ -51,7 +51,10 @@ fn queues_files<S: Shelf>(
 ) -> Result<Made, Refusal>
     ensures { Makes (Queues net.now arr.now report.now) (S.state shelf.old) (S.state shelf.new) result }
 {
-    let SheetScene { scene, sheet } = fetch_sheet_scene(alloc, shelf, net, arr, report)?;
+    let SceneWith {
+        scene,
+        value: sheet,
+    } = fetch_scene_with(alloc, shelf, net, arr, report)?;
     let made = queues(alloc, &scene.network, &scene.arrivals, sheet)?;
     Ok(made)
 }

@@ -1,10 +1,13 @@
 -- What a fetch says of the text of a file.
-use Rattle.std.proofs.Common.{◌≡◌, ℕ, ◌+◌, ◌<◌, ◌≤◌, List, length, Some, None, IfSome, IsSome, refl, arith}
+use Rattle.std.proofs.Common.{◌≡◌, ℕ, ◌+◌, ◌<◌, ◌≤◌, List, length, Some, None, IfSome, IsSome, refl, subst, arith}
 use Rattle.outside_world.specs.Shelf.{Files, ShelfState, front_of}
 use Rattle.outside_world.proofs.ShelfLemmas.{whole_file, long_file}
 use Rattle.commands.specs.Limits.{most_bytes}
 use Rattle.commands.specs.Stops.{StopsAt}
-use Rattle.commands.specs.Texts.{HasFault, IsBad, Kind, Reads, Said, text_of}
+use Rattle.commands.specs.Flaws.{IsFlaw}
+use Rattle.commands.specs.Kinds.{Kind}
+use Rattle.commands.specs.Texts.{IsBad, IsIn, IsReadAs, Reads, text_of}
+use Rattle.commands.specs.declared.texts.Flaw.TheVariants as flaw
 use Rattle.text_faults.specs.declared.bad_texts.BadText.{BadText}
 use Rattle.text_faults.specs.declared.bad_texts.BadText.TheVariants.{Long}
 use Rattle.commands.specs.declared.refusals.Refusal.TheVariants as refusal
@@ -16,7 +19,7 @@ fetched-whole None name bytes e short told = absurd (cc)
 fetched-whole (Some known) name bytes e short told = whole_file known name (most_bytes + 1) bytes e (omega arith)
 
 -- a text past the limit is not read
-past-limit : (kind : Kind) (text : List ℕ) → most_bytes < length text → (said : Said kind) → ¬ Reads kind text said
+past-limit : (kind : Kind) (text : List ℕ) → most_bytes < length text → (said : kind.Said) → ¬ Reads kind text said
 past-limit kind text long said reads = omega (arith, long, reads.0)
 
 -- what was fetched past the limit is the front of a text past the limit
@@ -27,7 +30,15 @@ fetched-long (Some known) kind name bytes e long =
     let over : most_bytes < length content = omega (arith, past) in
     record { text = content; told = λ told. same; unread = past-limit kind content over; fault = over }
 
--- a text that was fetched and is read as nothing of its kind is refused for its fault
-pub fetched-bad : (old new : ShelfState) (place : TextPlace) (kind : Kind) (name text : List ℕ) (why : BadText) → new ≡ old → (IsSome old.files → text_of old.files name ≡ Some text)
-    → ((said : Said kind) → ¬ Reads kind text said) → HasFault kind text why → StopsAt (refusal.Bad place why) place kind name old new
-fetched-bad old new place kind name text why same told unread fault = (refl, same, record { text = text; told = told; unread = unread; fault = fault })
+-- a text that was fetched within the limit and is read as this
+pub fetched-read : (files : Files) (kind : Kind) (name bytes text : List ℕ) (said : kind.Said) → IfSome files (λ known. front_of known name (most_bytes + 1) ≡ Some bytes) → text ≡ bytes → IsReadAs kind text said → IsIn files name kind said
+fetched-read files kind name bytes text said e same is =
+    let is_read : IsReadAs kind bytes said = subst (λ (t : List ℕ). IsReadAs kind t said) same is in
+    record { text = bytes; told = fetched-whole files name bytes e is_read.reads.0; reads = is_read.reads; only = is_read.only }
+
+-- one that is read as nothing of its kind is refused for its fault
+pub fetched-bad : (old new : ShelfState) (place : TextPlace) (kind : Kind) (name bytes text : List ℕ) (why : BadText) → new ≡ old → IfSome old.files (λ known. front_of known name (most_bytes + 1) ≡ Some bytes) → length bytes ≤ most_bytes → text ≡ bytes
+    → IsFlaw kind text (flaw.Bad why) → StopsAt (refusal.Bad place why) place kind name old new
+fetched-bad old new place kind name bytes text why unmoved e short same flaws =
+    let is : IsFlaw kind bytes (flaw.Bad why) = subst (λ (t : List ℕ). IsFlaw kind t (flaw.Bad why)) same flaws in
+    (refl, unmoved, record { text = bytes; told = fetched-whole old.files name bytes e short; unread = is.0; fault = is.1 })

@@ -26,10 +26,11 @@ use Rattle.command_words.specs.Calls.{Actuate, Audit, Call, Certify, CertifyBoun
 use Rattle.commands.specs.Answers.{answer_text}
 use Rattle.commands.specs.Controllers.{BringTooMuch, IsActuatedReport, IsComparison, IsComparisonWith, IsFixedReport, IsScaleTable, factors}
 use Rattle.commands.specs.Headline.{Headline, IsGridSummary, IsPlannedText, ToldHeadline}
+use Rattle.commands.specs.Kinds.{ArrivalsText, CertificateText, HistoryText, InstanceText, IsCertificateText, NetworkText, PlanText, SheetText, StateText, StoreText}
 use Rattle.commands.specs.Limits.{most_bytes}
 use Rattle.commands.specs.Rounds.{IsDecisionText, IsNodeDecisionText}
 use Rattle.commands.specs.Storages.{IsSpillTable}
-use Rattle.commands.specs.Texts.{AllSaid, CertificateText, InstanceText, NetworkText, Next, NoMore, IsTextFor, Texts, history_texts, network_texts, plan_texts, sheet_texts, state_texts, store_texts}
+use Rattle.commands.specs.Texts.{AllSaid, Next, NoMore, Texts, three_texts, two_texts}
 use Rattle.commands.specs.Verdicts.{accepted_line, rejected_line, unclean_line}
 use Rattle.commands.specs.declared.refusals.Named.{Named}
 use Rattle.commands.specs.declared.refusals.Named.TheVariants.{Factor, Node, Round}
@@ -41,20 +42,20 @@ texts_of (Certify file) = Next InstanceText file (λ said. NoMore)
 texts_of (CertifyBound file) = Next InstanceText file (λ said. NoMore)
 texts_of (CertifyPar file width) = Next InstanceText file (λ said. NoMore)
 texts_of (Check file) = Next CertificateText file (λ said. NoMore)
-texts_of (Turns net arr) = network_texts net arr (λ network. NoMore)
-texts_of (Replay net arr hist) = history_texts net arr hist
-texts_of (Net net arr) = network_texts net arr (λ network. NoMore)
-texts_of (Instance net arr hist node round) = history_texts net arr hist
-texts_of (Actuate net arr) = network_texts net arr (λ network. NoMore)
-texts_of (Fixed net arr plan) = plan_texts net arr plan
-texts_of (Compare net arr) = network_texts net arr (λ network. NoMore)
-texts_of (CompareFixed net arr plan) = plan_texts net arr plan
-texts_of (Scale net arr first last step) = network_texts net arr (λ network. NoMore)
-texts_of (Spill net arr store) = store_texts net arr store
-texts_of (Decide net state) = state_texts net state
-texts_of (DecideNode net state node) = state_texts net state
-texts_of (Audit net arr report) = sheet_texts net arr report
-texts_of (Queues net arr report) = sheet_texts net arr report
+texts_of (Turns net arr) = two_texts ArrivalsText net arr
+texts_of (Replay net arr hist) = three_texts HistoryText net arr hist
+texts_of (Net net arr) = two_texts ArrivalsText net arr
+texts_of (Instance net arr hist node round) = three_texts HistoryText net arr hist
+texts_of (Actuate net arr) = two_texts ArrivalsText net arr
+texts_of (Fixed net arr plan) = three_texts PlanText net arr plan
+texts_of (Compare net arr) = two_texts ArrivalsText net arr
+texts_of (CompareFixed net arr plan) = three_texts PlanText net arr plan
+texts_of (Scale net arr first last step) = two_texts ArrivalsText net arr
+texts_of (Spill net arr store) = three_texts StoreText net arr store
+texts_of (Decide net state) = two_texts StateText net state
+texts_of (DecideNode net state node) = two_texts StateText net state
+texts_of (Audit net arr report) = three_texts SheetText net arr report
+texts_of (Queues net arr report) = three_texts SheetText net arr report
 texts_of (Grid number side rounds) = NoMore
 texts_of (Upgrade net) = Next NetworkText net (λ network. NoMore)
 
@@ -62,8 +63,8 @@ texts_of (Upgrade net) = Next NetworkText net (λ network. NoMore)
 -- other; and the certificate proves its answer.
 pub record IsAcceptedText (bytes : List ℕ) (c : Claim) : Type 0 where
   pub short : length bytes ≤ most_bytes
-  pub is_text : IsTextFor CertificateText bytes c
-  pub only : (other : Claim) → IsTextFor CertificateText bytes other → other ≡ c
+  pub is_text : IsCertificateText bytes c
+  pub only : (other : Claim) → IsCertificateText bytes other → other ≡ c
   pub proves : Proves c
 
 -- the bytes are the text of a certificate of the instance, with the best answer and the whole table

@@ -3,6 +3,7 @@ use Rattle.std.specs.Prelude.{◌≡◌, ℕ, List, Contains, Some}
 use Rattle.arrivals.specs.Amounts.{Amounts, entering}
 use Rattle.audit.specs.Audits.{IsCleanText}
 use Rattle.delay_report.specs.Reports.{report_text}
+use Rattle.delay_report.specs.Texts.{IsHistoryText}
 use Rattle.dp_certificate.specs.Certificates.{Claim}
 use Rattle.histories.specs.Histories.{IsLawful, turn_order}
 use Rattle.intersection_actor.specs.declared.records.PlanRecord.{PlanRecord}
@@ -15,7 +16,8 @@ use Rattle.schedule_meaning.specs.Best.{IsLeast}
 use Rattle.schedule_meaning.specs.Instances.{Problem}
 use Rattle.schedule_meaning.specs.declared.planners.Answer.{Answer}
 use Rattle.schedule_meaning.specs.declared.planners.Answer.TheVariants.{Plan, NoPlan}
-use Rattle.commands.specs.Texts.{HistoryText, InstanceText, Reads, IsTextFor}
+use Rattle.commands.specs.Kinds.{InstanceText}
+use Rattle.commands.specs.Texts.{Reads}
 use Rattle.commands.specs.Summary.{summary_text}
 
 -- The record is that of the run of a lawful history, where `enters link second` is what enters a link from outside in a second, in
@@ -40,8 +42,8 @@ pub record Headline (net : Net) (enters : ℕ → ℕ → ℕ) (history : List �
 pub record ToldHeadline (net : Net) (enters : ℕ → ℕ → ℕ) (bytes : List ℕ) : Type 0 where
   pub history : List ℕ
   pub headline : Headline net enters history bytes
-  pub is_text : IsTextFor (HistoryText net) bytes history
-  pub only : (other : List ℕ) → IsTextFor (HistoryText net) bytes other → other ≡ history
+  pub is_text : IsHistoryText net bytes history
+  pub only : (other : List ℕ) → IsHistoryText net bytes other → other ≡ history
 
 -- one answer says what the other says: both plan with one delay, or both plan nothing
 abbrev pub AgreesWith : Answer → Answer → Type 0

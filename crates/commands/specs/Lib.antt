@@ -2,7 +2,9 @@ pub mod Answers
 pub mod Commands
 pub mod Controllers
 pub mod Ending
+pub mod Flaws
 pub mod Headline
+pub mod Kinds
 pub mod Limits
 pub mod Outcome
 pub mod Refusals

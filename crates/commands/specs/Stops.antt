@@ -1,7 +1,8 @@
 -- Why a text of a command could not be had. No public clause of a command names anything here.
 use Rattle.std.specs.Prelude.{◌≡◌, ℕ, List}
 use Rattle.outside_world.specs.Shelf.{GainsLast, ShelfState}
-use Rattle.commands.specs.Texts.{At, IsBad, Kind, Texts}
+use Rattle.commands.specs.Kinds.{Kind}
+use Rattle.commands.specs.Texts.{At, IsBad, Texts}
 use Rattle.commands.specs.declared.refusals.TextPlace.{TextPlace}
 use Rattle.commands.specs.declared.refusals.Refusal.{Refusal}
 use Rattle.commands.specs.declared.refusals.Refusal.TheVariants as refusal

@@ -4,6 +4,7 @@
 
 mod ending;
 mod kept_runs;
+mod kinds;
 mod refusals;
 mod scenes;
 mod status;
@@ -14,12 +15,8 @@ pub use ending::{Made, end};
 pub use kept_runs::{kept_run, run_of_turns};
 pub use refusals::{Named, Refusal, TextPlace, refuse};
 pub use scenes::{
-    HistoryScene, PlanScene, Scene, SheetScene, StateScene, StoreScene, fetch_history_scene,
-    fetch_plan_scene, fetch_scene, fetch_sheet_scene, fetch_state_scene, fetch_store_scene,
+    NetworkWith, Scene, SceneWith, fetch_network_with, fetch_scene, fetch_scene_with,
 };
 pub use status::Status;
-pub use texts::{
-    fetch_arrivals, fetch_certificate, fetch_fixed_plan, fetch_history, fetch_instance,
-    fetch_network, fetch_sheet, fetch_state, fetch_store,
-};
+pub use texts::{Flaw, FromText, fetch};
 pub use totals::push_totals;

@@ -3,7 +3,8 @@ use Rattle.std.proofs.Common.{◌≡◌, ℕ, List, Option, Some, None, IsSome}
 use Rattle.outside_world.specs.Shelf.{ShelfState}
 use Rattle.net_parts.specs.Numbers.{Net, number_of}
 use Rattle.round_states.specs.declared.states.RoundState.{RoundState}
-use Rattle.commands.specs.Texts.{IsIn, NetworkText, StateText}
+use Rattle.commands.specs.Kinds.{NetworkText, StateText}
+use Rattle.commands.specs.Texts.{IsIn}
 use Rattle.commands.specs.declared.refusals.Named.TheVariants.{Node, Round, Factor}
 use Rattle.commands.specs.declared.refusals.Refusal.{Refusal}
 use Rattle.commands.specs.declared.refusals.Refusal.TheVariants as refusal

@@ -13,7 +13,8 @@ use Rattle.command_words.specs.Calls.{Scale}
 use Rattle.commands.specs.Commands.{MissesNothing}
 use Rattle.commands.specs.Controllers.{BringTooMuch, IsScaleLine, IsScaleTable, factors}
 use Rattle.commands.specs.Ending.{Explains}
-use Rattle.commands.specs.Texts.{ArrivalsText, IsIn, NetworkText}
+use Rattle.commands.specs.Kinds.{ArrivalsText, NetworkText}
+use Rattle.commands.specs.Texts.{IsIn}
 use Rattle.commands.specs.declared.refusals.Named.TheVariants.{Factor, Node, Round}
 use Rattle.commands.specs.declared.refusals.Refusal.{Refusal}
 use Rattle.commands.specs.declared.refusals.Refusal.TheVariants as refusal

@@ -12,7 +12,7 @@ ghost use Rattle.runs.specs.Runs.{arriving_by};
 use super::compare::comparison;
 use super::fixed::fixed_run;
 use arrivals::Arrivals;
-use commands::{Made, Refusal, Status, end, fetch_plan_scene, push_totals};
+use commands::{Made, Refusal, SceneWith, Status, end, fetch_scene_with, push_totals};
 use fixed_plans::FixedPlan;
 use net_simulator::Totals;
 use outside_world::{Shelf, Sink};
@@ -62,8 +62,13 @@ fn compare_fixed_files<S: Shelf>(
 ) -> Result<Made, Refusal>
     ensures { Makes (CompareFixed net.now arr.now plan.now) (S.state shelf.old) (S.state shelf.new) result }
 {
-    let read = fetch_plan_scene(alloc, shelf, net, arr, plan)?;
-    let text = comparison_with(alloc, &read.scene.network, &read.scene.arrivals, &read.plan)?;
+    let read: SceneWith<FixedPlan> = fetch_scene_with(alloc, shelf, net, arr, plan)?;
+    let text = comparison_with(
+        alloc,
+        &read.scene.network,
+        &read.scene.arrivals,
+        &read.value,
+    )?;
     Ok(Made::Done(text))
 }
 

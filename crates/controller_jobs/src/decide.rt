@@ -8,7 +8,7 @@ ghost use Rattle.commands.specs.Rounds.{IsDecisionText, IsNodeDecisionText};
 ghost use Rattle.round_states.specs.States.{IsStateOf};
 ghost use Rattle.controller_jobs.specs.Nodes.{MissesNode};
 
-use commands::{Made, Named, Refusal, StateScene, Status, end, fetch_state_scene};
+use commands::{Made, Named, NetworkWith, Refusal, Status, end, fetch_network_with};
 use outside_world::{Shelf, Sink};
 use pruned_dp::BoundPlanner;
 use road_net::{Network, law_of_network};
@@ -75,7 +75,10 @@ fn decide_files<S: Shelf>(
 ) -> Result<Made, Refusal>
     ensures { Makes (Decide net.now state.now) (S.state shelf.old) (S.state shelf.new) result }
 {
-    let StateScene { network, state } = fetch_state_scene(alloc, shelf, net, state)?;
+    let NetworkWith {
+        network,
+        value: state,
+    } = fetch_network_with(alloc, shelf, net, state)?;
     let text = decided_text(alloc, &network, state)?;
     Ok(Made::Done(text))
 }
@@ -90,7 +93,10 @@ fn decide_node_files<S: Shelf>(
 ) -> Result<Made, Refusal>
     ensures { Makes (DecideNode net.now state.now node.now) (S.state shelf.old) (S.state shelf.new) result }
 {
-    let StateScene { network, state } = fetch_state_scene(alloc, shelf, net, state)?;
+    let NetworkWith {
+        network,
+        value: state,
+    } = fetch_network_with(alloc, shelf, net, state)?;
     let text = node_text(alloc, &network, state, node)?;
     Ok(Made::Done(text))
 }

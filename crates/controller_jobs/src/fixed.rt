@@ -18,7 +18,7 @@ ghost use Rattle.signal_safety.specs.Safe.{IsSafe};
 
 use arrivals::Arrivals;
 use audit::{LineRun, line_report, run_lines};
-use commands::{Made, Refusal, Status, end, fetch_plan_scene};
+use commands::{Made, Refusal, SceneWith, Status, end, fetch_scene_with};
 use fixed_plans::{FixedPlan, fixed_lines};
 use outside_world::{Shelf, Sink};
 use road_net::{Network, law_of_network};
@@ -83,8 +83,13 @@ fn fixed_files<S: Shelf>(
 ) -> Result<Made, Refusal>
     ensures { Makes (Fixed net.now arr.now plan.now) (S.state shelf.old) (S.state shelf.new) result }
 {
-    let read = fetch_plan_scene(alloc, shelf, net, arr, plan)?;
-    let text = report_fixed(alloc, &read.scene.network, &read.scene.arrivals, &read.plan)?;
+    let read: SceneWith<FixedPlan> = fetch_scene_with(alloc, shelf, net, arr, plan)?;
+    let text = report_fixed(
+        alloc,
+        &read.scene.network,
+        &read.scene.arrivals,
+        &read.value,
+    )?;
     Ok(Made::Done(text))
 }
 

@@ -12,7 +12,7 @@ ghost use Rattle.net_simulator.specs.Worlds.{line_in, standing_by};
 ghost use Rattle.runs.specs.declared.records.RunRecord.{RunRecord};
 
 use arrivals::Arrivals;
-use commands::{Made, Refusal, Status, end, fetch_store_scene, run_of_turns};
+use commands::{Made, Refusal, SceneWith, Status, end, fetch_scene_with, run_of_turns};
 use net_simulator::Lines;
 use outside_world::{Shelf, Sink};
 use road_net::Network;
@@ -89,8 +89,8 @@ fn spill_files<S: Shelf>(
 ) -> Result<Made, Refusal>
     ensures { Makes (Spill net.now arr.now store.now) (S.state shelf.old) (S.state shelf.new) result }
 {
-    let all = fetch_store_scene(alloc, shelf, net, arr, store)?;
-    let text = spill_table(alloc, &all.scene.network, &all.scene.arrivals, &all.store)?;
+    let all: SceneWith<Store> = fetch_scene_with(alloc, shelf, net, arr, store)?;
+    let text = spill_table(alloc, &all.scene.network, &all.scene.arrivals, &all.value)?;
     Ok(Made::Done(text))
 }
 

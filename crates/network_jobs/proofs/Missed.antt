@@ -2,7 +2,8 @@
 use Rattle.std.proofs.Common.{◌≡◌, ℕ, ◌<◌, List, Option, Some, None, IsSome, arith}
 use Rattle.outside_world.specs.Shelf.{ShelfState}
 use Rattle.net_parts.specs.Numbers.{Net, number_of}
-use Rattle.commands.specs.Texts.{ArrivalsText, HistoryText, IsIn, NetworkText}
+use Rattle.commands.specs.Kinds.{ArrivalsText, HistoryText, NetworkText}
+use Rattle.commands.specs.Texts.{IsIn}
 use Rattle.commands.specs.declared.refusals.Named.TheVariants.{Factor, Node, Round}
 use Rattle.commands.specs.declared.refusals.Refusal.{Refusal}
 use Rattle.commands.specs.declared.refusals.Refusal.TheVariants as refusal

@@ -21,7 +21,8 @@ use Rattle.schedule_meaning.specs.declared.planners.Answer.TheVariants.{Plan, No
 use Rattle.switch_rules.specs.Serving.{IsCluster}
 use Rattle.switch_rules.specs.declared.Cluster.{Cluster}
 use Rattle.commands.specs.Limits.{most_bytes}
-use Rattle.commands.specs.Texts.{InstanceText, Reads}
+use Rattle.commands.specs.Kinds.{InstanceText}
+use Rattle.commands.specs.Texts.{Reads}
 use Rattle.commands.specs.Headline.{AgreesWith, IsGridSummary, IsPlannedText, IsRunOf}
 use Rattle.commands.specs.Summary.{summary_text}
 

@@ -11,7 +11,7 @@ ghost use Rattle.network_jobs.specs.Args.{call_with};
 ghost use Rattle.network_jobs.specs.Missing.{Misses};
 
 use arrivals::Arrivals;
-use commands::{Made, Named, Refusal, Status, end, fetch_history_scene, kept_run};
+use commands::{Made, Named, Refusal, SceneWith, Status, end, fetch_scene_with, kept_run};
 use histories::History;
 use outside_world::{Shelf, Sink};
 use road_net::Network;
@@ -100,12 +100,12 @@ fn make_instance<S: Shelf>(
 ) -> Result<Made, Refusal>
     ensures { Makes (call_with args.now) (S.state shelf.old) (S.state shelf.new) result }
 {
-    let read = fetch_history_scene(alloc, shelf, args.net, args.arr, args.hist)?;
+    let read: SceneWith<History> = fetch_scene_with(alloc, shelf, args.net, args.arr, args.hist)?;
     let text = find_planned_text(
         alloc,
         &read.scene.network,
         &read.scene.arrivals,
-        &read.history,
+        &read.value,
         args.node,
         args.round,
     )?;

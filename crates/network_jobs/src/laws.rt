@@ -2,7 +2,9 @@
 ghost use Rattle.std.specs.Prelude.{◌≡◌, ℕ, List};
 ghost use Rattle.dp_certificate.specs.Certificates.{Claim};
 ghost use Rattle.schedule_meaning.specs.Instances.{Problem};
-ghost use Rattle.commands.specs.Texts.{AllSaid, HistoryText, InstanceText, IsTextFor, Reads};
+ghost use Rattle.commands.specs.Kinds.{InstanceText};
+ghost use Rattle.commands.specs.Texts.{AllSaid, Reads};
+ghost use Rattle.delay_report.specs.Texts.{IsHistoryText};
 ghost use Rattle.command_words.specs.Calls.{Certify, CertifyBound, Instance, Net, Replay, Turns};
 ghost use Rattle.commands.specs.Commands.{IsAcceptedText, IsTextOf, texts_of};
 ghost use Rattle.commands.specs.Headline.{AgreesWith};
@@ -34,14 +36,14 @@ pub fn law_of_instances()
 /// docs/FORMATS.md, "Words".
 pub fn law_of_replays(net: &Network)
     ensures net { (file arr hist : List ℕ) (enters : ℕ → ℕ → ℕ) (history bytes again : List ℕ)
-        → IsTextOf (Net file arr) (net.now, (enters, tt)) bytes → IsTextFor (HistoryText net.now) bytes history
+        → IsTextOf (Net file arr) (net.now, (enters, tt)) bytes → IsHistoryText net.now bytes history
         → IsTextOf (Replay file arr hist) (net.now, (enters, (history, tt))) again → again ≡ bytes }
     ensures turns { (file arr hist : List ℕ) (enters : ℕ → ℕ → ℕ) (history bytes again : List ℕ)
-        → IsTextOf (Turns file arr) (net.now, (enters, tt)) bytes → IsTextFor (HistoryText net.now) bytes history
+        → IsTextOf (Turns file arr) (net.now, (enters, tt)) bytes → IsHistoryText net.now bytes history
         → IsTextOf (Replay file arr hist) (net.now, (enters, (history, tt))) again → again ≡ bytes }
     ensures replay { (file arr hist : List ℕ) (enters : ℕ → ℕ → ℕ) (given history bytes again : List ℕ)
         → IsTextOf (Replay file arr hist) (net.now, (enters, (given, tt))) bytes
-        → IsTextFor (HistoryText net.now) bytes history
+        → IsHistoryText net.now bytes history
         → IsTextOf (Replay file arr hist) (net.now, (enters, (history, tt))) again → again ≡ bytes }
 {
     law_of_one_run(net);

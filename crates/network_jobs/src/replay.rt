@@ -4,7 +4,8 @@ ghost use Rattle.commands.specs.Ending.{Makes};
 ghost use Rattle.commands.specs.Outcome.{Outcome};
 
 use super::history_runs::report;
-use commands::{Made, Refusal, Status, end, fetch_history_scene};
+use commands::{Made, Refusal, SceneWith, Status, end, fetch_scene_with};
+use histories::History;
 use outside_world::{Shelf, Sink};
 use std::alloc::Global;
 
@@ -18,12 +19,12 @@ fn make_report<S: Shelf>(
 ) -> Result<Made, Refusal>
     ensures { Makes (Replay net.now arr.now hist.now) (S.state shelf.old) (S.state shelf.new) result }
 {
-    let read = fetch_history_scene(alloc, shelf, net, arr, hist)?;
+    let read: SceneWith<History> = fetch_scene_with(alloc, shelf, net, arr, hist)?;
     let text = report(
         alloc,
         &read.scene.network,
         &read.scene.arrivals,
-        &read.history,
+        &read.value,
     )?;
     Ok(Made::Done(text))
 }

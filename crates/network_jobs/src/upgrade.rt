@@ -3,16 +3,17 @@ ghost use Rattle.command_words.specs.Calls.{Upgrade};
 ghost use Rattle.commands.specs.Ending.{Makes};
 ghost use Rattle.commands.specs.Outcome.{Outcome};
 
-use commands::{Made, Refusal, Status, TextPlace, end, fetch_network};
+use commands::{Made, Refusal, Status, TextPlace, end, fetch};
 use net_file::write_network;
 use outside_world::{Shelf, Sink};
+use road_net::Network;
 use std::alloc::Global;
 
 // The network in a file, as a file of version 2.
 fn make_network_text<S: Shelf>(alloc: Global, shelf: &mut S, net: &str) -> Result<Made, Refusal>
     ensures { Makes (Upgrade net.now) (S.state shelf.old) (S.state shelf.new) result }
 {
-    let network = fetch_network(alloc, shelf, TextPlace::First, net)?;
+    let network: Network = fetch(alloc, shelf, TextPlace::First, net, &())?;
     let text = write_network(alloc, &network)?;
     Ok(Made::Done(text))
 }

@@ -7,9 +7,10 @@ ghost use Rattle.commands.specs.Outcome.{Outcome};
 use crate::certificates::{Table, certificate_in_ledger};
 use crate::delivery::deliver;
 use certificate_form::{law_of_certificate_text, law_of_certificates};
-use commands::{Refusal, Status, TextPlace, fetch_instance};
+use commands::{Refusal, Status, TextPlace, fetch};
 use dp_certificate::Certificate;
 use outside_world::{Shelf, Sink};
+use schedule_meaning::Instance;
 use std::alloc::Global;
 use std::marker::Brand;
 use std::sync::ledger::Blank;
@@ -26,7 +27,7 @@ fn certificate_of_file<S: Shelf>(
     ensures bounded { table ≡ Table.Bounded
         → MakesCertificate (CertifyBound file.now) (S.state shelf.old) (S.state shelf.new) result }
 {
-    let instance = fetch_instance(alloc, shelf, TextPlace::First, file)?;
+    let instance: Instance = fetch(alloc, shelf, TextPlace::First, file, &())?;
     let certificate = certificate_in_ledger::<Brand>(alloc, Blank::new(1), table, &instance)?;
     // Called for its clauses `lawful`, `is_text` and `short`.
     law_of_certificate_text(&certificate);

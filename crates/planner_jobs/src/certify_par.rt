@@ -8,10 +8,11 @@ ghost use Rattle.schedule_meaning.specs.Instances.{Problem};
 
 use crate::delivery::deliver;
 use certificate_form::{law_of_certificate_text, law_of_certificates};
-use commands::{Refusal, Status, TextPlace, fetch_instance};
+use commands::{Refusal, Status, TextPlace, fetch};
 use dp_certificate::Certificate;
 use outside_world::{Shelf, Sink};
 use parallel_dp::certify_par;
+use schedule_meaning::Instance;
 use std::alloc::Global;
 use std::thread::Threads;
 
@@ -27,7 +28,7 @@ fn certificate_of_file<S: Shelf>(
     requires { (1 ≤ width) × (width ≤ 4096) }
     ensures { MakesCertificate (CertifyPar file.now width) (S.state shelf.old) (S.state shelf.new) result }
 {
-    let instance = fetch_instance(alloc, shelf, TextPlace::First, file)?;
+    let instance: Instance = fetch(alloc, shelf, TextPlace::First, file, &())?;
     let certificate = certify_par(rt, alloc, &instance, width)?;
     // Called for its clauses `lawful`, `is_text` and `short`.
     law_of_certificate_text(&certificate);

@@ -9,7 +9,7 @@ ghost use Rattle.commands.specs.Outcome.{Outcome};
 
 use super::verdicts::rejected_line;
 use cert_checker::Verdict;
-use commands::{Made, Refusal, Status, TextPlace, end, fetch_certificate};
+use commands::{Made, Refusal, Status, TextPlace, end, fetch};
 use dp_certificate::Certificate;
 use foundation::steps::Steps;
 use outside_world::{Shelf, Sink};
@@ -59,7 +59,7 @@ fn verdict(alloc: Global, c: &Certificate) -> Result<Made, AllocError>
 fn check_file<S: Shelf>(alloc: Global, shelf: &mut S, file: &str) -> Result<Made, Refusal>
     ensures { Makes (Check file.now) (S.state shelf.old) (S.state shelf.new) result }
 {
-    let certificate = fetch_certificate(alloc, shelf, TextPlace::First, file)?;
+    let certificate: Certificate = fetch(alloc, shelf, TextPlace::First, file, &())?;
     let made = verdict(alloc, &certificate)?;
     Ok(made)
 }

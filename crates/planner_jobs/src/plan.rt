@@ -4,17 +4,17 @@ ghost use Rattle.commands.specs.Ending.{Makes};
 ghost use Rattle.commands.specs.Outcome.{Outcome};
 
 use super::answers::answer_text;
-use commands::{Made, Refusal, Status, TextPlace, end, fetch_instance};
+use commands::{Made, Refusal, Status, TextPlace, end, fetch};
 use forward_dp::LayerPlanner;
 use outside_world::{Shelf, Sink};
-use schedule_meaning::best_answer;
+use schedule_meaning::{Instance, best_answer};
 use std::alloc::Global;
 
 /// The text of the best answer of the instance in a file.
 fn plan_of_file<S: Shelf>(alloc: Global, shelf: &mut S, file: &str) -> Result<Made, Refusal>
     ensures { Makes (Plan file.now) (S.state shelf.old) (S.state shelf.new) result }
 {
-    let instance = fetch_instance(alloc, shelf, TextPlace::First, file)?;
+    let instance: Instance = fetch(alloc, shelf, TextPlace::First, file, &())?;
     let answer = best_answer(alloc, &mut LayerPlanner, &instance)?;
     let text = answer_text(alloc, &answer)?;
     Ok(Made::Done(text))

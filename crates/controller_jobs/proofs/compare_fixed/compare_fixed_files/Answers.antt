@@ -10,7 +10,7 @@ pub returns : goal.returns
 returns g c = (
   c.in_ok-read.ensures.ok,
   (
-    (c.in_ok-read.read.scene.network, (entering c.in_ok-read.read.scene.arrivals, (c.in_ok-read.read.plan, tt))),
+    (c.in_ok-read.read.scene.network, (entering c.in_ok-read.read.scene.arrivals, (c.in_ok-read.read.value, tt))),
     c.in_ok-read.ensures.texts,
     ((c.in_ok-text.ensures, λ against. against), λ what missing. missing),
   ),

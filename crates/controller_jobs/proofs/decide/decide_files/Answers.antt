@@ -9,7 +9,7 @@ pub returns : goal.returns
 returns g c = (
   c.in_ok-network.ensures.ok,
   (
-    (c.in_ok-network.field-0.network, (c.in_ok-network.field-0.state, tt)),
+    (c.in_ok-network.field-0.network, (c.in_ok-network.field-0.value, tt)),
     c.in_ok-network.ensures.texts,
     ((c.in_ok-text.ensures, λ against. against), λ what missing. missing),
   ),

@@ -10,17 +10,17 @@ pub returns-in_err-text : goal.returns-in_err-text
 returns-in_err-text g c =
     let made = c.in_ok-network in
     handed_on (DecideNode c.args.net.now c.args.state.now c.args.node.now) _ _ c.from_residual-in_err-text.result _
-    (missed c.args.net.now c.args.state.now c.args.node.now made.field-0.network made.field-0.state _ _ _ made.ensures.ok made.ensures.texts.0 made.ensures.texts.1.0 c.in_err-text.ensures.refused) c.from_residual-in_err-text.ensures.1
+    (missed c.args.net.now c.args.state.now c.args.node.now made.field-0.network made.field-0.value _ _ _ made.ensures.ok made.ensures.texts.0 made.ensures.texts.1.0 c.in_err-text.ensures.refused) c.from_residual-in_err-text.ensures.1
 
 pub returns : goal.returns
 returns g c = (
   c.in_ok-network.ensures.ok,
   (
-    (c.in_ok-network.field-0.network, (c.in_ok-network.field-0.state, tt)),
+    (c.in_ok-network.field-0.network, (c.in_ok-network.field-0.value, tt)),
     c.in_ok-network.ensures.texts,
     (
       (c.in_ok-text.ensures.text, λ against. against),
-      none_missed c.args.net.now c.args.state.now c.args.node.now c.in_ok-network.field-0.network c.in_ok-network.field-0.state c.in_ok-text.ensures.exists,
+      none_missed c.args.net.now c.args.state.now c.args.node.now c.in_ok-network.field-0.network c.in_ok-network.field-0.value c.in_ok-text.ensures.exists,
     ),
   ),
 )

@@ -1,6 +1,5 @@
 use Rattle.arrivals.specs.Amounts.{entering}
 use Rattle.command_words.specs.Calls.{Scale}
-use Rattle.commands.specs.Texts.{NoMore}
 use Rattle.commands.proofs.Outcomes.{failed, handed_on}
 use Rattle.controller_jobs.proofs.FactorLaws.{none-missing, refused}
 use Rattle.controller_jobs.proofs.scale.scale_files.Goals as goal
@@ -8,14 +7,14 @@ use Rattle.controller_jobs.proofs.scale.scale_files.Goals as goal
 pub returns-in_err-scene : goal.returns-in_err-scene
 returns-in_err-scene g c =
     let range = c.args.range.now in
-    failed (Scale c.args.net.now c.args.arr.now range.first range.last range.step) _ _ c.from_residual.result _ (c.in_err-scene.ensures.refused (λ network. NoMore)) c.from_residual.ensures.1
+    failed (Scale c.args.net.now c.args.arr.now range.first range.last range.step) _ _ c.from_residual.result _ c.in_err-scene.ensures.refused c.from_residual.ensures.1
 
 pub returns-in_err-text : goal.returns-in_err-text
 returns-in_err-text g c =
     let range = c.args.range.now in
     let read = c.in_ok-scene in
     handed_on (Scale c.args.net.now c.args.arr.now range.first range.last range.step) _ _ c.from_residual-in_err-text.result _
-    (refused c.args.net.now c.args.arr.now range.first range.last range.step read.scene.network (entering read.scene.arrivals) _ _ _ read.ensures.ok read.ensures.network read.ensures.arrivals c.in_err-text.ensures.refused)
+    (refused c.args.net.now c.args.arr.now range.first range.last range.step read.scene.network (entering read.scene.arrivals) _ _ _ read.ensures.ok read.ensures.texts.0 read.ensures.texts.1.0 c.in_err-text.ensures.refused)
     c.from_residual-in_err-text.ensures.1
 
 pub returns : goal.returns
@@ -25,7 +24,7 @@ returns g c =
       read.ensures.ok,
       (
         (read.scene.network, (entering read.scene.arrivals, tt)),
-        (read.ensures.network, (read.ensures.arrivals, tt)),
+        read.ensures.texts,
         (
           (c.in_ok-text.ensures.table, λ against. against),
           none-missing c.args.net.now c.args.arr.now range.first range.last range.step read.scene.network (entering read.scene.arrivals) c.in_ok-text.ensures.few,

@@ -1,14 +1,13 @@
 use Rattle.arrivals.specs.Amounts.{entering}
-use Rattle.commands.specs.Texts.{NoMore}
 use Rattle.command_words.specs.Calls.{Net}
 use Rattle.commands.proofs.Outcomes.{failed}
 use Rattle.network_jobs.proofs.net.make_report.Goals as goal
 
 pub returns-in_err-scene : goal.returns-in_err-scene
-returns-in_err-scene g c = failed (Net c.args.net.now c.args.arr.now) _ _ c.from_residual.result _ (c.in_err-scene.ensures.refused (λ network. NoMore)) c.from_residual.ensures.1
+returns-in_err-scene g c = failed (Net c.args.net.now c.args.arr.now) _ _ c.from_residual.result _ c.in_err-scene.ensures.refused c.from_residual.ensures.1
 
 pub returns : goal.returns
 returns g c =
     let made = c.in_ok-scene in
     let scene = made.scene in
-    (made.ensures.ok, ((scene.network, (entering scene.arrivals, tt)), (made.ensures.network, (made.ensures.arrivals, tt)), ((c.in_ok-text.ensures, λ against. against), λ what missing. missing)))
+    (made.ensures.ok, ((scene.network, (entering scene.arrivals, tt)), made.ensures.texts, ((c.in_ok-text.ensures, λ against. against), λ what missing. missing)))

@@ -9,4 +9,4 @@ returns-in_err-read g c = failed (Replay c.args.net.now c.args.arr.now c.args.hi
 pub returns : goal.returns
 returns g c =
     let made = c.in_ok-read in
-    (made.ensures.ok, ((made.read.scene.network, (entering made.read.scene.arrivals, (made.read.history, tt))), made.ensures.texts, ((c.in_ok-text.ensures, λ against. against), λ what missing. missing)))
+    (made.ensures.ok, ((made.read.scene.network, (entering made.read.scene.arrivals, (made.read.value, tt))), made.ensures.texts, ((c.in_ok-text.ensures, λ against. against), λ what missing. missing)))

@@ -1,18 +1,17 @@
 use Rattle.arrivals.specs.Amounts.{entering}
-use Rattle.commands.specs.Texts.{NoMore}
 use Rattle.command_words.specs.Calls.{Turns}
 use Rattle.commands.proofs.Outcomes.{failed}
 use Rattle.network_jobs.proofs.turns.make_report.Goals as goal
 
 pub returns-in_err-scene : goal.returns-in_err-scene
-returns-in_err-scene g c = failed (Turns c.args.net.now c.args.arr.now) _ _ c.from_residual.result _ (c.in_err-scene.ensures.refused (λ network. NoMore)) c.from_residual.ensures.1
+returns-in_err-scene g c = failed (Turns c.args.net.now c.args.arr.now) _ _ c.from_residual.result _ c.in_err-scene.ensures.refused c.from_residual.ensures.1
 
 pub returns : goal.returns
 returns g c = (
   c.in_ok-scene.ensures.ok,
   (
     (c.in_ok-scene.scene.network, (entering c.in_ok-scene.scene.arrivals, tt)),
-    (c.in_ok-scene.ensures.network, (c.in_ok-scene.ensures.arrivals, tt)),
+    c.in_ok-scene.ensures.texts,
     ((c.in_ok-text.ensures, λ against. against), λ what missing. missing),
   ),
 )
