@@ -87,7 +87,8 @@ fn play_rounds(
     let mut near = zeros(alloc, net.links() as usize)?;
     let mut calls = Vec::with_capacity(alloc, 4)?;
     let step = act_step(net);
-    for _round in 0..act_rounds(net) {
+    let rounds = act_rounds(net);
+    for _round in 0..rounds {
         sense_near(near.as_mut_slice(), net, world);
         renew_lines(alloc, net, world.now(), near.as_slice(), lines, &mut calls)?;
         world.advance(

@@ -17,7 +17,7 @@ sense_near-requires-clause-near c = ap length c.as_mut_slice.ensures.value ∙ c
 pub returns : goal.returns
 returns c =
     let l = c.loop-round in
-    let end : l._round ≡ act_rounds c.args.net.now = omega (arith, c.act_rounds.ensures.value) in
+    let end : l._round ≡ act_rounds c.args.net.now = omega (arith, c.act_rounds-rounds.ensures.value) in
     subst (λ r. HavePlayed c.args.net.now (arriving_of c.args.arrivals.now) r l.lines.items l.world) end l.invariant.played
 
 pub sense_near-requires-clause-world : goal.sense_near-requires-clause-world
@@ -46,9 +46,9 @@ advance-requires-clause-second c =
     let net = c.args.net.now in
     let renewed = c.renew_lines.new.lines.items in
     let are = subst (λ s. AreRenewed net c.as_slice.result.now s (length net.node_names) l.lines.items renewed) c.now.ensures c.in_ok-renew_lines.ensures in
-    let less = subst (λ r. l._round < r) c.act_rounds.ensures.value c.loop-round-test.true in
+    let less = subst (λ r. l._round < r) c.act_rounds-rounds.ensures.value c.loop-round-test.true in
     subst (λ s. l.world.second + s ≤ 18000) (sym c.act_step-step.ensures.value)
-    (room net c.act_rounds.ensures.network (arriving_of c.args.arrivals.now) l._round l.lines.items renewed c.as_slice.result.now l.world l.invariant.played are less)
+    (room net c.act_rounds-rounds.ensures.network (arriving_of c.args.arrivals.now) l._round l.lines.items renewed c.as_slice.result.now l.world l.invariant.played are less)
 
 pub advance-requires-clause-stands : goal.advance-requires-clause-stands
 advance-requires-clause-stands c =
@@ -58,7 +58,7 @@ advance-requires-clause-stands c =
     let renewed = c.renew_lines.new.lines.items in
     let are = subst (λ s. AreRenewed net c.as_slice.result.now s (length net.node_names) l.lines.items renewed) c.now.ensures c.in_ok-renew_lines.ensures in
     subst (λ (lines : List (List Green)). Stands net arriving (standing_by (line_in lines)) l.world) (sym c.as_slice-in-loop-round.ensures.value)
-    (renewed-stands net c.act_rounds.ensures.network arriving l._round l.lines.items renewed c.as_slice.result.now l.world l.invariant.played are)
+    (renewed-stands net c.act_rounds-rounds.ensures.network arriving l._round l.lines.items renewed c.as_slice.result.now l.world l.invariant.played are)
 
 pub loop-round-preserved : goal.loop-round-preserved
 loop-round-preserved c =
@@ -73,7 +73,7 @@ loop-round-preserved c =
     let sensed = subst (AreNear net (past_of net arriving (standing_by (line_in l.lines.items)) l.world.second) l.world.second) (sym (c.as_slice.ensures.value ∙ list)) (c.sense_near.ensures.near arriving (line_in l.lines.items) l.invariant.played.stands) in
     record {
       near = ap length list ∙ count;
-      played = more-played net c.act_rounds.ensures.network arriving l._round l.lines.items renewed near l.world l.invariant.played are sensed c.advance.new.self
+      played = more-played net c.act_rounds-rounds.ensures.network arriving l._round l.lines.items renewed near l.world l.invariant.played are sensed c.advance.new.self
           (c.advance.ensures.second ∙ ap (λ s. l.world.second + s) c.act_step-step.ensures.value)
           (subst (λ (lines : List (List Green)). Stands net arriving (standing_by (line_in lines)) c.advance.new.self) c.as_slice-in-loop-round.ensures.value c.advance.ensures.stands);
     }
