@@ -1,12 +1,13 @@
 """Commands over what the program `signal` reads and writes: python3 -m kolvunh COMMAND WORDS ..
 
     check-input NET ARR       what each junction has to carry, and what in the two files may make trouble
-    draw KIND FILES ..        greens as text; a street, queues or points as SVG
+    draw KIND FILES ..        greens as text; a street, queues or points as SVG; points as a table
     measures NET ARR REPORT   delay, level of service, queues, stops, split failures, arrivals on green: a table or CSV
     page NET ARR REPORT ..    a page for a browser: reports side by side, time and space, queues, splits, coordination
     summary NET ARR [REPORT]  a run in a dozen lines, in vehicles and seconds
     explain WORDS ..          calls the program by the words, and says of a refusal what is wrong and where
     sweep NET ARR ..          a network under several demands with several seeds
+    orders NET ARR ..         a network in many orders of its nodes, and from which delay to which they come
     to-sumo, from-sumo, sumo-loop, compare-sumo ..    beside SUMO: docs in tools/sumo/README.md
 
 Each says more with --help.
@@ -23,6 +24,7 @@ MODULES = {
     "page": "page",
     "summary": "summary",
     "sweep": "sweep",
+    "orders": "orders",
     "to-sumo": "sumo.to_sumo",
     "from-sumo": "sumo.from_sumo",
     "sumo-loop": "sumo.loop",
