@@ -4,13 +4,16 @@
     tools/draw.py street NET REPORT NODE=METRES NODE=METRES .. [--queues QUEUES] > street.svg
     tools/draw.py queues QUEUES [LINK ..] > queues.svg    # the longest six where no link is named
     tools/draw.py points POINTS [--across LABEL] [--up LABEL] > points.svg
+    tools/draw.py table POINTS [--of SERIES]              # a table in Markdown: a row for each series, a column for each x
 
 `street` is a time-space diagram: time to the right, the street upwards, in the order of its nodes. Beside each node is what
 its signal shows to the street, red or green: above its place to those who go up, below to those who go down. With the
 queues that the command `queues` writes the lines between are what the links carry, else the begin and the end of each
 green. `--from SECOND` and `--to SECOND` draw a window of time, `--title WORDS` has words above the picture, and `greens --ruler`
 the seconds in a line above. POINTS is a CSV with the header `series,x,y`; of points of one series with one x the mean is drawn,
-with a bar of one standard deviation to either side. Nothing here is proved.
+with a bar of one standard deviation to either side. `table` has the same as numbers; with `--of` it has besides by how many
+hundredths this series is below each other one, point by point in the order of the file: mean, standard deviation, and from where to
+where. Nothing here is proved.
 """
 
 import argparse
@@ -319,6 +322,36 @@ def draw_points(options: argparse.Namespace) -> str:
     return chart.svg()
 
 
+def spread_of(values: Sequence[float]) -> str:
+    """A mean with its standard deviation."""
+    return f"{statistics.mean(values):.1f} ± {statistics.stdev(values) if len(values) > 1 else 0:.1f}"
+
+
+def gains(name: str, points: dict[str, dict[float, list[float]]]) -> Iterable[tuple[str, dict[float, str]]]:
+    """By how many hundredths a series is below each other one at each x."""
+    if name not in points:
+        raise Fault(f"there is no series {quote(name)}; there are {', '.join(points)}")
+    for other in points:
+        if other != name:
+            cells = {}
+            for x in points[name].keys() & points[other].keys():
+                parts = [100 * (1 - y / of) for y, of in zip(points[name][x], points[other][x]) if of]
+                if parts:
+                    cells[x] = f"{spread_of(parts)} ({min(parts):.0f} to {max(parts):.0f})"
+            yield f"`{name}` below `{other}`, in 100", cells
+
+
+def table_of_points(options: argparse.Namespace) -> str:
+    """The mean of each series at each x with its spread, in Markdown."""
+    points = points_of(options.points)
+    places = sorted({x for of in points.values() for x in of})
+    rows = [(f"`{name}`", {x: spread_of(ys) for x, ys in of.items()}) for name, of in points.items()]
+    rows += gains(options.of, points) if options.of else ()
+    lines = [["", *(f"{x:g}" for x in places)], ["---"] * (1 + len(places))]
+    lines += [[name, *(cells.get(x, "") for x in places)] for name, cells in rows]
+    return "\n".join("| " + " | ".join(cells) + " |" for cells in lines)
+
+
 def parser_of() -> Words:
     """The words of each kind of picture."""
     parser = Words(__doc__)
@@ -328,6 +361,7 @@ def parser_of() -> Words:
         ("street", draw_street, ("network", "report")),
         ("queues", draw_queues, ("queues",)),
         ("points", draw_points, ("points",)),
+        ("table", table_of_points, ("points",)),
     ):
         kind = kinds.add_parser(name)
         kind.set_defaults(draw=draw)
@@ -335,9 +369,9 @@ def parser_of() -> Words:
             kind.add_argument(word)
         if name == "greens":
             kind.add_argument("--ruler", action="store_true", help="the seconds in a line above")
-        else:
+        elif name != "table":
             kind.add_argument("--title", default="", help="words above the picture")
-        if name != "points":
+        if name not in ("points", "table"):
             kind.add_argument("--from", dest="begin", type=int, default=0, metavar="SECOND", help="where the window begins")
             kind.add_argument("--to", dest="end", type=int, metavar="SECOND", help="up to where it goes")
         if name == "street":
@@ -348,6 +382,8 @@ def parser_of() -> Words:
         if name == "points":
             kind.add_argument("--across", default="x")
             kind.add_argument("--up", default="y")
+        if name == "table":
+            kind.add_argument("--of", metavar="SERIES", help="which one is set against each other")
     return parser
 
 

@@ -1,19 +1,24 @@
 """Runs a network under several demands with several seeds, and writes the delay of each run as a point of a CSV.
 
-    tools/sweep.py NET ARR [--demands X ..] [--seeds N] [--commands WORD ..] [--jobs N] [--part K/N] > points.csv
+    tools/sweep.py NET ARR [--demands X ..] [--seeds N] [--series NAME ..] [--jobs N] [--part K/N] > points.csv
 
 For each demand and seed vehicles are drawn: a link that ARR brings vehicles to gets one in each second with the probability
-that ARR has on the average, times the demand. Each run is a process of the program, `turns` or `actuate`, on files of its
-own. The CSV has the header `series,x,y`: command, demand, and delay in seconds for each vehicle that entered; tools/draw.py
-draws it. With --part only each Nth run, from the Kth (from 0) on, is done, and only the first part writes the header: so N
-processes or machines share the work, and their outputs, one after another, are the whole. Nothing here is proved.
+that ARR has on the average, times the demand. Each run is a process of the program, on files of its own. A series is `turns`
+or `actuate`, or an order of tools/orders.py by which `replay` runs the nodes: `backward`, `together`, or `random`, drawn by
+the seed. Keys of the file's [run] may follow, as `actuate:act_step=1,gap=3`; a key without a value, as `turns:hold=`, is left
+out. The CSV has the header `series,x,y`: series, demand, and delay in seconds for each vehicle that entered; tools/draw.py
+draws it, and makes a table of it. With --part only each Nth run, from the Kth (from 0) on, is done, and only the first part
+writes the header: so N processes or machines share the work, and their outputs, one after another, are the whole. Nothing
+here is proved.
 """
 
 import argparse
+import csv
 import itertools
 import os
 import random
 import shlex
+import sys
 import tempfile
 from collections import Counter
 from collections.abc import Sequence
@@ -25,9 +30,11 @@ from .arrivals import VEHICLE, Arrival, arrivals_text, read_arrivals, require_li
 from .commands import Words, end
 from .faults import Fault
 from .networks import read_network
+from .orders import BACKWARD, RANDOM, TOGETHER, history_text
 from .programs import built_program_words, run
 
 SECONDS = 18_000  # a second of an arrival is below this
+COMMANDS = ("turns", "actuate", BACKWARD, TOGETHER, RANDOM)
 
 
 def rates_of(arrivals: Sequence[Arrival]) -> tuple[dict[str, float], int]:
@@ -50,15 +57,38 @@ def draw_arrivals(rates: dict[str, float], seconds: int, demand: float, seed: in
     return arrivals_text(drawn)
 
 
+def keys_of(series: str) -> dict[str, str]:
+    """The keys of [run] that a series sets."""
+    _, _, words = series.partition(":")
+    return {key: value for key, _, value in (word.partition("=") for word in words.split(",") if word)}
+
+
+def network_text(text: str, keys: dict[str, str]) -> str:
+    """The text of a network file with these keys of its [run], and those of its own that have other names."""
+    lines = text.splitlines()
+    begin = next((at for at, line in enumerate(lines, 1) if line.strip().startswith("[run]")), None)
+    if begin is None:
+        raise Fault("no line of the network is [run], so none of its keys can be set")
+    end = next((at for at, line in enumerate(lines[begin:], begin) if line.startswith("[")), len(lines))
+    kept = [line for line in lines[begin:end] if line.partition("=")[0].strip() not in keys]
+    return "\n".join([*lines[:begin], *(f"{key} = {value}" for key, value in keys.items() if value), *kept, *lines[end:], ""])
+
+
 def delay(options: argparse.Namespace, rates: dict[str, float], seconds: int, task: tuple[float, int, str]) -> float:
     """The delay in seconds for each vehicle that entered in one run."""
-    demand, seed, command = task
+    demand, seed, series = task
+    command = series.partition(":")[0]
     with tempfile.TemporaryDirectory() as place:
-        arrivals = Path(place) / "arrivals.csv"
+        network, arrivals, history = (Path(place) / name for name in ("network.toml", "arrivals.csv", "history.csv"))
+        network.write_text(network_text(options.network.read_text(), keys_of(series)))
         arrivals.write_text(draw_arrivals(rates, seconds, demand, seed))
-        answer = run([command, options.network, arrivals], options.program)
+        words = [command, network, arrivals]
+        if command in (BACKWARD, TOGETHER, RANDOM):
+            history.write_text(history_text(read_network(network), command, seed))
+            words = ["replay", network, arrivals, history]
+        answer = run(words, options.program)
     if answer.status:
-        raise Fault(f"{command} at {demand} with seed {seed}: {answer.refusal}{''.join(f'; {line}' for line in answer.explanation)}")
+        raise Fault(f"{series} at {demand} with seed {seed}: {answer.refusal}{''.join(f'; {line}' for line in answer.explanation)}")
     totals = answer.records.totals
     return totals.delay / max(1, totals.entered)
 
@@ -70,13 +100,16 @@ def options_of() -> argparse.Namespace:
     parser.add_argument("arrivals", type=Path)
     parser.add_argument("--demands", type=float, nargs="+", default=[0.4, 0.6, 0.8, 1.0])
     parser.add_argument("--seeds", type=int, default=10)
-    parser.add_argument("--commands", nargs="+", choices=("turns", "actuate"), default=["turns", "actuate"])
+    parser.add_argument("--series", nargs="+", default=["turns", "actuate"], metavar="NAME")
     parser.add_argument("--program", type=shlex.split, help="its words before the command; the built program if left out")
     parser.add_argument("--jobs", type=int, default=os.cpu_count())
     parser.add_argument("--part", default="0/1", metavar="K/N")
     options = parser.parse_args()
     if options.jobs < 1 or options.seeds < 1 or min(options.demands) < 0:
         parser.error("--jobs and --seeds are above 0, and no demand is below it")
+    for series in options.series:
+        if series.partition(":")[0] not in COMMANDS or not all(keys_of(series)):
+            parser.error(f"{series} is no series: it begins with one of {', '.join(COMMANDS)}, and a key=value may follow after a colon")
     return options
 
 
@@ -95,14 +128,16 @@ def work() -> None:
     options.program = options.program or built_program_words()
     arrivals = read_arrivals(options.arrivals)
     require_links(read_network(options.network), options.arrivals, arrivals)
-    tasks = list(itertools.product(options.demands, range(1, options.seeds + 1), options.commands))[part::parts]
+    tasks = list(itertools.product(options.demands, range(1, options.seeds + 1), options.series))[part::parts]
     with ThreadPoolExecutor(options.jobs) as pool:
         delays = pool.map(partial(delay, options, *rates_of(arrivals)), tasks)
         if part == 0:
             print("series,x,y")
         try:
-            for (demand, _, command), seconds in zip(tasks, delays):
-                print(f"{command},{demand},{seconds:.3f}", flush=True)
+            rows = csv.writer(sys.stdout, lineterminator="\n")
+            for (demand, _, series), seconds in zip(tasks, delays):
+                rows.writerow([series, demand, f"{seconds:.3f}"])
+                sys.stdout.flush()
         except BaseException:
             pool.shutdown(cancel_futures=True)
             raise
