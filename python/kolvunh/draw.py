@@ -12,8 +12,8 @@ queues that the command `queues` writes the lines between are what the links car
 green. `--from SECOND` and `--to SECOND` draw a window of time, `--title WORDS` has words above the picture, and `greens --ruler`
 the seconds in a line above. POINTS is a CSV with the header `series,x,y`; of points of one series with one x the mean is drawn,
 with a bar of one standard deviation to either side. `table` has the same as numbers; with `--of` it has besides by how many
-hundredths this series is below each other one, point by point in the order of the file: mean, standard deviation, and from where to
-where. Nothing here is proved.
+hundredths this series is below each other one, point by point in the order of the file: mean, standard deviation, from where to where,
+and at how many points it is above. Nothing here is proved.
 """
 
 import argparse
@@ -337,7 +337,8 @@ def gains(name: str, points: dict[str, dict[float, list[float]]]) -> Iterable[tu
             for x in points[name].keys() & points[other].keys():
                 parts = [100 * (1 - y / of) for y, of in zip(points[name][x], points[other][x]) if of]
                 if parts:
-                    cells[x] = f"{spread_of(parts)} ({min(parts):.0f} to {max(parts):.0f})"
+                    above = sum(part < 0 for part in parts)
+                    cells[x] = f"{spread_of(parts)} ({min(parts):.0f} to {max(parts):.0f}), {above} of {len(parts)} above"
             yield f"`{name}` below `{other}`, in 100", cells
 
 

@@ -18,7 +18,7 @@ class SweepTest(CalledTest):
         table = draw.parser_of().parse_args(["table", str(self.file(said, "points.csv")), "--of", "turns"])
         lines = table.draw(table).splitlines()
         self.assertEqual(lines[2:4], ["| `turns` | 1.0 ± 0.0 |", "| `backward` | 2.0 ± 0.0 |"])
-        self.assertEqual(lines[5], "| `turns` below `backward`, in 100 | 50.0 ± 0.0 (50 to 50) |")
+        self.assertEqual(lines[5], "| `turns` below `backward`, in 100 | 50.0 ± 0.0 (50 to 50), 0 of 2 above |")
 
 
 class KeysTest(unittest.TestCase):
