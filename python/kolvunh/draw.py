@@ -338,7 +338,7 @@ def gains(name: str, points: dict[str, dict[float, list[float]]]) -> Iterable[tu
                 parts = [100 * (1 - y / of) for y, of in zip(points[name][x], points[other][x]) if of]
                 if parts:
                     above = sum(part < 0 for part in parts)
-                    cells[x] = f"{spread_of(parts)} ({min(parts):.0f} to {max(parts):.0f}), {above} of {len(parts)} above"
+                    cells[x] = f"{spread_of(parts)} ({round(min(parts))} to {round(max(parts))}), {above} of {len(parts)} above"
             yield f"`{name}` below `{other}`, in 100", cells
 
 
