@@ -5,18 +5,19 @@ use Rattle.std.proofs.lemmas.Nat.{div-add-mod', mul-le}
 use Rattle.std.proofs.Math.Nat.{mod-eq_of_lt, mod_self, mul-le-mul_right, mul_assoc}
 use Rattle.net_parts.specs.Bounds.{IsActStep}
 use Rattle.net_parts.specs.Numbers.{Net}
-use Rattle.net_simulator.specs.Sums.{end_of_run}
 use Rattle.road_net.specs.Network.{IsNetwork}
 use Rattle.actuated.specs.ActSteps.{AreActRounds, act_rounds, act_step}
 
 -- rounds of a step that divides the seconds of a round
 divided : (rounds step act : ℕ) → 1 ≤ step → step % act ≡ 0 → (act ≤ step) × (rounds * (step / act) * act ≡ rounds * step)
 divided rounds step act some whole =
-    let parts : step / act * act ≡ step = omega (arith, div-add-mod' step act, whole) in
-    (elim (cases_lt step act) [
-      | inl less ↦ absurd (omega (arith, mod-eq_of_lt {n = step} {m = act} less, whole, some))
-      | inr not ↦ omega (arith, not)
-    ], mul_assoc rounds (step / act) act ∙ ap (λ n. rounds * n) parts)
+    let parts : step / act * act ≡ step = omega (arith, div-add-mod' step act, whole) in (
+      elim (cases_lt step act) [
+        | inl less ↦ absurd (omega (arith, mod-eq_of_lt {n = step} {m = act} less, whole, some))
+        | inr not ↦ omega (arith, not)
+      ],
+      mul_assoc rounds (step / act) act ∙ ap (λ n. rounds * n) parts,
+    )
 
 -- the step that a run has for actuated control, or else its own
 some-step : (step : ℕ) (act : Option ℕ) → 1 ≤ step → IfSome act (IsActStep step) → 1 ≤ unwrap_or act step
