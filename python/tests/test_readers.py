@@ -121,7 +121,7 @@ class NetworksTest(FilesTest):
         self.assertEqual([phase.skip for phase in network.nodes[0].phases], [False, True, False])
         self.assertEqual(network.link_named("bus_in").weight, 5)
         run = read_network(worked.EXAMPLES / "corridor.toml").run
-        self.assertEqual((run.split, run.age, run.hold, run.act_step), (True, 20, 2, None))
+        self.assertEqual((run.split, run.age, run.hold, run.act_step), (True, 20, 2, 1))
         text = worked.NETWORK.replace("rounds = 4\n", "rounds = 4\nact_step = 1\n")
         self.assertEqual(read_network(self.file(text)).run.act_step, 1)
 
