@@ -7,7 +7,7 @@ use std::sync::atomic::{AtomicU64, Ordering};
 use std::thread::Threads;
 
 /// How often a node that reads looks out for the other one, before it goes on without it.
-const LOOKS_OUT: u32 = 200_000_000;
+const LOOKS_OUT: u32 = 600_000_000;
 
 /// A gate for two nodes, each with the link that it reads. Inside its reading of that link each looks out for the other node inside
 /// its own in the same round, while both hold a turn. Where the other one does not come in some time, it goes on: a miss.
