@@ -1,7 +1,7 @@
 -- The walk over the records of a text.
 use Rattle.std.proofs.Common.{◌≡◌, ℕ, ◌+◌, ◌<◌, ◌≤◌, ◌^◌, Bool, true, List, [], ◌∷◌, ◌++◌, length, refl, sym, ap, ◌∙◌, inr, arith, append_assoc, append-nil, length-append}
 use Rattle.std.specs.declared.alloc.AllocError.{AllocError}
-use Rattle.record_text.specs.Faults.{HasAfterHeader, IsFirstFault}
+use Rattle.record_text.specs.Faults.{HasAfterHeader}
 use Rattle.record_text.specs.Walks.{AreCounted, AreTakenIf, IsFaultAmong, OrMemory}
 
 -- the records after the header that were taken, with their number, and those that are left
@@ -50,17 +50,6 @@ module _ {X S : Type 0} (header : X) (has_taken : List X → S → Type 0) (all 
 -- all records after the header were taken
 pub taken-after : {X S : Type 0} (header : X) (has_taken : List X → S → Type 0) (all : List X) (taker : S) (found : Bool) → found ≡ true → AreTakenIf header has_taken all taker found → HasAfterHeader header all (λ records. has_taken records taker)
 taken-after header has_taken all taker found yes_is taken = rw yes_is at taken
-
--- the first fault, where what was taken is said by another state
-pub fault-after : {X S T F : Type 0} {header : X} {has_taken : List X → S → Type 0} {all : List X} {fault : F} (at_fault : S → X → ℕ → F → Type 0) (read_as : List X → T → Type 0) (faulty : T → X → Type 0) (n : ℕ)
-    (stop : HasAfterHeader header all (IsFaultAmong has_taken at_fault fault)) (so_far : T) → n ≡ stop.after.0 → read_as stop.after.1.before so_far → faulty so_far stop.after.1.here
-    → HasAfterHeader header all (λ records. IsFirstFault read_as records n faulty)
-fault-after at_fault read_as faulty n stop so_far same reads is =
-    let (number, first) = stop.after in record {
-      records = stop.records;
-      are = stop.are;
-      after = record { before = first.before; here = first.here; after = first.after; are = first.are; counted = same ∙ first.counted; so_far = so_far; reads = reads; faulty = is };
-    }
 
 -- records that are few are counted
 pub counted-few : {X S : Type 0} (has_taken : List X → S → Type 0) (all : List X) → length all ≤ 2 ^ 32 → AreCounted has_taken all
