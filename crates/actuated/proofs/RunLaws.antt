@@ -29,8 +29,7 @@ use Rattle.audit.specs.declared.line_runs.LineRun.{LineRun}
 use Rattle.actuated.proofs.ActStepLaws.{act-rounds, begins-by, one-round, time-for}
 use Rattle.actuated.proofs.Acting.{more-acted, none-acted, same-before}
 use Rattle.actuated.proofs.LineLaws.{first-is-line, next-keeps}
-use Rattle.arrivals.specs.Amounts.{Amounts, AreArrivals}
-use Rattle.net_simulator.specs.Arriving.{arriving_of}
+use Rattle.arrivals.specs.Amounts.{Amounts, AreArrivals, arriving_of}
 
 -- ---- the rounds
 

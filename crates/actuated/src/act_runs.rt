@@ -1,9 +1,8 @@
 //! The run of a network under actuated control.
 
 ghost use Rattle.std.specs.Prelude.{◌≡◌, ℕ, IfOk, OnOk};
-ghost use Rattle.arrivals.specs.Amounts.{AreArrivals};
+ghost use Rattle.arrivals.specs.Amounts.{AreArrivals, arriving_of};
 ghost use Rattle.audit.specs.Audits.{AreLawful, IsClean};
-ghost use Rattle.net_simulator.specs.Arriving.{arriving_of};
 ghost use Rattle.net_simulator.specs.Counts.{IsBalanced};
 ghost use Rattle.net_simulator.specs.Worlds.{line_in};
 ghost use Rattle.signal_safety.specs.Safe.{IsSafe};

@@ -11,11 +11,11 @@ use Rattle.std.proofs.lemmas.List.Folds.{sum_by-replicate}
 use Rattle.std.proofs.lemmas.List.Sums.{sum_by-append, sum_by-cons, sum_by-set}
 use Rattle.net_parts.specs.Numbers.{Net}
 use Rattle.arrivals.specs.declared.rows.ArrivalRow.{ArrivalRow}
-use Rattle.arrivals.specs.Amounts.{Amounts, place, entering, KeepsSources, AreArrivals}
+use Rattle.arrivals.specs.Amounts.{Amounts, place, arriving_of, KeepsSources, AreArrivals}
 use Rattle.net_parts.specs.Limits.{most_of_all, most_seconds}
-use Rattle.arrivals.specs.Rows.{IsSource, IsRow, amount_of, is_at, entering_by}
+use Rattle.arrivals.specs.Rows.{IsSource, IsRow, amount_of, is_at, arriving_by}
 use Rattle.arrivals.specs.Stored.{IsStored, IsTally, added, amounts_to, reaching}
-use Rattle.arrivals.proofs.SumLaws.{entering-within, entering-beyond, entering-most, few}
+use Rattle.arrivals.proofs.SumLaws.{arriving-within, arriving-beyond, arriving-most, few}
 
 -- no rows
 pub tally-none : (net : Net) (a : Amounts) → a.amounts ≡ [] → KeepsSources net a.first a.width → IsTally net [] a
@@ -23,7 +23,7 @@ tally-none net a none kept = record {
   of_rows = record {
     lawful = record { each = All-nil (IsRow net); few = omega arith };
     kept = kept;
-    sums = λ l x. omega (arith, entering-most a l x, ap (λ amounts. get_or amounts (place a l x) 0) none);
+    sums = λ l x. omega (arith, arriving-most a l x, ap (λ amounts. get_or amounts (place a l x) 0) none);
   };
   whole = ap sum none;
 }
@@ -49,8 +49,8 @@ brings-else r l x other =
     (λ e. refl)
 
 -- the sum of the rows with one more
-entering_by-more : (rows : List ArrivalRow) (r : ArrivalRow) (l x : ℕ) → entering_by (rows ++ r ∷ []) l x ≡ entering_by rows l x + brings r l x
-entering_by-more rows r l x = ap (sum_by amount_of) (filter-append (is_at l x) rows (r ∷ [])) ∙ sum_by-append amount_of (filter (is_at l x) rows) (filter (is_at l x) (r ∷ []))
+arriving_by-more : (rows : List ArrivalRow) (r : ArrivalRow) (l x : ℕ) → arriving_by (rows ++ r ∷ []) x l ≡ arriving_by rows x l + brings r l x
+arriving_by-more rows r l x = ap (sum_by amount_of) (filter-append (is_at l x) rows (r ∷ [])) ∙ sum_by-append amount_of (filter (is_at l x) rows) (filter (is_at l x) (r ∷ []))
 
 -- zeros after a list change neither what stands in a place nor the sum
 get_or-reaching : (xs : List ℕ) (count k : ℕ) → get_or (reaching xs count) k 0 ≡ get_or xs k 0
@@ -75,10 +75,10 @@ module _ (a : Amounts) (r : ArrivalRow) (low : a.first ≤ r.link) (high : r.lin
   inside : place a r.link r.second < length (amounts_to a r.second)
   inside = omega (arith, mul-add-lt r.second a.width (r.link - a.first) (r.second + 1) (omega arith) (omega arith), length-reaching a.amounts ((r.second + 1) * a.width))
 
-  entering-here : entering (added a r) r.link r.second ≡ entering a r.link r.second + r.amount
-  entering-here =
-      let new = entering-within (added a r) r.link r.second low high second in
-      let old = entering-within a r.link r.second low high second in
+  arriving-here : arriving_of (added a r) r.second r.link ≡ arriving_of a r.second r.link + r.amount
+  arriving-here =
+      let new = arriving-within (added a r) r.link r.second low high second in
+      let old = arriving-within a r.link r.second low high second in
       new ∙ get_or-set_same (amounts_to a r.second) (place a r.link r.second) (get_or a.amounts (place a r.link r.second) 0 + r.amount) 0 inside ∙ ap (λ n. n + r.amount) (sym old)
 
   apart : (l x : ℕ) → a.first ≤ l → l < a.first + a.width → (r.link ≡ l → r.second ≡ x → ⊥) → place a l x ≢ place a r.link r.second
@@ -86,32 +86,32 @@ module _ (a : Amounts) (r : ArrivalRow) (low : a.first ≤ r.link) (high : r.lin
       let both = same_from_place x (l - a.first) r.second (r.link - a.first) a.width (omega arith) (omega arith) same in
       other (omega (arith, both.1)) (sym both.0)
 
-  entering-other : (l x : ℕ) → (r.link ≡ l → r.second ≡ x → ⊥) → entering (added a r) l x ≡ entering a l x
-  entering-other l x other = elim (cases_lt l a.first) [
+  arriving-other : (l x : ℕ) → (r.link ≡ l → r.second ≡ x → ⊥) → arriving_of (added a r) x l ≡ arriving_of a x l
+  arriving-other l x other = elim (cases_lt l a.first) [
     | inl less ↦ none (λ first below late. omega (arith, first, less))
     | inr first ↦ elim (cases_lt l (a.first + a.width)) [
       | inl below ↦ elim (cases_lt x most_seconds) [
         | inl now ↦
-            entering-within (added a r) l x first below now
+            arriving-within (added a r) l x first below now
             ∙ get_or-set_other (amounts_to a r.second) (place a r.link r.second) (place a l x) (get_or a.amounts (place a r.link r.second) 0 + r.amount) 0 (apart l x first below other)
             ∙ get_or-reaching a.amounts ((r.second + 1) * a.width) (place a l x)
-            ∙ sym (entering-within a l x first below now)
+            ∙ sym (arriving-within a l x first below now)
         | inr later ↦ none (λ first below early. omega (arith, early, later))
       ]
       | inr past ↦ none (λ first below late. omega (arith, below, past))
     ]
   ]
     where
-      none : (a.first ≤ l → l < a.first + a.width → x < most_seconds → ⊥) → entering (added a r) l x ≡ entering a l x
-      none out = entering-beyond (added a r) l x out ∙ sym (entering-beyond a l x out)
+      none : (a.first ≤ l → l < a.first + a.width → x < most_seconds → ⊥) → arriving_of (added a r) x l ≡ arriving_of a x l
+      none out = arriving-beyond (added a r) l x out ∙ sym (arriving-beyond a l x out)
 
-  entering-added : (l x : ℕ) → entering (added a r) l x ≡ entering a l x + brings r l x
-  entering-added l x = elim (eqb_tells r.link l) [
+  arriving-added : (l x : ℕ) → arriving_of (added a r) x l ≡ arriving_of a x l + brings r l x
+  arriving-added l x = elim (eqb_tells r.link l) [
     | inl p ↦ elim (eqb_tells r.second x) [
-      | inl q ↦ subst (λ l. entering (added a r) l x ≡ entering a l x + brings r l x) p.1 (subst (λ x. entering (added a r) r.link x ≡ entering a r.link x + brings r r.link x) q.1 (omega (arith, entering-here, brings-here r r.link r.second refl refl)))
-      | inr q ↦ omega (arith, entering-other l x (λ h g. q.1 g), brings-else r l x (λ h g. q.1 g))
+      | inl q ↦ subst (λ l. arriving_of (added a r) x l ≡ arriving_of a x l + brings r l x) p.1 (subst (λ x. arriving_of (added a r) x r.link ≡ arriving_of a x r.link + brings r r.link x) q.1 (omega (arith, arriving-here, brings-here r r.link r.second refl refl)))
+      | inr q ↦ omega (arith, arriving-other l x (λ h g. q.1 g), brings-else r l x (λ h g. q.1 g))
     ]
-    | inr p ↦ omega (arith, entering-other l x (λ h g. p.1 h), brings-else r l x (λ h g. p.1 h))
+    | inr p ↦ omega (arith, arriving-other l x (λ h g. p.1 h), brings-else r l x (λ h g. p.1 h))
   ]
 
   sum-added : sum (added a r).amounts ≡ sum a.amounts + r.amount
@@ -148,13 +148,13 @@ tally-more net rows a b r tally is same few =
       of_rows = record {
         lawful = record { each = All-append (IsRow net) rows (r ∷ []) tally.of_rows.lawful.each (one-row (IsRow net) r is); few = omega (arith, rows_more, tally.whole, few) };
         kept = tally.of_rows.kept;
-        sums = λ l x. omega (arith, entering-added a r low high second l x, entering_by-more rows r l x, tally.of_rows.sums l x);
+        sums = λ l x. omega (arith, arriving-added a r low high second l x, arriving_by-more rows r l x, tally.of_rows.sums l x);
       };
       whole = omega (arith, sum-added a r low high second, rows_more, tally.whole);
     })
 
 -- where something enters, there is a row
-source-there : (net : Net) (rows : List ArrivalRow) (l x : ℕ) → All (IsRow net) rows → 0 < entering_by rows l x → IsSource net l
+source-there : (net : Net) (rows : List ArrivalRow) (l x : ℕ) → All (IsRow net) rows → 0 < arriving_by rows x l → IsSource net l
 source-there net [] l x are some = absurd (omega arith)
 source-there net (r ∷ rs) l x are some =
     cond_both (is_at l x r) (r ∷ filter (is_at l x) rs) (filter (is_at l x) rs) (λ picked. 0 < sum_by amount_of picked → IsSource net l)

@@ -4,7 +4,7 @@ use Rattle.net_parts.specs.Numbers.{Net}
 use Rattle.road_net.specs.Totals.{total}
 use Rattle.arrivals.specs.declared.rows.ArrivalRow.{ArrivalRow}
 use Rattle.net_parts.specs.Limits.{most_of_all, most_seconds}
-use Rattle.arrivals.specs.Rows.{IsSource, AreRows, entering_by}
+use Rattle.arrivals.specs.Rows.{IsSource, AreRows, arriving_by}
 
 -- The links that are kept, `width` ones from the first on, and their amounts in the first seconds, second by second. Nothing
 -- enters after these seconds, and no other link is entered.
@@ -22,8 +22,8 @@ abbrev pub place : Amounts → ℕ → ℕ → ℕ
 place a link second = second * a.width + (link - a.first)
 
 -- what enters a link in a second; nothing where the link is not kept, and nothing after the amounts or the last second
-abbrev pub entering : Amounts → ℕ → ℕ → ℕ
-entering a link second = if is_kept a link && nat_lt second most_seconds then slice_index_or a.amounts (place a link second) 0 else 0
+abbrev pub arriving_of : Amounts → ℕ → ℕ → ℕ
+arriving_of a second link = if is_kept a link && nat_lt second most_seconds then slice_index_or a.amounts (place a link second) 0 else 0
 
 -- Each source of the network is one of these links, and the first and the last of them are sources.
 pub record KeepsSources (net : Net) (first width : ℕ) : Type 0 where
@@ -36,10 +36,10 @@ pub record KeepsSources (net : Net) (first width : ℕ) : Type 0 where
 pub record AreArrivalsOf (net : Net) (rows : List ArrivalRow) (a : Amounts) : Type 0 where
   pub lawful : AreRows net rows
   pub kept : KeepsSources net a.first a.width
-  pub sums : (link second : ℕ) → entering a link second ≡ entering_by rows link second
+  pub sums : (link second : ℕ) → arriving_of a second link ≡ arriving_by rows second link
 
 -- Arrivals at a network: they enter links that come from no node alone, and all together are no more than they may be.
 pub record AreArrivals (net : Net) (a : Amounts) : Type 0 where
   pub links : a.first + a.width ≤ length net.link_names
-  pub sources : (link second : ℕ) → 0 < entering a link second → IsSource net link
-  pub few : (n : ℕ) → total (λ x. total (λ l. entering a l x) (length net.links)) n ≤ most_of_all
+  pub sources : (link second : ℕ) → 0 < arriving_of a second link → IsSource net link
+  pub few : (n : ℕ) → total (λ x. total (arriving_of a x) (length net.links)) n ≤ most_of_all

@@ -39,5 +39,5 @@ abbrev pub is_at : ℕ → ℕ → ArrivalRow → Bool
 is_at link second r = (r.link == link) && (r.second == second)
 
 -- what enters a link in a second: the sum of the rows with both
-abbrev pub entering_by : List ArrivalRow → ℕ → ℕ → ℕ
-entering_by rows link second = sum_by amount_of (filter (is_at link second) rows)
+abbrev pub arriving_by : List ArrivalRow → ℕ → ℕ → ℕ
+arriving_by rows second link = sum_by amount_of (filter (is_at link second) rows)

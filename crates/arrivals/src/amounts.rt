@@ -60,7 +60,7 @@ impl Arrivals {
     ghost use Rattle.net_parts.specs.Limits.{most_of_all, most_seconds};
     ghost use Rattle.road_net.specs.Network.{IsNetwork};
     ghost use Rattle.road_net.specs.Totals.{total};
-    ghost use Rattle.arrivals.specs.Amounts.{Amounts, entering, place, AreArrivals, AreArrivalsOf};
+    ghost use Rattle.arrivals.specs.Amounts.{Amounts, arriving_of, place, AreArrivals, AreArrivalsOf};
     ghost use Rattle.arrivals.specs.Faults.{IsRowFault};
     ghost use Rattle.arrivals.specs.Stored.{Adds};
 
@@ -98,8 +98,8 @@ impl Arrivals {
     ///
     /// docs/RULES.md, "Arrivals".
     pub fn entering(&self, link: u32, second: u32) -> u32
-        ensures value { result ≡ entering self.now link second }
-        ensures few { (n m : ℕ) → total (λ x. total (λ l. entering self.now l x) m) n ≤ most_of_all }
+        ensures value { result ≡ arriving_of self.now second link }
+        ensures few { (n m : ℕ) → total (λ x. total (arriving_of self.now x) m) n ≤ most_of_all }
     {
         if link < self.first || link - self.first >= self.width || second >= SECONDS {
             return 0;
@@ -124,8 +124,8 @@ impl Arrivals {
     pub fn in_second(&self, second: u32) -> &[u32]
         requires { second < most_seconds }
         ensures value { (link : ℕ) → self.now.first ≤ link
-            → slice_index_or result.now (link - self.now.first) 0 ≡ entering self.now link second }
-        ensures others { (link : ℕ) → link < self.now.first → entering self.now link second ≡ 0 }
+            → slice_index_or result.now (link - self.now.first) 0 ≡ arriving_of self.now second link }
+        ensures others { (link : ℕ) → link < self.now.first → arriving_of self.now second link ≡ 0 }
     {
         let width = self.width as usize;
         let amounts = self.amounts.as_slice();

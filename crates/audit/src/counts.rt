@@ -1,10 +1,9 @@
 //! What a sheet says of links and totals, against what the world shows under its lines.
 
 ghost use Rattle.std.specs.Prelude.{◌≡◌, ◌↔◌, ℕ, ◌<◌, IfNone, IfOk, IfSome, IsTrue, length};
-ghost use Rattle.arrivals.specs.Amounts.{AreArrivals};
+ghost use Rattle.arrivals.specs.Amounts.{AreArrivals, arriving_of};
 ghost use Rattle.audit.specs.Audits.{AreLawful, IfBad, IsClean, IsWhy};
 ghost use Rattle.foundation.specs.Firsts.{IsFirstWithout};
-ghost use Rattle.net_simulator.specs.Arriving.{arriving_of};
 ghost use Rattle.net_simulator.specs.Counts.{counts_at};
 
 use super::findings::{AuditWhy, Finding};

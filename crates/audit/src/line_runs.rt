@@ -2,9 +2,8 @@
 
 ghost use Rattle.std.specs.Prelude.{◌≡◌, IfOk, length, map};
 ghost use Rattle.std.specs.List.{range_with_len};
-ghost use Rattle.arrivals.specs.Amounts.{AreArrivals};
+ghost use Rattle.arrivals.specs.Amounts.{AreArrivals, arriving_of};
 ghost use Rattle.audit.specs.Audits.{AreLawful, IsClean};
-ghost use Rattle.net_simulator.specs.Arriving.{arriving_of};
 ghost use Rattle.net_simulator.specs.Counts.{IsBalanced, counts_at};
 ghost use Rattle.net_simulator.specs.Worlds.{line_in};
 ghost use Rattle.signal_safety.specs.Safe.{IsSafe};

@@ -1,7 +1,7 @@
 //! The command `audit NET ARR REPORT`.
 ghost use Rattle.std.specs.Prelude.{◌≡◌, ◌∷◌, ◌++◌, ◌<◌, ◌^◌, ℕ, List, All, IfOk, OnOk, length};
 ghost use Rattle.std.specs.Fmt.{decimal};
-ghost use Rattle.arrivals.specs.Amounts.{AreArrivals, entering};
+ghost use Rattle.arrivals.specs.Amounts.{AreArrivals, arriving_of};
 ghost use Rattle.net_parts.specs.Outline.{node_name_at};
 ghost use Rattle.audit.specs.SheetTexts.{HasShape};
 ghost use Rattle.command_words.specs.Calls.{Audit};
@@ -78,7 +78,7 @@ fn verdict(
     requires shape { HasShape net.now sheet }
     requires rows { All (λ rows. length rows < 2 ^ 32) sheet.lines }
     ensures { (file arr report : List ℕ) → IfOk result (λ made.
-        IsMadeOf (Audit file arr report) made (net.now, (entering arrivals.now, (sheet, tt)))) }
+        IsMadeOf (Audit file arr report) made (net.now, (arriving_of arrivals.now, (sheet, tt)))) }
 {
     match audit(alloc, net, arrivals, sheet)? {
         Finding::Clean => {

@@ -1,6 +1,6 @@
 //! The command `queues NET ARR REPORT`.
 ghost use Rattle.std.specs.Prelude.{◌≡◌, ◌<◌, ◌^◌, List, ℕ, All, IfOk, length};
-ghost use Rattle.arrivals.specs.Amounts.{AreArrivals, entering};
+ghost use Rattle.arrivals.specs.Amounts.{AreArrivals, arriving_of};
 ghost use Rattle.audit.specs.SheetTexts.{HasShape};
 ghost use Rattle.command_words.specs.Calls.{Queues};
 ghost use Rattle.commands.specs.Ending.{IsMadeOf, Makes};
@@ -27,7 +27,7 @@ fn queues(
     requires shape { HasShape net.now sheet }
     requires rows { All (λ rows. length rows < 2 ^ 32) sheet.lines }
     ensures { (file arr report : List ℕ) → IfOk result (λ made.
-        IsMadeOf (Queues file arr report) made (net.now, (entering arrivals.now, (sheet, tt)))) }
+        IsMadeOf (Queues file arr report) made (net.now, (arriving_of arrivals.now, (sheet, tt)))) }
 {
     match audit_lines(alloc, net, arrivals, sheet)? {
         Audited::Clean(lines) => {

@@ -15,10 +15,10 @@ use Rattle.runs.specs.Complete.{IsComplete, rounds_and_nodes}
 use Rattle.runs.specs.declared.records.RunRecord.{RunRecord}
 
 -- every run that is kept is whole
-pub all_whole : {E : Type 0} (net : Net) (enters : ℕ → ℕ → ℕ) (history : List ℕ) (result : Result RunRecord E) → ((run : RunRecord) → IsRun net enters history run → IsComplete net run)
-    → IfOk result (IsKeptRun net enters history) → IfOk result (IsComplete net)
-all_whole net enters history (Ok run) whole kept = whole run kept.run
-all_whole net enters history (Err e) whole kept = tt
+pub all_whole : {E : Type 0} (net : Net) (arriving : ℕ → ℕ → ℕ) (history : List ℕ) (result : Result RunRecord E) → ((run : RunRecord) → IsRun net arriving history run → IsComplete net run)
+    → IfOk result (IsKeptRun net arriving history) → IfOk result (IsComplete net)
+all_whole net arriving history (Ok run) whole kept = whole run kept.run
+all_whole net arriving history (Err e) whole kept = tt
 
 -- a run of a network has few plans, since the network has few rounds and nodes
 few_pairs : (rounds nodes : ℕ) → length (rounds_and_nodes rounds nodes) ≤ rounds * nodes

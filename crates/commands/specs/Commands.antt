@@ -20,7 +20,6 @@ use Rattle.net_simulator.specs.Sums.{end_of_run}
 use Rattle.net_simulator.specs.Worlds.{line_in}
 use Rattle.queue_series.specs.Series.{IsSeries}
 use Rattle.net_file.specs.Upgrade.{IsUpgraded}
-use Rattle.runs.specs.Runs.{arriving_by}
 use Rattle.signal_safety.specs.Safe.{IsSafe}
 use Rattle.command_words.specs.Calls.{Actuate, Audit, Call, Certify, CertifyBound, CertifyPar, Check, Compare, CompareFixed, Decide, DecideNode, Fixed, Grid, Instance, Net, Plan, Queues, Replay, Scale, Spill, Turns, Upgrade}
 use Rattle.commands.specs.Answers.{answer_text}
@@ -94,28 +93,28 @@ IsTextOf (Spill net arr store) said bytes = IsSpillTable said.0 said.1.0 said.1.
 IsTextOf (Decide net state) said bytes = IsDecisionText said.0 said.1.0 bytes
 IsTextOf (DecideNode net state node) said bytes = IsNodeDecisionText said.0 said.1.0 node bytes
 IsTextOf (Audit net arr report) said bytes =
-    IsClean said.0 (arriving_by said.1.0) said.1.1.0 × IsSafe said.0 (line_in said.1.1.0.lines) × (bytes ≡ accepted_line)
+    IsClean said.0 said.1.0 said.1.1.0 × IsSafe said.0 (line_in said.1.1.0.lines) × (bytes ≡ accepted_line)
 IsTextOf (Queues net arr report) said bytes =
-    IsClean said.0 (arriving_by said.1.0) said.1.1.0 × IsSafe said.0 (line_in said.1.1.0.lines)
-    × IsSeries said.0 (past_under said.0 (arriving_by said.1.0) said.1.1.0.lines) (end_of_run said.0) bytes
+    IsClean said.0 said.1.0 said.1.1.0 × IsSafe said.0 (line_in said.1.1.0.lines)
+    × IsSeries said.0 (past_under said.0 said.1.0 said.1.1.0.lines) (end_of_run said.0) bytes
 IsTextOf (Grid number side rounds) said bytes = IsGridSummary number side rounds bytes
 IsTextOf (Upgrade net) said bytes = IsUpgraded bytes said.0
 
 -- the verdict of a command goes against its texts; only `check`, `audit` and `queues` judge
 abbrev pub IsAgainst : (call : Call) → AllSaid (texts_of call) → Type 0
 IsAgainst (Check file) said = ¬ Proves said.0
-IsAgainst (Audit net arr report) said = ¬ IsClean said.0 (arriving_by said.1.0) said.1.1.0
-IsAgainst (Queues net arr report) said = ¬ IsClean said.0 (arriving_by said.1.0) said.1.1.0
+IsAgainst (Audit net arr report) said = ¬ IsClean said.0 said.1.0 said.1.1.0
+IsAgainst (Queues net arr report) said = ¬ IsClean said.0 said.1.0 said.1.1.0
 IsAgainst _ said = ⊥
 
 -- what is written where the verdict goes against the texts
 abbrev pub IsRejectionOf : (call : Call) → AllSaid (texts_of call) → List ℕ → Type 0
 IsRejectionOf (Check file) said bytes = (why : Why) × (¬ Proves said.0) × IsWhy said.0 why × (bytes ≡ rejected_line why)
 IsRejectionOf (Audit net arr report) said bytes =
-    (why : AuditWhy) × (¬ IsClean said.0 (arriving_by said.1.0) said.1.1.0) × audits.IsWhy said.0 (arriving_by said.1.0) said.1.1.0 why
+    (why : AuditWhy) × (¬ IsClean said.0 said.1.0 said.1.1.0) × audits.IsWhy said.0 said.1.0 said.1.1.0 why
     × (bytes ≡ unclean_line said.0 why)
 IsRejectionOf (Queues net arr report) said bytes =
-    (why : AuditWhy) × (¬ IsClean said.0 (arriving_by said.1.0) said.1.1.0) × audits.IsWhy said.0 (arriving_by said.1.0) said.1.1.0 why
+    (why : AuditWhy) × (¬ IsClean said.0 said.1.0 said.1.1.0) × audits.IsWhy said.0 said.1.0 said.1.1.0 why
     × (bytes ≡ unclean_line said.0 why)
 IsRejectionOf _ said bytes = ⊥
 

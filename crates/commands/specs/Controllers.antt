@@ -15,7 +15,6 @@ use Rattle.audit.specs.LineReports.{line_text}
 use Rattle.net_parts.specs.Numbers.{Net}
 use Rattle.net_simulator.specs.Worlds.{line_in}
 use Rattle.net_simulator.specs.declared.totals.Totals.{Totals}
-use Rattle.runs.specs.Runs.{arriving_by}
 use Rattle.runs.specs.declared.records.RunRecord.{RunRecord}
 use Rattle.scaled_arrivals.specs.Scaling.{IsScaled, scaled_whole}
 use Rattle.audit.specs.SheetTexts.{HasShape}
@@ -26,37 +25,37 @@ use Rattle.commands.specs.Summary.{scale_line, totals_line}
 
 -- The run of a network under actuated control, where this enters each link in each second: all last lines are lawful, the network is
 -- safe under them, and in each second of the run they show the greens, with the same begin, by which the world moved.
-pub record IsActuatedRun (net : Net) (enters : ℕ → ℕ → ℕ) (record_of_run : LineRun) : Type 0 where
-  pub run : IsActRun net (arriving_by enters) record_of_run
+pub record IsActuatedRun (net : Net) (arriving : ℕ → ℕ → ℕ) (record_of_run : LineRun) : Type 0 where
+  pub run : IsActRun net arriving record_of_run
   pub lawful : AreLawful net record_of_run.timelines
   pub safe : IsSafe net (line_in record_of_run.timelines)
   pub greens : ShowsGreens net run.made record_of_run
 
 -- the bytes are the report of such a run, and an audit finds nothing in them
-pub record IsActuatedReport (net : Net) (enters : ℕ → ℕ → ℕ) (bytes : List ℕ) : Type 0 where
+pub record IsActuatedReport (net : Net) (arriving : ℕ → ℕ → ℕ) (bytes : List ℕ) : Type 0 where
   pub run : LineRun
-  pub runs : IsActuatedRun net enters run
+  pub runs : IsActuatedRun net arriving run
   pub report : bytes ≡ act_text net run
-  pub clean : IsCleanText net (arriving_by enters) bytes
+  pub clean : IsCleanText net arriving bytes
 
 -- these are the totals of the run of the turn order
-pub record ArePlannedTotals (net : Net) (enters : ℕ → ℕ → ℕ) (totals : Totals) : Type 0 where
+pub record ArePlannedTotals (net : Net) (arriving : ℕ → ℕ → ℕ) (totals : Totals) : Type 0 where
   pub run : RunRecord
-  pub runs : IsRunOf net enters (turn_order net) run
+  pub runs : IsRunOf net arriving (turn_order net) run
   pub are : totals ≡ run.totals
 
 -- these are the totals of the run under actuated control
-pub record AreActuatedTotals (net : Net) (enters : ℕ → ℕ → ℕ) (totals : Totals) : Type 0 where
+pub record AreActuatedTotals (net : Net) (arriving : ℕ → ℕ → ℕ) (totals : Totals) : Type 0 where
   pub run : LineRun
-  pub runs : IsActuatedRun net enters run
+  pub runs : IsActuatedRun net arriving run
   pub are : totals ≡ run.totals
 
 -- the bytes are two lines: what the run of the turn order has counted in all, and what that under actuated control has
-pub record IsComparison (net : Net) (enters : ℕ → ℕ → ℕ) (bytes : List ℕ) : Type 0 where
+pub record IsComparison (net : Net) (arriving : ℕ → ℕ → ℕ) (bytes : List ℕ) : Type 0 where
   pub of_plans : Totals
-  pub are_of_plans : ArePlannedTotals net enters of_plans
+  pub are_of_plans : ArePlannedTotals net arriving of_plans
   pub of_calls : Totals
-  pub are_of_calls : AreActuatedTotals net enters of_calls
+  pub are_of_calls : AreActuatedTotals net arriving of_calls
   pub lines : bytes ≡ totals_line (codes "planned") of_plans ++ totals_line (codes "actuated") of_calls
 
 -- ---- fixed plans
@@ -67,20 +66,20 @@ fixed_timelines net rows = map (fixed_line net rows) (range_with_len 0 (length n
 
 -- The bytes are the report of the timelines of a fixed plan and of what the world shows under them: they are lawful, the network is
 -- safe under them, and an audit finds nothing in the report.
-pub record IsFixedReport (net : Net) (enters : ℕ → ℕ → ℕ) (rows : List FixedRow) (bytes : List ℕ) : Type 0 where
+pub record IsFixedReport (net : Net) (arriving : ℕ → ℕ → ℕ) (rows : List FixedRow) (bytes : List ℕ) : Type 0 where
   pub sheet : Sheet
   pub lines : sheet.lines ≡ fixed_timelines net rows
   pub shape : HasShape net sheet
-  pub shows : IsClean net (arriving_by enters) sheet
+  pub shows : IsClean net arriving sheet
   pub safe : IsSafe net (line_in sheet.lines)
   pub report : bytes ≡ line_text net sheet
-  pub clean : IsCleanText net (arriving_by enters) bytes
+  pub clean : IsCleanText net arriving bytes
 
 -- the bytes are the lines of both runs, and a third: what the world has counted in all under the fixed plan
-pub record IsComparisonWith (net : Net) (enters : ℕ → ℕ → ℕ) (rows : List FixedRow) (bytes : List ℕ) : Type 0 where
+pub record IsComparisonWith (net : Net) (arriving : ℕ → ℕ → ℕ) (rows : List FixedRow) (bytes : List ℕ) : Type 0 where
   pub both : List ℕ
-  pub are_both : IsComparison net enters both
-  pub lines : bytes ≡ both ++ totals_line (codes "fixed") (all_shown net (arriving_by enters) (fixed_timelines net rows))
+  pub are_both : IsComparison net arriving both
+  pub lines : bytes ≡ both ++ totals_line (codes "fixed") (all_shown net arriving (fixed_timelines net rows))
 
 -- ---- scaled arrivals
 
@@ -89,9 +88,9 @@ abbrev pub factors : ℕ → ℕ → ℕ → List ℕ
 factors first last step = map (λ k. first + k * step) (range_with_len 0 ((last - first) / step + 1))
 
 -- the line of a factor: what both runs have counted in all where the arrivals are scaled by it
-pub record IsScaleLine (net : Net) (enters : ℕ → ℕ → ℕ) (factor : ℕ) (bytes : List ℕ) : Type 0 where
+pub record IsScaleLine (net : Net) (arriving : ℕ → ℕ → ℕ) (factor : ℕ) (bytes : List ℕ) : Type 0 where
   pub scaled : ℕ → ℕ → ℕ
-  pub is_scaled : IsScaled factor enters scaled
+  pub is_scaled : IsScaled factor arriving scaled
   pub of_plans : Totals
   pub are_of_plans : ArePlannedTotals net scaled of_plans
   pub of_calls : Totals
@@ -99,11 +98,11 @@ pub record IsScaleLine (net : Net) (enters : ℕ → ℕ → ℕ) (factor : ℕ)
   pub line : bytes ≡ scale_line factor of_plans of_calls
 
 -- the bytes are the lines of the factors, one after another
-pub record IsScaleTable (net : Net) (enters : ℕ → ℕ → ℕ) (first last step : ℕ) (bytes : List ℕ) : Type 0 where
+pub record IsScaleTable (net : Net) (arriving : ℕ → ℕ → ℕ) (first last step : ℕ) (bytes : List ℕ) : Type 0 where
   pub lines : List (List ℕ)
-  pub each : AllZip (IsScaleLine net enters) (factors first last step) lines
+  pub each : AllZip (IsScaleLine net arriving) (factors first last step) lines
   pub are : bytes ≡ concat lines
 
 -- scaled by one of the factors, the arrivals bring more than arrivals may
 abbrev pub BringTooMuch : Net → (ℕ → ℕ → ℕ) → List ℕ → Type 0
-BringTooMuch net enters all = (factor : ℕ) × Contains all factor × (most_of_all < scaled_whole net factor enters)
+BringTooMuch net arriving all = (factor : ℕ) × Contains all factor × (most_of_all < scaled_whole net factor arriving)

@@ -8,7 +8,7 @@ use Rattle.certificate_form.specs.Answers as certificates
 use Rattle.net_parts.specs.declared.faults.NetFault.TheVariants as net
 use Rattle.net_parts.specs.Numbers.{Net}
 use Rattle.net_file.specs.NetworkText.{IsCause, IsNetworkText}
-use Rattle.arrivals.specs.Amounts.{Amounts, entering}
+use Rattle.arrivals.specs.Amounts.{Amounts, arriving_of}
 use Rattle.arrivals.specs.Texts as arrivals
 use Rattle.arrivals.specs.Texts.{IsArrivalText}
 use Rattle.arrivals.specs.declared.rows.RowFault.TheVariants as row
@@ -75,10 +75,10 @@ abbrev pub NetworkText : Kind
 NetworkText = record { Said = Net; is_text = IsNetworkText; is_fault = IsBadNetwork }
 
 -- the arrivals of a text bring this
-pub record IsBroughtBy (net : Net) (text : List ℕ) (enters : ℕ → ℕ → ℕ) : Type 0 where
+pub record IsBroughtBy (net : Net) (text : List ℕ) (arriving : ℕ → ℕ → ℕ) : Type 0 where
   pub arrivals : Amounts
   pub of_text : IsArrivalText net text arrivals
-  pub bring : entering arrivals ≡ enters
+  pub bring : arriving_of arrivals ≡ arriving
 
 -- the first fault of a text that is to say what enters a network
 abbrev pub IsBadArrivals : Net → List ℕ → BadText → Type 0

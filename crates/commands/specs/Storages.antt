@@ -5,7 +5,6 @@ use Rattle.histories.specs.Histories.{turn_order}
 use Rattle.net_parts.specs.Numbers.{Net}
 use Rattle.net_simulator.specs.Sums.{end_of_run}
 use Rattle.net_simulator.specs.Worlds.{line_in, standing_by}
-use Rattle.runs.specs.Runs.{arriving_by}
 use Rattle.runs.specs.declared.records.RunRecord.{RunRecord}
 use Rattle.signal_safety.specs.Safe.{IsSafe}
 use Rattle.spillback_control.specs.SpillRuns.{IsActuatedIn, LastLinesShow, last_lines}
@@ -17,17 +16,17 @@ use Rattle.commands.specs.Summary.{spilled_line}
 
 -- what is counted until the run ends where the signals show this and each link holds what the store says and no more
 abbrev pub spilled_under : Net → (ℕ → ℕ → ℕ) → List ℕ → (ℕ → ℕ → Option (ℕ × ℕ)) → SpillTotals
-spilled_under net enters store shown =
-    stored_totals net (arriving_by enters) (past_in net (arriving_by enters) (slice_index store) shown (end_of_run net)) (end_of_run net)
+spilled_under net arriving store shown =
+    stored_totals net arriving (past_in net arriving (slice_index store) shown (end_of_run net)) (end_of_run net)
 
 -- The bytes are two lines: what is counted under the last lines of the run of the turn order, and under actuated control that
 -- senses the links as they then are: its last lines are lawful and safe, and show the greens by which that world moved.
-pub record IsSpillTable (net : Net) (enters : ℕ → ℕ → ℕ) (store : List ℕ) (bytes : List ℕ) : Type 0 where
+pub record IsSpillTable (net : Net) (arriving : ℕ → ℕ → ℕ) (store : List ℕ) (bytes : List ℕ) : Type 0 where
   pub run : RunRecord
-  pub runs : IsRunOf net enters (turn_order net) run
+  pub runs : IsRunOf net arriving (turn_order net) run
   pub of_calls : SpillTotals
-  pub are_of_calls : IsActuatedIn net (arriving_by enters) (slice_index store) of_calls
+  pub are_of_calls : IsActuatedIn net arriving (slice_index store) of_calls
   pub lawful : AreLawful net (last_lines net are_of_calls.made)
   pub safe : IsSafe net (line_in (last_lines net are_of_calls.made))
   pub greens : LastLinesShow net are_of_calls.made
-  pub lines : bytes ≡ spilled_line (codes "planned") (spilled_under net enters store (standing_by (line_in run.timelines))) ++ spilled_line (codes "actuated") of_calls
+  pub lines : bytes ≡ spilled_line (codes "planned") (spilled_under net arriving store (standing_by (line_in run.timelines))) ++ spilled_line (codes "actuated") of_calls

@@ -54,7 +54,7 @@ two_texts kind net second = Next NetworkText net (λ network. Next (kind network
 -- a network's text, one of arrivals at it, and one of a kind that holds the network
 abbrev pub three_texts : (Net → Kind) → List ℕ → List ℕ → List ℕ → Texts
 three_texts kind net arr third =
-    Next NetworkText net (λ network. Next (ArrivalsText network) arr (λ enters. Next (kind network) third (λ said. NoMore)))
+    Next NetworkText net (λ network. Next (ArrivalsText network) arr (λ arriving. Next (kind network) third (λ said. NoMore)))
 
 -- what such texts say, one after another
 abbrev pub AllSaid : Texts → Type 0

@@ -1,6 +1,6 @@
 //! The run of a history, planned by the bounded table, with all that it keeps.
 ghost use Rattle.std.specs.Prelude.{◌≤◌, IfOk, length};
-ghost use Rattle.arrivals.specs.Amounts.{AreArrivals, entering};
+ghost use Rattle.arrivals.specs.Amounts.{AreArrivals, arriving_of};
 ghost use Rattle.histories.specs.Histories as histories;
 ghost use Rattle.histories.specs.Histories.{IsLawful};
 ghost use Rattle.runs.specs.Complete.{IsComplete};
@@ -23,7 +23,7 @@ pub fn kept_run(
 ) -> Result<RunRecord, AllocError>
     requires arrivals { AreArrivals net.now arrivals.now }
     requires lawful { IsLawful net.now h.now }
-    ensures kept { IfOk result (IsRunOf net.now (entering arrivals.now) h.now) }
+    ensures kept { IfOk result (IsRunOf net.now (arriving_of arrivals.now) h.now) }
     ensures whole { IfOk result (IsComplete net.now) }
     ensures few { IfOk result (λ run. length run.plans ≤ 38400) }
 {
@@ -41,7 +41,7 @@ pub fn run_of_turns(
     arrivals: &Arrivals,
 ) -> Result<RunRecord, AllocError>
     requires { AreArrivals net.now arrivals.now }
-    ensures kept { IfOk result (IsRunOf net.now (entering arrivals.now) (histories.turn_order net.now)) }
+    ensures kept { IfOk result (IsRunOf net.now (arriving_of arrivals.now) (histories.turn_order net.now)) }
     ensures few { IfOk result (λ run. length run.plans ≤ 38400) }
 {
     let history = turn_order(alloc, net)?;

@@ -71,14 +71,14 @@ impl FromText for Network {
 }
 
 impl FromText for Arrivals {
-    ghost use Rattle.arrivals.specs.Amounts.{AreArrivals, entering};
+    ghost use Rattle.arrivals.specs.Amounts.{AreArrivals, arriving_of};
     ghost use Rattle.commands.specs.Kinds.{ArrivalsText};
 
     type Over = Network;
 
     ghost kind = { ArrivalsText };
 
-    ghost said = { λ net arrivals. entering arrivals };
+    ghost said = { λ net arrivals. arriving_of arrivals };
 
     ghost keeps = { AreArrivals };
 

@@ -1,6 +1,6 @@
 //! The texts that the network commands begin with.
 ghost use Rattle.std.specs.Prelude.{◌≡◌, IfErr, IfOk, OnOk};
-ghost use Rattle.arrivals.specs.Amounts.{AreArrivals, entering};
+ghost use Rattle.arrivals.specs.Amounts.{AreArrivals, arriving_of};
 ghost use Rattle.commands.specs.Kinds.{ArrivalsText};
 ghost use Rattle.commands.specs.Stops.{StopsIn};
 ghost use Rattle.commands.specs.Texts.{AreIn, three_texts, two_texts};
@@ -61,7 +61,7 @@ pub fn fetch_scene<S: Shelf>(
     arr: &str,
 ) -> Result<Scene, Refusal>
     ensures texts { IfOk result (λ scene. AreIn (S.state shelf.old).files (two_texts ArrivalsText net.now arr.now)
-        (scene.network, (entering scene.arrivals, tt))) }
+        (scene.network, (arriving_of scene.arrivals, tt))) }
     ensures lawful { IfOk result (λ scene. AreArrivals scene.network scene.arrivals) }
     ensures ok { OnOk result (S.state shelf.new ≡ S.state shelf.old) }
     ensures refused { IfErr result
@@ -94,7 +94,7 @@ pub fn fetch_scene_with<T: FromText<Over = Network>, S: Shelf>(
     third: &str,
 ) -> Result<SceneWith<T>, Refusal>
     ensures texts { IfOk result (λ all. AreIn (S.state shelf.old).files (three_texts T.kind net.now arr.now third.now)
-        (all.scene.network, (entering all.scene.arrivals, (T.said all.scene.network all.value, tt)))) }
+        (all.scene.network, (arriving_of all.scene.arrivals, (T.said all.scene.network all.value, tt)))) }
     ensures entered { IfOk result (λ all. AreArrivals all.scene.network all.scene.arrivals) }
     ensures keeps { IfOk result (λ all. T.keeps all.scene.network all.value) }
     ensures ok { OnOk result (S.state shelf.new ≡ S.state shelf.old) }

@@ -9,19 +9,19 @@ use Rattle.commands.specs.declared.refusals.Refusal.{Refusal}
 use Rattle.commands.specs.declared.refusals.Refusal.TheVariants as refusal
 
 -- a text gained the line of a factor
-pub record GainsScaleLine (net : Net) (enters : ℕ → ℕ → ℕ) (factor : ℕ) (old new : List ℕ) : Type 0 where
+pub record GainsScaleLine (net : Net) (arriving : ℕ → ℕ → ℕ) (factor : ℕ) (old new : List ℕ) : Type 0 where
   pub line : List ℕ
-  pub is : IsScaleLine net enters factor line
+  pub is : IsScaleLine net arriving factor line
   pub text : new ≡ old ++ line
 
 -- why a factor has no line: scaled by it, the arrivals bring too much; or memory ran out
 abbrev pub RefusesFactor : Net → (ℕ → ℕ → ℕ) → ℕ → Refusal → Type 0
-RefusesFactor net enters factor (refusal.Missing Factor) = most_of_all < scaled_whole net factor enters
-RefusesFactor net enters factor refusal.NoMemory = Unit {0}
-RefusesFactor net enters factor _ = ⊥
+RefusesFactor net arriving factor (refusal.Missing Factor) = most_of_all < scaled_whole net factor arriving
+RefusesFactor net arriving factor refusal.NoMemory = Unit {0}
+RefusesFactor net arriving factor _ = ⊥
 
 -- why several have no table: scaled by one of them, the arrivals bring too much; or memory ran out
 abbrev pub RefusesFactors : Net → (ℕ → ℕ → ℕ) → List ℕ → Refusal → Type 0
-RefusesFactors net enters all (refusal.Missing Factor) = BringTooMuch net enters all
-RefusesFactors net enters all refusal.NoMemory = Unit {0}
-RefusesFactors net enters all _ = ⊥
+RefusesFactors net arriving all (refusal.Missing Factor) = BringTooMuch net arriving all
+RefusesFactors net arriving all refusal.NoMemory = Unit {0}
+RefusesFactors net arriving all _ = ⊥

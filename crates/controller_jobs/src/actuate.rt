@@ -1,6 +1,6 @@
 //! The command `actuate NET ARR`.
 ghost use Rattle.std.specs.Prelude.{IfOk};
-ghost use Rattle.arrivals.specs.Amounts.{AreArrivals, entering};
+ghost use Rattle.arrivals.specs.Amounts.{AreArrivals, arriving_of};
 ghost use Rattle.command_words.specs.Calls.{Actuate};
 ghost use Rattle.commands.specs.Controllers.{IsActuatedReport, IsActuatedRun};
 ghost use Rattle.commands.specs.Ending.{Makes};
@@ -8,7 +8,6 @@ ghost use Rattle.commands.specs.Outcome.{Outcome};
 ghost use Rattle.audit.specs.SheetTexts.{HasShape};
 ghost use Rattle.audit.specs.Audits.{IsClean};
 ghost use Rattle.audit.specs.LineRuns.{sheet_of};
-ghost use Rattle.runs.specs.Runs.{arriving_by};
 
 use actuated::{ActRecord, act_report, run_actuated};
 use arrivals::Arrivals;
@@ -24,9 +23,9 @@ pub(crate) fn actuated_run(
     arrivals: &Arrivals,
 ) -> Result<ActRecord, AllocError>
     requires { AreArrivals net.now arrivals.now }
-    ensures kept { IfOk result (IsActuatedRun net.now (entering arrivals.now)) }
+    ensures kept { IfOk result (IsActuatedRun net.now (arriving_of arrivals.now)) }
     ensures shape { IfOk result (λ run. HasShape net.now (sheet_of run)) }
-    ensures clean { IfOk result (λ run. IsClean net.now (arriving_by (entering arrivals.now)) (sheet_of run)) }
+    ensures clean { IfOk result (λ run. IsClean net.now (arriving_of arrivals.now) (sheet_of run)) }
 {
     run_actuated(alloc, net, arrivals)
 }
@@ -34,7 +33,7 @@ pub(crate) fn actuated_run(
 // The report of the run under actuated control.
 fn report_actuated(alloc: Global, net: &Network, arrivals: &Arrivals) -> Result<Vec<u8>, AllocError>
     requires { AreArrivals net.now arrivals.now }
-    ensures { IfOk result (λ text. IsActuatedReport net.now (entering arrivals.now) text.items) }
+    ensures { IfOk result (λ text. IsActuatedReport net.now (arriving_of arrivals.now) text.items) }
 {
     law_of_network(net);
     let run = actuated_run(alloc, net, arrivals)?;

@@ -1,6 +1,6 @@
 //! The command `compare NET ARR`.
 ghost use Rattle.std.specs.Prelude.{IfOk};
-ghost use Rattle.arrivals.specs.Amounts.{AreArrivals, entering};
+ghost use Rattle.arrivals.specs.Amounts.{AreArrivals, arriving_of};
 ghost use Rattle.command_words.specs.Calls.{Compare};
 ghost use Rattle.commands.specs.Controllers.{AreActuatedTotals, ArePlannedTotals, IsComparison};
 ghost use Rattle.commands.specs.Ending.{Makes};
@@ -21,7 +21,7 @@ pub(crate) fn planned_totals(
     arrivals: &Arrivals,
 ) -> Result<Totals, AllocError>
     requires { AreArrivals net.now arrivals.now }
-    ensures { IfOk result (ArePlannedTotals net.now (entering arrivals.now)) }
+    ensures { IfOk result (ArePlannedTotals net.now (arriving_of arrivals.now)) }
 {
     let run = run_of_turns(alloc, net, arrivals)?;
     Ok(run.totals)
@@ -34,7 +34,7 @@ pub(crate) fn actuated_totals(
     arrivals: &Arrivals,
 ) -> Result<Totals, AllocError>
     requires { AreArrivals net.now arrivals.now }
-    ensures { IfOk result (AreActuatedTotals net.now (entering arrivals.now)) }
+    ensures { IfOk result (AreActuatedTotals net.now (arriving_of arrivals.now)) }
 {
     let run = actuated_run(alloc, net, arrivals)?;
     Ok(run.totals)
@@ -47,7 +47,7 @@ pub(crate) fn comparison(
     arrivals: &Arrivals,
 ) -> Result<Vec<u8>, AllocError>
     requires { AreArrivals net.now arrivals.now }
-    ensures { IfOk result (λ text. IsComparison net.now (entering arrivals.now) text.items) }
+    ensures { IfOk result (λ text. IsComparison net.now (arriving_of arrivals.now) text.items) }
 {
     let of_plans = planned_totals(alloc, net, arrivals)?;
     let of_calls = actuated_totals(alloc, net, arrivals)?;

@@ -1,13 +1,12 @@
 //! The command `compare NET ARR PLAN`.
 ghost use Rattle.std.specs.Prelude.{◌≡◌, IfOk};
-ghost use Rattle.arrivals.specs.Amounts.{AreArrivals, entering};
+ghost use Rattle.arrivals.specs.Amounts.{AreArrivals, arriving_of};
 ghost use Rattle.net_simulator.specs.Shown.{all_shown};
 ghost use Rattle.command_words.specs.Calls.{CompareFixed};
 ghost use Rattle.commands.specs.Controllers.{IsComparisonWith, fixed_timelines};
 ghost use Rattle.commands.specs.Ending.{Makes};
 ghost use Rattle.commands.specs.Outcome.{Outcome};
 ghost use Rattle.fixed_plans.specs.Rows.{IsFixedPlan};
-ghost use Rattle.runs.specs.Runs.{arriving_by};
 
 use super::compare::comparison;
 use super::fixed::fixed_run;
@@ -29,7 +28,7 @@ fn fixed_totals(
     requires arrivals { AreArrivals net.now arrivals.now }
     requires plan { IsFixedPlan net.now plan.now }
     ensures { IfOk result (λ totals. totals
-        ≡ all_shown net.now (arriving_by (entering arrivals.now)) (fixed_timelines net.now plan.now)) }
+        ≡ all_shown net.now (arriving_of arrivals.now) (fixed_timelines net.now plan.now)) }
 {
     let run = fixed_run(alloc, net, arrivals, plan)?;
     Ok(run.totals)
@@ -44,7 +43,7 @@ fn comparison_with(
 ) -> Result<Vec<u8>, AllocError>
     requires arrivals { AreArrivals net.now arrivals.now }
     requires plan { IsFixedPlan net.now plan.now }
-    ensures { IfOk result (λ text. IsComparisonWith net.now (entering arrivals.now) plan.now text.items) }
+    ensures { IfOk result (λ text. IsComparisonWith net.now (arriving_of arrivals.now) plan.now text.items) }
 {
     let mut text = comparison(alloc, net, arrivals)?;
     let of_rows = fixed_totals(alloc, net, arrivals, plan)?;

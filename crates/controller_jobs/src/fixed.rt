@@ -1,6 +1,6 @@
 //! The command `fixed NET ARR PLAN`.
 ghost use Rattle.std.specs.Prelude.{◌≡◌, ◌≤◌, ℕ, IfOk};
-ghost use Rattle.arrivals.specs.Amounts.{AreArrivals, entering};
+ghost use Rattle.arrivals.specs.Amounts.{AreArrivals, arriving_of};
 ghost use Rattle.net_parts.specs.Limits.{most_of_all};
 ghost use Rattle.audit.specs.Audits.{IsClean, IsCleanText};
 ghost use Rattle.command_words.specs.Calls.{Fixed};
@@ -12,7 +12,6 @@ ghost use Rattle.audit.specs.LineReports.{line_text};
 ghost use Rattle.audit.specs.LineRuns.{sheet_of, shown_sheet};
 ghost use Rattle.net_simulator.specs.Sums.{arrived};
 ghost use Rattle.net_simulator.specs.Worlds.{line_in};
-ghost use Rattle.runs.specs.Runs.{arriving_by};
 ghost use Rattle.audit.specs.SheetTexts.{HasShape};
 ghost use Rattle.signal_safety.specs.Safe.{IsSafe};
 
@@ -34,9 +33,9 @@ pub(crate) fn fixed_run(
     requires arrivals { AreArrivals net.now arrivals.now }
     requires plan { IsFixedPlan net.now plan.now }
     ensures value { IfOk result (λ run. sheet_of run
-        ≡ shown_sheet net.now (arriving_by (entering arrivals.now)) (fixed_timelines net.now plan.now)) }
+        ≡ shown_sheet net.now (arriving_of arrivals.now) (fixed_timelines net.now plan.now)) }
     ensures shape { IfOk result (λ run. HasShape net.now (sheet_of run)) }
-    ensures clean { IfOk result (λ run. IsClean net.now (arriving_by (entering arrivals.now)) (sheet_of run)) }
+    ensures clean { IfOk result (λ run. IsClean net.now (arriving_of arrivals.now) (sheet_of run)) }
     ensures safe { IfOk result (λ run. IsSafe net.now (line_in run.timelines)) }
 {
     let lines = fixed_lines(alloc, net, plan)?;
@@ -65,7 +64,7 @@ fn report_fixed(
 ) -> Result<Vec<u8>, AllocError>
     requires arrivals { AreArrivals net.now arrivals.now }
     requires plan { IsFixedPlan net.now plan.now }
-    ensures { IfOk result (λ text. IsFixedReport net.now (entering arrivals.now) plan.now text.items) }
+    ensures { IfOk result (λ text. IsFixedReport net.now (arriving_of arrivals.now) plan.now text.items) }
 {
     law_of_network(net);
     let run = fixed_run(alloc, net, arrivals, plan)?;

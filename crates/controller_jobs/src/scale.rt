@@ -1,7 +1,7 @@
 //! The command `scale NET ARR FROM TO STEP`.
 ghost use Rattle.std.specs.Prelude.{◌≡◌, ◌+◌, ◌-◌, ◌*◌, ◌/◌, ◌≤◌, ◌∷◌, ◌++◌, IfErr, IfOk, OnOk};
 ghost use Rattle.std.specs.List.{join_with_byte};
-ghost use Rattle.arrivals.specs.Amounts.{AreArrivals, entering};
+ghost use Rattle.arrivals.specs.Amounts.{AreArrivals, arriving_of};
 ghost use Rattle.net_parts.specs.Limits.{most_of_all};
 ghost use Rattle.command_words.specs.Calls.{Scale};
 ghost use Rattle.command_words.specs.Factors.{AreFactors};
@@ -72,10 +72,10 @@ fn scaled_by(
 ) -> Result<Arrivals, Refusal>
     requires arrivals { AreArrivals net.now arrivals.now }
     requires factor { factor ≤ greatest_factor }
-    ensures ok { IfOk result (λ scaled. IsScaled factor (entering arrivals.now) (entering scaled)) }
+    ensures ok { IfOk result (λ scaled. IsScaled factor (arriving_of arrivals.now) (arriving_of scaled)) }
     ensures arrivals { IfOk result (AreArrivals net.now) }
-    ensures few { OnOk result (scaled_whole net.now factor (entering arrivals.now) ≤ most_of_all) }
-    ensures refused { IfErr result (RefusesFactor net.now (entering arrivals.now) factor) }
+    ensures few { OnOk result (scaled_whole net.now factor (arriving_of arrivals.now) ≤ most_of_all) }
+    ensures refused { IfErr result (RefusesFactor net.now (arriving_of arrivals.now) factor) }
 {
     match scale(alloc, net, arrivals, factor) {
         Ok(scaled) => Ok(scaled),
@@ -96,9 +96,9 @@ fn push_factor(
 ) -> Result<(), Refusal>
     requires arrivals { AreArrivals net.now arrivals.now }
     requires factor { factor ≤ greatest_factor }
-    ensures ok { OnOk result (GainsScaleLine net.now (entering arrivals.now) factor text.old.items text.new.items) }
-    ensures few { OnOk result (scaled_whole net.now factor (entering arrivals.now) ≤ most_of_all) }
-    ensures refused { IfErr result (RefusesFactor net.now (entering arrivals.now) factor) }
+    ensures ok { OnOk result (GainsScaleLine net.now (arriving_of arrivals.now) factor text.old.items text.new.items) }
+    ensures few { OnOk result (scaled_whole net.now factor (arriving_of arrivals.now) ≤ most_of_all) }
+    ensures refused { IfErr result (RefusesFactor net.now (arriving_of arrivals.now) factor) }
 {
     let scaled = scaled_by(alloc, net, arrivals, factor)?;
     let of_plans = planned_totals(alloc, net, &scaled)?;
@@ -126,11 +126,11 @@ fn scale_table(
 ) -> Result<Vec<u8>, Refusal>
     requires arrivals { AreArrivals net.now arrivals.now }
     requires factors { AreFactors range.now.first range.now.last range.now.step }
-    ensures table { IfOk result (λ text. IsScaleTable net.now (entering arrivals.now)
+    ensures table { IfOk result (λ text. IsScaleTable net.now (arriving_of arrivals.now)
         range.now.first range.now.last range.now.step text.items) }
-    ensures few { OnOk result (¬ BringTooMuch net.now (entering arrivals.now)
+    ensures few { OnOk result (¬ BringTooMuch net.now (arriving_of arrivals.now)
         (factors range.now.first range.now.last range.now.step)) }
-    ensures refused { IfErr result (RefusesFactors net.now (entering arrivals.now)
+    ensures refused { IfErr result (RefusesFactors net.now (arriving_of arrivals.now)
         (factors range.now.first range.now.last range.now.step)) }
 {
     let mut text = Vec::new(alloc);

@@ -1,6 +1,6 @@
 //! The command `spill NET ARR STORE`.
 ghost use Rattle.std.specs.Prelude.{◌≡◌, ◌<◌, ◌++◌, IfOk, OnOk, length};
-ghost use Rattle.arrivals.specs.Amounts.{AreArrivals, entering};
+ghost use Rattle.arrivals.specs.Amounts.{AreArrivals, arriving_of};
 ghost use Rattle.command_words.specs.Calls.{Spill};
 ghost use Rattle.commands.specs.Ending.{Makes};
 ghost use Rattle.commands.specs.Headline.{IsRunOf};
@@ -31,8 +31,8 @@ fn planned_totals(
     requires arrivals { AreArrivals net.now arrivals.now }
     requires store { length store.now ≡ length net.now.link_names }
     ensures { IfOk result (λ t. (run : RunRecord)
-        × IsRunOf net.now (entering arrivals.now) (turn_order net.now) run
-        × (t ≡ spilled_under net.now (entering arrivals.now) store.now (standing_by (line_in run.timelines)))) }
+        × IsRunOf net.now (arriving_of arrivals.now) (turn_order net.now) run
+        × (t ≡ spilled_under net.now (arriving_of arrivals.now) store.now (standing_by (line_in run.timelines)))) }
 {
     let run = run_of_turns(alloc, net, arrivals)?;
     let lines = Lines {
@@ -69,7 +69,7 @@ fn spill_table(
 ) -> Result<Vec<u8>, AllocError>
     requires arrivals { AreArrivals net.now arrivals.now }
     requires store { length store.now ≡ length net.now.link_names }
-    ensures { IfOk result (λ text. IsSpillTable net.now (entering arrivals.now) store.now text.items) }
+    ensures { IfOk result (λ text. IsSpillTable net.now (arriving_of arrivals.now) store.now text.items) }
 {
     let of_plans = planned_totals(alloc, net, arrivals, store)?;
     let of_calls = spill_actuated(alloc, net, arrivals, store)?;

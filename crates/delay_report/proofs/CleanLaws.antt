@@ -21,7 +21,7 @@ use Rattle.net_simulator.specs.Worlds.{line_in, standing_by}
 use Rattle.schedule_meaning.specs.declared.planners.Answer.{Answer}
 use Rattle.schedule_meaning.specs.declared.planners.Answer.TheVariants.{Plan, NoPlan}
 use Rattle.runs.specs.Promises.{IsKeptRun}
-use Rattle.runs.specs.Runs.{arriving_by, past_by, line_before, shown_by}
+use Rattle.runs.specs.Runs.{past_by, line_before, shown_by}
 use Rattle.runs.specs.declared.records.RunRecord.{RunRecord}
 use Rattle.net_simulator.proofs.AtNodes.{past-at-nodes}
 use Rattle.audit.specs.declared.sheet.Sheet.{Sheet}
@@ -48,7 +48,7 @@ answer-over a b c NoPlan = refl
 plan-over : (net : Net) (plan : PlanRecord) → IsPassedOver (plan_record net plan)
 plan-over net plan = answer-over (decimal plan.round) (node_name_at net plan.node) (join_with_byte 59 (map (used_text net) plan.used)) plan.answer
 
-module _ (net : Net) (network : IsNetwork net) (enters : ℕ → ℕ → ℕ) (few : AreFew net (arriving_by enters)) (history : List ℕ) (run : RunRecord) (kept : IsKeptRun net enters history run) where
+module _ (net : Net) (network : IsNetwork net) (arriving : ℕ → ℕ → ℕ) (few : AreFew net arriving) (history : List ℕ) (run : RunRecord) (kept : IsKeptRun net arriving history run) where
   abbrev end : ℕ
   end = end_of_run net
 
@@ -60,27 +60,27 @@ module _ (net : Net) (network : IsNetwork net) (enters : ℕ → ℕ → ℕ) (f
   sheet = record { lines = run.timelines; links = run.links; totals = run.totals }
 
   -- the world moved as the last lines show
-  same-past : past_by net enters made end ≡ past_under net (arriving_by enters) run.timelines
-  same-past = sym (past-at-nodes net network (arriving_by enters) (standing_by (line_in run.timelines)) (shown_by net made) end (λ x node before below. kept.kept.greens x node before below))
+  same-past : past_by net arriving made end ≡ past_under net arriving run.timelines
+  same-past = sym (past-at-nodes net network arriving (standing_by (line_in run.timelines)) (shown_by net made) end (λ x node before below. kept.kept.greens x node before below))
 
-  counted : (l : ℕ) → l < length net.link_names → counts_at run.links l ≡ link_totals net (past_by net enters made end) end l
-  counted l below = ap (λ links. counts_at links l) kept.run.by.links ∙ get_or-map-range_with_len (link_totals net (past_by net enters made end) end) 0 (length net.link_names) l l no_totals below (omega arith)
+  counted : (l : ℕ) → l < length net.link_names → counts_at run.links l ≡ link_totals net (past_by net arriving made end) end l
+  counted l below = ap (λ links. counts_at links l) kept.run.by.links ∙ get_or-map-range_with_len (link_totals net (past_by net arriving made end) end) 0 (length net.link_names) l l no_totals below (omega arith)
 
-  sheet-clean : IsClean net (arriving_by enters) sheet
+  sheet-clean : IsClean net arriving sheet
   sheet-clean = record {
     lawful = kept.kept.lawful;
     links = λ l below. counted l below ∙ ap (λ (p : ℕ → ℕ → Cumulative). link_totals net p end l) same-past;
-    all = kept.run.by.all ∙ ap (λ (p : ℕ → ℕ → Cumulative). totals net (arriving_by enters) p end) same-past;
+    all = kept.run.by.all ∙ ap (λ (p : ℕ → ℕ → Cumulative). totals net arriving p end) same-past;
   }
 
   sheet-shape : HasShape net sheet
   sheet-shape = record {
     lines = ap length kept.run.by.timelines ∙ length-map-range_with_len (line_before net made net.run.rounds) 0 (length net.node_names);
-    links = ap length kept.run.by.links ∙ length-map-range_with_len (link_totals net (past_by net enters made end) end) 0 (length net.link_names);
+    links = ap length kept.run.by.links ∙ length-map-range_with_len (link_totals net (past_by net arriving made end) end) 0 (length net.link_names);
   }
 
   -- the records of the report
-  pub report-clean : IsCleanText net (arriving_by enters) (report_text net run history)
+  pub report-clean : IsCleanText net arriving (report_text net run history)
   unfolding report_records
   report-clean =
       let steps : List (List (List ℕ)) = map (step_record_at net history) (range_with_len 0 (length history)) in
@@ -89,5 +89,5 @@ module _ (net : Net) (network : IsNetwork net) (enters : ℕ → ℕ → ℕ) (f
       All-append IsPassedOver steps plans
       (All-map IsPassedOver (step_record_at net history) (range_with_len 0 (length history)) (λ k d inside. step-over net _ _ _ (step_at (board_steps net) history _)))
       (All-map IsPassedOver (plan_record net) run.plans (λ k d inside. plan-over net (get_or run.plans k d))) in
-      subst (λ (records : List (List (List ℕ))). IsCleanText net (arriving_by enters) (records_text (header ∷ records))) (append_assoc steps plans (sheet_records net end sheet))
-      (clean-text net network (arriving_by enters) few sheet sheet-shape sheet-clean (steps ++ plans) over)
+      subst (λ (records : List (List (List ℕ))). IsCleanText net arriving (records_text (header ∷ records))) (append_assoc steps plans (sheet_records net end sheet))
+      (clean-text net network arriving few sheet sheet-shape sheet-clean (steps ++ plans) over)

@@ -6,7 +6,6 @@ ghost use Rattle.histories.specs.Histories.{IsLawful};
 ghost use Rattle.net_simulator.specs.Sums.{arrived};
 ghost use Rattle.runs.specs.Complete.{IsComplete};
 ghost use Rattle.runs.specs.Promises.{IsKeptRun};
-ghost use Rattle.runs.specs.Runs.{arriving_by};
 ghost use Rattle.runs.specs.declared.records.RunRecord.{RunRecord};
 ghost use Rattle.delay_report.specs.Reports.{outcome_records, records_text, report_text, steps_records};
 ghost use Rattle.road_net.specs.Network.{IsNetwork};
@@ -104,9 +103,9 @@ pub fn law_of_reports(net: &Network)
         → IsHistoryText net.now (report_text net.now run history) history }
     ensures one { (bytes one other : List ℕ) → IsHistoryText net.now bytes one → IsHistoryText net.now bytes other
         → one ≡ other }
-    ensures clean { (run : RunRecord) (history : List ℕ) (enters : ℕ → ℕ → ℕ) → IsKeptRun net.now enters history run
-        → ((n : ℕ) → arrived net.now (arriving_by enters) n ≤ most_of_all)
-        → IsCleanText net.now (arriving_by enters) (report_text net.now run history) }
+    ensures clean { (run : RunRecord) (history : List ℕ) (arriving : ℕ → ℕ → ℕ) → IsKeptRun net.now arriving history run
+        → ((n : ℕ) → arrived net.now arriving n ≤ most_of_all)
+        → IsCleanText net.now arriving (report_text net.now run history) }
 {
     law_of_network(net);
 }

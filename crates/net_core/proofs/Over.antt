@@ -1,6 +1,6 @@
 -- The record of a run that is over.
 use Rattle.std.proofs.Common.{◌≡◌, ◌+◌, ◌≤◌, length, vec_capacity, vec_len, subst, inl, inr, arith}
-use Rattle.arrivals.specs.Amounts.{Amounts, entering}
+use Rattle.arrivals.specs.Amounts.{Amounts, arriving_of}
 use Rattle.runs.specs.Ending.{IsRecordOf, records_in}
 use Rattle.runs.proofs.EndedRecords.{last-room, run-by}
 use Rattle.histories.specs.Histories.{IsLawful}
@@ -28,12 +28,12 @@ over-room net network arrivals parts going lawful =
 
 -- The record of a core whose history is lawful is that of a run.
 pub over-run : (net : Net) → IsNetwork net → (arrivals : Amounts) (parts : Parts) → AreGoing net arrivals parts → IsLawful net parts.history.items → (run : RunRecord) → IsRecordOf net parts.plans.items parts.actors.all.items parts.world run
-    → IsRun net (entering arrivals) parts.history.items run
+    → IsRun net (arriving_of arrivals) parts.history.items run
 over-run net network arrivals parts going lawful run left =
     let b = over-between net arrivals parts going (going-last net network arrivals parts no_acting going lawful) in
     record {
       heard = b.heard;
       made = b.made;
-      by = run-by net (entering arrivals) b.heard b.made parts.actors.all.items parts.world b.all b.rests b.running.commits b.running.second b.running.stands parts.plans b.running.planned run left;
+      by = run-by net (arriving_of arrivals) b.heard b.made parts.actors.all.items parts.world b.all b.rests b.running.commits b.running.second b.running.stands parts.plans b.running.planned run left;
       along = b.running.along;
     }

@@ -6,7 +6,7 @@ use Rattle.std.proofs.lemmas.Bool.{cases_lt, lt-leb}
 use Rattle.std.proofs.lemmas.List.{drop-drop, length_push}
 use Rattle.std.proofs.lemmas.List.Elements.{All-filter, All-get_or, filter_passes}
 use Rattle.std.proofs.lemmas.List.Kept.{AllPairs-from_increasing, IsStrictlyIncreasing-filter}
-use Rattle.arrivals.specs.Amounts.{Amounts, entering}
+use Rattle.arrivals.specs.Amounts.{Amounts, arriving_of}
 use Rattle.board_model.specs.declared.boards.Heard.{Heard}
 use Rattle.control_flow.specs.Greens.{end_of}
 use Rattle.control_flow.specs.declared.greens.Green.{Green}
@@ -37,17 +37,17 @@ find-from v (x ∷ xs) zero low high = ap (λ b. telling (cond b (Some x) (find 
 find-from v (x ∷ xs) (suc j) low high = ap (λ b. telling (cond b (Some x) (find (λ k. nat_le v k) xs))) (lt-leb v x (low 0 (omega arith) (omega arith))) ∙ find-from v xs j (λ i less inside. low (suc i) (omega arith) (omega arith)) (λ i more inside. high (suc i) (omega arith) (omega arith))
 
 module _ (net : Net) (network : IsNetwork net) (arrivals : Amounts) (heard seen : ℕ → ℕ → List Heard) (made other : ℕ → ℕ → Commitment) (round n : ℕ) (below : n < length net.node_names)
-    (before : SameBefore net network (entering arrivals) made other round) (h : heard round n ≡ seen round n) (m : made round n ≡ other round n) where
+    (before : SameBefore net network (arriving_of arrivals) made other round) (h : heard round n ≡ seen round n) (m : made round n ≡ other round n) where
   listens-moved : {c : ℕ} {a : Acting} → Listens net arrivals heard made round c n a → Listens net arrivals seen other round c n a
   listens-moved x = record {
     node_is = x.node_is;
     round_is = x.round_is;
-    sensed = x.sensed ∙ sensed-same net network (entering arrivals) made other round n before;
+    sensed = x.sensed ∙ sensed-same net network (arriving_of arrivals) made other round n before;
     so_far = x.so_far ∙ h;
     count = x.count;
     left = x.left;
     want = x.want;
-    line = x.line ∙ lines-same net network (entering arrivals) made other round n before below;
+    line = x.line ∙ lines-same net network (arriving_of arrivals) made other round n before below;
     records = x.records;
   }
 
@@ -60,7 +60,7 @@ module _ (net : Net) (network : IsNetwork net) (arrivals : Amounts) (heard seen 
       | inl x ↦ inl (record { more = x.more; listens = listens-moved x.listens })
       | inr x ↦ inr (record {
         enough = x.enough;
-        commits = commits-moved net network (entering arrivals) made other heard seen round n before below h m x.commits;
+        commits = commits-moved net network (arriving_of arrivals) made other heard seen round n before below h m x.commits;
         tells_of = λ link w. (let t = x.tells_of link w in record {
           now = t.now;
           window = t.window ∙ ap (λ (c : Commitment). c.window) m;
@@ -104,25 +104,25 @@ module _ (net : Net) (network : IsNetwork net) (arrivals : Amounts) (heard : ℕ
     abbrev committed : ℕ → ℕ → Commitment
     committed = put made round n c.made
 
-    before : SameBefore net network (entering arrivals) made committed round
+    before : SameBefore net network (arriving_of arrivals) made committed round
     before s m less inside = sym (put-round made round n c.made s m (λ e. omega arith))
 
     own : committed round n ≡ c.made
     own = put-here made round n c.made
 
-    moved : IsCommit net n round (line_before net made round n) (sensed_in net (entering arrivals) made round n) (heard round n) c.made
+    moved : IsCommit net n round (line_before net made round n) (sensed_in net (arriving_of arrivals) made round n) (heard round n) c.made
     moved =
-        subst (λ k. IsCommit net k round (line_before net made round n) (sensed_in net (entering arrivals) made round n) (heard round n) c.made) x.node_is
-        (subst (λ k. IsCommit net old.node k (line_before net made round n) (sensed_in net (entering arrivals) made round n) (heard round n) c.made) x.round_is
-        (subst (λ (l : List Green). IsCommit net old.node old.round l (sensed_in net (entering arrivals) made round n) (heard round n) c.made) x.line
+        subst (λ k. IsCommit net k round (line_before net made round n) (sensed_in net (arriving_of arrivals) made round n) (heard round n) c.made) x.node_is
+        (subst (λ k. IsCommit net old.node k (line_before net made round n) (sensed_in net (arriving_of arrivals) made round n) (heard round n) c.made) x.round_is
+        (subst (λ (l : List Green). IsCommit net old.node old.round l (sensed_in net (arriving_of arrivals) made round n) (heard round n) c.made) x.line
         (subst (λ (s : Sensed). IsCommit net old.node old.round old.line s (heard round n) c.made) x.sensed
         (subst (λ (l : List Heard). IsCommit net old.node old.round old.line old.sensed l c.made) x.so_far c.is))))
 
-    commits : Commits net (entering arrivals) heard committed round n
+    commits : Commits net (arriving_of arrivals) heard committed round n
     commits = record {
       links = ap (map (λ (y : Heard). y.link)) (sym x.so_far) ∙ sym (used-links old.heard) ∙ kept.used ∙ ap (heard_links net) x.node_is;
-      commit = subst (IsCommit net n round (line_before net committed round n) (sensed_in net (entering arrivals) committed round n) (heard round n)) (sym own)
-          (commit-moved net network (entering arrivals) made committed round n (heard round n) (heard round n) c.made before below refl moved);
+      commit = subst (IsCommit net n round (line_before net committed round n) (sensed_in net (arriving_of arrivals) committed round n) (heard round n)) (sym own)
+          (commit-moved net network (arriving_of arrivals) made committed round n (heard round n) (heard round n) c.made before below refl moved);
     }
 
     records : new.records ≡ record_of n round (heard round n) (committed round n) ∷ []
@@ -229,13 +229,13 @@ told-node want old new (inl e) = ap (λ (a : Acting). a.node) e
 told-node want old new (inr r) = ap (λ (a : Acting). a.node) r.1
 
 -- a node that rests while others commit in the round
-pub rests-moved : (net : Net) (network : IsNetwork net) (arrivals : Amounts) (made other : ℕ → ℕ → Commitment) (round n : ℕ) (a : Acting) → n < length net.node_names → SameBefore net network (entering arrivals) made other round
+pub rests-moved : (net : Net) (network : IsNetwork net) (arrivals : Amounts) (made other : ℕ → ℕ → Commitment) (round n : ℕ) (a : Acting) → n < length net.node_names → SameBefore net network (arriving_of arrivals) made other round
     → Rests net made round n a → Rests net other round n a
 rests-moved net network arrivals made other round n a below before x = record {
   node_is = x.node_is;
   of = x.of;
   want = x.want;
-  line = x.line ∙ lines-same net network (entering arrivals) made other round n before below;
+  line = x.line ∙ lines-same net network (arriving_of arrivals) made other round n before below;
   ahead = x.ahead;
   records = x.records;
 }

@@ -2,7 +2,7 @@
 use Rattle.std.proofs.Common.{◌≡◌, ℕ, ◌+◌, ◌<◌, ◌≤◌, List, [], ◌∷◌, length, get_or, set, refl, sym, ap, subst, ◌∙◌, inl, inr, arith, append-nil, length-set, get_or-set_same, get_or-set_other}
 use Rattle.std.specs.Global.{Vec}
 use Rattle.std.proofs.lemmas.Bool.{cases_eq}
-use Rattle.arrivals.specs.Amounts.{Amounts, AreArrivals, entering}
+use Rattle.arrivals.specs.Amounts.{Amounts, AreArrivals, arriving_of}
 use Rattle.control_flow.specs.declared.greens.Green.{Green}
 use Rattle.intersection_actor.specs.Acting.{Acting, begun, reading}
 use Rattle.intersection_actor.specs.Commits.{Commitment}
@@ -10,7 +10,6 @@ use Rattle.intersection_actor.specs.Rounds.{IsCommitted, IsOf, KeepsPast}
 use Rattle.intersection_actor.specs.declared.records.Want.TheVariants.{Commit}
 use Rattle.intersection_actor.specs.declared.records.PlanRecord.{PlanRecord}
 use Rattle.net_parts.specs.Numbers.{Net}
-use Rattle.net_simulator.specs.Arriving.{arriving_of}
 use Rattle.net_simulator.specs.Flow.{past_of}
 use Rattle.net_simulator.specs.Senses.{sense}
 use Rattle.net_simulator.specs.Worlds.{IsWorldOf, WorldState, Stands, standing_by}
@@ -31,7 +30,7 @@ module _ (net : Net) (network : IsNetwork net) (arrivals : Amounts) (history : L
   -- a node begins the round
   module _ (actors : List Acting) (i : ℕ) (inside : i < length net.node_names) (b : Begins net arrivals history round actors boards world plans i) where
     pub begin-world : AreArrivals net arrivals → IsWorldOf net world
-    begin-world enter = record { arrivals = arrivals; lines = line_before net b.made round; enter = enter; stands = before-stands net network (entering arrivals) round b.heard b.made (let less = b.below in omega arith) b.running.commits world b.running.second b.running.stands }
+    begin-world enter = record { arrivals = arrivals; lines = line_before net b.made round; enter = enter; stands = before-stands net network (arriving_of arrivals) round b.heard b.made (let less = b.below in omega arith) b.running.commits world b.running.second b.running.stands }
 
     pub begin-rests : (d : Acting) → Rests net b.made round i (get_or actors i d)
     begin-rests d = b.rests i d (omega arith) inside
@@ -40,7 +39,7 @@ module _ (net : Net) (network : IsNetwork net) (arrivals : Amounts) (history : L
     lines = line_before net b.made round
 
     pub begin-stands : Stands net (arriving_of arrivals) (standing_by lines) world
-    begin-stands = before-stands net network (entering arrivals) round b.heard b.made (let less = b.below in omega arith) b.running.commits world b.running.second b.running.stands
+    begin-stands = before-stands net network (arriving_of arrivals) round b.heard b.made (let less = b.below in omega arith) b.running.commits world b.running.second b.running.stands
 
     abbrev begun-way : Begun net network round history
     begun-way = record { early = history; part = []; whole = sym (append-nil history); rounds_done = b.rounds_done; within = λ n. omega arith; most = (let less = b.below in omega arith); over = λ e. refl }
@@ -58,7 +57,7 @@ module _ (net : Net) (network : IsNetwork net) (arrivals : Amounts) (history : L
       listens L e = record {
         node_is = rests.node_is;
         round_is = refl;
-        sensed = sense-is net network (entering arrivals) round b.heard b.made (let less = b.below in omega arith) b.running.commits world b.running.second i;
+        sensed = sense-is net network (arriving_of arrivals) round b.heard b.made (let less = b.below in omega arith) b.running.commits world b.running.second i;
         so_far = sym (b.fresh round i (omega arith));
         count = refl;
         left = ap (heard_links net) rests.node_is;
@@ -93,7 +92,7 @@ module _ (net : Net) (network : IsNetwork net) (arrivals : Amounts) (history : L
       commits : IsCommitted net mid new → KeepsPast net mid new → length (heard_links net i) ≡ 0 → Begins net arrivals history round (set actors i new) boards world plans (i + 1)
       commits c kept none =
           let made : ℕ → ℕ → Commitment = put b.made round i c.made in
-          let before : SameBefore net network (entering arrivals) b.made made round = λ s m less below. sym (put-round b.made round i c.made s m (λ e. omega arith)) in
+          let before : SameBefore net network (arriving_of arrivals) b.made made round = λ s m less below. sym (put-round b.made round i c.made s m (λ e. omega arith)) in
           record {
             heard = b.heard;
             made = made;

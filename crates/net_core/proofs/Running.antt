@@ -7,7 +7,7 @@ use Rattle.std.proofs.lemmas.Nat.{div_below}
 use Rattle.control_flow.specs.Greens.{standing}
 use Rattle.std.proofs.lemmas.List.{get_or_append_left, length_push}
 use Rattle.std.proofs.lemmas.List.Elements.{Contains-append_left, Contains-push}
-use Rattle.arrivals.specs.Amounts.{Amounts, entering}
+use Rattle.arrivals.specs.Amounts.{Amounts, arriving_of}
 use Rattle.board_model.specs.declared.boards.Heard.{Heard}
 use Rattle.board_model.specs.declared.forecasts.Row.{Row}
 use Rattle.histories.specs.Histories.{count, round_at, step_at, version_at}
@@ -19,7 +19,6 @@ use Rattle.intersection_actor.specs.Commits.{Commitment}
 use Rattle.intersection_actor.specs.declared.records.PlanRecord.{PlanRecord}
 use Rattle.net_parts.specs.Numbers.{Net}
 use Rattle.net_parts.specs.Outline.{link_at}
-use Rattle.net_simulator.specs.Arriving.{arriving_of}
 use Rattle.net_simulator.specs.Worlds.{WorldState}
 use Rattle.road_net.specs.Network.{IsNetwork, heard_links}
 use Rattle.runs.specs.Runs.{HearAlong, forecast_at, hearing, shown_by, told_in}
@@ -105,7 +104,7 @@ module _ (net : Net) (network : IsNetwork net) (arrivals : Amounts) (heard : ℕ
     read-on = record {
       commits = λ r m less below.
           let c = is.commits r m less below in
-          commits-moved net network (entering arrivals) made made heard seen r m (λ s k before inside. refl) below (sym (put-round heard round n (heard round n ++ hearing net made link version ∷ []) r m (λ e. omega arith))) refl c;
+          commits-moved net network (arriving_of arrivals) made made heard seen r m (λ s k before inside. refl) below (sym (put-round heard round n (heard round n ++ hearing net made link version ∷ []) r m (λ e. omega arith))) refl c;
       along = read-along;
       boards_are = record {
         all = is.boards_are.all;
@@ -183,7 +182,7 @@ module _ (net : Net) (network : IsNetwork net) (arrivals : Amounts) (heard : ℕ
     abbrev committed : ℕ → ℕ → Commitment
     committed = put made round n c
 
-    before-same : SameBefore net network (entering arrivals) made committed round
+    before-same : SameBefore net network (arriving_of arrivals) made committed round
     before-same s m less below = sym (put-round made round n c s m (λ e. omega arith))
 
     forecast-same : (link f t : ℕ) → (link_at net link).from ≡ Some f → (link_at net link).to ≡ Some t → (v : ℕ) → v ≤ version_at (board_steps net) p link (length p) → forecast_at net made link v ≡ forecast_at net committed link v
@@ -202,7 +201,7 @@ module _ (net : Net) (network : IsNetwork net) (arrivals : Amounts) (heard : ℕ
 
     pub commit-on : IsRunning net arrivals heard committed p round boards world plans
     commit-on = record {
-      commits = λ r m less below. commits-moved net network (entering arrivals) made committed heard heard r m (λ s k before inside. before-same s k (omega arith) inside) below refl (before-same r m less below) (is.commits r m less below);
+      commits = λ r m less below. commits-moved net network (arriving_of arrivals) made committed heard heard r m (λ s k before inside. before-same s k (omega arith) inside) below refl (before-same r m less below) (is.commits r m less below);
       along = λ place link inside step.
           let ends = ends-at net network p round way place link inside step in
           let v : ℕ = version_at (board_steps net) p link place in

@@ -3,7 +3,7 @@ use Rattle.std.proofs.Common.{◌≡◌, ℕ, ◌+◌, ◌*◌, ◌<◌, ◌≤�
 use Rattle.std.specs.Global.{Vec}
 use Rattle.std.proofs.lemmas.Bool.{cases_lt}
 use Rattle.std.proofs.lemmas.List.{get_or_past}
-use Rattle.arrivals.specs.Amounts.{Amounts}
+use Rattle.arrivals.specs.Amounts.{Amounts, arriving_of}
 use Rattle.histories.specs.Histories.{version_at}
 use Rattle.histories.specs.Steps.{board_steps}
 use Rattle.intersection_actor.specs.Acting.{Acting}
@@ -11,7 +11,6 @@ use Rattle.intersection_actor.specs.declared.records.PlanRecord.{PlanRecord}
 use Rattle.net_parts.specs.Numbers.{Net, no_link}
 use Rattle.net_parts.specs.Outline.{link_at}
 use Rattle.net_parts.specs.declared.roads.Link.{Link}
-use Rattle.net_simulator.specs.Arriving.{arriving_of}
 use Rattle.net_simulator.specs.Worlds.{WorldState, Stands}
 use Rattle.road_net.specs.Network.{IsNetwork}
 use Rattle.runs.specs.Runs.{forecast_at, shown_by}

@@ -3,7 +3,7 @@ use Rattle.std.proofs.Common.{◌≡◌, ℕ, suc, ◌+◌, ◌-◌, ◌*◌, �
 use Rattle.std.specs.Global.{Vec}
 use Rattle.std.proofs.lemmas.Bool.{cases_eq, cases_lt}
 use Rattle.std.proofs.lemmas.List.{drop_all, drop_more, get_or-append_right, get_or-map, length-map, length-drop}
-use Rattle.arrivals.specs.Amounts.{Amounts, entering}
+use Rattle.arrivals.specs.Amounts.{Amounts, arriving_of}
 use Rattle.board_model.specs.declared.boards.Heard.{Heard}
 use Rattle.board_model.specs.declared.forecasts.Row.{Row}
 use Rattle.clusters.specs.Windows.{counts_of}
@@ -22,7 +22,6 @@ use Rattle.intersection_actor.specs.declared.records.Want.{Want}
 use Rattle.intersection_actor.specs.declared.records.Want.TheVariants.{Read, Commit, Publish, Done}
 use Rattle.intersection_actor.specs.declared.records.PlanRecord.{PlanRecord}
 use Rattle.net_parts.specs.Numbers.{Net}
-use Rattle.net_simulator.specs.Arriving.{arriving_of}
 use Rattle.net_simulator.specs.Worlds.{WorldState, Stands, standing_by}
 use Rattle.outflow.specs.Outflow.{departures, told_forecast}
 use Rattle.road_net.specs.Network.{IsNetwork, heard_links, told_links}
@@ -145,7 +144,7 @@ module _ (net : Net) (network : IsNetwork net) (arrivals : Amounts) (history : L
       fresh-more : (later node : ℕ) → round < later → seen later node ≡ []
       fresh-more later node more = put-round i.heard round n (i.heard round n ++ h ∷ []) later node (λ e. omega arith) ∙ i.fresh later node more
 
-      others : (made : ℕ → ℕ → Commitment) → SameBefore net network (entering arrivals) i.made made round → ((s k : ℕ) → (k ≡ n → ⊥) → i.made s k ≡ made s k) → (new : Acting) (k : ℕ) (d : Acting) → (k ≡ n → ⊥) → k < length net.node_names
+      others : (made : ℕ → ℕ → Commitment) → SameBefore net network (arriving_of arrivals) i.made made round → ((s k : ℕ) → (k ≡ n → ⊥) → i.made s k ≡ made s k) → (new : Acting) (k : ℕ) (d : Acting) → (k ≡ n → ⊥) → k < length net.node_names
           → Plays net arrivals seen made round (count k (i.part ++ n ∷ [])) k (get_or (set actors n new) k d)
       others made before same new k d other inside =
           subst (Plays net arrivals seen made round (count k (i.part ++ n ∷ [])) k) (at-other new k d other)
@@ -155,7 +154,7 @@ module _ (net : Net) (network : IsNetwork net) (arrivals : Amounts) (history : L
       listens : Listens net arrivals seen i.made round (c + 1) n (with_heard h old)
       listens = took net network arrivals i.heard i.made round n below c old h x.listens
 
-      built : (new : Acting) (made : ℕ → ℕ → Commitment) → SameBefore net network (entering arrivals) i.made made round → ((s k : ℕ) → (k ≡ n → ⊥) → i.made s k ≡ made s k) → IsRunning net arrivals seen made (history ++ n ∷ []) round boards world plans
+      built : (new : Acting) (made : ℕ → ℕ → Commitment) → SameBefore net network (arriving_of arrivals) i.made made round → ((s k : ℕ) → (k ≡ n → ⊥) → i.made s k ≡ made s k) → IsRunning net arrivals seen made (history ++ n ∷ []) round boards world plans
           → Plays net arrivals seen made round (c + 1) n new → InRound net arrivals (history ++ n ∷ []) round (set actors n new) boards world plans
       built new made before same runs own = record {
         heard = seen;
@@ -304,10 +303,10 @@ module _ (net : Net) (network : IsNetwork net) (arrivals : Amounts) (history : L
       | inr past ↦ (let most = i.within n in omega (arith, ap length (steps-beyond net network n past)))
     ]
 
-    over-commits : Acting → AllCommit net (entering arrivals) i.heard i.made (round + 1)
+    over-commits : Acting → AllCommit net (arriving_of arrivals) i.heard i.made (round + 1)
     over-commits d r n less below = elim (cases_lt r round) [
       | inl before ↦ i.running.commits r n before below
-      | inr last ↦ (let e : r ≡ round = omega arith in subst (λ s. Commits net (entering arrivals) i.heard i.made s n) (sym e) (over-tells n d below).commits)
+      | inr last ↦ (let e : r ≡ round = omega arith in subst (λ s. Commits net (arriving_of arrivals) i.heard i.made s n) (sym e) (over-tells n d below).commits)
     ]
 
     -- the lines of the nodes show what the world moves by
@@ -320,7 +319,7 @@ module _ (net : Net) (network : IsNetwork net) (arrivals : Amounts) (history : L
     lines-show : Acting → (x n : ℕ) → x < (round + 1) * net.run.step → n < length net.node_names → standing (lines_of actors n) x ≡ shown_by net i.made x n
     lines-show d x n less below =
         ap (λ (l : List Green). standing l x) (line-is n d below)
-        ∙ before-shows net network (entering arrivals) (round + 1) i.heard i.made (let z = i.below in omega arith) (over-commits d) x n less below
+        ∙ before-shows net network (arriving_of arrivals) (round + 1) i.heard i.made (let z = i.below in omega arith) (over-commits d) x n less below
 
     pub over-before : Acting → Stands net (arriving_of arrivals) (standing_by (lines_of actors)) world
     over-before d = stands-same net network (arriving_of arrivals) (shown_by net i.made) (standing_by (lines_of actors)) world (λ x n less below. sym (lines-show d x n (earlier x less) below)) i.running.stands

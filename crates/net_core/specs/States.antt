@@ -1,7 +1,7 @@
 -- No public clause names these: what a core keeps between two steps.
 use Rattle.std.specs.Prelude.{◌≡◌, ◌≢◌, ℕ, Bool, false, ◌+◌, ◌-◌, ◌*◌, ◌<◌, ◌≤◌, ◌⊎◌, List, [], ◌∷◌, ◌++◌, Some, drop, length, slice_index_or}
 use Rattle.std.specs.Global.{Vec}
-use Rattle.arrivals.specs.Amounts.{Amounts, AreArrivals, entering}
+use Rattle.arrivals.specs.Amounts.{Amounts, AreArrivals, arriving_of}
 use Rattle.board_model.specs.declared.boards.Heard.{Heard}
 use Rattle.control_flow.specs.Greens.{end_of}
 use Rattle.histories.specs.Histories.{count, version_at, HasRounds}
@@ -14,7 +14,6 @@ use Rattle.intersection_actor.specs.declared.records.Want.TheVariants.{Publish, 
 use Rattle.intersection_actor.specs.declared.records.PlanRecord.{PlanRecord}
 use Rattle.net_parts.specs.Numbers.{Net}
 use Rattle.net_parts.specs.Outline.{link_at}
-use Rattle.net_simulator.specs.Arriving.{arriving_of}
 use Rattle.net_simulator.specs.Worlds.{WorldState, Stands}
 use Rattle.road_net.specs.Network.{heard_links, told_links}
 use Rattle.runs.specs.Runs.{AllCommit, Commits, HearAlong, forecast_at, line_before, sensed_in, shown_by}
@@ -33,7 +32,7 @@ telling_first (link ∷ links) = Publish link
 pub record Listens (net : Net) (arrivals : Amounts) (heard : ℕ → ℕ → List Heard) (made : ℕ → ℕ → Commitment) (round done node : ℕ) (a : Acting) : Type 0 where
   pub node_is : a.node ≡ node
   pub round_is : a.round ≡ round
-  pub sensed : a.sensed ≡ sensed_in net (entering arrivals) made round node
+  pub sensed : a.sensed ≡ sensed_in net (arriving_of arrivals) made round node
   pub so_far : a.heard ≡ heard round node
   pub count : length a.heard ≡ done
   pub left : a.left ≡ drop done (heard_links net node)
@@ -56,7 +55,7 @@ pub record TellsOf (net : Net) (round : ℕ) (c : Commitment) (a : Acting) : Typ
 -- It tells: it has committed, and has what it planned as long as it wants to publish.
 pub record Tells (net : Net) (arrivals : Amounts) (heard : ℕ → ℕ → List Heard) (made : ℕ → ℕ → Commitment) (round done node : ℕ) (a : Acting) : Type 0 where
   pub enough : length (heard_links net node) ≤ done
-  pub commits : Commits net (entering arrivals) heard made round node
+  pub commits : Commits net (arriving_of arrivals) heard made round node
   pub tells_of : (link : ℕ) → a.want ≡ Publish link → TellsOf net round (made round node) a
   pub want : a.want ≡ telling_first (drop (done - length (heard_links net node)) (told_links net node))
   pub line : a.line ≡ (made round node).line
@@ -79,7 +78,7 @@ pub record HasBoards (net : Net) (made : ℕ → ℕ → Commitment) (history : 
 -- history, the boards, the world at the begin of the next round, and the plans of the rounds that are done, in a list with capacity
 -- for those of all.
 pub record IsRunning (net : Net) (arrivals : Amounts) (heard : ℕ → ℕ → List Heard) (made : ℕ → ℕ → Commitment) (history : List ℕ) (done : ℕ) (boards : List Board) (world : WorldState) (plans : Vec PlanRecord) : Type 0 where
-  pub commits : AllCommit net (entering arrivals) heard made done
+  pub commits : AllCommit net (arriving_of arrivals) heard made done
   pub along : HearAlong net history heard made
   pub boards_are : HasBoards net made history boards
   pub second : world.second ≡ done * net.run.step

@@ -48,7 +48,7 @@ impl<'a> CrossesThreads for Core<'a> {}
 
 impl<'a> Core<'a> {
     ghost use Rattle.std.specs.Prelude.{◌≡◌, ◌↔◌, ◌+◌, ◌<◌, ◌++◌, ◌∷◌, [], true, false, IsTrue, IfOk, IfErr, OnOk, length};
-    ghost use Rattle.arrivals.specs.Amounts.{AreArrivals, entering};
+    ghost use Rattle.arrivals.specs.Amounts.{AreArrivals, arriving_of};
     ghost use Rattle.histories.specs.Histories.{IsLawful};
     ghost use Rattle.net_core.specs.Cores.{IsStepFault, IsWanted, MayStep, Stays};
     ghost use Rattle.runs.specs.Promises.{IsKeptRun};
@@ -178,7 +178,7 @@ impl<'a> Core<'a> {
     pub fn finish(self) -> RunRecord
         requires fresh { self.spent ≡ false }
         requires lawful { IsLawful self.net self.steps }
-        ensures { IsKeptRun self.entry.net (entering self.entry.arrivals) self.entry.steps result }
+        ensures { IsKeptRun self.entry.net (arriving_of self.entry.arrivals) self.entry.steps result }
     {
         law_of_network(self.net);
         law_of_runs(self.net);

@@ -1,6 +1,6 @@
 //! The run of a history that is given.
 ghost use Rattle.std.specs.Prelude.{◌≡◌, IfOk};
-ghost use Rattle.arrivals.specs.Amounts.{AreArrivals, entering};
+ghost use Rattle.arrivals.specs.Amounts.{AreArrivals, arriving_of};
 ghost use Rattle.histories.specs.Histories.{IsLawful};
 ghost use Rattle.net_core.specs.declared.faults.StepFault.{StepFault};
 ghost use Rattle.runs.specs.Promises.{IsKeptRun};
@@ -28,7 +28,7 @@ pub fn run<P: Planner>(
 ) -> Result<RunRecord, AllocError>
     requires arrivals { AreArrivals net.now arrivals.now }
     requires lawful { IsLawful net.now h.now }
-    ensures { IfOk result (IsKeptRun net.now (entering arrivals.now) h.now) }
+    ensures { IfOk result (IsKeptRun net.now (arriving_of arrivals.now) h.now) }
 {
     law_of_network(net);
     law_of_histories(net);

@@ -12,8 +12,7 @@ use Rattle.net_simulator.specs.declared.totals.LinkTotals.{LinkTotals}
 use Rattle.net_simulator.specs.declared.totals.Totals.{Totals}
 use Rattle.road_net.specs.Totals.{total}
 use Rattle.net_simulator.specs.Flow.{Cumulative, passed_in, nothing, queue, waiting, discharged, entered_in, past_of}
-use Rattle.arrivals.specs.Amounts.{Amounts, AreArrivals, entering as entering_at}
-use Rattle.net_simulator.specs.Arriving.{arriving_of}
+use Rattle.arrivals.specs.Amounts.{Amounts, AreArrivals, arriving_of}
 use Rattle.net_simulator.specs.Sums.{outward, arrived, total_left, on_road, delay, link_totals, totals, AreFew}
 use Rattle.net_simulator.specs.Moves.{Moves}
 use Rattle.net_simulator.specs.Rows.{cell}
@@ -34,7 +33,7 @@ use Rattle.net_simulator.proofs.Conserving.{left-entered}
 
 -- the bound on arrivals, over the links by name
 pub few-of : (net : Net) → IsNetwork net → (a : Amounts) → AreArrivals net a → AreFew net (arriving_of a)
-few-of net network a enter n = subst (λ k. total (λ x. total (λ l. entering_at a l x) k) n ≤ 2000000000) network.outline.road_count (enter.few n)
+few-of net network a enter n = subst (λ k. total (λ x. total (arriving_of a x) k) n ≤ 2000000000) network.outline.road_count (enter.few n)
 
 -- a green that covers a second has begun
 pub green_at-begun : (rows : List Green) (x : ℕ) → IfSome (green_at rows x) (λ g. g.from ≤ x)

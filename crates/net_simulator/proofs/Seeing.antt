@@ -17,7 +17,7 @@ use Rattle.control_flow.specs.declared.greens.Green.{Green}
 use Rattle.road_net.specs.Totals.{total}
 use Rattle.net_simulator.specs.Flow.{Cumulative, past_of}
 use Rattle.net_simulator.specs.Rows.{cell}
-use Rattle.net_simulator.specs.Arriving.{arriving_of}
+use Rattle.arrivals.specs.Amounts.{arriving_of}
 use Rattle.net_simulator.specs.LinkSeconds.{seen_by}
 use Rattle.net_simulator.specs.Senses.{coming, stood, link_sense, near_of, near_on, sense}
 use Rattle.net_simulator.specs.Sums.{on_road}

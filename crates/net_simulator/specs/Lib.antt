@@ -4,7 +4,6 @@ pub mod Moves
 pub mod Rows
 pub mod LinkSeconds
 pub mod Steps
-pub mod Arriving
 pub mod Counts
 pub mod Worlds
 pub mod Senses

@@ -5,8 +5,7 @@ use Rattle.net_parts.specs.Numbers.{Net}
 use Rattle.control_flow.specs.declared.greens.Green.{Green}
 use Rattle.control_flow.specs.Greens.{standing}
 use Rattle.net_simulator.specs.Flow.{Cumulative, queue, past_of}
-use Rattle.arrivals.specs.Amounts.{Amounts, AreArrivals}
-use Rattle.net_simulator.specs.Arriving.{arriving_of}
+use Rattle.arrivals.specs.Amounts.{Amounts, AreArrivals, arriving_of}
 use Rattle.net_simulator.specs.Sums.{link_totals, totals}
 use Rattle.net_simulator.specs.Rows.{cell, kept_seconds}
 use Rattle.net_simulator.specs.Counts.{counts_at}

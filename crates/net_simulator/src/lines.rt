@@ -2,8 +2,7 @@
 
 ghost use Rattle.std.specs.Prelude.{◌≡◌, ◌≤◌, IfOk};
 ghost use Rattle.net_parts.specs.Limits.{most_seconds};
-ghost use Rattle.arrivals.specs.Amounts.{AreArrivals};
-ghost use Rattle.net_simulator.specs.Arriving.{arriving_of};
+ghost use Rattle.arrivals.specs.Amounts.{AreArrivals, arriving_of};
 ghost use Rattle.net_simulator.specs.Sums as sums;
 ghost use Rattle.net_simulator.specs.Worlds.{Stands, line_in, standing_by};
 

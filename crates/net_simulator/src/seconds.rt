@@ -3,7 +3,7 @@
 ghost use Rattle.std.specs.Prelude.{◌≡◌, ◌≢◌, ℕ, ◌+◌, ◌-◌, ◌*◌, ◌/◌, ◌%◌, ◌≤◌, ◌<◌, ◌^◌, None, Some, IfSome, length, slice_index, slice_index_or};
 ghost use Rattle.net_parts.specs.Limits.{most_seconds};
 ghost use Rattle.net_parts.specs.Outline.{link_at, turns_at};
-ghost use Rattle.net_simulator.specs.Arriving.{arriving_of};
+ghost use Rattle.arrivals.specs.Amounts.{arriving_of};
 ghost use Rattle.net_simulator.specs.Counts.{counts_at};
 ghost use Rattle.net_simulator.specs.LinkSeconds.{waits_at};
 ghost use Rattle.net_simulator.specs.Rows.{cell, kept_seconds};

@@ -2,11 +2,10 @@
 
 ghost use Rattle.std.specs.Prelude.{◌≡◌, ℕ, ◌+◌, ◌≤◌, ◌<◌, None, Option, IfOk, List, length, replicate, slice_index_or};
 ghost use Rattle.net_parts.specs.Limits.{most_seconds};
-ghost use Rattle.arrivals.specs.Amounts.{Amounts, AreArrivals};
+ghost use Rattle.arrivals.specs.Amounts.{Amounts, AreArrivals, arriving_of};
 ghost use Rattle.control_flow.specs.declared.greens.Green.{Green};
 ghost use Rattle.control_flow.specs.Greens.{green_at, standing};
 ghost use Rattle.net_parts.specs.Numbers.{Net};
-ghost use Rattle.net_simulator.specs.Arriving.{arriving_of};
 ghost use Rattle.net_simulator.specs.Counts.{counts_at, no_totals, IsBalanced};
 ghost use Rattle.net_simulator.specs.Flow.{past_of};
 ghost use Rattle.net_simulator.specs.Senses.{near_on, sense};

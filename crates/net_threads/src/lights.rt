@@ -1,8 +1,7 @@
 //! The lights by which the world moves: the timelines of all nodes.
 ghost use Rattle.std.specs.Prelude.{◌≡◌, ◌+◌, ◌≤◌};
 ghost use Rattle.net_parts.specs.Limits.{most_seconds};
-ghost use Rattle.arrivals.specs.Amounts.{AreArrivals};
-ghost use Rattle.net_simulator.specs.Arriving.{arriving_of};
+ghost use Rattle.arrivals.specs.Amounts.{AreArrivals, arriving_of};
 ghost use Rattle.net_simulator.specs.Worlds.{Stands, standing_by};
 ghost use Rattle.runs.specs.Resting.{lines_of};
 ghost use Rattle.net_threads.specs.Tasks.{actors_in};

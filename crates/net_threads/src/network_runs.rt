@@ -1,6 +1,6 @@
 //! The run of a network in threads.
 ghost use Rattle.std.specs.Prelude.{◌≡◌, ℕ, ◌*◌, ◌<◌, ◌≤◌, Option, [], All, IfOk, OnOk, length, vec_capacity, vec_len};
-ghost use Rattle.arrivals.specs.Amounts.{AreArrivals, entering};
+ghost use Rattle.arrivals.specs.Amounts.{AreArrivals, arriving_of};
 ghost use Rattle.link_boards.specs.Passes.{AreAllPasses, calls_in};
 ghost use Rattle.net_simulator.specs.Worlds.{Stands};
 ghost use Rattle.node_rounds.specs.Calls.{AreStepsOf, HaveCallsLeft, IsRunOfCalls, MergeToLawful};
@@ -101,7 +101,7 @@ fn run_in_threads<
     ensures passes { AreAllPasses boards.now passes.new }
     ensures steps { IfOk result (λ run. (node : ℕ) → AreStepsOf net.now run node (calls_in passes.new node)) }
     ensures lawful { OnOk result (MergeToLawful net.now (calls_in passes.new)) }
-    ensures run { IfOk result (IsRunOfCalls net.now (entering arrivals.now) (calls_in passes.new)) }
+    ensures run { IfOk result (IsRunOfCalls net.now (arriving_of arrivals.now) (calls_in passes.new)) }
 {
     // `nodes` is called for its clause `network`.
     let nodes = net.nodes() as usize;
@@ -162,7 +162,7 @@ pub fn run_rounds<P: Planner + Send + Drop, R: Threads + Wait + Sync, G: Gate + 
     ensures passes { AreAllPasses boards.now passes.new }
     ensures steps { IfOk result (λ run. (node : ℕ) → AreStepsOf net.now run node (calls_in passes.new node)) }
     ensures lawful { OnOk result (MergeToLawful net.now (calls_in passes.new)) }
-    ensures run { IfOk result (IsRunOfCalls net.now (entering arrivals.now) (calls_in passes.new)) }
+    ensures run { IfOk result (IsRunOfCalls net.now (arriving_of arrivals.now) (calls_in passes.new)) }
 {
     run_in_threads(
         rt,
@@ -205,7 +205,7 @@ pub fn run_rounds_snap<P: Planner + Send + Drop, R: Threads + Wait + Sync, G: Ga
     ensures passes { AreAllPasses (shared_of boards.now) passes.new }
     ensures steps { IfOk result (λ run. (node : ℕ) → AreStepsOf net.now run node (calls_in passes.new node)) }
     ensures lawful { OnOk result (MergeToLawful net.now (calls_in passes.new)) }
-    ensures run { IfOk result (IsRunOfCalls net.now (entering arrivals.now) (calls_in passes.new)) }
+    ensures run { IfOk result (IsRunOfCalls net.now (arriving_of arrivals.now) (calls_in passes.new)) }
 {
     run_in_threads(
         rt,

@@ -16,12 +16,12 @@ some_none : {X : Type 0} (o : Option X) → IsSome o → o ≡ None → ⊥
 some_none None some none = absurd (cc)
 some_none (Some x) some none = absurd (cc)
 
-module _ (net arr hist node : List ℕ) (round : ℕ) (network : Net) (enters : ℕ → ℕ → ℕ) (history : List ℕ) where
+module _ (net arr hist node : List ℕ) (round : ℕ) (network : Net) (arriving : ℕ → ℕ → ℕ) (history : List ℕ) where
   -- what is missing explains that nothing was made
-  pub missed : (old new : ShelfState) (why : Refusal) → new ≡ old → IsIn old.files net NetworkText network → IsIn old.files arr (ArrivalsText network) enters → IsIn old.files hist (HistoryText network) history
+  pub missed : (old new : ShelfState) (why : Refusal) → new ≡ old → IsIn old.files net NetworkText network → IsIn old.files arr (ArrivalsText network) arriving → IsIn old.files hist (HistoryText network) history
       → Misses network node round why → Explains (Instance net arr hist node round) old new why
-  missed old new (refusal.Missing Node) same is bring tells misses = (same, ((network, (enters, (history, tt))), (is, (bring, (tells, tt))), misses))
-  missed old new (refusal.Missing Round) same is bring tells misses = (same, ((network, (enters, (history, tt))), (is, (bring, (tells, tt))), misses))
+  missed old new (refusal.Missing Node) same is bring tells misses = (same, ((network, (arriving, (history, tt))), (is, (bring, (tells, tt))), misses))
+  missed old new (refusal.Missing Round) same is bring tells misses = (same, ((network, (arriving, (history, tt))), (is, (bring, (tells, tt))), misses))
   missed old new (refusal.Missing Factor) same is bring tells misses = absurd misses
   missed old new refusal.NoMemory same is bring tells misses = same
   missed old new refusal.Usage same is bring tells misses = misses
@@ -30,7 +30,7 @@ module _ (net arr hist node : List ℕ) (round : ℕ) (network : Net) (enters : 
   missed old new refusal.Unwritten same is bring tells misses = misses
 
   -- and where both are there, nothing is missing
-  pub none_missed : IsSome (number_of network.node_names node) → round < network.run.rounds → MissesNothing (Instance net arr hist node round) (network, (enters, (history, tt)))
+  pub none_missed : IsSome (number_of network.node_names node) → round < network.run.rounds → MissesNothing (Instance net arr hist node round) (network, (arriving, (history, tt)))
   none_missed some within Node missing = some_none (number_of network.node_names node) some missing
   none_missed some within Round missing = omega (arith, missing.1, within)
   none_missed some within Factor missing = missing

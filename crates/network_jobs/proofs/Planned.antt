@@ -4,7 +4,7 @@ use Rattle.std.specs.Prelude.{Contains}
 use Rattle.std.proofs.lemmas.List.Elements.{All-contains}
 use Rattle.std.proofs.lemmas.List.Sums.{sum-map}
 use Rattle.histories.specs.Histories.{turn_order}
-use Rattle.arrivals.specs.Amounts.{Amounts, entering}
+use Rattle.arrivals.specs.Amounts.{Amounts, arriving_of}
 use Rattle.instance_form.specs.InstanceText.{HasText, IsWritable, IsWritableCluster, instance_text}
 use Rattle.instance_form.proofs.FormLaws.{text_once}
 use Rattle.instance_form.proofs.LengthLaws.{text-le}
@@ -73,10 +73,10 @@ only p bytes h is other read =
     λ i. record { plan = same.0 i; head = same.1 i; lists = same.2 i }
 
 -- the text of the instance of a plan of a run
-pub planned : (net : Net) (arrivals : Amounts) (history node : List ℕ) (number round : ℕ) (bytes : List ℕ) (run : RunRecord) (plan : PlanRecord) → IsRunOf net (entering arrivals) history run
+pub planned : (net : Net) (arrivals : Amounts) (history node : List ℕ) (number round : ℕ) (bytes : List ℕ) (run : RunRecord) (plan : PlanRecord) → IsRunOf net (arriving_of arrivals) history run
     → Contains run.plans plan → plan.node ≡ number → plan.round ≡ round → number_of net.node_names node ≡ Some number
     → IsInstance plan.instance → bytes ≡ instance_text plan.instance.plan plan.instance.head plan.instance.lists → IsLeast plan.instance plan.answer
-    → IsPlannedText net (entering arrivals) history node round bytes
+    → IsPlannedText net (arriving_of arrivals) history node round bytes
 planned net arrivals history node number round bytes run plan runs among of_node of_round named lawful is least = record {
   run = run;
   runs = runs;
@@ -90,16 +90,16 @@ planned net arrivals history node number round bytes run plan runs among of_node
 }
 
 -- so is what is written of it, where the run keeps what it must
-pub all_planned : {X E : Type 0} (text_of : X → List ℕ) (net : Net) (arrivals : Amounts) (history : List ℕ) (number round : ℕ) (run : RunRecord) (plan : PlanRecord) (result : Result X E) → IsRunOf net (entering arrivals) history run
+pub all_planned : {X E : Type 0} (text_of : X → List ℕ) (net : Net) (arrivals : Amounts) (history : List ℕ) (number round : ℕ) (run : RunRecord) (plan : PlanRecord) (result : Result X E) → IsRunOf net (arriving_of arrivals) history run
     → Contains run.plans plan → plan.node ≡ number → plan.round ≡ round → IsInstance plan.instance
     → IfOk result (λ x. text_of x ≡ instance_text plan.instance.plan plan.instance.head plan.instance.lists)
-    → IfOk result (λ x. (node : List ℕ) → number_of net.node_names node ≡ Some number → IsPlannedText net (entering arrivals) history node round (text_of x))
+    → IfOk result (λ x. (node : List ℕ) → number_of net.node_names node ≡ Some number → IsPlannedText net (arriving_of arrivals) history node round (text_of x))
 all_planned text_of net arrivals history number round run plan (Ok x) runs among of_node of_round lawful is = λ node named.
     planned net arrivals history node number round (text_of x) run plan runs among of_node of_round named lawful is (All-contains (λ (p : PlanRecord). IsLeast p.instance p.answer) run.plans plan runs.kept.kept.least among)
 all_planned text_of net arrivals history number round run plan (Err e) runs among of_node of_round lawful is = tt
 
 -- the summary of a run of the turn order on a grid
 pub all_summed : {X E : Type 0} (text_of : X → List ℕ) (number side rounds : ℕ) (net : Net) (arrivals : Amounts) (run : RunRecord) (result : Result X E) → IsGrid number side rounds net arrivals
-    → IsRunOf net (entering arrivals) (turn_order net) run → IfOk result (λ x. text_of x ≡ summary_text number side rounds run) → IfOk result (λ x. IsGridSummary number side rounds (text_of x))
+    → IsRunOf net (arriving_of arrivals) (turn_order net) run → IfOk result (λ x. text_of x ≡ summary_text number side rounds run) → IfOk result (λ x. IsGridSummary number side rounds (text_of x))
 all_summed text_of number side rounds net arrivals run (Ok x) grid runs summary = record { net = net; arrivals = arrivals; grid = grid; run = run; runs = runs; summary = summary }
 all_summed text_of number side rounds net arrivals run (Err e) grid runs summary = tt

@@ -9,10 +9,10 @@ use Rattle.delay_report.specs.Reports.{records_text, report_text, steps_records}
 use Rattle.network_jobs.specs.Merged.{IsRunOfMerge, IsTextOfMerge}
 
 -- The boards are closed with all passes: the run is that of the merge of their logs.
-pub told : (net : Net) (enters : ℕ → ℕ → ℕ) (links : ℕ) (passes : List PassView) (logs : List Log) (run : RunRecord)
-    → AreLogsOfPasses links passes logs → MergeToLawful net (calls_in passes) → IsRunOfCalls net enters (calls_in passes) run
-    → IsRunOfMerge net enters logs run
-told net enters links passes logs run closed lawful is_run history merge = record {
+pub told : (net : Net) (arriving : ℕ → ℕ → ℕ) (links : ℕ) (passes : List PassView) (logs : List Log) (run : RunRecord)
+    → AreLogsOfPasses links passes logs → MergeToLawful net (calls_in passes) → IsRunOfCalls net arriving (calls_in passes) run
+    → IsRunOfMerge net arriving logs run
+told net arriving links passes logs run closed lawful is_run history merge = record {
   lawful = lawful logs history closed.made merge;
   kept = is_run logs history closed.made closed.agree merge;
 }

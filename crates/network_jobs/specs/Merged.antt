@@ -13,7 +13,7 @@ HaveLawfulMerge net logs = (history : List ℕ) → IsMerge logs history → IsL
 
 -- this is the run of the merge of these logs
 abbrev pub IsRunOfMerge : Net → (ℕ → ℕ → ℕ) → List Log → RunRecord → Type 0
-IsRunOfMerge net enters logs run = (history : List ℕ) → IsMerge logs history → IsRunOf net enters history run
+IsRunOfMerge net arriving logs run = (history : List ℕ) → IsMerge logs history → IsRunOf net arriving history run
 
 -- the text is what this makes of the merge of these logs
 pub record IsTextOfMerge (logs : List Log) (text_of : List ℕ → List ℕ) (text : List ℕ) : Type 0 where

@@ -1,6 +1,6 @@
 //! The report of the run of a history.
 ghost use Rattle.std.specs.Prelude.{IfOk};
-ghost use Rattle.arrivals.specs.Amounts.{AreArrivals, entering};
+ghost use Rattle.arrivals.specs.Amounts.{AreArrivals, arriving_of};
 ghost use Rattle.histories.specs.Histories.{IsLawful};
 ghost use Rattle.commands.specs.Headline.{Headline};
 
@@ -20,7 +20,7 @@ pub fn report(
 ) -> Result<Vec<u8>, AllocError>
     requires arrivals { AreArrivals net.now arrivals.now }
     requires lawful { IsLawful net.now h.now }
-    ensures { IfOk result (λ text. Headline net.now (entering arrivals.now) h.now text.items) }
+    ensures { IfOk result (λ text. Headline net.now (arriving_of arrivals.now) h.now text.items) }
 {
     law_of_network(net);
     // It is called for its clause `clean`.

@@ -1,6 +1,6 @@
 //! The command `instance NET ARR HIST NODE ROUND`.
 ghost use Rattle.std.specs.Prelude.{◌≡◌, ℕ, ◌<◌, List, IfErr, IfOk, IsSome, OnOk, Some, length};
-ghost use Rattle.arrivals.specs.Amounts.{AreArrivals, entering};
+ghost use Rattle.arrivals.specs.Amounts.{AreArrivals, arriving_of};
 ghost use Rattle.histories.specs.Histories.{IsLawful};
 ghost use Rattle.net_parts.specs.Numbers.{number_of};
 ghost use Rattle.command_words.specs.Calls.{Instance};
@@ -64,7 +64,7 @@ fn planned_text(
     requires number { number < length net.now.node_names }
     requires round { round < net.now.run.rounds }
     ensures { IfOk result (λ text. (node : List ℕ) → number_of net.now.node_names node ≡ Some number
-        → IsPlannedText net.now (entering arrivals.now) h.now node round text.items) }
+        → IsPlannedText net.now (arriving_of arrivals.now) h.now node round text.items) }
 {
     let run = kept_run(alloc, net, arrivals, h)?;
     write_instance(alloc, &run.plan(net, round, number).instance)
@@ -82,7 +82,7 @@ fn find_planned_text(
     requires arrivals { AreArrivals net.now arrivals.now }
     requires lawful { IsLawful net.now h.now }
     ensures planned { IfOk result (λ text. IsPlannedText net.now
-        (entering arrivals.now) h.now node.now round text.items) }
+        (arriving_of arrivals.now) h.now node.now round text.items) }
     ensures exists { OnOk result (IsSome (number_of net.now.node_names node.now) × (round < net.now.run.rounds)) }
     ensures refused { IfErr result (Misses net.now node.now round) }
 {

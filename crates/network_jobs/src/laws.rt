@@ -35,16 +35,16 @@ pub fn law_of_instances()
 ///
 /// docs/FORMATS.md, "Words".
 pub fn law_of_replays(net: &Network)
-    ensures net { (file arr hist : List ℕ) (enters : ℕ → ℕ → ℕ) (history bytes again : List ℕ)
-        → IsTextOf (Net file arr) (net.now, (enters, tt)) bytes → IsHistoryText net.now bytes history
-        → IsTextOf (Replay file arr hist) (net.now, (enters, (history, tt))) again → again ≡ bytes }
-    ensures turns { (file arr hist : List ℕ) (enters : ℕ → ℕ → ℕ) (history bytes again : List ℕ)
-        → IsTextOf (Turns file arr) (net.now, (enters, tt)) bytes → IsHistoryText net.now bytes history
-        → IsTextOf (Replay file arr hist) (net.now, (enters, (history, tt))) again → again ≡ bytes }
-    ensures replay { (file arr hist : List ℕ) (enters : ℕ → ℕ → ℕ) (given history bytes again : List ℕ)
-        → IsTextOf (Replay file arr hist) (net.now, (enters, (given, tt))) bytes
+    ensures net { (file arr hist : List ℕ) (arriving : ℕ → ℕ → ℕ) (history bytes again : List ℕ)
+        → IsTextOf (Net file arr) (net.now, (arriving, tt)) bytes → IsHistoryText net.now bytes history
+        → IsTextOf (Replay file arr hist) (net.now, (arriving, (history, tt))) again → again ≡ bytes }
+    ensures turns { (file arr hist : List ℕ) (arriving : ℕ → ℕ → ℕ) (history bytes again : List ℕ)
+        → IsTextOf (Turns file arr) (net.now, (arriving, tt)) bytes → IsHistoryText net.now bytes history
+        → IsTextOf (Replay file arr hist) (net.now, (arriving, (history, tt))) again → again ≡ bytes }
+    ensures replay { (file arr hist : List ℕ) (arriving : ℕ → ℕ → ℕ) (given history bytes again : List ℕ)
+        → IsTextOf (Replay file arr hist) (net.now, (arriving, (given, tt))) bytes
         → IsHistoryText net.now bytes history
-        → IsTextOf (Replay file arr hist) (net.now, (enters, (history, tt))) again → again ≡ bytes }
+        → IsTextOf (Replay file arr hist) (net.now, (arriving, (history, tt))) again → again ≡ bytes }
 {
     law_of_one_run(net);
     law_of_reports(net);

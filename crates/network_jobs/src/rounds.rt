@@ -1,6 +1,6 @@
 //! A run in threads, and the history that its boards tell.
 ghost use Rattle.std.specs.Prelude.{◌≡◌, All, IfOk, OnOk, [], length};
-ghost use Rattle.arrivals.specs.Amounts.{AreArrivals, entering};
+ghost use Rattle.arrivals.specs.Amounts.{AreArrivals, arriving_of};
 ghost use Rattle.link_boards.specs.Passes.{AreAllPasses, calls_in};
 ghost use Rattle.delay_report.specs.Reports.{outcome_records, records_text, report_text, steps_records};
 ghost use Rattle.histories.specs.Histories.{IsLawful};
@@ -70,7 +70,7 @@ fn run_with_passes<R: Threads + Wait + Sync, G: Gate + Sync>(
     requires left { HaveCallsLeft net.now passes.items }
     ensures passes { AreAllPasses (shared_of boards.now) result.1.items }
     ensures lawful { OnOk result.0 (MergeToLawful net.now (calls_in result.1.items)) }
-    ensures run { IfOk result.0 (IsRunOfCalls net.now (entering arrivals.now) (calls_in result.1.items)) }
+    ensures run { IfOk result.0 (IsRunOfCalls net.now (arriving_of arrivals.now) (calls_in result.1.items)) }
 {
     let Ok(planners) = BoundPlanner::many(alloc, net.nodes() as usize) else {
         return (Err(AllocError), passes);
@@ -98,7 +98,7 @@ fn play<R: Threads + Wait + Sync, G: Gate + Sync>(
     gate: &G,
 ) -> Result<LoggedRun, AllocError>
     requires { AreArrivals net.now arrivals.now }
-    ensures { IfOk result (λ logged. IsRunOfMerge net.now (entering arrivals.now) logged.logs.items logged.run) }
+    ensures { IfOk result (λ logged. IsRunOfMerge net.now (arriving_of arrivals.now) logged.logs.items logged.run) }
 {
     let (boards, passes) = open_boards(rt, alloc, net)?;
     let (run, passes) = run_with_passes(rt, alloc, net, arrivals, &boards, passes, gate);
@@ -180,7 +180,7 @@ pub(crate) fn report<R: Threads + Wait + Sync, G: Gate + Sync>(
     gate: &G,
 ) -> Result<Vec<u8>, AllocError>
     requires { AreArrivals net.now arrivals.now }
-    ensures { IfOk result (λ text. ToldHeadline net.now (entering arrivals.now) text.items) }
+    ensures { IfOk result (λ text. ToldHeadline net.now (arriving_of arrivals.now) text.items) }
 {
     law_of_network(net);
     let logged = play(rt, alloc, net, arrivals, gate)?;

@@ -1,6 +1,6 @@
 //! The command `turns NET ARR`.
 ghost use Rattle.std.specs.Prelude.{IfOk};
-ghost use Rattle.arrivals.specs.Amounts.{AreArrivals, entering};
+ghost use Rattle.arrivals.specs.Amounts.{AreArrivals, arriving_of};
 ghost use Rattle.histories.specs.Histories as histories;
 ghost use Rattle.command_words.specs.Calls.{Turns};
 ghost use Rattle.commands.specs.Ending.{Makes};
@@ -18,7 +18,8 @@ use std::alloc::{AllocError, Global};
 // The report of the run of the turn order.
 fn report_of_turns(alloc: Global, net: &Network, arrivals: &Arrivals) -> Result<Vec<u8>, AllocError>
     requires { AreArrivals net.now arrivals.now }
-    ensures { IfOk result (λ text. Headline net.now (entering arrivals.now) (histories.turn_order net.now) text.items) }
+    ensures { IfOk result (λ text.
+        Headline net.now (arriving_of arrivals.now) (histories.turn_order net.now) text.items) }
 {
     let history = turn_order(alloc, net)?;
     report(alloc, net, arrivals, &history)

@@ -7,7 +7,7 @@ use Rattle.std.proofs.lemmas.List.{get_or_default, get_or-map, length-map}
 use Rattle.std.proofs.lemmas.List.Elements.{All-nil, All-weaker}
 use Rattle.std.proofs.lemmas.Nat.{div_below}
 use Rattle.std.proofs.Math.Nat.{mul-le-mul_right}
-use Rattle.arrivals.specs.Amounts.{Amounts, AreArrivals, entering}
+use Rattle.arrivals.specs.Amounts.{Amounts, AreArrivals, arriving_of}
 use Rattle.board_model.specs.declared.boards.Heard.{Heard}
 use Rattle.board_model.specs.declared.calls.Call.{Call}
 use Rattle.link_boards.specs.Passes.{BoardsView, PassView, calls_in, highest, raised}
@@ -22,7 +22,6 @@ use Rattle.intersection_actor.specs.Commits.{Commitment, IsCommit, record_of}
 use Rattle.intersection_actor.specs.declared.records.PlanRecord.{PlanRecord}
 use Rattle.histories.specs.Calls.{IsRising, step_of}
 use Rattle.net_parts.specs.Numbers.{Net}
-use Rattle.net_simulator.specs.Arriving.{arriving_of}
 use Rattle.net_simulator.specs.Flow.{past_of}
 use Rattle.net_simulator.specs.Senses.{sense}
 use Rattle.net_simulator.specs.Worlds.{WorldState, Stands, standing_by}
@@ -71,7 +70,7 @@ module _ (net : Net) (network : IsNetwork net) (arrivals : Amounts) (round : ℕ
               record {
                 more = less;
                 second = b.second;
-                stands = record { arrivals = arrivals; lines = line_before net b.made round; enter = enter; stands = before-stands net network (entering arrivals) round b.heard b.made b.most b.commits world b.second b.stands };
+                stands = record { arrivals = arrivals; lines = line_before net b.made round; enter = enter; stands = before-stands net network (arriving_of arrivals) round b.heard b.made b.most b.commits world b.second b.stands };
                 of = rests.of;
                 want = rests.want;
                 ahead = rests.ahead;
@@ -131,35 +130,35 @@ module _ (net : Net) (network : IsNetwork net) (arrivals : Amounts) (round : ℕ
       made-own : (n : ℕ) → made round n ≡ (did n).made
       made-own n = round-here b.made round (λ n. (did n).made) n
 
-      before : (r : ℕ) → r ≤ round → SameBefore net network (entering arrivals) b.made made r
+      before : (r : ℕ) → r ≤ round → SameBefore net network (arriving_of arrivals) b.made made r
       before r most s m less below = made-else s m (omega arith)
 
       node-is : (n : ℕ) → n < N → (get_or actors n A).node ≡ n
       node-is n below = (b.rests n A below).node_is
 
-      sensed-is : (n : ℕ) → n < N → (did n).sensed ≡ sensed_in net (entering arrivals) b.made round n
+      sensed-is : (n : ℕ) → n < N → (did n).sensed ≡ sensed_in net (arriving_of arrivals) b.made round n
       sensed-is n below =
-          (did-is n below).sensed (arriving_of arrivals) (line_before net b.made round) (before-stands net network (entering arrivals) round b.heard b.made b.most b.commits world b.second b.stands)
+          (did-is n below).sensed (arriving_of arrivals) (line_before net b.made round) (before-stands net network (arriving_of arrivals) round b.heard b.made b.most b.commits world b.second b.stands)
           ∙ ap (λ k. sense net (past_of net (arriving_of arrivals) (standing_by (line_before net b.made round)) world.second) world.second k) (node-is n below)
-          ∙ sense-is net network (entering arrivals) round b.heard b.made b.most b.commits world b.second n
+          ∙ sense-is net network (arriving_of arrivals) round b.heard b.made b.most b.commits world b.second n
 
-      own-commits : (n : ℕ) → n < N → Commits net (entering arrivals) heard made round n
+      own-commits : (n : ℕ) → n < N → Commits net (arriving_of arrivals) heard made round n
       own-commits n below =
           let is = did-is n below in
-          let commit : IsCommit net n round (line_before net b.made round n) (sensed_in net (entering arrivals) b.made round n) (did n).heard (did n).made =
-          subst (λ k. IsCommit net k round (line_before net b.made round n) (sensed_in net (entering arrivals) b.made round n) (did n).heard (did n).made) (node-is n below)
-          (subst (λ (l : List Green). IsCommit net (get_or actors n A).node round l (sensed_in net (entering arrivals) b.made round n) (did n).heard (did n).made) (b.rests n A below).line
+          let commit : IsCommit net n round (line_before net b.made round n) (sensed_in net (arriving_of arrivals) b.made round n) (did n).heard (did n).made =
+          subst (λ k. IsCommit net k round (line_before net b.made round n) (sensed_in net (arriving_of arrivals) b.made round n) (did n).heard (did n).made) (node-is n below)
+          (subst (λ (l : List Green). IsCommit net (get_or actors n A).node round l (sensed_in net (arriving_of arrivals) b.made round n) (did n).heard (did n).made) (b.rests n A below).line
           (subst (λ (s : Sensed). IsCommit net (get_or actors n A).node round (get_or actors n A).line s (did n).heard (did n).made) (sensed-is n below) is.commit)) in
           record {
             links = subst (IsHeardOf net n) (sym (heard-own n)) (subst (λ k. IsHeardOf net k (did n).heard) (node-is n below) is.heard);
-            commit = subst (IsCommit net n round (line_before net made round n) (sensed_in net (entering arrivals) made round n) (heard round n)) (sym (made-own n))
-                (commit-moved net network (entering arrivals) b.made made round n (did n).heard (heard round n) (did n).made (before round (omega arith)) below (sym (heard-own n)) commit);
+            commit = subst (IsCommit net n round (line_before net made round n) (sensed_in net (arriving_of arrivals) made round n) (heard round n)) (sym (made-own n))
+                (commit-moved net network (arriving_of arrivals) b.made made round n (did n).heard (heard round n) (did n).made (before round (omega arith)) below (sym (heard-own n)) commit);
           }
 
-      commits : AllCommit net (entering arrivals) heard made (round + 1)
+      commits : AllCommit net (arriving_of arrivals) heard made (round + 1)
       commits r n early below = elim (cases_lt r round) [
-        | inl first ↦ commits-moved net network (entering arrivals) b.made made b.heard heard r n (before r (omega arith)) below (heard-else r n first) (made-else r n first) (b.commits r n first below)
-        | inr last ↦ (let e : r ≡ round = omega arith in subst (λ s. Commits net (entering arrivals) heard made s n) (sym e) (own-commits n below))
+        | inl first ↦ commits-moved net network (arriving_of arrivals) b.made made b.heard heard r n (before r (omega arith)) below (heard-else r n first) (made-else r n first) (b.commits r n first below)
+        | inr last ↦ (let e : r ≡ round = omega arith in subst (λ s. Commits net (arriving_of arrivals) heard made s n) (sym e) (own-commits n below))
       ]
 
       one : suc round ≡ round + 1
@@ -304,7 +303,7 @@ module _ (net : Net) (network : IsNetwork net) (arrivals : Amounts) (round : ℕ
       lines-show : (x n : ℕ) → x < (round + 1) * net.run.step → n < N → standing (lines_of acted n) x ≡ shown_by net made x n
       lines-show x n less below =
           ap (λ (l : List Green). standing l x) (line-is n below)
-          ∙ before-shows net network (entering arrivals) (round + 1) heard made next-most commits x n less below
+          ∙ before-shows net network (arriving_of arrivals) (round + 1) heard made next-most commits x n less below
 
       next-second : (round + 1) * net.run.step ≡ round * net.run.step + net.run.step
       next-second = omega arith

@@ -4,7 +4,7 @@ use Rattle.std.specs.Global.{Vec}
 use Rattle.std.specs.Prelude.{Contains}
 use Rattle.std.proofs.lemmas.List.{get_or-map, length-map}
 use Rattle.std.proofs.lemmas.List.Elements.{All-contains}
-use Rattle.arrivals.specs.Amounts.{Amounts, entering}
+use Rattle.arrivals.specs.Amounts.{Amounts, arriving_of}
 use Rattle.board_model.specs.Boards.{Log}
 use Rattle.board_model.specs.Calls.{Agree, AreLogsOf, log_at}
 use Rattle.board_model.specs.declared.boards.Heard.{Heard}
@@ -47,8 +47,8 @@ module _ (net : Net) (network : IsNetwork net) (arrivals : Amounts) (boards : Bo
   pub merge-lawful : ((calls : ℕ → List Call) (logs : List Log) (h : List ℕ) → AreCalls (board_steps net) net.run.rounds calls → AreLogsOf calls (log_at logs) → IsMerge logs h → IsLawful net h) → MergeToLawful net (calls_in passes)
   merge-lawful lawful logs history made merge = lawful (calls_in passes) logs history are-calls made merge
 
-  pub by-commits : (run : RunRecord) → IsRecordOf net plans.items actors world run → IsRunBy net (entering arrivals) b.heard b.made run
-  by-commits = run-by net (entering arrivals) b.heard b.made actors world b.all b.rests b.commits b.second b.stands plans b.planned
+  pub by-commits : (run : RunRecord) → IsRecordOf net plans.items actors world run → IsRunBy net (arriving_of arrivals) b.heard b.made run
+  by-commits = run-by net (arriving_of arrivals) b.heard b.made actors world b.all b.rests b.commits b.second b.stands plans b.planned
 
   -- the calls are the steps, and each reading is named
   pub are-steps : (run : RunRecord) → IsRecordOf net plans.items actors world run → (node : ℕ) → AreStepsOf net run node (calls_in passes node)
@@ -68,14 +68,14 @@ module _ (net : Net) (network : IsNetwork net) (arrivals : Amounts) (boards : Bo
   -- and it is the run of that merge
   pub is-run-of : ((calls : ℕ → List Call) (logs : List Log) (h : List ℕ) → AreCalls (board_steps net) net.run.rounds calls → AreLogsOf calls (log_at logs) → IsMerge logs h → IsLawful net h)
       → ((calls : ℕ → List Call) (logs : List Log) (h : List ℕ) → AreCalls (board_steps net) net.run.rounds calls → AreLogsOf calls (log_at logs) → Agree calls (log_at logs) → IsMerge logs h → AreTold (board_steps net) (publisher net) calls h)
-      → ((enters : ℕ → ℕ → ℕ) (history : List ℕ) (record_of_run : RunRecord) → IsLawful net history → (run : IsRun net enters history record_of_run) → KeepsPromises net enters history run.made record_of_run)
-      → (run : RunRecord) → IsRecordOf net plans.items actors world run → IsRunOfCalls net (entering arrivals) (calls_in passes) run
+      → ((arriving : ℕ → ℕ → ℕ) (history : List ℕ) (record_of_run : RunRecord) → IsLawful net history → (run : IsRun net arriving history record_of_run) → KeepsPromises net arriving history run.made record_of_run)
+      → (run : RunRecord) → IsRecordOf net plans.items actors world run → IsRunOfCalls net (arriving_of arrivals) (calls_in passes) run
   is-run-of lawful told keeps run left logs history made agree merge =
       let is_lawful : IsLawful net history = merge-lawful lawful logs history made merge in
-      let is : IsRun net (entering arrivals) history run = record {
+      let is : IsRun net (arriving_of arrivals) history run = record {
         heard = b.heard;
         made = b.made;
         by = by-commits run left;
         along = along net network b.heard b.made (calls_in passes) history b.calls is_lawful (told (calls_in passes) logs history are-calls made agree merge);
       } in
-      record { run = is; kept = keeps (entering arrivals) history run is_lawful is }
+      record { run = is; kept = keeps (arriving_of arrivals) history run is_lawful is }

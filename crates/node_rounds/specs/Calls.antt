@@ -28,8 +28,8 @@ MergeToLawful net calls = (logs : List Log) (history : List ℕ) → AreLogsOf c
 
 -- where the logs of these calls agree with them, this is the run of their merge, with all that a run keeps
 abbrev pub IsRunOfCalls : Net → (ℕ → ℕ → ℕ) → (ℕ → List Call) → RunRecord → Type 0
-IsRunOfCalls net enters calls run = (logs : List Log) (history : List ℕ) → AreLogsOf calls (log_at logs) → Agree calls (log_at logs) → IsMerge logs history
-    → IsKeptRun net enters history run
+IsRunOfCalls net arriving calls run = (logs : List Log) (history : List ℕ) → AreLogsOf calls (log_at logs) → Agree calls (log_at logs) → IsMerge logs history
+    → IsKeptRun net arriving history run
 
 -- each pass has at least as many calls left as its node has board steps in all rounds
 abbrev pub HaveCallsLeft : Net → List PassView → Type 0

@@ -1,7 +1,7 @@
 -- How far the nodes are between the rounds, and what a round of all nodes is.
 use Rattle.std.specs.Prelude.{◌≡◌, ℕ, zero, suc, ◌-◌, ◌*◌, ◌<◌, ◌≤◌, List, [], ◌++◌, All, length, map, slice_index_or}
 use Rattle.std.specs.Global.{Vec}
-use Rattle.arrivals.specs.Amounts.{Amounts, entering}
+use Rattle.arrivals.specs.Amounts.{Amounts, arriving_of}
 use Rattle.atomic_table.specs.Seated.{TableId}
 use Rattle.board_model.specs.declared.boards.Heard.{Heard}
 use Rattle.board_model.specs.declared.calls.Call.{Call}
@@ -12,7 +12,6 @@ use Rattle.intersection_actor.specs.Commits.{Commitment}
 use Rattle.intersection_actor.specs.declared.records.PlanRecord.{PlanRecord}
 use Rattle.histories.specs.Calls.{IsRising}
 use Rattle.net_parts.specs.Numbers.{Net}
-use Rattle.net_simulator.specs.Arriving.{arriving_of}
 use Rattle.net_simulator.specs.Worlds.{WorldState, Stands}
 use Rattle.runs.specs.Runs.{AllCommit, shown_by}
 use Rattle.node_rounds.specs.Nodes.{CanPlay, HasPlayed}
@@ -70,7 +69,7 @@ pub record Between (net : Net) (arrivals : Amounts) (boards : BoardsView) (round
   pub made : ℕ → ℕ → Commitment
   pub mark : ℕ
   pub most : round ≤ net.run.rounds
-  pub commits : AllCommit net (entering arrivals) heard made round
+  pub commits : AllCommit net (arriving_of arrivals) heard made round
   pub second : world.second ≡ round * net.run.step
   pub stands : Stands net (arriving_of arrivals) (shown_by net made) world
   pub all : length actors ≡ length net.node_names

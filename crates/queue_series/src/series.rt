@@ -2,9 +2,8 @@
 
 ghost use Rattle.std.specs.Prelude.{◌≡◌, ℕ, ◌<◌, [], ◌∷◌, IfOk, OnOk, if◌then◌else◌, length, map};
 ghost use Rattle.std.specs.List.{flat_map, range_with_len};
-ghost use Rattle.arrivals.specs.Amounts.{AreArrivals};
+ghost use Rattle.arrivals.specs.Amounts.{AreArrivals, arriving_of};
 ghost use Rattle.net_simulator.specs.Shown.{past_under};
-ghost use Rattle.net_simulator.specs.Arriving.{arriving_of};
 ghost use Rattle.net_simulator.specs.Counts.{counts_at};
 ghost use Rattle.net_simulator.specs.Sums as sums;
 ghost use Rattle.net_simulator.specs.Worlds.{Stands, line_in, standing_by};

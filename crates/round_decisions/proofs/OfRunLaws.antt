@@ -97,7 +97,7 @@ module _ (net : Net) (network : IsNetwork net) (r n q place : ℕ) (less : r < n
     | inr early ↦ (let low = bounds.0 in omega arith)
   ]
 
-module _ (net : Net) (network : IsNetwork net) (enters : ℕ → ℕ → ℕ) (heard : ℕ → ℕ → List Heard) (made : ℕ → ℕ → Commitment) (run : RunRecord) (is : IsTurnRun net enters heard made run) (state : RoundState) (at : IsStateIn net enters made state) where
+module _ (net : Net) (network : IsNetwork net) (arriving : ℕ → ℕ → ℕ) (heard : ℕ → ℕ → List Heard) (made : ℕ → ℕ → Commitment) (run : RunRecord) (is : IsTurnRun net arriving heard made run) (state : RoundState) (at : IsStateIn net arriving made state) where
   abbrev r : ℕ
   r = state.round
 
@@ -128,11 +128,11 @@ module _ (net : Net) (network : IsNetwork net) (enters : ℕ → ℕ → ℕ) (h
   heard-is n below =
       let none : Heard = hearing net made 0 0 in
       let boards : ℕ → LinkBoard = board_after net state (made state.round) n in
-      let long : length (heard state.round n) ≡ length (heard_links net n) = heard-count net enters (turn_order net) heard made net.run.rounds is.by.commits is.along state.round n at.round below in
+      let long : length (heard state.round n) ≡ length (heard_links net n) = heard-count net arriving (turn_order net) heard made net.run.rounds is.by.commits is.along state.round n at.round below in
       ext_get_or none (heard state.round n) (heard_in net state (made state.round) n) (long ∙ sym (length-map (heard_links net n) (hearing_on (board_after net state (made state.round) n)))) (λ q inside.
       let first : q < length (heard_links net n) = omega (arith, long) in
       let (place, stands) = place-of net network (turn_order net) (order-lawful net network) state.round n q at.round (first-small net n q first) in
-      heard-at net enters (turn_order net) heard made net.run.rounds is.by.commits is.along state.round n q place at.round below first stands none
+      heard-at net arriving (turn_order net) heard made net.run.rounds is.by.commits is.along state.round n q place at.round below first stands none
       ∙ board-at n q place below first stands (get_or (heard_links net n) q 0) (heard-ends net n q network first)
       ∙ sym (get_or-map (hearing_on (board_after net state (made state.round) n)) (heard_links net n) q 0 none first))
 
@@ -143,8 +143,8 @@ module _ (net : Net) (network : IsNetwork net) (enters : ℕ → ℕ → ℕ) (h
 
     commit-same : (n : ℕ) → n < length net.node_names → ((k : ℕ) → k < n → decision.made k ≡ made state.round k) → decision.made n ≡ made state.round n
     commit-same n below same =
-        one-commit net n state.round (line_before net made state.round n) (sensed_in net enters made state.round n) (heard state.round n) (decision.made n) (made state.round n)
-        (subst (λ (l : List Green). IsCommit net n state.round l (sensed_in net enters made state.round n) (heard state.round n) (decision.made n)) (at.lines n below)
+        one-commit net n state.round (line_before net made state.round n) (sensed_in net arriving made state.round n) (heard state.round n) (decision.made n) (made state.round n)
+        (subst (λ (l : List Green). IsCommit net n state.round l (sensed_in net arriving made state.round n) (heard state.round n) (decision.made n)) (at.lines n below)
         (subst (λ (s : Sensed). IsCommit net n state.round (line_of state n) s (heard state.round n) (decision.made n)) (at.sensed n below)
         (subst (λ (x : List Heard). IsCommit net n state.round (line_of state n) (sensed_of state n) x (decision.made n)) (heard-by n same ∙ sym (heard-is n below)) (decision.commits n below))))
         (is.by.commits state.round n at.round below).commit

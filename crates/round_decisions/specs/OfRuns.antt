@@ -14,15 +14,15 @@ use Rattle.round_decisions.specs.Turns.{board_of}
 use Rattle.round_decisions.specs.declared.decisions.Decision.{Decision}
 
 -- the run of the turn order
-pub record IsTurnRun (net : Net) (enters : ℕ → ℕ → ℕ) (heard : ℕ → ℕ → List Heard) (made : ℕ → ℕ → Commitment) (run : RunRecord) : Type 0 where
-  pub by : IsRunBy net enters heard made run
+pub record IsTurnRun (net : Net) (arriving : ℕ → ℕ → ℕ) (heard : ℕ → ℕ → List Heard) (made : ℕ → ℕ → Commitment) (run : RunRecord) : Type 0 where
+  pub by : IsRunBy net arriving heard made run
   pub along : HearAlong net (turn_order net) heard made
 
 -- The state is that of its round in a run: each node senses there what it senses in the run, each line is the run's before the
 -- round, and each board of a link between two nodes has the version that the round's number is, with its forecast.
-pub record IsStateIn (net : Net) (enters : ℕ → ℕ → ℕ) (made : ℕ → ℕ → Commitment) (state : RoundState) : Type 0 where
+pub record IsStateIn (net : Net) (arriving : ℕ → ℕ → ℕ) (made : ℕ → ℕ → Commitment) (state : RoundState) : Type 0 where
   pub round : state.round < net.run.rounds
-  pub sensed : (node : ℕ) → node < length net.node_names → sensed_of state node ≡ sensed_in net enters made state.round node
+  pub sensed : (node : ℕ) → node < length net.node_names → sensed_of state node ≡ sensed_in net arriving made state.round node
   pub lines : (node : ℕ) → node < length net.node_names → line_of state node ≡ line_before net made state.round node
   pub boards : (link from to : ℕ) → (link_at net link).from ≡ Some from → (link_at net link).to ≡ Some to
       → board_of state.boards link ≡ record { version = state.round; forecast = forecast_at net made link state.round }

@@ -15,9 +15,9 @@ use road_net::{Network, law_of_network};
 ///
 /// docs/RULES.md, "Decision of a round".
 pub fn law_of_decisions(net: &Network)
-    ensures { (enters : ℕ → ℕ → ℕ) (heard : ℕ → ℕ → List Heard) (made : ℕ → ℕ → Commitment) (run : RunRecord)
+    ensures { (arriving : ℕ → ℕ → ℕ) (heard : ℕ → ℕ → List Heard) (made : ℕ → ℕ → Commitment) (run : RunRecord)
         (state : RoundState) (d : Decision)
-        → IsTurnRun net.now enters heard made run → IsStateIn net.now enters made state → IsDecision net.now state d
+        → IsTurnRun net.now arriving heard made run → IsStateIn net.now arriving made state → IsDecision net.now state d
         → IsRoundIn net.now heard made state.round d }
 {
     law_of_network(net);

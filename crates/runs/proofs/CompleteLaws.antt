@@ -95,13 +95,13 @@ found net run round node nodes xs x whole less below count same is =
     ((round * length net.node_names + node, at.inside, sym e), ap (λ (p : PlanRecord). p.round) e ∙ (at.is x).0, ap (λ (p : PlanRecord). p.node) e ∙ (at.is x).1)
 
 -- every run's record is whole
-pub whole : (net : Net) → IsNetwork net → (enters : ℕ → ℕ → ℕ) (h : List ℕ) → IsLawful net h → (run : RunRecord) → IsRun net enters h run → IsComplete net run
-whole net network enters h lawful run is =
+pub whole : (net : Net) → IsNetwork net → (arriving : ℕ → ℕ → ℕ) (h : List ℕ) → IsLawful net h → (run : RunRecord) → IsRun net arriving h run → IsComplete net run
+whole net network arriving h lawful run is =
     let pair : PlanRecord → ℕ × ℕ = λ p. (p.round, p.node) in
     record {
       plans = ap (map pair) is.by.plans ∙ map-flat pair (plans_in net is.heard is.made) (row (length net.node_names)) 0 net.run.rounds (λ r. map-range pair (λ n. record_of n r (is.heard r n) (is.made r n)) 0 (length net.node_names));
       used = subst (All (λ (p : PlanRecord). map (λ (u : Used). u.link) p.used ≡ heard_links net p.node)) (sym is.by.plans)
-          (All-weaker (NamesVersions net h) (λ (p : PlanRecord). map (λ (u : Used). u.link) p.used ≡ heard_links net p.node) (λ p named. named.links) (plans_of net is.heard is.made net.run.rounds) (all-named net network enters h lawful is.heard is.made is.by.commits is.along));
+          (All-weaker (NamesVersions net h) (λ (p : PlanRecord). map (λ (u : Used). u.link) p.used ≡ heard_links net p.node) (λ p named. named.links) (plans_of net is.heard is.made net.run.rounds) (all-named net network arriving h lawful is.heard is.made is.by.commits is.along));
       timelines = ap length is.by.timelines ∙ length-map-range_with_len _ 0 (length net.node_names);
       links = ap length is.by.links ∙ length-map-range_with_len _ 0 (length net.link_names);
     }

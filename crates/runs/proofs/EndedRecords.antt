@@ -12,7 +12,7 @@ use Rattle.net_simulator.specs.Flow.{past_of}
 use Rattle.net_simulator.specs.Sums.{link_totals, totals}
 use Rattle.net_simulator.specs.Worlds.{WorldState, Stands}
 use Rattle.runs.specs.Resting.{HasPlans, Rests}
-use Rattle.runs.specs.Runs.{AllCommit, IsRunBy, arriving_by, line_before, shown_by}
+use Rattle.runs.specs.Runs.{AllCommit, IsRunBy, line_before, shown_by}
 use Rattle.runs.specs.declared.records.RunRecord.{RunRecord}
 use Rattle.runs.proofs.SameParts.{map-by, map-range-same}
 use Rattle.runs.specs.Ending.{IsRecordOf, records_in}
@@ -32,13 +32,13 @@ module _ (net : Net) (made : ℕ → ℕ → Commitment) (round : ℕ) (actors :
   pub last-room : (plans : Vec PlanRecord) → vec_len plans + length (records_in actors) ≤ vec_capacity plans
   last-room plans = omega (arith, ap length no-records, plans.ok.1)
 
-module _ (net : Net) (enters : ℕ → ℕ → ℕ) (heard : ℕ → ℕ → List Heard) (made : ℕ → ℕ → Commitment) (actors : List Acting) (world : WorldState) where
+module _ (net : Net) (arriving : ℕ → ℕ → ℕ) (heard : ℕ → ℕ → List Heard) (made : ℕ → ℕ → Commitment) (actors : List Acting) (world : WorldState) where
   abbrev rounds : ℕ
   rounds = net.run.rounds
 
-  pub run-by : length actors ≡ length net.node_names → ((node : ℕ) (a : Acting) → node < length net.node_names → Rests net made rounds node (get_or actors node a)) → AllCommit net enters heard made rounds
-      → world.second ≡ rounds * net.run.step → Stands net (arriving_by enters) (shown_by net made) world → (plans : Vec PlanRecord) → HasPlans net heard made rounds plans → (run : RunRecord) → IsRecordOf net plans.items actors world run
-      → IsRunBy net enters heard made run
+  pub run-by : length actors ≡ length net.node_names → ((node : ℕ) (a : Acting) → node < length net.node_names → Rests net made rounds node (get_or actors node a)) → AllCommit net arriving heard made rounds
+      → world.second ≡ rounds * net.run.step → Stands net arriving (shown_by net made) world → (plans : Vec PlanRecord) → HasPlans net heard made rounds plans → (run : RunRecord) → IsRecordOf net plans.items actors world run
+      → IsRunBy net arriving heard made run
   run-by all rests commits second stands plans has run left = record {
     commits = commits;
     plans = left.plans ∙ ap (λ l. plans.items ++ l) (no-records net made rounds actors all rests) ∙ append-nil plans.items ∙ has.done;
@@ -48,7 +48,7 @@ module _ (net : Net) (enters : ℕ → ℕ → ℕ) (heard : ℕ → ℕ → Lis
         ∙ ap (λ n. map (line_before net made rounds) (range_with_len 0 n)) all;
     links =
         left.links
-        ∙ map-range-same (counts_at world.counts) (link_totals net (past_of net (arriving_by enters) (shown_by net made) (rounds * net.run.step)) (rounds * net.run.step)) 0 (length net.link_names)
-        (λ k least most. stands.counts k (omega arith) ∙ ap (λ s. link_totals net (past_of net (arriving_by enters) (shown_by net made) s) s k) second);
-    all = left.totals ∙ stands.totals ∙ ap (λ s. totals net (arriving_by enters) (past_of net (arriving_by enters) (shown_by net made) s) s) second;
+        ∙ map-range-same (counts_at world.counts) (link_totals net (past_of net arriving (shown_by net made) (rounds * net.run.step)) (rounds * net.run.step)) 0 (length net.link_names)
+        (λ k least most. stands.counts k (omega arith) ∙ ap (λ s. link_totals net (past_of net arriving (shown_by net made) s) s k) second);
+    all = left.totals ∙ stands.totals ∙ ap (λ s. totals net arriving (past_of net arriving (shown_by net made) s) s) second;
   }

@@ -70,7 +70,7 @@ heard-ends net n q network inside =
     by link None e comes below at = absurd (let f : false ≡ true = comes in cc)
     by link (Some f) e comes below at = record { teller = f; below = below; exists = at.0; from = e; to = at.1; tells = ap (λ (o : Option ℕ). unwrap_or o 0) e }
 
-module _ (net : Net) (enters : ℕ → ℕ → ℕ) (h : List ℕ) (heard : ℕ → ℕ → List Heard) (made : ℕ → ℕ → Commitment) (rounds : ℕ) (commits : AllCommit net enters heard made rounds) (along : HearAlong net h heard made) where
+module _ (net : Net) (arriving : ℕ → ℕ → ℕ) (h : List ℕ) (heard : ℕ → ℕ → List Heard) (made : ℕ → ℕ → Commitment) (rounds : ℕ) (commits : AllCommit net arriving heard made rounds) (along : HearAlong net h heard made) where
   -- a node has heard as much as it hears in a round
   pub heard-count : (r n : ℕ) → r < rounds → n < length net.node_names → length (heard r n) ≡ length (heard_links net n)
   heard-count r n less below = sym (length-map (heard r n) (λ (x : Heard). x.link)) ∙ ap length (commits r n less below).links

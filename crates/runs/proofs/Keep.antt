@@ -71,7 +71,7 @@ module _ (net : Net) (network : IsNetwork net) (node : ℕ) (below : node < leng
     pub keeps : KeepsLine (plan_at net node) old sensed.now c.line
     keeps = subst (KeepsLine (plan_at net node) old sensed.now) (sym is.line) (spliced-keeps (plan_at net node) old sensed.now c.head c.next plan line is.problem.at next)
 
-module _ (net : Net) (network : IsNetwork net) (enters : ℕ → ℕ → ℕ) (heard : ℕ → ℕ → List Heard) (made : ℕ → ℕ → Commitment) (rounds : ℕ) (few : rounds ≤ net.run.rounds) (commits : AllCommit net enters heard made rounds) where
+module _ (net : Net) (network : IsNetwork net) (arriving : ℕ → ℕ → ℕ) (heard : ℕ → ℕ → List Heard) (made : ℕ → ℕ → Commitment) (rounds : ℕ) (few : rounds ≤ net.run.rounds) (commits : AllCommit net arriving heard made rounds) where
   pub all-keep : AllKeep net (line_before net made) rounds
   all-keep = lines-keep net network (line_before net made) rounds few (first-line net network)
-      (λ r node less below early line. keeps net network node below r (line_before net made r node) (sensed_in net enters made r node) (heard r node) (made r node) early line (commits r node less below).commit)
+      (λ r node less below early line. keeps net network node below r (line_before net made r node) (sensed_in net arriving made r node) (heard r node) (made r node) early line (commits r node less below).commit)

@@ -13,7 +13,7 @@ use Rattle.net_parts.specs.Numbers.{Net}
 use Rattle.net_simulator.specs.Flow.{Cumulative}
 use Rattle.net_simulator.specs.Sums.{end_of_run, link_totals, totals}
 use Rattle.road_net.specs.Network.{IsNetwork, heard_links}
-use Rattle.runs.specs.Runs.{IsRun, arriving_by, forecast_at, hearing, line_before, past_by, sensed_in, told_in}
+use Rattle.runs.specs.Runs.{IsRun, forecast_at, hearing, line_before, past_by, sensed_in, told_in}
 use Rattle.runs.specs.declared.records.RunRecord.{RunRecord}
 use Rattle.runs.proofs.Agree.{SameBefore, commit-moved, lines-same, past-same}
 use Rattle.runs.proofs.Committed.{one-commit}
@@ -22,9 +22,9 @@ use Rattle.runs.proofs.PlanLists.{plans-same}
 use Rattle.runs.proofs.SameParts.{map-range-same}
 use Rattle.runs.proofs.Places.{StandsAt, comes-first, first-small, place-of, published}
 
-module _ (net : Net) (network : IsNetwork net) (enters : ℕ → ℕ → ℕ) (h : List ℕ) (lawful : IsLawful net h) (one other : RunRecord) (a : IsRun net enters h one) (b : IsRun net enters h other) where
+module _ (net : Net) (network : IsNetwork net) (arriving : ℕ → ℕ → ℕ) (h : List ℕ) (lawful : IsLawful net h) (one other : RunRecord) (a : IsRun net arriving h one) (b : IsRun net arriving h other) where
   abbrev Same : ℕ → Type 0
-  Same r = SameBefore net network enters a.made b.made r
+  Same r = SameBefore net network arriving a.made b.made r
 
   -- a node hears the same version at a place, and here the same forecast
   HearsSame : ℕ → ℕ → Type 0
@@ -35,21 +35,21 @@ module _ (net : Net) (network : IsNetwork net) (enters : ℕ → ℕ → ℕ) (h
   heard-same : (r n : ℕ) → r < net.run.rounds → n < length net.node_names → HearsSame r n → a.heard r n ≡ b.heard r n
   unfolding HearsSame
   heard-same r n less below same =
-      let left : length (a.heard r n) ≡ length (heard_links net n) = heard-count net enters h a.heard a.made net.run.rounds a.by.commits a.along r n less below in
-      let right : length (b.heard r n) ≡ length (heard_links net n) = heard-count net enters h b.heard b.made net.run.rounds b.by.commits b.along r n less below in
+      let left : length (a.heard r n) ≡ length (heard_links net n) = heard-count net arriving h a.heard a.made net.run.rounds a.by.commits a.along r n less below in
+      let right : length (b.heard r n) ≡ length (heard_links net n) = heard-count net arriving h b.heard b.made net.run.rounds b.by.commits b.along r n less below in
       let none : Heard = hearing net a.made 0 0 in
       ext_get_or none (a.heard r n) (b.heard r n) (left ∙ sym right) (λ q inside.
       let first : q < length (heard_links net n) = omega arith in
       let l : ℕ = get_or (heard_links net n) q 0 in
       let (place, at) = place-of net network h lawful r n q less (first-small net n q first) in
-      heard-at net enters h a.heard a.made net.run.rounds a.by.commits a.along r n q place less below first at none
+      heard-at net arriving h a.heard a.made net.run.rounds a.by.commits a.along r n q place less below first at none
       ∙ ap (λ (f : List Row). record { link = l; version = version_at (board_steps net) h l place; forecast = f }) (same q place first at)
-      ∙ sym (heard-at net enters h b.heard b.made net.run.rounds b.by.commits b.along r n q place less below first at none))
+      ∙ sym (heard-at net arriving h b.heard b.made net.run.rounds b.by.commits b.along r n q place less below first at none))
 
   commit-same : (r n : ℕ) → r < net.run.rounds → n < length net.node_names → Same r → HearsSame r n → a.made r n ≡ b.made r n
   commit-same r n less below before same =
-      one-commit net n r (line_before net b.made r n) (sensed_in net enters b.made r n) (b.heard r n) (a.made r n) (b.made r n)
-      (commit-moved net network enters a.made b.made r n (a.heard r n) (b.heard r n) (a.made r n) before below (heard-same r n less below same) (a.by.commits r n less below).commit)
+      one-commit net n r (line_before net b.made r n) (sensed_in net arriving b.made r n) (b.heard r n) (a.made r n) (b.made r n)
+      (commit-moved net network arriving a.made b.made r n (a.heard r n) (b.heard r n) (a.made r n) before below (heard-same r n less below same) (a.by.commits r n less below).commit)
       (b.by.commits r n less below).commit
 
   -- The reads of a node in a round, where the nodes whose reads of the round all stand before one of its own commit the same.
@@ -103,9 +103,9 @@ module _ (net : Net) (network : IsNetwork net) (enters : ℕ → ℕ → ℕ) (h
   -- the records are the same
   pub one-run : one ≡ other
   one-run =
-      let past : past_by net enters a.made (end_of_run net) ≡ past_by net enters b.made (end_of_run net) = past-same net network enters a.made b.made net.run.rounds every in
+      let past : past_by net arriving a.made (end_of_run net) ≡ past_by net arriving b.made (end_of_run net) = past-same net network arriving a.made b.made net.run.rounds every in
       let plans = a.by.plans ∙ plans-same net a.heard b.heard a.made b.made net.run.rounds (λ r n less below. heard-same r n less below (hears-same r n less below)) every ∙ sym b.by.plans in
-      let timelines = a.by.timelines ∙ map-range-same (line_before net a.made net.run.rounds) (line_before net b.made net.run.rounds) 0 (length net.node_names) (λ n least below. lines-same net network enters a.made b.made net.run.rounds n every (omega arith)) ∙ sym b.by.timelines in
+      let timelines = a.by.timelines ∙ map-range-same (line_before net a.made net.run.rounds) (line_before net b.made net.run.rounds) 0 (length net.node_names) (λ n least below. lines-same net network arriving a.made b.made net.run.rounds n every (omega arith)) ∙ sym b.by.timelines in
       let links = a.by.links ∙ ap (λ (p : ℕ → ℕ → Cumulative). map (link_totals net p (end_of_run net)) (range_with_len 0 (length net.link_names))) past ∙ sym b.by.links in
-      let all = a.by.all ∙ ap (λ (p : ℕ → ℕ → Cumulative). totals net (arriving_by enters) p (end_of_run net)) past ∙ sym b.by.all in
+      let all = a.by.all ∙ ap (λ (p : ℕ → ℕ → Cumulative). totals net arriving p (end_of_run net)) past ∙ sym b.by.all in
       λ i. record { plans = plans i; timelines = timelines i; links = links i; totals = all i }

@@ -45,8 +45,8 @@ pub used-links : (xs : List Heard) → map (λ (u : Used). u.link) (used_of xs) 
 used-links [] = refl
 used-links (x ∷ xs) = ap (λ l. x.link ∷ l) (used-links xs)
 
-module _ (net : Net) (network : IsNetwork net) (enters : ℕ → ℕ → ℕ) (h : List ℕ) (lawful : IsLawful net h) (heard : ℕ → ℕ → List Heard) (made : ℕ → ℕ → Commitment)
-    (commits : AllCommit net enters heard made net.run.rounds) (along : HearAlong net h heard made) where
+module _ (net : Net) (network : IsNetwork net) (arriving : ℕ → ℕ → ℕ) (h : List ℕ) (lawful : IsLawful net h) (heard : ℕ → ℕ → List Heard) (made : ℕ → ℕ → Commitment)
+    (commits : AllCommit net arriving heard made net.run.rounds) (along : HearAlong net h heard made) where
   names : (r n : ℕ) → r < net.run.rounds → n < length net.node_names → NamesVersions net h (record_of n r (heard r n) (made r n))
   unfolding used
   names r n less below = record {
@@ -74,10 +74,10 @@ module _ (net : Net) (network : IsNetwork net) (enters : ℕ → ℕ → ℕ) (h
   read-at r n less below u (q, inside, is) =
       let none : Heard = hearing net made 0 0 in
       let there : q < length (heard r n) = omega (arith, length-map (heard r n) used) in
-      let first : q < length (heard_links net n) = omega (arith, heard-count net enters h heard made net.run.rounds commits along r n less below) in
+      let first : q < length (heard_links net n) = omega (arith, heard-count net arriving h heard made net.run.rounds commits along r n less below) in
       let (place, at) = place-of net network h lawful r n q less (first-small net n q first) in
       let l : ℕ = get_or (heard_links net n) q 0 in
-      let e : u ≡ used (hearing net made l (version_at (board_steps net) h l place)) = sym is ∙ get_or-map used (heard r n) q none u there ∙ ap used (heard-at net enters h heard made net.run.rounds commits along r n q place less below first at none) in
+      let e : u ≡ used (hearing net made l (version_at (board_steps net) h l place)) = sym is ∙ get_or-map used (heard r n) q none u there ∙ ap used (heard-at net arriving h heard made net.run.rounds commits along r n q place less below first at none) in
       record { q = q; place = place; first = first; at = at; link = ap (λ (x : Used). x.link) e; version = ap (λ (x : Used). x.version) e }
 
   -- of which round and node a plan is
@@ -130,27 +130,27 @@ module _ (net : Net) (network : IsNetwork net) (enters : ℕ → ℕ → ℕ) (h
       let long : length (used_of (heard r n)) ≡ length (heard r n) = length-map (heard r n) used in
       let count : length (heard r n) ≡ length (heard_by net made (record_of n r (heard r n) (made r n))) = sym (length-map (used_of (heard r n)) (λ (u : Used). hearing net made u.link u.version) ∙ long) in
       ext_get_or none (heard r n) (heard_by net made (record_of n r (heard r n) (made r n))) count (λ q inside.
-      let first : q < length (heard_links net n) = omega (arith, heard-count net enters h heard made net.run.rounds commits along r n less below) in
+      let first : q < length (heard_links net n) = omega (arith, heard-count net arriving h heard made net.run.rounds commits along r n less below) in
       let (place, at) = place-of net network h lawful r n q less (first-small net n q first) in
       let l : ℕ = get_or (heard_links net n) q 0 in
-      let e : get_or (heard r n) q none ≡ hearing net made l (version_at (board_steps net) h l place) = heard-at net enters h heard made net.run.rounds commits along r n q place less below first at none in
+      let e : get_or (heard r n) q none ≡ hearing net made l (version_at (board_steps net) h l place) = heard-at net arriving h heard made net.run.rounds commits along r n q place less below first at none in
       e
       ∙ sym (ap (λ (x : Heard). hearing net made x.link x.version) e)
       ∙ sym (ap (λ (u : Used). hearing net made u.link u.version) (get_or-map used (heard r n) q none (used none) inside))
       ∙ sym (get_or-map (λ (u : Used). hearing net made u.link u.version) (used_of (heard r n)) q (used none) none (omega arith)))
 
-  planned : (r n : ℕ) → r < net.run.rounds → n < length net.node_names → IsPlannedFrom net enters made (record_of n r (heard r n) (made r n))
+  planned : (r n : ℕ) → r < net.run.rounds → n < length net.node_names → IsPlannedFrom net arriving made (record_of n r (heard r n) (made r n))
   planned r n less below =
       let c : Commitment = made r n in
       record {
         head = c.head;
         platoons = c.platoons;
         window = c.window;
-        instance = subst (λ (x : List Heard). IsProblemOf net n (line_before net made r n) (sensed_in net enters made r n) x c.head c.platoons c.window c.problem) (heard-back r n less below) (commits r n less below).commit.problem;
+        instance = subst (λ (x : List Heard). IsProblemOf net n (line_before net made r n) (sensed_in net arriving made r n) x c.head c.platoons c.window c.problem) (heard-back r n less below) (commits r n less below).commit.problem;
       }
 
-  pub all-planned : All (IsPlannedFrom net enters made) (plans_of net heard made net.run.rounds)
-  all-planned = all-plans (IsPlannedFrom net enters made) net heard made net.run.rounds planned
+  pub all-planned : All (IsPlannedFrom net arriving made) (plans_of net heard made net.run.rounds)
+  all-planned = all-plans (IsPlannedFrom net arriving made) net heard made net.run.rounds planned
 
   pub all-least : All (λ (p : PlanRecord). IsLeast p.instance p.answer) (plans_of net heard made net.run.rounds)
   all-least = all-plans (λ (p : PlanRecord). IsLeast p.instance p.answer) net heard made net.run.rounds (λ r n less below. best-least (made r n).problem (made r n).answer (commits r n less below).commit.answer)

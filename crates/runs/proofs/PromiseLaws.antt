@@ -18,7 +18,7 @@ use Rattle.runs.specs.Runs.{IsRun, line_before}
 use Rattle.runs.specs.declared.records.RunRecord.{RunRecord}
 use Rattle.runs.proofs.PlanLaws.{all-least, all-named, all-planned, never-older}
 
-module _ (net : Net) (network : IsNetwork net) (enters : ℕ → ℕ → ℕ) (h : List ℕ) (lawful : IsLawful net h) (run : RunRecord) (is : IsRun net enters h run) (keep : AllKeep net (line_before net is.made) net.run.rounds) where
+module _ (net : Net) (network : IsNetwork net) (arriving : ℕ → ℕ → ℕ) (h : List ℕ) (lawful : IsLawful net h) (run : RunRecord) (is : IsRun net arriving h run) (keep : AllKeep net (line_before net is.made) net.run.rounds) where
   line-is : (node : ℕ) → node < length net.node_names → last_line run node ≡ line_before net is.made net.run.rounds node
   line-is node below =
       ap (λ (l : List (List Green)). get_or l node []) is.by.timelines
@@ -27,12 +27,12 @@ module _ (net : Net) (network : IsNetwork net) (enters : ℕ → ℕ → ℕ) (h
   lawful-line : (node : ℕ) → node < length net.node_names → IsLawfulLine (plan_at net node) (last_line run node)
   lawful-line node below = subst (IsLawfulLine (plan_at net node)) (sym (line-is node below)) (lawful-after net network (line_before net is.made) net.run.rounds keep net.run.rounds (network.outline.run.rounds.0) (omega arith) node below)
 
-  pub kept : KeepsPromises net enters h is.made run
+  pub kept : KeepsPromises net arriving h is.made run
   kept = record {
-    named = subst (All (NamesVersions net h)) (sym is.by.plans) (all-named net network enters h lawful is.heard is.made is.by.commits is.along);
-    newer = subst NeverOlder (sym is.by.plans) (never-older net network enters h lawful is.heard is.made is.by.commits is.along);
-    planned = subst (All (IsPlannedFrom net enters is.made)) (sym is.by.plans) (all-planned net network enters h lawful is.heard is.made is.by.commits is.along);
-    least = subst (All (λ (p : PlanRecord). IsLeast p.instance p.answer)) (sym is.by.plans) (all-least net network enters h lawful is.heard is.made is.by.commits is.along);
+    named = subst (All (NamesVersions net h)) (sym is.by.plans) (all-named net network arriving h lawful is.heard is.made is.by.commits is.along);
+    newer = subst NeverOlder (sym is.by.plans) (never-older net network arriving h lawful is.heard is.made is.by.commits is.along);
+    planned = subst (All (IsPlannedFrom net arriving is.made)) (sym is.by.plans) (all-planned net network arriving h lawful is.heard is.made is.by.commits is.along);
+    least = subst (All (λ (p : PlanRecord). IsLeast p.instance p.answer)) (sym is.by.plans) (all-least net network arriving h lawful is.heard is.made is.by.commits is.along);
     lawful = lawful-line;
     safe = safe net network (last_line run) lawful-line;
     greens = λ second node before below. ap (λ (l : List Green). standing l second) (line-is node below) ∙ shows net network (line_before net is.made) net.run.rounds keep net.run.rounds (omega arith) second node below (div_below second net.run.step net.run.rounds network.outline.run.step.0 before);

@@ -16,7 +16,7 @@ use Rattle.net_simulator.specs.Sums.{link_totals, totals}
 use Rattle.net_simulator.specs.Worlds.{Keeps, WorldState, Stands, standing_by}
 use Rattle.road_net.specs.Network.{IsNetwork}
 use Rattle.signal_safety.proofs.Rounds.{shows}
-use Rattle.runs.specs.Runs.{AllCommit, arriving_by, line_before, sensed_in, shown_by}
+use Rattle.runs.specs.Runs.{AllCommit, line_before, sensed_in, shown_by}
 use Rattle.runs.proofs.Keep.{all-keep}
 use Rattle.net_simulator.proofs.AtNodes.{past-at-nodes}
 use Rattle.schedule_meaning.specs.declared.planners.Answer.TheVariants.{NoPlan}
@@ -53,20 +53,20 @@ stands-same net network arriving shown seen w same s =
     }
 
 -- the lines before a round show what the world moved by
-module _ (net : Net) (network : IsNetwork net) (enters : ℕ → ℕ → ℕ) (round : ℕ) (heard : ℕ → ℕ → List Heard) (made : ℕ → ℕ → Commitment) (most : round ≤ net.run.rounds) (commits : AllCommit net enters heard made round) where
+module _ (net : Net) (network : IsNetwork net) (arriving : ℕ → ℕ → ℕ) (round : ℕ) (heard : ℕ → ℕ → List Heard) (made : ℕ → ℕ → Commitment) (most : round ≤ net.run.rounds) (commits : AllCommit net arriving heard made round) where
   pub before-shows : (x node : ℕ) → x < round * net.run.step → node < length net.node_names → standing (line_before net made round node) x ≡ shown_by net made x node
-  before-shows x node less below = shows net network (line_before net made) round (all-keep net network enters heard made round most commits) round (omega arith) x node below (div_below x net.run.step round network.outline.run.step.0 less)
+  before-shows x node less below = shows net network (line_before net made) round (all-keep net network arriving heard made round most commits) round (omega arith) x node below (div_below x net.run.step round network.outline.run.step.0 less)
 
-  pub before-stands : (world : WorldState) → world.second ≡ round * net.run.step → Stands net (arriving_by enters) (shown_by net made) world → Stands net (arriving_by enters) (standing_by (line_before net made round)) world
-  before-stands world second stands = stands-same net network (arriving_by enters) (shown_by net made) (standing_by (line_before net made round)) world
+  pub before-stands : (world : WorldState) → world.second ≡ round * net.run.step → Stands net arriving (shown_by net made) world → Stands net arriving (standing_by (line_before net made round)) world
+  before-stands world second stands = stands-same net network arriving (shown_by net made) (standing_by (line_before net made round)) world
       (λ x node less below. sym (before-shows x node (omega (arith, second)) below)) stands
 
   -- what a node senses of such a world
   pub sense-is : (world : WorldState) → world.second ≡ round * net.run.step → (n : ℕ)
-      → sense net (past_of net (arriving_by enters) (standing_by (line_before net made round)) world.second) world.second n ≡ sensed_in net enters made round n
+      → sense net (past_of net arriving (standing_by (line_before net made round)) world.second) world.second n ≡ sensed_in net arriving made round n
   sense-is world second n =
-      ap (λ s. sense net (past_of net (arriving_by enters) (standing_by (line_before net made round)) s) s n) second
-      ∙ ap (λ (p : ℕ → ℕ → Cumulative). sense net p (round * net.run.step) n) (past-at-nodes net network (arriving_by enters) (standing_by (line_before net made round)) (shown_by net made) (round * net.run.step) (λ x node less below. before-shows x node less below))
+      ap (λ s. sense net (past_of net arriving (standing_by (line_before net made round)) s) s n) second
+      ∙ ap (λ (p : ℕ → ℕ → Cumulative). sense net p (round * net.run.step) n) (past-at-nodes net network arriving (standing_by (line_before net made round)) (shown_by net made) (round * net.run.step) (λ x node less below. before-shows x node less below))
 
 pub zero-times : (s : ℕ) → 0 ≡ 0 * s
 zero-times s = omega arith

@@ -38,8 +38,8 @@ heard_by net made plan = map (λ (u : Used). hearing net made u.link u.version) 
 
 -- The instance of a plan is that of just the versions that it names: it is what the node has to plan, from its line when the round
 -- begins, from what it senses then, and from the forecasts of those versions.
-pub record IsPlannedFrom (net : Net) (enters : ℕ → ℕ → ℕ) (made : ℕ → ℕ → Commitment) (plan : PlanRecord) : Type 0 where
+pub record IsPlannedFrom (net : Net) (arriving : ℕ → ℕ → ℕ) (made : ℕ → ℕ → Commitment) (plan : PlanRecord) : Type 0 where
   pub head : Head
   pub platoons : List (List Platoon)
   pub window : Window
-  pub instance : IsProblemOf net plan.node (line_before net made plan.round plan.node) (sensed_in net enters made plan.round plan.node) (heard_by net made plan) head platoons window plan.instance
+  pub instance : IsProblemOf net plan.node (line_before net made plan.round plan.node) (sensed_in net arriving made plan.round plan.node) (heard_by net made plan) head platoons window plan.instance

@@ -16,7 +16,7 @@ use Rattle.runs.specs.declared.records.RunRecord.{RunRecord}
 abbrev pub last_line : RunRecord → ℕ → List Green
 last_line run node = slice_index_or run.timelines node []
 
--- What the record of a run keeps, by the names of the fields; `enters link second` is what enters a link from outside in a second,
+-- What the record of a run keeps, by the names of the fields; `arriving second link` is what enters a link from outside in a second,
 -- in thousandths of a vehicle, and `made round node` is the commit of a node in a round.
 -- `named`: every plan names the versions of its neighbours' forecasts that it used;
 -- `newer`: none of them is older than one that an earlier plan of its node used;
@@ -26,16 +26,16 @@ last_line run node = slice_index_or run.timelines node []
 -- together;
 -- `greens`: in each second of the run these timelines show the same phase green, since the same second, as those by which the
 -- vehicles moved.
-pub record KeepsPromises (net : Net) (enters : ℕ → ℕ → ℕ) (history : List ℕ) (made : ℕ → ℕ → Commitment) (run : RunRecord) : Type 0 where
+pub record KeepsPromises (net : Net) (arriving : ℕ → ℕ → ℕ) (history : List ℕ) (made : ℕ → ℕ → Commitment) (run : RunRecord) : Type 0 where
   pub named : All (NamesVersions net history) run.plans
   pub newer : NeverOlder run.plans
-  pub planned : All (IsPlannedFrom net enters made) run.plans
+  pub planned : All (IsPlannedFrom net arriving made) run.plans
   pub least : All (λ plan. IsLeast plan.instance plan.answer) run.plans
   pub lawful : (node : ℕ) → node < length net.node_names → IsLawful (plan_at net node) (last_line run node)
   pub safe : IsSafe net (last_line run)
   pub greens : (second node : ℕ) → second < end_of_run net → node < length net.node_names → standing (last_line run node) second ≡ shown_by net made second node
 
 -- the run of a history, with all that it keeps
-pub record IsKeptRun (net : Net) (enters : ℕ → ℕ → ℕ) (history : List ℕ) (record_of_run : RunRecord) : Type 0 where
-  pub run : IsRun net enters history record_of_run
-  pub kept : KeepsPromises net enters history run.made record_of_run
+pub record IsKeptRun (net : Net) (arriving : ℕ → ℕ → ℕ) (history : List ℕ) (record_of_run : RunRecord) : Type 0 where
+  pub run : IsRun net arriving history record_of_run
+  pub kept : KeepsPromises net arriving history run.made record_of_run

@@ -23,7 +23,7 @@ use Rattle.outflow.specs.Outflow.{departures, told_forecast}
 use Rattle.road_net.specs.declared.senses.Sensed.{Sensed}
 use Rattle.runs.specs.declared.records.RunRecord.{RunRecord}
 
--- In this file `enters link second` is what enters a link from outside in a second, in thousandths of a vehicle; `made round node`
+-- In this file `arriving second link` is what enters a link from outside in a second, in thousandths of a vehicle; `made round node`
 -- is the commit of a node in a round, and `heard round node` what it has read of the boards before: a version of each link, with
 -- its forecast.
 
@@ -36,17 +36,13 @@ line_before net made (suc round) node = (made round node).line
 abbrev pub shown_by : Net → (ℕ → ℕ → Commitment) → ℕ → ℕ → Option (ℕ × ℕ)
 shown_by net made x node = standing (made (x / net.run.step) node).line x
 
--- what arrives in a second at a link, where `enters link second` is what enters it
-abbrev pub arriving_by : (ℕ → ℕ → ℕ) → ℕ → ℕ → ℕ
-arriving_by enters second link = enters link second
-
 -- what passed the links in the first n seconds, where the signals show the timelines of the nodes' commits
 abbrev pub past_by : Net → (ℕ → ℕ → ℕ) → (ℕ → ℕ → Commitment) → ℕ → ℕ → ℕ → Cumulative
-past_by net enters made n = past_of net (arriving_by enters) (shown_by net made) n
+past_by net arriving made n = past_of net arriving (shown_by net made) n
 
 -- what a node senses when a round begins
 abbrev pub sensed_in : Net → (ℕ → ℕ → ℕ) → (ℕ → ℕ → Commitment) → ℕ → ℕ → Sensed
-sensed_in net enters made round node = sense net (past_by net enters made (round * net.run.step)) (round * net.run.step) node
+sensed_in net arriving made round node = sense net (past_by net arriving made (round * net.run.step)) (round * net.run.step) node
 
 -- what a commit of a round tells on a link
 abbrev pub told_in : Net → ℕ → ℕ → Commitment → List Row
@@ -64,13 +60,13 @@ hearing net made link version = record { link = link; version = version; forecas
 
 -- A node commits in a round: it has heard each link on which it hears another node, in their order, and its commit is made from
 -- its line before the round, from what it senses when the round begins, and from what it has heard.
-pub record Commits (net : Net) (enters : ℕ → ℕ → ℕ) (heard : ℕ → ℕ → List Heard) (made : ℕ → ℕ → Commitment) (round node : ℕ) : Type 0 where
+pub record Commits (net : Net) (arriving : ℕ → ℕ → ℕ) (heard : ℕ → ℕ → List Heard) (made : ℕ → ℕ → Commitment) (round node : ℕ) : Type 0 where
   pub links : IsHeardOf net node (heard round node)
-  pub commit : IsCommit net node round (line_before net made round node) (sensed_in net enters made round node) (heard round node) (made round node)
+  pub commit : IsCommit net node round (line_before net made round node) (sensed_in net arriving made round node) (heard round node) (made round node)
 
 -- each node of the network commits in each of the first `rounds` rounds
 abbrev pub AllCommit : Net → (ℕ → ℕ → ℕ) → (ℕ → ℕ → List Heard) → (ℕ → ℕ → Commitment) → ℕ → Type 0
-AllCommit net enters heard made rounds = (round node : ℕ) → round < rounds → node < length net.node_names → Commits net enters heard made round node
+AllCommit net arriving heard made rounds = (round node : ℕ) → round < rounds → node < length net.node_names → Commits net arriving heard made round node
 
 -- the plan records of a round, one for each node, in the order of the nodes
 abbrev pub plans_in : Net → (ℕ → ℕ → List Heard) → (ℕ → ℕ → Commitment) → ℕ → List PlanRecord
@@ -82,12 +78,12 @@ plans_of net heard made rounds = flat_map (plans_in net heard made) (range_with_
 
 -- The record of a run in which the nodes hear this: they commit in all rounds; it has their plan records by round and node, the
 -- last line of each node, and what the world has counted of each link and in all when the last round is over.
-pub record IsRunBy (net : Net) (enters : ℕ → ℕ → ℕ) (heard : ℕ → ℕ → List Heard) (made : ℕ → ℕ → Commitment) (run : RunRecord) : Type 0 where
-  pub commits : AllCommit net enters heard made net.run.rounds
+pub record IsRunBy (net : Net) (arriving : ℕ → ℕ → ℕ) (heard : ℕ → ℕ → List Heard) (made : ℕ → ℕ → Commitment) (run : RunRecord) : Type 0 where
+  pub commits : AllCommit net arriving heard made net.run.rounds
   pub plans : run.plans ≡ plans_of net heard made net.run.rounds
   pub timelines : run.timelines ≡ map (line_before net made net.run.rounds) (range_with_len 0 (length net.node_names))
-  pub links : run.links ≡ map (link_totals net (past_by net enters made (end_of_run net)) (end_of_run net)) (range_with_len 0 (length net.link_names))
-  pub all : run.totals ≡ totals net (arriving_by enters) (past_by net enters made (end_of_run net)) (end_of_run net)
+  pub links : run.links ≡ map (link_totals net (past_by net arriving made (end_of_run net)) (end_of_run net)) (range_with_len 0 (length net.link_names))
+  pub all : run.totals ≡ totals net arriving (past_by net arriving made (end_of_run net)) (end_of_run net)
 
 -- The nodes hear along a history: at each place where a node reads a link, it hears the version that the link has there, with the
 -- forecast that was published as that version.
@@ -96,8 +92,8 @@ HearAlong net history heard made = (place link : ℕ) → place < length history
     → Contains (heard (round_at (board_steps net) history place) (slice_index history place)) (hearing net made link (version_at (board_steps net) history link place))
 
 -- The run of a history: its record is that of a run in which the nodes hear along the history.
-pub record IsRun (net : Net) (enters : ℕ → ℕ → ℕ) (history : List ℕ) (run : RunRecord) : Type 0 where
+pub record IsRun (net : Net) (arriving : ℕ → ℕ → ℕ) (history : List ℕ) (run : RunRecord) : Type 0 where
   pub heard : ℕ → ℕ → List Heard
   pub made : ℕ → ℕ → Commitment
-  pub by : IsRunBy net enters heard made run
+  pub by : IsRunBy net arriving heard made run
   pub along : HearAlong net history heard made

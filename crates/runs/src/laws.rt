@@ -15,11 +15,11 @@ use road_net::{Network, law_of_network};
 ///
 /// docs/RULES.md, "Run".
 pub fn law_of_runs(net: &Network)
-    ensures kept { (enters : ℕ → ℕ → ℕ) (history : List ℕ) (record_of_run : RunRecord) → IsLawful net.now history
-        → (run : IsRun net.now enters history record_of_run)
-        → KeepsPromises net.now enters history run.made record_of_run }
-    ensures whole { (enters : ℕ → ℕ → ℕ) (history : List ℕ) (record_of_run : RunRecord) → IsLawful net.now history
-        → IsRun net.now enters history record_of_run → IsComplete net.now record_of_run }
+    ensures kept { (arriving : ℕ → ℕ → ℕ) (history : List ℕ) (record_of_run : RunRecord) → IsLawful net.now history
+        → (run : IsRun net.now arriving history record_of_run)
+        → KeepsPromises net.now arriving history run.made record_of_run }
+    ensures whole { (arriving : ℕ → ℕ → ℕ) (history : List ℕ) (record_of_run : RunRecord) → IsLawful net.now history
+        → IsRun net.now arriving history record_of_run → IsComplete net.now record_of_run }
 {
     law_of_network(net);
 }
@@ -28,8 +28,8 @@ pub fn law_of_runs(net: &Network)
 ///
 /// docs/RULES.md, "Run".
 pub fn law_of_one_run(net: &Network)
-    ensures { (enters : ℕ → ℕ → ℕ) (history : List ℕ) (one other : RunRecord) → IsLawful net.now history
-        → IsRun net.now enters history one → IsRun net.now enters history other → one ≡ other }
+    ensures { (arriving : ℕ → ℕ → ℕ) (history : List ℕ) (one other : RunRecord) → IsLawful net.now history
+        → IsRun net.now arriving history one → IsRun net.now arriving history other → one ≡ other }
 {
     law_of_network(net);
 }

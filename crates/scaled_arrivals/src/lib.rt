@@ -4,7 +4,7 @@
 ghost use Rattle.std.specs.Prelude.{◌≡◌, ◌+◌, ◌<◌, ◌≤◌, IfOk, OnOk, length};
 ghost use Rattle.std.specs.Result.{IsErrOf};
 ghost use Rattle.net_parts.specs.Limits.{most_of_all, most_seconds};
-ghost use Rattle.arrivals.specs.Amounts.{AreArrivals, entering};
+ghost use Rattle.arrivals.specs.Amounts.{AreArrivals, arriving_of};
 ghost use Rattle.arrivals.specs.Rows.{IsSource};
 ghost use Rattle.scaled_arrivals.specs.Rows.{Brings, HaveCome};
 ghost use Rattle.scaled_arrivals.specs.Scaling as spec;
@@ -48,10 +48,10 @@ pub fn scale(
 ) -> Result<Arrivals, ScaleFault>
     requires arrivals { AreArrivals net.now arrivals.now }
     requires factor { factor ≤ greatest_factor }
-    ensures ok { IfOk result (λ scaled. IsScaled factor (entering arrivals.now) (entering scaled)) }
+    ensures ok { IfOk result (λ scaled. IsScaled factor (arriving_of arrivals.now) (arriving_of scaled)) }
     ensures arrivals { IfOk result (AreArrivals net.now) }
-    ensures few { OnOk result (scaled_whole net.now factor (entering arrivals.now) ≤ most_of_all) }
-    ensures sum { IsErrOf result ScaleFault.Sum → most_of_all < scaled_whole net.now factor (entering arrivals.now) }
+    ensures few { OnOk result (scaled_whole net.now factor (arriving_of arrivals.now) ≤ most_of_all) }
+    ensures sum { IsErrOf result ScaleFault.Sum → most_of_all < scaled_whole net.now factor (arriving_of arrivals.now) }
 {
     let Ok(rows) = scaled_rows(alloc, net, arrivals, factor) else {
         return Err(ScaleFault::NoMemory);

@@ -28,8 +28,7 @@ use Rattle.spillback_world.specs.declared.totals.SpillTotals.{SpillTotals}
 use Rattle.spillback_world.proofs.Shown.{past-same, stands-under}
 use Rattle.spillback_control.specs.SpillRounds.{HaveSpilled}
 use Rattle.spillback_control.specs.SpillRuns.{IsActuatedIn, LastLinesShow, last_lines}
-use Rattle.arrivals.specs.Amounts.{Amounts, AreArrivals}
-use Rattle.net_simulator.specs.Arriving.{arriving_of}
+use Rattle.arrivals.specs.Amounts.{Amounts, AreArrivals, arriving_of}
 
 -- before the first round
 pub none-spilled : (net : Net) (arriving : ℕ → ℕ → ℕ) (store : ℕ → ℕ) (lines : List (List Green)) (w : SpillState) → AreFirstLines net (length net.node_names) lines → w.second ≡ 0

@@ -2,9 +2,8 @@
 
 ghost use Rattle.std.specs.Prelude.{◌≡◌, ℕ, IfOk, OnOk, length, slice_index};
 ghost use Rattle.actuated.specs.ActSteps as steps;
-ghost use Rattle.arrivals.specs.Amounts.{AreArrivals};
+ghost use Rattle.arrivals.specs.Amounts.{AreArrivals, arriving_of};
 ghost use Rattle.audit.specs.Audits.{AreLawful};
-ghost use Rattle.net_simulator.specs.Arriving.{arriving_of};
 ghost use Rattle.net_simulator.specs.Worlds.{line_in};
 ghost use Rattle.signal_safety.specs.Safe.{IsSafe};
 ghost use Rattle.spillback_control.specs.SpillRounds.{HaveSpilled};

@@ -1,8 +1,7 @@
 -- What is counted of a world that was played.
 use Rattle.std.proofs.Common.{◌≡◌, ℕ, Option, subst, ◌∙◌}
-use Rattle.arrivals.specs.Amounts.{Amounts}
+use Rattle.arrivals.specs.Amounts.{Amounts, arriving_of}
 use Rattle.net_parts.specs.Numbers.{Net}
-use Rattle.net_simulator.specs.Arriving.{arriving_of}
 use Rattle.spillback_world.specs.declared.totals.SpillTotals.{SpillTotals}
 use Rattle.spillback_world.specs.Laws.{spilled_in}
 use Rattle.spillback_world.specs.Worlds.{SpillState, Stands}

@@ -9,7 +9,7 @@ use Rattle.road_net.specs.declared.senses.Sensed.{Sensed}
 use Rattle.road_net.specs.Network.{IsNetwork, entry_links}
 use Rattle.road_net.specs.Senses.{IsSensedOf}
 use Rattle.road_net.proofs.TotalLaws.{total-same, total-zero}
-use Rattle.net_simulator.specs.Arriving.{arriving_of}
+use Rattle.arrivals.specs.Amounts.{arriving_of}
 use Rattle.net_simulator.specs.Flow.{Cumulative, nothing}
 use Rattle.net_simulator.specs.LinkSeconds.{seen_by}
 use Rattle.net_simulator.specs.Senses.{near_of, near_on, sense}

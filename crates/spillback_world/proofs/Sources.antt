@@ -2,12 +2,11 @@
 use Rattle.std.proofs.Common.{◌≡◌, ℕ, Option, Some, length, sym, ◌∙◌, inl, inr, arith}
 use Rattle.std.proofs.lemmas.Bool.{cases_lt}
 use Rattle.std.proofs.lemmas.Option.{none-some}
-use Rattle.arrivals.specs.Amounts.{Amounts, AreArrivals}
+use Rattle.arrivals.specs.Amounts.{Amounts, AreArrivals, arriving_of}
 use Rattle.net_parts.specs.Numbers.{Net}
 use Rattle.net_parts.specs.Outline.{link_at}
 use Rattle.road_net.specs.Network.{IsNetwork}
 use Rattle.road_net.proofs.TotalLaws.{total-same, total-zero}
-use Rattle.net_simulator.specs.Arriving.{arriving_of}
 use Rattle.net_simulator.specs.Flow.{past_of}
 use Rattle.net_simulator.specs.Sums.{AreFew}
 use Rattle.spillback_world.specs.StoredTotals.{outside_all}

@@ -1,8 +1,7 @@
 -- What holds of every world whose links hold so much and no more.
 use Rattle.std.specs.Prelude.{◌≡◌, ℕ, ◌+◌, All, List, Option}
-use Rattle.arrivals.specs.Amounts.{Amounts}
+use Rattle.arrivals.specs.Amounts.{Amounts, arriving_of}
 use Rattle.net_parts.specs.Numbers.{Net}
-use Rattle.net_simulator.specs.Arriving.{arriving_of}
 use Rattle.net_simulator.specs.Flow.{past_of}
 use Rattle.net_simulator.specs.Sums.{arrived, totals}
 use Rattle.net_simulator.specs.declared.totals.Totals.{Totals}

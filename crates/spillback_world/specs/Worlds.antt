@@ -2,10 +2,9 @@
 use Rattle.std.specs.Prelude.{◌≡◌, ℕ, ◌-◌, ◌*◌, ◌<◌, ◌≤◌, List, Option, length, slice_index}
 use Rattle.net_parts.specs.Limits.{most_seconds}
 use Rattle.control_flow.specs.declared.greens.Green.{Green}
-use Rattle.arrivals.specs.Amounts.{Amounts, AreArrivals}
+use Rattle.arrivals.specs.Amounts.{Amounts, AreArrivals, arriving_of}
 use Rattle.net_parts.specs.Numbers.{Net}
 use Rattle.net_simulator.specs.Rows.{kept_seconds}
-use Rattle.net_simulator.specs.Arriving.{arriving_of}
 use Rattle.net_simulator.specs.Senses.{stood}
 use Rattle.net_simulator.specs.Worlds.{Keeps, standing_by}
 use Rattle.spillback_world.specs.declared.totals.SpillTotals.{SpillTotals}

@@ -3,7 +3,7 @@
 ghost use Rattle.std.specs.Prelude.{◌≡◌, ◌≢◌, ℕ, ◌+◌, ◌-◌, ◌*◌, ◌%◌, ◌≤◌, ◌<◌, ◌^◌, All, length, slice_index};
 ghost use Rattle.net_parts.specs.Limits.{most_seconds};
 ghost use Rattle.net_parts.specs.Outline.{link_at};
-ghost use Rattle.net_simulator.specs.Arriving.{arriving_of};
+ghost use Rattle.arrivals.specs.Amounts.{arriving_of};
 ghost use Rattle.net_simulator.specs.LinkSeconds.{waits_at};
 ghost use Rattle.net_simulator.specs.Rows.{cell, kept_seconds};
 ghost use Rattle.net_simulator.specs.Sums.{outward};

@@ -1,7 +1,7 @@
 use Rattle.std.proofs.Common.{All, List, length, subst, sym, ap, ◌∙◌}
 use Rattle.control_flow.specs.Greens.{IsInOrder}
 use Rattle.control_flow.specs.declared.greens.Green.{Green}
-use Rattle.net_simulator.specs.Arriving.{arriving_of}
+use Rattle.arrivals.specs.Amounts.{arriving_of}
 use Rattle.net_simulator.specs.Worlds.{line_in}
 use Rattle.net_simulator.specs.declared.totals.LinkTotals.{LinkTotals}
 use Rattle.signal_safety.proofs.Lines.{safe}

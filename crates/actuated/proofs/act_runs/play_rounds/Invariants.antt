@@ -1,5 +1,5 @@
 use Rattle.std.proofs.Common.{◌≡◌, length}
-use Rattle.net_simulator.specs.Arriving.{arriving_of}
+use Rattle.arrivals.specs.Amounts.{arriving_of}
 use Rattle.actuated.specs.RunsSoFar.{HavePlayed}
 use Rattle.actuated.proofs.act_runs.play_rounds.Given as goal
 

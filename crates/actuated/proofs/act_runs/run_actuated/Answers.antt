@@ -1,5 +1,5 @@
 use Rattle.std.proofs.Common.{◌∙◌}
-use Rattle.net_simulator.specs.Arriving.{arriving_of}
+use Rattle.arrivals.specs.Amounts.{arriving_of}
 use Rattle.actuated.proofs.RunLaws.{ended, none-played}
 use Rattle.actuated.proofs.act_runs.run_actuated.Goals as goal
 

@@ -1,5 +1,5 @@
 use Rattle.std.proofs.Common.{◌∙◌}
-use Rattle.net_simulator.specs.Arriving.{arriving_of}
+use Rattle.arrivals.specs.Amounts.{arriving_of}
 use Rattle.audit.specs.declared.findings.AuditWhy.TheVariants.{Link, Total}
 use Rattle.audit.proofs.Reasons.{bad, link-why, total-why}
 use Rattle.audit.proofs.counts.compare.Goals as goal

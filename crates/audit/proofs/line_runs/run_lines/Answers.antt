@@ -1,6 +1,6 @@
 use Rattle.std.proofs.Common.{List, sym, subst, ◌∙◌}
 use Rattle.control_flow.specs.declared.greens.Green.{Green}
-use Rattle.net_simulator.specs.Arriving.{arriving_of}
+use Rattle.arrivals.specs.Amounts.{arriving_of}
 use Rattle.net_simulator.specs.Worlds.{Stands, line_in, standing_by}
 use Rattle.signal_safety.proofs.Lines.{safe}
 use Rattle.audit.specs.SheetTexts.{HasShape}

@@ -1,5 +1,5 @@
 use Rattle.std.proofs.Common.{subst}
-use Rattle.arrivals.specs.Amounts.{entering}
+use Rattle.arrivals.specs.Amounts.{arriving_of}
 use Rattle.outside_world.specs.Shelf.{ShelfState}
 use Rattle.commands.specs.Stops.{StopsAt}
 use Rattle.commands.specs.Texts.{IsIn, three_texts}
@@ -20,7 +20,7 @@ returns-in_err-value-clause-refused g c =
     let texts = three_texts g.T.FromText.kind c.args.net.now c.args.arr.now c.args.third.now in
     let stop = subst (λ (s : ShelfState). StopsAt c.in_err-value.field-0.0 Third kind c.args.third.now s (g.S.Shelf.state c.fetch.new.shelf)) made.ensures.ok c.in_err-value.ensures.refused in
     stopped texts _ _ c.from_residual-in_err-value.result c.in_err-value.field-0.0
-    (stops texts Third kind c.args.third.now _ _ c.in_err-value.field-0.0 (λ here at. (scene.network, made.ensures.texts.0, (entering scene.arrivals, made.ensures.texts.1.0, at))) stop) c.from_residual-in_err-value.ensures.1
+    (stops texts Third kind c.args.third.now _ _ c.in_err-value.field-0.0 (λ here at. (scene.network, made.ensures.texts.0, (arriving_of scene.arrivals, made.ensures.texts.1.0, at))) stop) c.from_residual-in_err-value.ensures.1
 
 pub returns-clause-texts : goal.returns-clause-texts
 returns-clause-texts g c =

@@ -1,6 +1,5 @@
-use Rattle.arrivals.specs.Amounts.{entering}
+use Rattle.arrivals.specs.Amounts.{arriving_of}
 use Rattle.net_simulator.proofs.Passing.{few-of}
-use Rattle.runs.specs.Runs.{arriving_by}
 use Rattle.controller_jobs.proofs.actuate.report_actuated.Goals as goal
 
 pub returns : goal.returns
@@ -8,5 +7,5 @@ returns c = record {
   run = c.in_ok-run.run';
   runs = c.in_ok-run.ensures.kept;
   report = c.in_ok-text.ensures.text;
-  clean = c.in_ok-text.ensures.clean (arriving_by (entering c.args.arrivals.now)) (few-of c.args.net.now c.law_of_network.ensures c.args.arrivals.now c.requires) c.in_ok-run.ensures.clean;
+  clean = c.in_ok-text.ensures.clean (arriving_of c.args.arrivals.now) (few-of c.args.net.now c.law_of_network.ensures c.args.arrivals.now c.requires) c.in_ok-run.ensures.clean;
 }

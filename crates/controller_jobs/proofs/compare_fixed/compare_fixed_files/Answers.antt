@@ -1,4 +1,4 @@
-use Rattle.arrivals.specs.Amounts.{entering}
+use Rattle.arrivals.specs.Amounts.{arriving_of}
 use Rattle.command_words.specs.Calls.{CompareFixed}
 use Rattle.commands.proofs.Outcomes.{failed}
 use Rattle.controller_jobs.proofs.compare_fixed.compare_fixed_files.Goals as goal
@@ -10,7 +10,7 @@ pub returns : goal.returns
 returns g c = (
   c.in_ok-read.ensures.ok,
   (
-    (c.in_ok-read.read.scene.network, (entering c.in_ok-read.read.scene.arrivals, (c.in_ok-read.read.value, tt))),
+    (c.in_ok-read.read.scene.network, (arriving_of c.in_ok-read.read.scene.arrivals, (c.in_ok-read.read.value, tt))),
     c.in_ok-read.ensures.texts,
     ((c.in_ok-text.ensures, λ against. against), λ what missing. missing),
   ),

@@ -1,11 +1,10 @@
 use Rattle.std.proofs.Common.{◌≡◌, length, ap, ◌∙◌}
 use Rattle.std.proofs.lemmas.Result.{IfOk-weaker}
 use Rattle.std.proofs.lemmas.List.FromFn.{length-map-range_with_len}
-use Rattle.arrivals.specs.Amounts.{entering}
+use Rattle.arrivals.specs.Amounts.{arriving_of}
 use Rattle.fixed_plans.specs.Lines.{fixed_line}
 use Rattle.audit.specs.LineRuns.{sheet_of, shown_sheet}
 use Rattle.audit.specs.declared.line_runs.LineRun.{LineRun}
-use Rattle.runs.specs.Runs.{arriving_by}
 use Rattle.commands.specs.Controllers.{fixed_timelines}
 use Rattle.controller_jobs.proofs.fixed.fixed_run.Goals as goal
 
@@ -15,6 +14,6 @@ run_lines-requires-clause-nodes c = ap length c.in_ok-lines.ensures.value ∙ le
 pub returns-clause-value : goal.returns-clause-value
 returns-clause-value c =
     let net = c.args.net.now in
-    IfOk-weaker c.run_lines.result (λ (run : LineRun). sheet_of run ≡ shown_sheet net (arriving_by (entering c.args.arrivals.now)) c.in_ok-lines.lines.items)
-    (λ (run : LineRun). sheet_of run ≡ shown_sheet net (arriving_by (entering c.args.arrivals.now)) (fixed_timelines net c.args.plan.now))
-    (λ run is. is ∙ ap (shown_sheet net (arriving_by (entering c.args.arrivals.now))) c.in_ok-lines.ensures.value) c.run_lines.ensures.value
+    IfOk-weaker c.run_lines.result (λ (run : LineRun). sheet_of run ≡ shown_sheet net (arriving_of c.args.arrivals.now) c.in_ok-lines.lines.items)
+    (λ (run : LineRun). sheet_of run ≡ shown_sheet net (arriving_of c.args.arrivals.now) (fixed_timelines net c.args.plan.now))
+    (λ run is. is ∙ ap (shown_sheet net (arriving_of c.args.arrivals.now)) c.in_ok-lines.ensures.value) c.run_lines.ensures.value

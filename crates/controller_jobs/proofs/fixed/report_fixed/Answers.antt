@@ -1,8 +1,7 @@
 use Rattle.std.proofs.Common.{ap}
-use Rattle.arrivals.specs.Amounts.{entering}
+use Rattle.arrivals.specs.Amounts.{arriving_of}
 use Rattle.audit.specs.LineRuns.{sheet_of}
 use Rattle.net_simulator.proofs.Passing.{few-of}
-use Rattle.runs.specs.Runs.{arriving_by}
 use Rattle.audit.specs.declared.sheet.Sheet.{Sheet}
 use Rattle.controller_jobs.proofs.fixed.report_fixed.Goals as goal
 
@@ -14,5 +13,5 @@ returns c = record {
   shows = c.in_ok-run.ensures.clean;
   safe = c.in_ok-run.ensures.safe;
   report = c.in_ok-text.ensures.text;
-  clean = c.in_ok-text.ensures.clean (arriving_by (entering c.args.arrivals.now)) (few-of c.args.net.now c.law_of_network.ensures c.args.arrivals.now c.requires.arrivals) c.in_ok-run.ensures.clean;
+  clean = c.in_ok-text.ensures.clean (arriving_of c.args.arrivals.now) (few-of c.args.net.now c.law_of_network.ensures c.args.arrivals.now c.requires.arrivals) c.in_ok-run.ensures.clean;
 }

@@ -1,4 +1,4 @@
-use Rattle.arrivals.specs.Amounts.{entering}
+use Rattle.arrivals.specs.Amounts.{arriving_of}
 use Rattle.command_words.specs.Calls.{Scale}
 use Rattle.commands.proofs.Outcomes.{failed, handed_on}
 use Rattle.controller_jobs.proofs.FactorLaws.{none-missing, refused}
@@ -14,7 +14,7 @@ returns-in_err-text g c =
     let range = c.args.range.now in
     let read = c.in_ok-scene in
     handed_on (Scale c.args.net.now c.args.arr.now range.first range.last range.step) _ _ c.from_residual-in_err-text.result _
-    (refused c.args.net.now c.args.arr.now range.first range.last range.step read.scene.network (entering read.scene.arrivals) _ _ _ read.ensures.ok read.ensures.texts.0 read.ensures.texts.1.0 c.in_err-text.ensures.refused)
+    (refused c.args.net.now c.args.arr.now range.first range.last range.step read.scene.network (arriving_of read.scene.arrivals) _ _ _ read.ensures.ok read.ensures.texts.0 read.ensures.texts.1.0 c.in_err-text.ensures.refused)
     c.from_residual-in_err-text.ensures.1
 
 pub returns : goal.returns
@@ -23,11 +23,11 @@ returns g c =
     let read = c.in_ok-scene in (
       read.ensures.ok,
       (
-        (read.scene.network, (entering read.scene.arrivals, tt)),
+        (read.scene.network, (arriving_of read.scene.arrivals, tt)),
         read.ensures.texts,
         (
           (c.in_ok-text.ensures.table, λ against. against),
-          none-missing c.args.net.now c.args.arr.now range.first range.last range.step read.scene.network (entering read.scene.arrivals) c.in_ok-text.ensures.few,
+          none-missing c.args.net.now c.args.arr.now range.first range.last range.step read.scene.network (arriving_of read.scene.arrivals) c.in_ok-text.ensures.few,
         ),
       ),
     )

@@ -1,4 +1,4 @@
-use Rattle.arrivals.specs.Amounts.{entering}
+use Rattle.arrivals.specs.Amounts.{arriving_of}
 use Rattle.command_words.specs.Calls.{Spill}
 use Rattle.commands.proofs.Outcomes.{failed}
 use Rattle.controller_jobs.proofs.spill.spill_files.Goals as goal
@@ -9,4 +9,4 @@ returns-in_err-all g c = failed (Spill c.args.net.now c.args.arr.now c.args.stor
 pub returns : goal.returns
 returns g c =
     let all = c.in_ok-all in
-    (all.ensures.ok, ((all.all.scene.network, (entering all.all.scene.arrivals, (all.all.value, tt))), all.ensures.texts, ((c.in_ok-text.ensures, λ against. against), λ what missing. missing)))
+    (all.ensures.ok, ((all.all.scene.network, (arriving_of all.all.scene.arrivals, (all.all.value, tt))), all.ensures.texts, ((c.in_ok-text.ensures, λ against. against), λ what missing. missing)))

@@ -10,4 +10,4 @@ pub returns-clause-one : goal.returns-clause-one
 returns-clause-one c = λ bytes one other. one-history c.args.net.now _ one other
 
 pub returns-clause-clean : goal.returns-clause-clean
-returns-clause-clean c = λ run history enters kept few. report-clean c.args.net.now c.law_of_network.ensures enters few history run kept
+returns-clause-clean c = λ run history arriving kept few. report-clean c.args.net.now c.law_of_network.ensures arriving few history run kept

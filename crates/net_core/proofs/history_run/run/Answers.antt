@@ -1,5 +1,5 @@
 use Rattle.std.proofs.Common.{ℕ, List, sym, ap, subst, arith}
-use Rattle.arrivals.specs.Amounts.{entering}
+use Rattle.arrivals.specs.Amounts.{arriving_of}
 use Rattle.histories.specs.Histories.{IsLawful}
 use Rattle.runs.specs.Promises.{IsKeptRun}
 use Rattle.net_core.specs.Cores.{Course}
@@ -35,4 +35,4 @@ returns g c =
     let net = c.args.net.now in
     let arrivals = c.args.arrivals.now in
     let all = gone-all net arrivals c.steps-steps.result.now c.loop-node.node-index c.loop-node.core c.loop-node-test.false c.loop-node.invariant in
-    subst (λ (h : List ℕ). IsKeptRun net (entering arrivals) h c.finish.result) c.steps-steps.ensures (subst (λ (x : Course). IsKeptRun x.net (entering x.arrivals) x.steps c.finish.result) all c.finish.ensures)
+    subst (λ (h : List ℕ). IsKeptRun net (arriving_of arrivals) h c.finish.result) c.steps-steps.ensures (subst (λ (x : Course). IsKeptRun x.net (arriving_of x.arrivals) x.steps c.finish.result) all c.finish.ensures)

@@ -1,7 +1,7 @@
 use Rattle.std.proofs.Common.{◌≡◌, ◌≢◌, ℕ, ◌*◌, ◌%◌, ◌<◌, ◌≤◌}
 use Rattle.road_net.specs.Totals.{total}
 use Rattle.net_simulator.specs.Rows.{cell}
-use Rattle.net_simulator.specs.Arriving.{arriving_of}
+use Rattle.arrivals.specs.Amounts.{arriving_of}
 use Rattle.net_simulator.proofs.seconds.arrive.Given as goal
 
 abbrev pub invariant-loop-l : goal.invariant-loop-l

@@ -1,5 +1,5 @@
 use Rattle.std.proofs.Common.{◌+◌, ◌-◌, length, refl, arith}
-use Rattle.net_simulator.specs.Arriving.{arriving_of}
+use Rattle.arrivals.specs.Amounts.{arriving_of}
 use Rattle.net_simulator.proofs.Passing.{few-of, begun-by, room-leave, room-enter, leaves-now, counts-small, standing-small, stands-next, room-entered, room-left, delay-most}
 use Rattle.net_simulator.proofs.world.pass_second.Goals as goal
 

@@ -1,4 +1,4 @@
-use Rattle.arrivals.specs.Amounts.{entering}
+use Rattle.arrivals.specs.Amounts.{arriving_of}
 use Rattle.commands.proofs.Outcomes.{failed, handed_on}
 use Rattle.network_jobs.specs.Args.{call_with}
 use Rattle.network_jobs.proofs.Missed.{missed, none_missed}
@@ -13,7 +13,7 @@ returns-in_err-text g c =
     let made = c.in_ok-read in
     let texts = made.ensures.texts in
     handed_on (call_with args) _ _ c.from_residual-in_err-text.result _
-    (missed args.net.now args.arr.now args.hist.now args.node.now args.round made.read.scene.network (entering made.read.scene.arrivals) made.read.value _ _ _ made.ensures.ok
+    (missed args.net.now args.arr.now args.hist.now args.node.now args.round made.read.scene.network (arriving_of made.read.scene.arrivals) made.read.value _ _ _ made.ensures.ok
     texts.0 texts.1.0 texts.1.1.0 c.in_err-text.ensures.refused) c.from_residual-in_err-text.ensures.1
 
 pub returns : goal.returns
@@ -23,11 +23,11 @@ returns g c =
     let text = c.in_ok-text in (
       made.ensures.ok,
       (
-        (made.read.scene.network, (entering made.read.scene.arrivals, (made.read.value, tt))),
+        (made.read.scene.network, (arriving_of made.read.scene.arrivals, (made.read.value, tt))),
         made.ensures.texts,
         (
           (text.ensures.planned, λ against. against),
-          none_missed args.net.now args.arr.now args.hist.now args.node.now args.round made.read.scene.network (entering made.read.scene.arrivals) made.read.value text.ensures.exists.0 text.ensures.exists.1,
+          none_missed args.net.now args.arr.now args.hist.now args.node.now args.round made.read.scene.network (arriving_of made.read.scene.arrivals) made.read.value text.ensures.exists.0 text.ensures.exists.1,
         ),
       ),
     )

@@ -1,4 +1,4 @@
-use Rattle.arrivals.specs.Amounts.{entering}
+use Rattle.arrivals.specs.Amounts.{arriving_of}
 use Rattle.command_words.specs.Calls.{Net}
 use Rattle.commands.proofs.Outcomes.{failed}
 use Rattle.network_jobs.proofs.net.make_report.Goals as goal
@@ -10,4 +10,4 @@ pub returns : goal.returns
 returns g c =
     let made = c.in_ok-scene in
     let scene = made.scene in
-    (made.ensures.ok, ((scene.network, (entering scene.arrivals, tt)), made.ensures.texts, ((c.in_ok-text.ensures, λ against. against), λ what missing. missing)))
+    (made.ensures.ok, ((scene.network, (arriving_of scene.arrivals, tt)), made.ensures.texts, ((c.in_ok-text.ensures, λ against. against), λ what missing. missing)))

@@ -1,4 +1,4 @@
-use Rattle.arrivals.specs.Amounts.{entering}
+use Rattle.arrivals.specs.Amounts.{arriving_of}
 use Rattle.command_words.specs.Calls.{Replay}
 use Rattle.commands.proofs.Outcomes.{failed}
 use Rattle.network_jobs.proofs.replay.make_report.Goals as goal
@@ -9,4 +9,4 @@ returns-in_err-read g c = failed (Replay c.args.net.now c.args.arr.now c.args.hi
 pub returns : goal.returns
 returns g c =
     let made = c.in_ok-read in
-    (made.ensures.ok, ((made.read.scene.network, (entering made.read.scene.arrivals, (made.read.value, tt))), made.ensures.texts, ((c.in_ok-text.ensures, λ against. against), λ what missing. missing)))
+    (made.ensures.ok, ((made.read.scene.network, (arriving_of made.read.scene.arrivals, (made.read.value, tt))), made.ensures.texts, ((c.in_ok-text.ensures, λ against. against), λ what missing. missing)))

@@ -1,6 +1,6 @@
 use Rattle.std.proofs.Common.{◌≡◌, ◌++◌, ◌∙◌, List, length, take, drop, sym, subst}
 use Rattle.std.specs.Prelude.{IfOk, OnOk}
-use Rattle.arrivals.specs.Amounts.{entering}
+use Rattle.arrivals.specs.Amounts.{arriving_of}
 use Rattle.link_boards.specs.Passes.{PassView, calls_in}
 use Rattle.node_rounds.specs.Calls.{IsRunOfCalls, MergeToLawful}
 use Rattle.node_rounds.proofs.Slices.{put-back}
@@ -18,4 +18,4 @@ returns-clause-run g c =
     let played = c.run_rounds_snap-run.new.passes in
     let dealt = c.args.passes in
     let back : take dealt.len (played ++ drop (length played) dealt.items) ≡ played = put-back dealt.len played dealt.items dealt.ok.0 (c.run_rounds_snap-run.ensures.passes.count ∙ sym c.requires.all.count) in
-    subst (λ (passes : List PassView). IfOk c.run_rounds_snap-run.result (IsRunOfCalls c.args.net.now (entering c.args.arrivals.now) (calls_in passes))) (sym back) c.run_rounds_snap-run.ensures.run
+    subst (λ (passes : List PassView). IfOk c.run_rounds_snap-run.result (IsRunOfCalls c.args.net.now (arriving_of c.args.arrivals.now) (calls_in passes))) (sym back) c.run_rounds_snap-run.ensures.run

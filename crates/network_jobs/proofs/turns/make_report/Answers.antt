@@ -1,4 +1,4 @@
-use Rattle.arrivals.specs.Amounts.{entering}
+use Rattle.arrivals.specs.Amounts.{arriving_of}
 use Rattle.command_words.specs.Calls.{Turns}
 use Rattle.commands.proofs.Outcomes.{failed}
 use Rattle.network_jobs.proofs.turns.make_report.Goals as goal
@@ -10,7 +10,7 @@ pub returns : goal.returns
 returns g c = (
   c.in_ok-scene.ensures.ok,
   (
-    (c.in_ok-scene.scene.network, (entering c.in_ok-scene.scene.arrivals, tt)),
+    (c.in_ok-scene.scene.network, (arriving_of c.in_ok-scene.scene.arrivals, tt)),
     c.in_ok-scene.ensures.texts,
     ((c.in_ok-text.ensures, λ against. against), λ what missing. missing),
   ),

@@ -1,6 +1,6 @@
 use Rattle.std.proofs.Common.{Vec, Global, ℕ, ap, subst, replicate, ◌∙◌}
 use Rattle.std.proofs.lemmas.Result.{IfOk-weaker}
-use Rattle.net_simulator.specs.Arriving.{arriving_of}
+use Rattle.arrivals.specs.Amounts.{arriving_of}
 use Rattle.net_simulator.specs.Sums.{end_of_run}
 use Rattle.world_records.specs.Written.{HasWritten}
 use Rattle.net_simulator.specs.Shown.{past_under}

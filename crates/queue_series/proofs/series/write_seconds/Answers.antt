@@ -1,5 +1,5 @@
 use Rattle.std.proofs.Common.{◌≡◌, ◌<◌, ap, subst, ◌∙◌, ◌+◌, arith}
-use Rattle.net_simulator.specs.Arriving.{arriving_of}
+use Rattle.arrivals.specs.Amounts.{arriving_of}
 use Rattle.net_simulator.specs.Sums.{end_of_run}
 use Rattle.world_records.specs.Written.{Adds}
 use Rattle.world_records.proofs.WrittenLaws.{adds-none, adds-part, adds-parts}

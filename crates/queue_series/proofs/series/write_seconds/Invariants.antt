@@ -1,7 +1,7 @@
 use Rattle.std.proofs.Common.{◌≡◌}
 use Rattle.std.specs.List.{flat_map, range_with_len}
 use Rattle.net_simulator.specs.Shown.{past_under}
-use Rattle.net_simulator.specs.Arriving.{arriving_of}
+use Rattle.arrivals.specs.Amounts.{arriving_of}
 use Rattle.net_simulator.specs.Worlds.{Stands, line_in, standing_by}
 use Rattle.world_records.specs.Written.{Adds}
 use Rattle.queue_series.specs.Series.{second_records}

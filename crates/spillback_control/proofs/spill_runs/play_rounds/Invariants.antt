@@ -1,5 +1,5 @@
 use Rattle.std.proofs.Common.{◌≡◌, length, slice_index}
-use Rattle.net_simulator.specs.Arriving.{arriving_of}
+use Rattle.arrivals.specs.Amounts.{arriving_of}
 use Rattle.spillback_control.specs.SpillRounds.{HaveSpilled}
 use Rattle.spillback_control.proofs.spill_runs.play_rounds.Given as goal
 

@@ -1,5 +1,5 @@
 use Rattle.std.proofs.Common.{slice_index}
-use Rattle.net_simulator.specs.Arriving.{arriving_of}
+use Rattle.arrivals.specs.Amounts.{arriving_of}
 use Rattle.spillback_control.proofs.RunLaws.{ended, last-lawful, last-safe, last-show, none-spilled}
 use Rattle.spillback_control.proofs.spill_runs.spill_actuated.Goals as goal
 

@@ -1,7 +1,7 @@
 use Rattle.std.proofs.Common.{◌≡◌, ℕ, ◌+◌, ◌-◌, ◌<◌, min, length, slice_index, ap, add-one, ◌∙◌, inl, inr, arith}
 use Rattle.std.proofs.lemmas.Bool.Decides.{eqb_tells}
 use Rattle.road_net.specs.Totals.{total}
-use Rattle.net_simulator.specs.Arriving.{arriving_of}
+use Rattle.arrivals.specs.Amounts.{arriving_of}
 use Rattle.spillback_world.specs.Filling.{room_of}
 use Rattle.spillback_world.specs.Steps.{comes_of}
 use Rattle.spillback_world.proofs.Setting.{first-more, rest-still}

@@ -1,6 +1,6 @@
 use Rattle.std.proofs.Common.{◌≡◌, ◌≢◌, ℕ, ◌+◌, ◌-◌, ◌*◌, ◌%◌, ◌<◌, ◌≤◌, slice_index}
 use Rattle.road_net.specs.Totals.{total}
-use Rattle.net_simulator.specs.Arriving.{arriving_of}
+use Rattle.arrivals.specs.Amounts.{arriving_of}
 use Rattle.net_simulator.specs.Rows.{cell}
 use Rattle.spillback_world.specs.Steps.{comes_of}
 use Rattle.spillback_world.proofs.ends.let_in.Given as goal

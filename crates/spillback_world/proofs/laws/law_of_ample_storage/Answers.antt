@@ -1,5 +1,5 @@
 use Rattle.std.proofs.Common.{refl, ap, ◌∙◌}
-use Rattle.net_simulator.specs.Arriving.{arriving_of}
+use Rattle.arrivals.specs.Amounts.{arriving_of}
 use Rattle.net_simulator.specs.Flow.{passed_in}
 use Rattle.net_simulator.proofs.Passing.{few-of}
 use Rattle.spillback_world.specs.StoredTotals.{outside_all}

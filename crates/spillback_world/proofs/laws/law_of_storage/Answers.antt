@@ -1,4 +1,4 @@
-use Rattle.net_simulator.specs.Arriving.{arriving_of}
+use Rattle.arrivals.specs.Amounts.{arriving_of}
 use Rattle.spillback_world.proofs.Course.{spilled-all, spilled-whole, within-all}
 use Rattle.spillback_world.proofs.Sources.{sources-of}
 use Rattle.spillback_world.proofs.laws.law_of_storage.Goals as goal

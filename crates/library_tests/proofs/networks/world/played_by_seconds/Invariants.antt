@@ -1,5 +1,5 @@
 use Rattle.std.proofs.Common.{◌≡◌}
-use Rattle.net_simulator.specs.Arriving.{arriving_of}
+use Rattle.arrivals.specs.Amounts.{arriving_of}
 use Rattle.net_simulator.specs.Worlds.{Stands, line_in, standing_by}
 use Rattle.library_tests.proofs.networks.world.played_by_seconds.Given as goal
 

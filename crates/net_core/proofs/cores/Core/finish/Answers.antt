@@ -1,5 +1,5 @@
 use Rattle.std.proofs.Common.{◌≡◌, false, sym, ap, ◌∙◌, subst}
-use Rattle.arrivals.specs.Amounts.{entering}
+use Rattle.arrivals.specs.Amounts.{arriving_of}
 use Rattle.histories.specs.Histories.{IsLawful}
 use Rattle.runs.specs.Promises.{IsKeptRun}
 use Rattle.net_core.specs.Cores.{Course}
@@ -20,5 +20,5 @@ returns c =
     let fresh : own.spent ≡ false = ap (λ (x : Course). x.spent) c.self.view_is ∙ c.requires.fresh in
     let lawful : IsLawful own.net.now own.parts.history.items = subst (λ (x : Course). IsLawful x.net x.steps) (sym c.self.view_is) c.requires.lawful in
     let run = over-run own.net.now c.law_of_network.ensures own.arrivals.now own.parts (c.self.invariant.sound.going fresh) lawful run_record c.record_of.ensures in
-    let kept = c.law_of_runs.ensures.kept (entering own.arrivals.now) own.parts.history.items run_record lawful run in
-    subst (λ (x : Course). IsKeptRun x.net (entering x.arrivals) x.steps run_record) c.self.view_is (record { run = run; kept = kept })
+    let kept = c.law_of_runs.ensures.kept (arriving_of own.arrivals.now) own.parts.history.items run_record lawful run in
+    subst (λ (x : Course). IsKeptRun x.net (arriving_of x.arrivals) x.steps run_record) c.self.view_is (record { run = run; kept = kept })

@@ -1,6 +1,6 @@
 use Rattle.std.proofs.Common.{◌≡◌, ◌+◌}
 use Rattle.net_simulator.specs.Worlds.{Stands, standing_by}
-use Rattle.net_simulator.specs.Arriving.{arriving_of}
+use Rattle.arrivals.specs.Amounts.{arriving_of}
 use Rattle.net_simulator.proofs.world.World.advance.Given as goal
 
 abbrev pub invariant-loop-i : goal.invariant-loop-i

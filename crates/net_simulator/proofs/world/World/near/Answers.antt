@@ -1,5 +1,5 @@
 use Rattle.std.proofs.Common.{◌∙◌, arith}
-use Rattle.net_simulator.specs.Arriving.{arriving_of}
+use Rattle.arrivals.specs.Amounts.{arriving_of}
 use Rattle.net_simulator.proofs.Seeing.{near-fits, near-gathered}
 use Rattle.net_simulator.proofs.world.World.near.Goals as goal
 

@@ -1,6 +1,6 @@
 use Rattle.std.proofs.Common.{◌+◌, None, length, slice_index_or, refl, sym, ap, ◌∙◌}
 use Rattle.std.proofs.lemmas.List.{with_items_is}
-use Rattle.net_simulator.specs.Arriving.{arriving_of}
+use Rattle.arrivals.specs.Amounts.{arriving_of}
 use Rattle.net_simulator.specs.Worlds.{standing_by}
 use Rattle.net_simulator.specs.contracts.world.World.{the_view}
 use Rattle.net_simulator.proofs.Passing.{stands-parts}

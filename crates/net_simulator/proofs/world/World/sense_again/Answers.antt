@@ -2,7 +2,7 @@ use Rattle.std.proofs.Common.{sym, subst, ◌∙◌}
 use Rattle.std.specs.List.Sorted.{IsStrictlyIncreasing}
 use Rattle.road_net.specs.Senses.{IsSensedOf}
 use Rattle.road_net.specs.Network.{entry_links}
-use Rattle.net_simulator.specs.Arriving.{arriving_of}
+use Rattle.arrivals.specs.Amounts.{arriving_of}
 use Rattle.net_simulator.proofs.Seeing.{gathered, below-names, is-sensed}
 use Rattle.net_simulator.proofs.world.World.sense_again.Goals as goal
 

@@ -3,7 +3,7 @@ use Rattle.link_boards.specs.Passes.{BoardsView, PassView, highest}
 use Rattle.intersection_actor.specs.Acting.{Acting, without_records}
 use Rattle.net_parts.specs.declared.drafts.Run.{Run}
 use Rattle.net_parts.specs.Numbers.{Net}
-use Rattle.net_simulator.specs.Arriving.{arriving_of}
+use Rattle.arrivals.specs.Amounts.{arriving_of}
 use Rattle.net_simulator.specs.Worlds.{Stands, standing_by}
 use Rattle.runs.specs.Ending.{records_in}
 use Rattle.runs.specs.Resting.{lines_of}

@@ -1,5 +1,5 @@
 use Rattle.std.proofs.Common.{◌≡◌, ◌+◌, slice_index}
-use Rattle.net_simulator.specs.Arriving.{arriving_of}
+use Rattle.arrivals.specs.Amounts.{arriving_of}
 use Rattle.net_simulator.specs.Worlds.{standing_by}
 use Rattle.spillback_world.specs.Worlds.{Stands}
 use Rattle.spillback_world.proofs.worlds.SpillWorld.advance.Given as goal

@@ -2,7 +2,7 @@ use Rattle.std.proofs.Common.{sym, subst, ◌∙◌}
 use Rattle.std.specs.List.Sorted.{IsStrictlyIncreasing}
 use Rattle.road_net.specs.Network.{entry_links}
 use Rattle.road_net.specs.Senses.{IsSensedOf}
-use Rattle.net_simulator.specs.Arriving.{arriving_of}
+use Rattle.arrivals.specs.Amounts.{arriving_of}
 use Rattle.net_simulator.specs.Worlds.{standing_by}
 use Rattle.net_simulator.proofs.Seeing.{below-names}
 use Rattle.spillback_world.proofs.Sensing.{gathered, is-sensed}
