@@ -10,26 +10,26 @@ abbrev pub header : List (List ℕ)
 header = codes "second" ∷ codes "link" ∷ codes "amount" ∷ []
 
 -- what a record tells: a second, the name of a link, and an amount
-pub record Told : Type 0 where
+pub record ArrivalRecord : Type 0 where
   pub second : ℕ
   pub name : List ℕ
   pub amount : ℕ
 
 -- what three fields tell, where the first and the last are digits
-unfoldable pub told : List ℕ → List ℕ → List ℕ → Option Told
-told second name amount = do
+unfoldable pub parse_fields : List ℕ → List ℕ → List ℕ → Option ArrivalRecord
+parse_fields second name amount = do
   x ← number_of_digits second
   a ← number_of_digits amount
   Some (record { second = x; name = name; amount = a })
 
 -- a record of three fields
-abbrev pub told_of : List (List ℕ) → Option Told
-told_of (second ∷ name ∷ amount ∷ []) = told second name amount
-told_of _ = None
+abbrev pub parse : List (List ℕ) → Option ArrivalRecord
+parse (second ∷ name ∷ amount ∷ []) = parse_fields second name amount
+parse _ = None
 
 -- the row of a record, where its link is one of the network
-unfoldable pub row_of : Net → List (List ℕ) → Option ArrivalRow
-row_of net fields = do
-  t ← told_of fields
+unfoldable pub parse_in : Net → List (List ℕ) → Option ArrivalRow
+parse_in net fields = do
+  t ← parse fields
   link ← number_of net.link_names t.name
   Some (record { second = t.second; link = link; amount = t.amount })

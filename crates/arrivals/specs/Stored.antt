@@ -7,7 +7,7 @@ use Rattle.arrivals.specs.declared.rows.RowFault.{RowFault}
 use Rattle.arrivals.specs.declared.rows.RowFault.TheVariants.{NoMemory, Row, Link, Bound, Sum}
 use Rattle.arrivals.specs.Amounts.{Amounts, AreArrivalsOf, place}
 use Rattle.arrivals.specs.Faults.{IsAtLink, IsAtBound}
-use Rattle.arrivals.specs.Records.{told_of, row_of}
+use Rattle.arrivals.specs.Records.{parse, parse_in}
 use Rattle.net_parts.specs.Limits.{most_of_all}
 use Rattle.arrivals.specs.Rows.{IsRow, amount_of}
 
@@ -39,9 +39,9 @@ Adds net r number old new (Err _) = ⊥
 
 -- the row of a record; else the record tells none, or its name is no link's
 abbrev pub Reads : Net → List (List ℕ) → ℕ → Result ArrivalRow RowFault → Type 0
-Reads net fields number (Ok r) = row_of net fields ≡ Some r
-Reads net fields number (Err (Row n)) = (n ≡ number) × (told_of fields ≡ None)
-Reads net fields number (Err (Link n)) = (n ≡ number) × IsSomeAnd (told_of fields) (λ t. number_of net.link_names t.name ≡ None)
+Reads net fields number (Ok r) = parse_in net fields ≡ Some r
+Reads net fields number (Err (Row n)) = (n ≡ number) × (parse fields ≡ None)
+Reads net fields number (Err (Link n)) = (n ≡ number) × IsSomeAnd (parse fields) (λ t. number_of net.link_names t.name ≡ None)
 Reads net fields number (Err _) = ⊥
 
 -- the amounts are those of these rows, and so is their sum
@@ -50,11 +50,11 @@ pub record IsTally (net : Net) (rows : List ArrivalRow) (a : Amounts) : Type 0 w
   pub whole : sum a.amounts ≡ sum_by amount_of rows
 
 -- the amounts are those of the rows that these records tell
-pub record HasTaken (net : Net) (records : List (List (List ℕ))) (a : Amounts) : Type 0 where
+pub record HasRead (net : Net) (records : List (List (List ℕ))) (a : Amounts) : Type 0 where
   pub rows : List ArrivalRow
-  pub reads : each (row_of net) records ≡ Some rows
+  pub reads : each (parse_in net) records ≡ Some rows
   pub tally : IsTally net rows a
 
 -- the record with this number tells no row, or its row cannot be added to the amounts
-abbrev pub IsRefused : Net → Amounts → List (List ℕ) → ℕ → RowFault → Type 0
-IsRefused net a fields number fault = Reads net fields number (Err fault) ⊎ ((r : ArrivalRow) × (row_of net fields ≡ Some r) × (new : Amounts) × Adds net r number a new (Err fault))
+abbrev pub IsFaultAt : Net → Amounts → List (List ℕ) → ℕ → RowFault → Type 0
+IsFaultAt net a fields number fault = Reads net fields number (Err fault) ⊎ ((r : ArrivalRow) × (parse_in net fields ≡ Some r) × (new : Amounts) × Adds net r number a new (Err fault))

@@ -6,13 +6,13 @@ use Rattle.arrivals.specs.declared.rows.RowFault.{RowFault}
 use Rattle.arrivals.specs.declared.rows.RowFault.TheVariants.{NoMemory, Header, Row, Link, Bound, Sum}
 use Rattle.arrivals.specs.Amounts.{Amounts, AreArrivalsOf}
 use Rattle.arrivals.specs.Faults.{IsAtBound, IsAtSum}
-use Rattle.arrivals.specs.Records.{header, told_of, row_of}
+use Rattle.arrivals.specs.Records.{header, parse, parse_in}
 use Rattle.arrivals.specs.Rows.{AreRows, IsSource}
 use Rattle.record_text.specs.Forms.{Form, IsTextOf, IsRefusedFor, Cause, OutOfMemory, NoHeader, AtRecord}
 
 -- the form of the text: records after the first tell rows, and rows bring arrivals
 abbrev pub form : Net → Form ArrivalRow Amounts
-form net = record { header = header; read = row_of net; lawful = AreRows net; is_of = AreArrivalsOf net }
+form net = record { header = header; read = parse_in net; lawful = AreRows net; is_of = AreArrivalsOf net }
 
 -- the name is that of a link that comes from no node
 abbrev pub IsSourceName : Net → List ℕ → Type 0
@@ -22,10 +22,10 @@ IsSourceName net name = IsSomeAnd (number_of net.link_names name) (IsSource net)
 abbrev pub cause_of : Net → RowFault → Cause ArrivalRow
 cause_of net NoMemory = OutOfMemory
 cause_of net Header = NoHeader
-cause_of net (Row n) = AtRecord n (λ before fields. told_of fields ≡ None)
-cause_of net (Link n) = AtRecord n (λ before fields. IsSomeAnd (told_of fields) (λ t. ¬ IsSourceName net t.name))
-cause_of net (Bound n) = AtRecord n (λ before fields. IsSomeAnd (row_of net fields) (IsAtBound net))
-cause_of net (Sum n) = AtRecord n (λ before fields. IsSomeAnd (row_of net fields) (IsAtSum net before))
+cause_of net (Row n) = AtRecord n (λ before fields. parse fields ≡ None)
+cause_of net (Link n) = AtRecord n (λ before fields. IsSomeAnd (parse fields) (λ t. ¬ IsSourceName net t.name))
+cause_of net (Bound n) = AtRecord n (λ before fields. IsSomeAnd (parse_in net fields) (IsAtBound net))
+cause_of net (Sum n) = AtRecord n (λ before fields. IsSomeAnd (parse_in net fields) (IsAtSum net before))
 
 -- the arrivals of a text
 abbrev pub IsArrivalText : Net → List ℕ → Amounts → Type 0

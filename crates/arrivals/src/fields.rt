@@ -2,7 +2,7 @@
 ghost use Rattle.std.specs.Prelude.{◌≡◌, ◌≢◌, [], ◌∷◌, None, Some, MatchOption, length};
 ghost use Rattle.csv.specs.Records.{fields_of};
 ghost use Rattle.road_net.specs.Network.{IsNetwork};
-ghost use Rattle.arrivals.specs.Records.{told_of};
+ghost use Rattle.arrivals.specs.Records.{parse};
 ghost use Rattle.arrivals.specs.Stored.{Reads};
 
 use crate::rows::{ArrivalRow, RowFault};
@@ -11,7 +11,7 @@ use record_text::{digits, field, link_named};
 use road_net::Network;
 
 /// The row that a record tells, by the number of its link.
-#[tactic(auto, unfolding(crate::specs::Records::row_of))]
+#[tactic(auto, unfolding(crate::specs::Records::parse_in))]
 pub(crate) fn read_row(net: &Network, row: &ByteRecord, number: u32) -> Result<ArrivalRow, RowFault>
     requires { IsNetwork net.now }
     ensures { Reads net.now (fields_of row.now) number result }
@@ -30,10 +30,10 @@ pub(crate) fn read_row(net: &Network, row: &ByteRecord, number: u32) -> Result<A
 }
 
 /// The second, the name of the link, and the amount of a record.
-#[tactic(auto, unfolding(crate::specs::Records::told))]
+#[tactic(auto, unfolding(crate::specs::Records::parse_fields))]
 fn record_fields(row: &ByteRecord) -> Option<(u32, &[u8], u32)>
-    ensures { MatchOption result (told_of (fields_of row.now) ≡ None)
-        (λ t. told_of (fields_of row.now) ≡ Some (record { second = t.0; name = t.1.now; amount = t.2 })) }
+    ensures { MatchOption result (parse (fields_of row.now) ≡ None)
+        (λ t. parse (fields_of row.now) ≡ Some (record { second = t.0; name = t.1.now; amount = t.2 })) }
 {
     let (second, name, amount) = three_fields(row)?;
     let second = digits(second)?;

@@ -35,15 +35,15 @@ pub fn read_arrivals(alloc: Global, bytes: &[u8], net: &Network) -> Result<Arriv
 
 impl RecordTaker for Arrivals {
     ghost use Rattle.arrivals.specs.Records as records;
-    ghost use Rattle.arrivals.specs.Stored.{HasTaken, IsRefused};
+    ghost use Rattle.arrivals.specs.Stored.{HasRead, IsFaultAt};
 
     type Fault = RowFault;
 
     ghost header = { records.header };
 
-    ghost has_taken = { HasTaken };
+    ghost has_taken = { HasRead };
 
-    ghost at_fault = { IsRefused };
+    ghost at_fault = { IsFaultAt };
 
     fn is_header(row: &ByteRecord) -> bool {
         is_record(row, &[b"second", b"link", b"amount"])

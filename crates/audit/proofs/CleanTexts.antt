@@ -30,10 +30,10 @@ use Rattle.net_simulator.specs.Shown.{past_under}
 use Rattle.audit.proofs.CutLaws.{cut-clean, cut-line}
 
 -- the greens of a plan that begin before a second can be told
-told-greens : (plan : List Phase) (end : ℕ) → IsPlan plan → end ≤ 18000 → (rows : List Green) → All (IsGreen plan) rows → All IsToldGreen (begun_before end rows)
-told-greens plan end p early [] greens = All-nil IsToldGreen
-told-greens plan end p early (row ∷ rows) greens =
-    let rest = told-greens plan end p early rows (All-tail (IsGreen plan) row rows greens) in
+parsed-greens : (plan : List Phase) (end : ℕ) → IsPlan plan → end ≤ 18000 → (rows : List Green) → All (IsGreen plan) rows → All IsToldGreen (begun_before end rows)
+parsed-greens plan end p early [] greens = All-nil IsToldGreen
+parsed-greens plan end p early (row ∷ rows) greens =
+    let rest = parsed-greens plan end p early rows (All-tail (IsGreen plan) row rows greens) in
     elim (cases_Bool (nat_lt row.from end)) [
       | inr other ↦ rw other rest
       | inl begun ↦
@@ -65,8 +65,8 @@ module _ (net : Net) (network : IsNetwork net) (arriving : ℕ → ℕ → ℕ) 
       product : (a b : ℕ) → a ≤ 600 → b ≤ 30 → a * b ≤ 18000
       product a b small short = grind (arith, small, short)
 
-  told-counts : (l : ℕ) → l < length net.link_names → AreToldCounts (link_totals net (past_under net arriving lines) end l)
-  told-counts l below =
+  parsed-counts : (l : ℕ) → l < length net.link_names → AreToldCounts (link_totals net (past_under net arriving lines) end l)
+  parsed-counts l below =
       let entered = entered-small net network arriving shown few end l below in
       record {
         entered = omega (arith, entered, early);
@@ -74,8 +74,8 @@ module _ (net : Net) (network : IsNetwork net) (arriving : ℕ → ℕ → ℕ) 
         delay = omega (arith, delay-small net network arriving shown few end l below, early);
       }
 
-  told-sums : AreToldSums (totals net arriving (past_under net arriving lines) end)
-  told-sums =
+  parsed-sums : AreToldSums (totals net arriving (past_under net arriving lines) end)
+  parsed-sums =
       let past : ℕ → ℕ → Cumulative = past_under net arriving lines in
       let each = total-le (delay net past end) (λ l. 36000000000000) (length net.link_names) (λ l below. omega (arith, delay-small net network arriving shown few end l below, early)) in
       record {
@@ -87,14 +87,14 @@ module _ (net : Net) (network : IsNetwork net) (arriving : ℕ → ℕ → ℕ) 
 
 module _ (net : Net) (network : IsNetwork net) (arriving : ℕ → ℕ → ℕ) (few : AreFew net arriving) (s : Sheet) (shape : HasShape net s) (clean : IsClean net arriving s) where
   -- a clean sheet can be told
-  can-told : CanBeTold net (cut_at (end_of_run net) s)
-  can-told = record {
+  can-parsed : CanBeTold net (cut_at (end_of_run net) s)
+  can-parsed = record {
     lines = length-map s.lines (begun_before (end_of_run net)) ∙ shape.lines;
     links = shape.links;
     greens = λ node below. subst (All IsToldGreen) (sym (cut-line (end_of_run net) s.lines node))
-        (told-greens (plan_at net node) (end_of_run net) (plan-is net network node below) (early net network arriving few s.lines) (line_in s.lines node) (clean.lawful node below).greens);
-    counts = λ l below. subst AreToldCounts (sym (clean.links l below)) (told-counts net network arriving few s.lines l below);
-    totals = subst AreToldSums (sym clean.all) (told-sums net network arriving few s.lines);
+        (parsed-greens (plan_at net node) (end_of_run net) (plan-is net network node below) (early net network arriving few s.lines) (line_in s.lines node) (clean.lawful node below).greens);
+    counts = λ l below. subst AreToldCounts (sym (clean.links l below)) (parsed-counts net network arriving few s.lines l below);
+    totals = subst AreToldSums (sym clean.all) (parsed-sums net network arriving few s.lines);
   }
 
   -- The text of records that tell it, with the greens alone that begin before the end of the run, is a clean text; other records may
@@ -102,7 +102,7 @@ module _ (net : Net) (network : IsNetwork net) (arriving : ℕ → ℕ → ℕ) 
   pub clean-text : (passed : List (List (List ℕ))) → All IsPassedOver passed → IsCleanText net arriving (records_text (header ∷ (passed ++ sheet_records net (end_of_run net) s)))
   clean-text passed over =
       let bytes : List ℕ = records_text (header ∷ (passed ++ sheet_records net (end_of_run net) s)) in
-      let text : IsSheetText net bytes (cut_at (end_of_run net) s) = written-sheet net network passed over (end_of_run net) s can-told in
+      let text : IsSheetText net bytes (cut_at (end_of_run net) s) = written-sheet net network passed over (end_of_run net) s can-parsed in
       record {
         sheet = cut_at (end_of_run net) s;
         is_text = text;

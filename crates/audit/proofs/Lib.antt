@@ -3,7 +3,7 @@ pub mod CutLaws
 mod LineReportLaws
 mod LineRunLaws
 mod Reasons
-pub mod SheetDraftLaws
+pub mod SheetReaderLaws
 pub mod SheetFieldLaws
 pub mod SheetTextLaws
 pub mod WrittenSheetLaws

@@ -23,7 +23,7 @@ use Rattle.world_records.proofs.RecordLaws.{HasField, header-first, read-records
 use Rattle.audit.specs.declared.sheet.Sheet.{Sheet}
 use Rattle.audit.specs.SheetTexts.{IsSheetOf, IsSheetText, NamesNode, counts_of, form, green_of, link_of, sums_of}
 use Rattle.record_text.specs.Forms.{AreRecordsOf}
-use Rattle.audit.specs.SheetRecords.{Counts, Passed, Shows, Sums, Told, told, told_of, green_told, counts_told, sums_told}
+use Rattle.audit.specs.SheetRecords.{Counts, Ignored, Shows, Sums, SheetRecord, parse_fields, parse, parse_green, parse_counts, parse_sums}
 use Rattle.audit.specs.WrittenSheets.{AreToldCounts, AreToldSums, CanBeTold, IsPassedOver, IsToldGreen, begun_before, cut_at, sheet_records}
 use Rattle.audit.proofs.SheetFieldLaws.{some-number}
 
@@ -56,8 +56,8 @@ all-below P n each k d inside =
 
 -- what a record tells
 module _ (net : Net) where
-  green-tells : (node : ℕ) (green : Green) → IsToldGreen green → told_of (green_record net node green) ≡ Some (Shows (node_name_at net node) green)
-  unfolding told green_told
+  green-tells : (node : ℕ) (green : Green) → IsToldGreen green → parse (green_record net node green) ≡ Some (Shows (node_name_at net node) green)
+  unfolding parse_fields parse_green
   green-tells node green fits =
       rw (
         some-number 8 (decimal green.phase) green.phase fits.phase (let f = fits.phase in omega arith) refl,
@@ -65,8 +65,8 @@ module _ (net : Net) where
         some-number 32 (decimal green.to) green.to fits.to (let f = fits.to in omega arith) refl,
       ) refl
 
-  link-tells : (link : ℕ) (totals : LinkTotals) → AreToldCounts totals → told_of (link_record net link totals) ≡ Some (Counts (link_name_at net link) totals)
-  unfolding told counts_told
+  link-tells : (link : ℕ) (totals : LinkTotals) → AreToldCounts totals → parse (link_record net link totals) ≡ Some (Counts (link_name_at net link) totals)
+  unfolding parse_fields parse_counts
   link-tells link totals fits =
       rw (
         some-number 64 (decimal totals.entered) totals.entered fits.entered fits.entered refl,
@@ -74,8 +74,8 @@ module _ (net : Net) where
         some-number 64 (decimal totals.delay) totals.delay fits.delay fits.delay refl,
       ) refl
 
-  total-tells : (totals : Totals) → AreToldSums totals → told_of (total_record totals) ≡ Some (Sums totals)
-  unfolding told sums_told
+  total-tells : (totals : Totals) → AreToldSums totals → parse (total_record totals) ≡ Some (Sums totals)
+  unfolding parse_fields parse_sums
   total-tells totals fits =
       rw (
         some-number 64 (decimal totals.entered) totals.entered fits.entered fits.entered refl,
@@ -85,20 +85,20 @@ module _ (net : Net) where
       ) refl
 
 -- a record that tells something has a field
-has-field : (fields : List (List ℕ)) (t : Told) → told_of fields ≡ Some t → HasField fields
+has-field : (fields : List (List ℕ)) (t : SheetRecord) → parse fields ≡ Some t → HasField fields
 has-field [] t reads = cc
 has-field (field ∷ fields) t reads = omega arith
 
 -- what is gathered of a list of things told
-gathered : {W Y : Type 0} (f : Told → Option Y) (g : W → Told) (h : W → Y) → ((w : W) → f (g w) ≡ Some (h w)) → (ws : List W) → filter_map f (map g ws) ≡ map h ws
+gathered : {W Y : Type 0} (f : SheetRecord → Option Y) (g : W → SheetRecord) (h : W → Y) → ((w : W) → f (g w) ≡ Some (h w)) → (ws : List W) → filter_map f (map g ws) ≡ map h ws
 gathered f g h is [] = refl
 gathered f g h is (w ∷ ws) = rw (is w, gathered f g h is ws) refl
 
-none-gathered : {W Y : Type 0} (f : Told → Option Y) (g : W → Told) → ((w : W) → f (g w) ≡ None) → (ws : List W) → filter_map f (map g ws) ≡ []
+none-gathered : {W Y : Type 0} (f : SheetRecord → Option Y) (g : W → SheetRecord) → ((w : W) → f (g w) ≡ None) → (ws : List W) → filter_map f (map g ws) ≡ []
 none-gathered f g is [] = refl
 none-gathered f g is (w ∷ ws) = rw (is w, none-gathered f g is ws) refl
 
-none-flat : {W Y : Type 0} (f : Told → Option Y) (g : W → List Told) → ((w : W) → filter_map f (g w) ≡ []) → (ws : List W) → filter_map f (flat_map g ws) ≡ []
+none-flat : {W Y : Type 0} (f : SheetRecord → Option Y) (g : W → List SheetRecord) → ((w : W) → filter_map f (g w) ≡ []) → (ws : List W) → filter_map f (flat_map g ws) ≡ []
 none-flat f g is [] = refl
 none-flat f g is (w ∷ ws) = filter_map-append f (g w) (flat_map g ws) ∙ ap (λ l. l ++ filter_map f (flat_map g ws)) (is w) ∙ none-flat f g is ws
 
@@ -108,7 +108,7 @@ map-same (x ∷ xs) = ap (λ l. x ∷ l) (map-same xs)
 
 -- The greens of one node of those of several, where these have other names
 module _ (name_of : ℕ → List ℕ) (rows : ℕ → List Green) where
-  abbrev shows : ℕ → List Told
+  abbrev shows : ℕ → List SheetRecord
   shows node = map (Shows (name_of node)) (rows node)
 
   own : (name : List ℕ) (node : ℕ) → bytes_eq (name_of node) name ≡ true → filter_map (green_of name) (shows node) ≡ rows node
@@ -163,65 +163,65 @@ module _ (net : Net) (network : IsNetwork net) (passed : List (List (List ℕ)))
         ]
   ]
 
-  abbrev told_passed : List Told
-  told_passed = map (λ fields. Passed) passed
+  abbrev told_passed : List SheetRecord
+  told_passed = map (λ fields. Ignored) passed
 
-  abbrev told_greens : List Told
+  abbrev told_greens : List SheetRecord
   told_greens = flat_map (λ node. map (Shows (node_name_at net node)) (rows node)) (range_with_len 0 nodes)
 
-  abbrev told_links : List Told
+  abbrev told_links : List SheetRecord
   told_links = map (λ link. Counts (link_name_at net link) (counts_at s.links link)) (range_with_len 0 links)
 
-  abbrev all_told : List Told
+  abbrev all_told : List SheetRecord
   all_told = told_passed ++ (told_greens ++ (told_links ++ Sums s.totals ∷ []))
 
   -- the records tell it
   fits-rows : (node : ℕ) → node < nodes → All IsToldGreen (rows node)
   fits-rows node below = subst (All IsToldGreen) (get_or-map (begun_before end) s.lines node [] [] (let e = can.lines in let f = length-map s.lines (begun_before end) in omega (arith, below, e, f))) (can.greens node below)
 
-  reads-passed : each told_of passed ≡ Some told_passed
-  reads-passed = subst (λ (l : List (List (List ℕ))). each told_of l ≡ Some told_passed) (map-same passed) (each-of told_of (λ fields. fields) (λ fields. Passed) passed over)
+  reads-passed : each parse passed ≡ Some told_passed
+  reads-passed = subst (λ (l : List (List (List ℕ))). each parse l ≡ Some told_passed) (map-same passed) (each-of parse (λ fields. fields) (λ fields. Ignored) passed over)
 
-  reads-greens : each told_of (flat_map (green_records net s.lines end) (range_with_len 0 nodes)) ≡ Some told_greens
-  reads-greens = each-flat told_of (green_records net s.lines end) (λ node. map (Shows (node_name_at net node)) (rows node)) (range_with_len 0 nodes)
-      (all-below (λ node. each told_of (green_records net s.lines end node) ≡ Some (map (Shows (node_name_at net node)) (rows node))) nodes
-      (λ node below. each-of told_of (green_record net node) (Shows (node_name_at net node)) (rows node) (λ k d inside. green-tells net node (get_or (rows node) k d) (fits-rows node below k d inside))))
+  reads-greens : each parse (flat_map (green_records net s.lines end) (range_with_len 0 nodes)) ≡ Some told_greens
+  reads-greens = each-flat parse (green_records net s.lines end) (λ node. map (Shows (node_name_at net node)) (rows node)) (range_with_len 0 nodes)
+      (all-below (λ node. each parse (green_records net s.lines end node) ≡ Some (map (Shows (node_name_at net node)) (rows node))) nodes
+      (λ node below. each-of parse (green_record net node) (Shows (node_name_at net node)) (rows node) (λ k d inside. green-tells net node (get_or (rows node) k d) (fits-rows node below k d inside))))
 
-  reads-links : each told_of (map (link_record_of net s.links) (range_with_len 0 links)) ≡ Some told_links
-  reads-links = each-of told_of (link_record_of net s.links) (λ link. Counts (link_name_at net link) (counts_at s.links link)) (range_with_len 0 links)
-      (all-below (λ link. told_of (link_record_of net s.links link) ≡ Some (Counts (link_name_at net link) (counts_at s.links link))) links
+  reads-links : each parse (map (link_record_of net s.links) (range_with_len 0 links)) ≡ Some told_links
+  reads-links = each-of parse (link_record_of net s.links) (λ link. Counts (link_name_at net link) (counts_at s.links link)) (range_with_len 0 links)
+      (all-below (λ link. parse (link_record_of net s.links link) ≡ Some (Counts (link_name_at net link) (counts_at s.links link))) links
       (λ link below. link-tells net link (counts_at s.links link) (can.counts link below)))
 
-  reads-totals : each told_of (total_record s.totals ∷ []) ≡ Some (Sums s.totals ∷ [])
+  reads-totals : each parse (total_record s.totals ∷ []) ≡ Some (Sums s.totals ∷ [])
   reads-totals = rw (total-tells net s.totals can.totals) refl
 
-  reads-all : each told_of (passed ++ sheet_records net end s) ≡ Some all_told
+  reads-all : each parse (passed ++ sheet_records net end s) ≡ Some all_told
   reads-all =
-      each-both told_of passed _ told_passed _ reads-passed
-      (each-both told_of _ _ told_greens _ reads-greens (each-both told_of _ _ told_links _ reads-links reads-totals))
+      each-both parse passed _ told_passed _ reads-passed
+      (each-both parse _ _ told_greens _ reads-greens (each-both parse _ _ told_links _ reads-links reads-totals))
 
   -- what is gathered of it
-  split : {Y : Type 0} (f : Told → Option Y) → filter_map f all_told ≡ filter_map f told_passed ++ (filter_map f told_greens ++ (filter_map f told_links ++ filter_map f (Sums s.totals ∷ [])))
+  split : {Y : Type 0} (f : SheetRecord → Option Y) → filter_map f all_told ≡ filter_map f told_passed ++ (filter_map f told_greens ++ (filter_map f told_links ++ filter_map f (Sums s.totals ∷ [])))
   split f =
       filter_map-append f told_passed (told_greens ++ (told_links ++ Sums s.totals ∷ []))
       ∙ ap (λ l. filter_map f told_passed ++ l) (filter_map-append f told_greens (told_links ++ Sums s.totals ∷ []) ∙ ap (λ l. filter_map f told_greens ++ l) (filter_map-append f told_links (Sums s.totals ∷ [])))
 
-  no-passed : {Y : Type 0} (f : Told → Option Y) → f Passed ≡ None → filter_map f told_passed ≡ []
-  no-passed f none = none-gathered f (λ fields. Passed) (λ fields. none) passed
+  no-passed : {Y : Type 0} (f : SheetRecord → Option Y) → f Ignored ≡ None → filter_map f told_passed ≡ []
+  no-passed f none = none-gathered f (λ fields. Ignored) (λ fields. none) passed
 
-  no-greens : {Y : Type 0} (f : Told → Option Y) → ((name : List ℕ) (green : Green) → f (Shows name green) ≡ None) → filter_map f told_greens ≡ []
+  no-greens : {Y : Type 0} (f : SheetRecord → Option Y) → ((name : List ℕ) (green : Green) → f (Shows name green) ≡ None) → filter_map f told_greens ≡ []
   no-greens f none = none-flat f (λ node. map (Shows (node_name_at net node)) (rows node)) (λ node. none-gathered f (Shows (node_name_at net node)) (none (node_name_at net node)) (rows node)) (range_with_len 0 nodes)
 
   shown-at : (node : ℕ) → node < nodes → filter_map (green_of (node_name_at net node)) all_told ≡ rows node
   shown-at node below =
-      let f : Told → Option Green = green_of (node_name_at net node) in
+      let f : SheetRecord → Option Green = green_of (node_name_at net node) in
       split f ∙ ap (λ l. l ++ (filter_map f told_greens ++ (filter_map f told_links ++ []))) (no-passed f refl)
       ∙ ap (λ l. filter_map f told_greens ++ (l ++ [])) (none-gathered f (λ link. Counts (link_name_at net link) (counts_at s.links link)) (λ link. refl) (range_with_len 0 links))
       ∙ append-nil (filter_map f told_greens)
       ∙ one-of (node_name_at net) rows (node_name_at net node) 0 nodes node (omega arith) (omega (arith, below)) ((bytes_eq-Decides (node_name_at net node) (node_name_at net node)).1 refl)
       (λ k low high other. other-name node k below (omega (arith, high)) other)
 
-  gathered-links : {Y : Type 0} (f : Told → Option Y) (h : ℕ → Y) → f Passed ≡ None → ((name : List ℕ) (green : Green) → f (Shows name green) ≡ None) → f (Sums s.totals) ≡ None
+  gathered-links : {Y : Type 0} (f : SheetRecord → Option Y) (h : ℕ → Y) → f Ignored ≡ None → ((name : List ℕ) (green : Green) → f (Shows name green) ≡ None) → f (Sums s.totals) ≡ None
       → ((link : ℕ) → f (Counts (link_name_at net link) (counts_at s.links link)) ≡ Some (h link)) → filter_map f all_told ≡ map h (range_with_len 0 links)
   gathered-links f h passes shows sums counts =
       split f ∙ ap (λ l. l ++ (filter_map f told_greens ++ (filter_map f told_links ++ filter_map f (Sums s.totals ∷ [])))) (no-passed f passes)
@@ -229,8 +229,8 @@ module _ (net : Net) (network : IsNetwork net) (passed : List (List (List ℕ)))
       ∙ ap (λ l. filter_map f told_links ++ l) (none-gathered f (λ (k : ℕ). Sums s.totals) (λ k. sums) (0 ∷ []))
       ∙ append-nil (filter_map f told_links) ∙ gathered f (λ link. Counts (link_name_at net link) (counts_at s.links link)) h counts (range_with_len 0 links)
 
-  told-once : filter_map sums_of all_told ≡ s.totals ∷ []
-  told-once =
+  parsed-once : filter_map sums_of all_told ≡ s.totals ∷ []
+  parsed-once =
       split sums_of ∙ ap (λ l. l ++ (filter_map sums_of told_greens ++ (filter_map sums_of told_links ++ s.totals ∷ []))) (no-passed sums_of refl)
       ∙ ap (λ l. l ++ (filter_map sums_of told_links ++ s.totals ∷ [])) (no-greens sums_of (λ name green. refl))
       ∙ ap (λ l. l ++ s.totals ∷ []) (none-gathered sums_of (λ link. Counts (link_name_at net link) (counts_at s.links link)) (λ link. refl) (range_with_len 0 links))
@@ -238,7 +238,7 @@ module _ (net : Net) (network : IsNetwork net) (passed : List (List (List ℕ)))
   -- all greens are those of nodes
   names-nodes : All (NamesNode net) all_told
   names-nodes =
-      All-append (NamesNode net) told_passed _ (All-map (NamesNode net) (λ fields. Passed) passed (λ k d inside. tt))
+      All-append (NamesNode net) told_passed _ (All-map (NamesNode net) (λ fields. Ignored) passed (λ k d inside. tt))
       (All-append (NamesNode net) told_greens _ (named-greens (range_with_len 0 nodes) (all-below (λ node. node < nodes) nodes (λ k below. below)))
       (All-append (NamesNode net) told_links _ (All-map (NamesNode net) (λ link. Counts (link_name_at net link) (counts_at s.links link)) (range_with_len 0 links) (λ k d inside. tt))
       (All-cons (NamesNode net) (Sums s.totals) [] tt (All-nil (NamesNode net)))))
@@ -250,8 +250,8 @@ module _ (net : Net) (network : IsNetwork net) (passed : List (List (List ℕ)))
           (All-map (NamesNode net) (Shows (node_name_at net node)) (rows node) (λ k d inside. Contains-get_or net.node_names node [] (All-head (λ node. node < nodes) node ks below)))
           (named-greens ks (All-tail (λ node. node < nodes) node ks below))
 
-  lines-told : map (begun_before end) s.lines ≡ map (λ node. filter_map (green_of node) all_told) net.node_names
-  lines-told = same_lists (map (begun_before end) s.lines) (map line_of net.node_names) (can.lines ∙ sym (length-map net.node_names line_of)) at
+  lines-parsed : map (begun_before end) s.lines ≡ map (λ node. filter_map (green_of node) all_told) net.node_names
+  lines-parsed = same_lists (map (begun_before end) s.lines) (map line_of net.node_names) (can.lines ∙ sym (length-map net.node_names line_of)) at
     where
       line_of : List ℕ → List Green
       line_of name = filter_map (green_of name) all_told
@@ -265,16 +265,16 @@ module _ (net : Net) (network : IsNetwork net) (passed : List (List (List ℕ)))
   is-sheet : IsSheetOf net all_told (cut_at end s)
   is-sheet = record {
     nodes = names-nodes;
-    shown = lines-told;
+    shown = lines-parsed;
     names = gathered-links link_of (link_name_at net) refl (λ name green. refl) refl (λ link. refl) ∙ sym (fill_by_all (link_name_at net) net.link_names links [] refl (λ k below. refl));
     counted = fill_by_all (counts_at s.links) s.links links no_totals can.links (λ k below. refl) ∙ sym (gathered-links counts_of (counts_at s.links) refl (λ name green. refl) refl (λ link. refl));
-    once = told-once;
+    once = parsed-once;
   }
 
   -- the text of the records is that of the sheet
   pub written-sheet : IsSheetText net (records_text (header ∷ (passed ++ sheet_records net end s))) (cut_at end s)
   written-sheet =
-      let are : AreRecordsOf (form net) (header ∷ (passed ++ sheet_records net end s)) (cut_at end s) = record { records = _; are = refl; told = all_told; reads = reads-all; is = is-sheet } in
+      let are : AreRecordsOf (form net) (header ∷ (passed ++ sheet_records net end s)) (cut_at end s) = record { records = _; are = refl; parsed = all_told; reads = reads-all; is = is-sheet } in
       let (rest, begins) = header-first (passed ++ sheet_records net end s) in
-      let some : All HasField (header ∷ (passed ++ sheet_records net end s)) = All-cons HasField header _ (omega arith) (each-good told_of HasField has-field (passed ++ sheet_records net end s) all_told reads-all) in
+      let some : All HasField (header ∷ (passed ++ sheet_records net end s)) = All-cons HasField header _ (omega arith) (each-good parse HasField has-field (passed ++ sheet_records net end s) all_told reads-all) in
       subst (λ (l : List (List (List ℕ))). AreRecordsOf (form net) l (cut_at end s)) (sym (read-records (header ∷ (passed ++ sheet_records net end s)) rest begins some)) are

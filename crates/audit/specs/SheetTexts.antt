@@ -8,56 +8,56 @@ use Rattle.net_simulator.specs.declared.totals.Totals.{Totals}
 use Rattle.record_text.specs.Forms.{Form, IsTextOf}
 use Rattle.world_records.specs.Records.{header}
 use Rattle.audit.specs.declared.sheet.Sheet.{Sheet}
-use Rattle.audit.specs.SheetRecords.{Counts, Shows, Sums, Told, told_of}
+use Rattle.audit.specs.SheetRecords.{Counts, Shows, Sums, SheetRecord, parse}
 
 -- the green that is told of the node of this name; none where something else is told
-abbrev pub green_of : List ℕ → Told → Option Green
+abbrev pub green_of : List ℕ → SheetRecord → Option Green
 green_of node (Shows name green) = if bytes_eq name node then Some green else None
 green_of node _ = None
 
 -- the name of the link of which totals are told; none where something else is told
-abbrev pub link_of : Told → Option (List ℕ)
+abbrev pub link_of : SheetRecord → Option (List ℕ)
 link_of (Counts link totals) = Some link
 link_of _ = None
 
 -- the totals that are told of a link; none where something else is told
-abbrev pub counts_of : Told → Option LinkTotals
+abbrev pub counts_of : SheetRecord → Option LinkTotals
 counts_of (Counts link totals) = Some totals
 counts_of _ = None
 
 -- the totals that are told of the whole network; none where something else is told
-abbrev pub sums_of : Told → Option Totals
+abbrev pub sums_of : SheetRecord → Option Totals
 sums_of (Sums totals) = Some totals
 sums_of _ = None
 
 -- a green that is told is one of a node of the network
-abbrev pub NamesNode : Net → Told → Type 0
+abbrev pub NamesNode : Net → SheetRecord → Type 0
 NamesNode net (Shows name green) = Contains net.node_names name
 NamesNode net _ = Unit {0}
 
 -- The sheet of what is told: greens are those of nodes, and each node's are its line; totals of each link are told, in the order of
 -- the links; and totals of the whole network once.
-pub record IsSheetOf (net : Net) (told : List Told) (sheet : Sheet) : Type 0 where
-  pub nodes : All (NamesNode net) told
-  pub shown : sheet.lines ≡ map (λ node. filter_map (green_of node) told) net.node_names
-  pub names : filter_map link_of told ≡ net.link_names
-  pub counted : sheet.links ≡ filter_map counts_of told
-  pub once : filter_map sums_of told ≡ sheet.totals ∷ []
+pub record IsSheetOf (net : Net) (parsed : List SheetRecord) (sheet : Sheet) : Type 0 where
+  pub nodes : All (NamesNode net) parsed
+  pub shown : sheet.lines ≡ map (λ node. filter_map (green_of node) parsed) net.node_names
+  pub names : filter_map link_of parsed ≡ net.link_names
+  pub counted : sheet.links ≡ filter_map counts_of parsed
+  pub once : filter_map sums_of parsed ≡ sheet.totals ∷ []
 
 -- of how many links totals are told
-abbrev pub links_told : List Told → ℕ
-links_told told = length (filter_map link_of told)
+abbrev pub links_counted : List SheetRecord → ℕ
+links_counted parsed = length (filter_map link_of parsed)
 
 -- What was told so far is in order: greens are those of nodes, links are the first ones in their order, and totals of the whole
 -- network are told once at most.
-pub record IsInOrder (net : Net) (told : List Told) : Type 0 where
-  pub nodes : All (NamesNode net) told
-  pub names : filter_map link_of told ≡ take (links_told told) net.link_names
-  pub once : length (filter_map sums_of told) ≤ 1
+pub record IsInOrder (net : Net) (parsed : List SheetRecord) : Type 0 where
+  pub nodes : All (NamesNode net) parsed
+  pub names : filter_map link_of parsed ≡ take (links_counted parsed) net.link_names
+  pub once : length (filter_map sums_of parsed) ≤ 1
 
 -- the form of the text: records after the first tell in order what a sheet has
-abbrev pub form : Net → Form Told Sheet
-form net = record { header = header; read = told_of; lawful = IsInOrder net; is_of = IsSheetOf net }
+abbrev pub form : Net → Form SheetRecord Sheet
+form net = record { header = header; read = parse; lawful = IsInOrder net; is_of = IsSheetOf net }
 
 -- the sheet of a text
 abbrev pub IsSheetText : Net → List ℕ → Sheet → Type 0

@@ -7,11 +7,11 @@ use Rattle.net_simulator.specs.declared.totals.LinkTotals.{LinkTotals}
 use Rattle.net_simulator.specs.declared.totals.Totals.{Totals}
 use Rattle.world_records.specs.Records.{shown_records}
 use Rattle.audit.specs.declared.sheet.Sheet.{Sheet}
-use Rattle.audit.specs.SheetRecords.{Passed, told_of}
+use Rattle.audit.specs.SheetRecords.{Ignored, parse}
 
 -- a record that is passed over
 abbrev pub IsPassedOver : List (List ℕ) → Type 0
-IsPassedOver fields = told_of fields ≡ Some Passed
+IsPassedOver fields = parse fields ≡ Some Ignored
 
 -- the greens of a line that begin before a second, and the sheet with these alone
 abbrev pub begun_before : ℕ → List Green → List Green

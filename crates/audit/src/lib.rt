@@ -10,10 +10,10 @@ mod line_runs;
 mod lines;
 mod rows;
 mod sheet;
-mod sheet_drafts;
 mod sheet_entries;
 mod sheet_faults;
 mod sheet_fields;
+mod sheet_reader;
 mod sheet_texts;
 
 ghost use Rattle.std.specs.Prelude.{◌≡◌, ◌↔◌, ◌<◌, ◌^◌, All, IfOk, length};

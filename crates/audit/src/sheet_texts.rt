@@ -1,13 +1,13 @@
 //! The file of a report, read as a sheet.
 ghost use Rattle.std.specs.Prelude.{◌≢◌, ◌<◌, ◌^◌, All, IfErr, IfOk, length};
-ghost use Rattle.audit.specs.SheetFaults.{IsSheetFault};
+ghost use Rattle.audit.specs.SheetFaults.{IsTextFault};
 ghost use Rattle.audit.specs.SheetTexts.{HasShape, IsSheetText};
 ghost use Rattle.audit.specs.declared.sheet.Sheet as spec;
 
 use crate::sheet::Sheet;
-use crate::sheet_drafts::{Draft, take_entry};
 use crate::sheet_entries::read_entry;
 use crate::sheet_faults::SheetFault;
+use crate::sheet_reader::{SheetReader, take_entry};
 use csv::ByteRecord;
 use foundation::items::Items;
 use record_text::{RecordTaker, take_records};
@@ -31,29 +31,29 @@ pub fn read_sheet(alloc: Global, bytes: &[u8], net: &Network) -> Result<Sheet, S
     ensures rows { IfOk result (λ sheet. All (λ rows. length rows < 2 ^ 32) sheet.lines) }
     ensures refused { IfErr result (λ fault. fault ≢ SheetFault.NoMemory
         → (sheet : spec.Sheet) → ¬ IsSheetText net.now bytes.now sheet) }
-    ensures first { IfErr result (IsSheetFault net.now bytes.now) }
+    ensures first { IfErr result (IsTextFault net.now bytes.now) }
 {
-    let mut draft = Draft::new(alloc, net)?;
-    if !take_records(alloc, bytes, net, &mut draft)? {
+    let mut reader = SheetReader::new(alloc, net)?;
+    if !take_records(alloc, bytes, net, &mut reader)? {
         return Err(SheetFault::Header);
     }
-    match draft.end(net) {
+    match reader.end(net) {
         Some(sheet) => Ok(sheet),
         None => Err(SheetFault::Short),
     }
 }
 
-impl RecordTaker for Draft {
+impl RecordTaker for SheetReader {
     ghost use Rattle.world_records.specs.Records as records;
-    ghost use Rattle.audit.specs.SheetEntries.{AreTaken, IsRefused};
+    ghost use Rattle.audit.specs.SheetEntries.{HasRead, IsFaultAt};
 
     type Fault = SheetFault;
 
     ghost header = { records.header };
 
-    ghost has_taken = { AreTaken };
+    ghost has_taken = { HasRead };
 
-    ghost at_fault = { IsRefused };
+    ghost at_fault = { IsFaultAt };
 
     fn is_header(row: &ByteRecord) -> bool {
         is_header(row)

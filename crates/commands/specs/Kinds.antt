@@ -15,14 +15,15 @@ use Rattle.arrivals.specs.declared.rows.RowFault.TheVariants as row
 use Rattle.delay_report.specs.Faults as histories
 use Rattle.delay_report.specs.Texts.{IsHistoryText}
 use Rattle.delay_report.specs.declared.faults.HistoryFault.TheVariants as history
-use Rattle.fixed_plans.specs.Faults.{IsPlanFault, IsPlanText}
+use Rattle.fixed_plans.specs.Faults as plans
+use Rattle.fixed_plans.specs.Faults.{IsPlanText}
 use Rattle.fixed_plans.specs.declared.faults.FixedFault.TheVariants as plan
 use Rattle.fixed_plans.specs.declared.rows.FixedRow.{FixedRow}
-use Rattle.round_states.specs.Faults.{IsStateFault}
+use Rattle.round_states.specs.Faults as states
 use Rattle.round_states.specs.Texts.{IsStateText}
 use Rattle.round_states.specs.declared.faults.StateFault.TheVariants as state
 use Rattle.round_states.specs.declared.states.RoundState.{RoundState}
-use Rattle.audit.specs.SheetFaults.{IsSheetFault}
+use Rattle.audit.specs.SheetFaults as reports
 use Rattle.audit.specs.SheetTexts.{IsSheetText}
 use Rattle.audit.specs.declared.sheet_faults.SheetFault.TheVariants as sheet
 use Rattle.audit.specs.declared.sheet.Sheet as sheets
@@ -100,7 +101,7 @@ HistoryText net = record { Said = List ℕ; is_text = IsHistoryText net; is_faul
 
 -- the first fault of a report that is to say a sheet
 abbrev pub IsBadSheet : Net → List ℕ → BadText → Type 0
-IsBadSheet net text (Sheet fault) = IsSheetFault net text fault × (fault ≢ sheet.NoMemory)
+IsBadSheet net text (Sheet fault) = reports.IsTextFault net text fault × (fault ≢ sheet.NoMemory)
 IsBadSheet net text _ = ⊥
 
 -- the kind of reports of a network, which say a sheet: greens and totals
@@ -118,7 +119,7 @@ StoreText net = record { Said = List ℕ; is_text = IsStoreText net; is_fault = 
 
 -- the first fault of a text that is to say a fixed plan
 abbrev pub IsBadPlan : Net → List ℕ → BadText → Type 0
-IsBadPlan net text (FixedPlan fault) = IsPlanFault net text fault × (fault ≢ plan.NoMemory)
+IsBadPlan net text (FixedPlan fault) = plans.IsTextFault net text fault × (fault ≢ plan.NoMemory)
 IsBadPlan net text _ = ⊥
 
 -- the kind of texts that say a fixed plan of a network, its rows
@@ -127,7 +128,7 @@ PlanText net = record { Said = List FixedRow; is_text = IsPlanText net; is_fault
 
 -- the first fault of a text that is to say the state of a round
 abbrev pub IsBadState : Net → List ℕ → BadText → Type 0
-IsBadState net text (State fault) = IsStateFault net text fault × (fault ≢ state.NoMemory)
+IsBadState net text (State fault) = states.IsTextFault net text fault × (fault ≢ state.NoMemory)
 IsBadState net text _ = ⊥
 
 -- the kind of texts that say the state in which a round of a network begins

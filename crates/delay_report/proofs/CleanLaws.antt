@@ -26,7 +26,7 @@ use Rattle.runs.specs.declared.records.RunRecord.{RunRecord}
 use Rattle.net_simulator.proofs.AtNodes.{past-at-nodes}
 use Rattle.audit.specs.declared.sheet.Sheet.{Sheet}
 use Rattle.audit.specs.SheetTexts.{HasShape}
-use Rattle.audit.specs.SheetRecords.{told}
+use Rattle.audit.specs.SheetRecords.{parse_fields}
 use Rattle.audit.specs.WrittenSheets.{IsPassedOver, sheet_records}
 use Rattle.audit.specs.Audits.{IsClean, IsCleanText}
 use Rattle.net_simulator.specs.Shown.{past_under}
@@ -36,12 +36,12 @@ use Rattle.delay_report.specs.Reports.{answer_fields, plan_record, report_record
 
 -- the records of steps and of plans are passed over
 step-over : (net : Net) (round node : ℕ) (versions : ℕ → ℕ) (step : BoardStep) → IsPassedOver (step_record net round node versions step)
-unfolding told
+unfolding parse_fields
 step-over net round node versions (Read link) = refl
 step-over net round node versions (Publish link) = refl
 
 answer-over : (a b c : List ℕ) (answer : Answer) → IsPassedOver (codes "plan" ∷ a ∷ b ∷ c ∷ answer_fields answer)
-unfolding told
+unfolding parse_fields
 answer-over a b c (Plan sequence delay) = refl
 answer-over a b c NoPlan = refl
 

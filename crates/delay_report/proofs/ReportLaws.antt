@@ -46,8 +46,8 @@ tells-both net xs ys h g a b = record {
 -- a record that tells something has a field
 has-field : (net : Net) (fields : List (List ℕ)) (steps : List ℕ) → steps_of net fields ≡ Some steps → HasField fields
 unfolding steps_of
-has-field net [] steps told = cc
-has-field net (field ∷ fields) steps told = omega arith
+has-field net [] steps parsed = cc
+has-field net (field ∷ fields) steps parsed = omega arith
 
 module _ (net : Net) where
   tells-nothing : {X : Type 0} (f : X → List (List ℕ)) → ((x : X) → steps_of net (f x) ≡ Some []) → (xs : List X) → Tells net (map f xs) []
@@ -61,10 +61,10 @@ module _ (net : Net) where
   tells-parts f none (x ∷ xs) = tells-both net (f x) (flat_map f xs) [] [] (none x) (tells-parts f none xs)
 
   tells-nodes : (f : ℕ → List (List ℕ)) (node : ℕ → ℕ) (places : List ℕ) → All (λ place. steps_of net (f place) ≡ Some (node place ∷ [])) places → Tells net (map f places) (map node places)
-  tells-nodes f node [] told = record { steps = []; reads = refl; are = refl }
-  tells-nodes f node (place ∷ places) told =
-      let here = All-head (λ place. steps_of net (f place) ≡ Some (node place ∷ [])) place places told in
-      let rest = tells-nodes f node places (All-tail (λ place. steps_of net (f place) ≡ Some (node place ∷ [])) place places told) in
+  tells-nodes f node [] parsed = record { steps = []; reads = refl; are = refl }
+  tells-nodes f node (place ∷ places) parsed =
+      let here = All-head (λ place. steps_of net (f place) ≡ Some (node place ∷ [])) place places parsed in
+      let rest = tells-nodes f node places (All-tail (λ place. steps_of net (f place) ≡ Some (node place ∷ [])) place places parsed) in
       record { steps = (node place ∷ []) ∷ rest.steps; reads = rw (here, rest.reads) refl; are = ap (λ l. node place ∷ l) rest.are }
 
   plan-passed : (a b c : List ℕ) (answer : Answer) → steps_of net (codes "plan" ∷ a ∷ b ∷ c ∷ answer_fields answer) ≡ Some []
@@ -85,10 +85,10 @@ module _ (net : Net) where
   total-passed a b c d e f = refl
 
   -- the record of a step tells its node
-  step-told : (round node : ℕ) (versions : ℕ → ℕ) (step : BoardStep) → number_of net.node_names (node_name_at net node) ≡ Some node → steps_of net (step_record net round node versions step) ≡ Some (node ∷ [])
+  step-parsed : (round node : ℕ) (versions : ℕ → ℕ) (step : BoardStep) → number_of net.node_names (node_name_at net node) ≡ Some node → steps_of net (step_record net round node versions step) ≡ Some (node ∷ [])
   unfolding steps_of
-  step-told round node versions (Read link) number = rw number refl
-  step-told round node versions (Publish link) number = rw number refl
+  step-parsed round node versions (Read link) number = rw number refl
+  step-parsed round node versions (Publish link) number = rw number refl
 
 -- a name has the number of its place
 own-number : (names : List (List ℕ)) (k : ℕ) → AreDistinct names → k < length names → number_of names (get_or names k []) ≡ Some k
@@ -109,7 +109,7 @@ module _ (net : Net) (network : IsNetwork net) (run : RunRecord) (h : List ℕ) 
       let below : k < length h = omega (arith, inside, long) in
       let at : get_or (range_with_len 0 (length h)) k d ≡ k = get_or-range_with_len 0 (length h) k d below ∙ (let e : 0 + k ≡ k = omega arith in e) in
       subst (λ place. steps_of net (step_record_at net h place) ≡ Some (get_or h place 0 ∷ [])) (sym at)
-      (step-told net (round_at (board_steps net) h k) (get_or h k 0) (λ link. version_at (board_steps net) h link k) (step_at (board_steps net) h k)
+      (step-parsed net (round_at (board_steps net) h k) (get_or h k 0) (λ link. version_at (board_steps net) h link k) (step_at (board_steps net) h k)
       (own-number net.node_names (get_or h k 0) network.outline.nodes_differ (node-below net network h lawful k below)))))
 
   plans-tell : Tells net (map (plan_record net) run.plans) []
@@ -130,8 +130,8 @@ module _ (net : Net) (network : IsNetwork net) (run : RunRecord) (h : List ℕ) 
   reads-back =
       let greens = greens-tell (range_with_len 0 (length net.node_names)) in
       let links = links-tell (range_with_len 0 (length net.link_names)) in
-      let told = tells-both net _ _ h [] steps-tell (tells-both net _ _ [] [] plans-tell (tells-both net _ _ [] [] greens (tells-both net _ _ [] [] links totals-tell))) in
-      let are : AreRecordsOf (form net) (report_records net run h) h = record { records = _; are = refl; told = told.steps; reads = told.reads; is = record { history_is = sym (told.are ∙ append-nil h); lawful = lawful } } in
+      let parsed = tells-both net _ _ h [] steps-tell (tells-both net _ _ [] [] plans-tell (tells-both net _ _ [] [] greens (tells-both net _ _ [] [] links totals-tell))) in
+      let are : AreRecordsOf (form net) (report_records net run h) h = record { records = _; are = refl; parsed = parsed.steps; reads = parsed.reads; is = record { history_is = sym (parsed.are ∙ append-nil h); lawful = lawful } } in
       let (rest, begins) = header-first are.records in
-      let some : All HasField (report_records net run h) = All-cons HasField header are.records (omega arith) (each-good (steps_of net) HasField (has-field net) are.records are.told are.reads) in
+      let some : All HasField (report_records net run h) = All-cons HasField header are.records (omega arith) (each-good (steps_of net) HasField (has-field net) are.records are.parsed are.reads) in
       subst (λ (l : List (List (List ℕ))). AreRecordsOf (form net) l h) (sym (read-records (report_records net run h) rest begins some)) are

@@ -20,22 +20,22 @@ use Rattle.delay_report.specs.Faults.{IsAtExtra, IsAtNode, IsAtTurn, cause_of}
 use Rattle.record_text.specs.Faults.{HasAfterHeader}
 use Rattle.record_text.specs.Forms.{AreReadAs, AreRecordsOf, AreRefusedFor}
 use Rattle.record_text.specs.Walks.{IsFaultAmong, OrMemory}
-use Rattle.record_text.proofs.FormLaws.{IsHere, Refutes, first-cause, one-told, refuted}
-use Rattle.delay_report.specs.declared.texts.HistoryDraft.{HistoryDraft}
-use Rattle.delay_report.specs.Taken.{AreTaken, HasTaken, IsRefused}
+use Rattle.record_text.proofs.FormLaws.{IsHere, Refutes, first-cause, one-parsed, refuted}
+use Rattle.delay_report.specs.declared.texts.HistoryReader.{HistoryReader}
+use Rattle.delay_report.specs.Readers.{AreTaken, HasRead, IsFaultAt}
 use Rattle.delay_report.specs.Texts.{AreStepsOf, AreUnderWay, form}
 
 -- nothing was taken
-pub taken-none : (net : Net) (draft : HistoryDraft) → draft.steps.items ≡ [] → HasCome net [] draft.progress → HasTaken net [] draft
-taken-none net draft none come =
-    record { steps = []; reads = refl; history_is = none; come = subst (λ (h : List ℕ). HasCome net h draft.progress) (sym none) come }
+pub taken-none : (net : Net) (reader : HistoryReader) → reader.steps.items ≡ [] → HasCome net [] reader.progress → HasRead net [] reader
+taken-none net reader none come =
+    record { steps = []; reads = refl; history_is = none; come = subst (λ (h : List ℕ). HasCome net h reader.progress) (sym none) come }
 
 -- one record more
-pub taken-more : (net : Net) (fields : List (List ℕ)) (old new : HistoryDraft) (result : Result (Unit {0}) HistoryFault) → OnOk result (AreTaken net fields old.steps.items new.steps.items new.progress)
-    → OnOk result ((records : List (List (List ℕ))) → HasTaken net records old → HasTaken net (records ++ fields ∷ []) new)
+pub taken-more : (net : Net) (fields : List (List ℕ)) (old new : HistoryReader) (result : Result (Unit {0}) HistoryFault) → OnOk result (AreTaken net fields old.steps.items new.steps.items new.progress)
+    → OnOk result ((records : List (List (List ℕ))) → HasRead net records old → HasRead net (records ++ fields ∷ []) new)
 taken-more net fields old new (Ok done) more = λ records taken. record {
   steps = taken.steps ++ more.more ∷ [];
-  reads = each-push (steps_of net) records fields taken.steps more.more taken.reads more.told;
+  reads = each-push (steps_of net) records fields taken.steps more.more taken.reads more.parsed;
   history_is = more.new_is ∙ ap (λ l. l ++ more.more) taken.history_is ∙ ap (λ l. concat taken.steps ++ l) (sym (append-nil more.more)) ∙ sym (concat-append taken.steps (more.more ∷ []));
   come = more.come;
 }
@@ -46,14 +46,14 @@ way-of : (net : Net) (history : List ℕ) (p : Course) → HasCome net history p
 way-of net history p come = subst (λ r. IsUnderWay (board_steps net) r p.done history) come.rounds come.way
 
 -- the cause to refuse a record after those that were taken
-module _ (net : Net) (before : List (List (List ℕ))) (draft : HistoryDraft) (here : List (List ℕ)) (number : ℕ) (taken : HasTaken net before draft) where
+module _ (net : Net) (before : List (List (List ℕ))) (reader : HistoryReader) (here : List (List ℕ)) (number : ℕ) (taken : HasRead net before reader) where
   so-far : AreReadAs (steps_of net) (AreUnderWay net) before taken.steps
   so-far = record {
     reads = taken.reads;
-    lawful = record { done = draft.progress.done; way = subst (IsUnderWay (board_steps net) net.run.rounds draft.progress.done) taken.history_is (way-of net draft.steps.items draft.progress taken.come) };
+    lawful = record { done = reader.progress.done; way = subst (IsUnderWay (board_steps net) net.run.rounds reader.progress.done) taken.history_is (way-of net reader.steps.items reader.progress taken.come) };
   }
 
-  refused-here : (fault : HistoryFault) → IsRefused net draft here number fault → IsHere (form net) before here number (cause_of net fault)
+  refused-here : (fault : HistoryFault) → IsFaultAt net reader here number fault → IsHere (form net) before here number (cause_of net fault)
   refused-here NoMemory h = tt
   refused-here Header h = h
   refused-here (Row n) h = (h.0, taken.steps, so-far, h.1)
@@ -63,33 +63,33 @@ module _ (net : Net) (before : List (List (List ℕ))) (draft : HistoryDraft) (h
   refused-here Short h = h
 
 -- the first record that is not taken is at fault
-pub first-fault : (net : Net) (all : List (List (List ℕ))) (fault : HistoryFault) → OrMemory (λ _ why. why ≡ NoMemory) fault (HasAfterHeader header all (IsFaultAmong (HasTaken net) (IsRefused net) fault)) → AreRefusedFor (form net) all (cause_of net fault)
+pub first-fault : (net : Net) (all : List (List (List ℕ))) (fault : HistoryFault) → OrMemory (λ _ why. why ≡ NoMemory) fault (HasAfterHeader header all (IsFaultAmong (HasRead net) (IsFaultAt net) fault)) → AreRefusedFor (form net) all (cause_of net fault)
 first-fault net all fault =
-    first-cause (form net) all (cause_of net fault) (λ _ why. why ≡ NoMemory) (HasTaken net) (IsRefused net) fault
-    (λ e memory. rw memory tt) (λ before draft here number taken refused. refused-here net before draft here number taken fault refused)
+    first-cause (form net) all (cause_of net fault) (λ _ why. why ≡ NoMemory) (HasRead net) (IsFaultAt net) fault
+    (λ e memory. rw memory tt) (λ before reader here number taken refused. refused-here net before reader here number taken fault refused)
 
-module _ (net : Net) (all : List (List (List ℕ))) (draft : HistoryDraft) (taken : HasAfterHeader header all (λ records. HasTaken net records draft)) where
+module _ (net : Net) (all : List (List (List ℕ))) (reader : HistoryReader) (taken : HasAfterHeader header all (λ records. HasRead net records reader)) where
   -- all rounds are done
-  pub taken-all : IsLawful net draft.steps.items → AreRecordsOf (form net) all draft.steps.items
-  taken-all lawful = record { records = taken.records; are = taken.are; told = taken.after.steps; reads = taken.after.reads; is = record { history_is = taken.after.history_is; lawful = lawful } }
+  pub taken-all : IsLawful net reader.steps.items → AreRecordsOf (form net) all reader.steps.items
+  taken-all lawful = record { records = taken.records; are = taken.are; parsed = taken.after.steps; reads = taken.after.reads; is = record { history_is = taken.after.history_is; lawful = lawful } }
 
   -- or not all
-  pub taken-short : (IsLawful net draft.steps.items → ⊥) → AreRefusedFor (form net) all (cause_of net Short)
+  pub taken-short : (IsLawful net reader.steps.items → ⊥) → AreRefusedFor (form net) all (cause_of net Short)
   unfolding so-far
   taken-short other =
-      let read = so-far net taken.records draft [] 0 taken.after in
+      let read = so-far net taken.records reader [] 0 taken.after in
       let most = taken.after.come.way.most in
       let rounds = taken.after.come.rounds in
-      let early : draft.progress.done < net.run.rounds = elim (cases_lt draft.progress.done draft.progress.rounds) [
+      let early : reader.progress.done < net.run.rounds = elim (cases_lt reader.progress.done reader.progress.rounds) [
         | inl less ↦ omega (arith, less, rounds)
-        | inr more ↦ absurd (other (come-over net draft.steps.items draft.progress taken.after.come (omega (arith, most, more))))
+        | inr more ↦ absurd (other (come-over net reader.steps.items reader.progress taken.after.come (omega (arith, most, more))))
       ] in
       record { records = taken.records; are = taken.are; after = (taken.after.steps, read, record { under_way = read.lawful; early = early }) }
 
 -- a record that tells nothing, or names no node, has no steps
-none-told : (net : Net) (fields : List (List ℕ)) (more : List ℕ) → node_field_of fields ≡ None → steps_of net fields ≡ Some more → ⊥
+none-parsed : (net : Net) (fields : List (List ℕ)) (more : List ℕ) → node_field_of fields ≡ None → steps_of net fields ≡ Some more → ⊥
 unfolding steps_of
-none-told net fields more none some = let (name, is, rest) = bind-some (node_field_of fields) (steps_by net) more some in none-some name (sym none ∙ is)
+none-parsed net fields more none some = let (name, is, rest) = bind-some (node_field_of fields) (steps_by net) more some in none-some name (sym none ∙ is)
 
 none-named : (net : Net) (fields : List (List ℕ)) (more : List ℕ) → IsAtNode net fields → steps_of net fields ≡ Some more → ⊥
 unfolding steps_of
@@ -108,7 +108,7 @@ goes-on net before more rest h node is same =
 refutes : (net : Net) (fault : HistoryFault) → fault ≢ NoMemory → Refutes (form net) (cause_of net fault)
 refutes net NoMemory other = other refl
 refutes net Header other = tt
-refutes net (Row n) other = λ before here more rest h lawful none reads is. none-told net here more none reads
+refutes net (Row n) other = λ before here more rest h lawful none reads is. none-parsed net here more none reads
 refutes net (Node n) other = λ before here more rest h lawful at reads is. none-named net here more at reads
 refutes net (Extra n) other = λ before here more rest h lawful at reads is.
     let (node, one, over) = at in
@@ -131,4 +131,4 @@ fault-refutes net all fault refused other = refuted (form net) all (cause_of net
 
 -- records are those of one history at most
 pub one-history : (net : Net) (all : List (List (List ℕ))) (one other : List ℕ) → AreRecordsOf (form net) all one → AreRecordsOf (form net) all other → one ≡ other
-one-history net all one other a b = a.is.history_is ∙ ap concat (one-told (form net) all one other a b) ∙ sym b.is.history_is
+one-history net all one other a b = a.is.history_is ∙ ap concat (one-parsed (form net) all one other a b) ∙ sym b.is.history_is

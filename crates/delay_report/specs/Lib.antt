@@ -1,6 +1,6 @@
 pub mod Entries
 pub mod Faults
 pub mod Reports
-pub mod Taken
+pub mod Readers
 pub mod Texts
 pub mod Walks

@@ -4,7 +4,7 @@ ghost use Rattle.csv.specs.Records.{fields_of};
 ghost use Rattle.road_net.specs.Network.{IsNetwork};
 ghost use Rattle.delay_report.specs.Entries as entries;
 ghost use Rattle.delay_report.specs.Entries.{steps_of};
-ghost use Rattle.delay_report.specs.Taken.{steps_if, IsEntryFault};
+ghost use Rattle.delay_report.specs.Readers.{steps_if, IsEntryFault};
 
 use crate::faults::HistoryFault;
 use csv::ByteRecord;

@@ -5,7 +5,7 @@ ghost use Rattle.histories.specs.Histories.{IsLawful};
 ghost use Rattle.histories.specs.Progress.{HasCome};
 ghost use Rattle.road_net.specs.Network.{IsNetwork};
 ghost use Rattle.delay_report.specs.Faults.{IsTextFault};
-ghost use Rattle.delay_report.specs.Taken.{AreTaken, IsEntryFault};
+ghost use Rattle.delay_report.specs.Readers.{AreTaken, IsEntryFault};
 ghost use Rattle.delay_report.specs.Texts.{IsHistoryText};
 
 use crate::entries::read_step;
@@ -33,14 +33,14 @@ pub fn read_history(alloc: Global, bytes: &[u8], net: &Network) -> Result<Histor
         → (h : List ℕ) → ¬ IsHistoryText net.now bytes.now h) }
     ensures first { IfErr result (IsTextFault net.now bytes.now) }
 {
-    let mut draft = HistoryDraft {
+    let mut reader = HistoryReader {
         steps: Vec::new(alloc),
         progress: Progress::new(net),
     };
-    if !take_records(alloc, bytes, net, &mut draft)? {
+    if !take_records(alloc, bytes, net, &mut reader)? {
         return Err(HistoryFault::Header);
     }
-    let HistoryDraft { steps, progress } = draft;
+    let HistoryReader { steps, progress } = reader;
     if !progress.is_over() {
         return Err(HistoryFault::Short);
     }
@@ -49,24 +49,24 @@ pub fn read_history(alloc: Global, bytes: &[u8], net: &Network) -> Result<Histor
 
 /// The history that the records so far tell.
 #[derive(Drop)]
-struct HistoryDraft {
+struct HistoryReader {
     /// Their steps.
     steps: Vec<u32>,
     /// How far the steps have come.
     progress: Progress,
 }
 
-impl RecordTaker for HistoryDraft {
+impl RecordTaker for HistoryReader {
     ghost use Rattle.world_records.specs.Records as records;
-    ghost use Rattle.delay_report.specs.Taken.{HasTaken, IsRefused};
+    ghost use Rattle.delay_report.specs.Readers.{HasRead, IsFaultAt};
 
     type Fault = HistoryFault;
 
     ghost header = { records.header };
 
-    ghost has_taken = { HasTaken };
+    ghost has_taken = { HasRead };
 
-    ghost at_fault = { IsRefused };
+    ghost at_fault = { IsFaultAt };
 
     fn is_header(row: &ByteRecord) -> bool {
         is_header(row)

@@ -4,7 +4,7 @@ use Rattle.net_parts.specs.Numbers.{Net}
 use Rattle.net_parts.specs.Outline.{plan_at}
 use Rattle.fixed_plans.specs.declared.rows.FixedRow.{FixedRow}
 use Rattle.fixed_plans.specs.Rows.{AreRowsAfter, ComesNext, IsRow, last_of}
-use Rattle.fixed_plans.specs.Drafts.{IsPlaced}
+use Rattle.fixed_plans.specs.Readers.{IsPlaced}
 
 -- one row more
 pub rows-more : (net : Net) (before : Option FixedRow) (rows : List FixedRow) (r : FixedRow) → AreRowsAfter net before rows → IsRow net (last_of before rows) r → AreRowsAfter net before (rows ++ r ∷ [])

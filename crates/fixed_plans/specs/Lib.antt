@@ -1,5 +1,5 @@
 pub mod Cycles
-pub mod Drafts
+pub mod Readers
 pub mod Faults
 pub mod Lines
 pub mod Records

@@ -2,8 +2,8 @@
 ghost use Rattle.std.specs.Prelude.{◌≡◌, ◌≢◌, [], ◌∷◌, None, Some, MatchOption, length};
 ghost use Rattle.csv.specs.Records.{fields_of};
 ghost use Rattle.road_net.specs.Network.{IsNetwork};
-ghost use Rattle.fixed_plans.specs.Records.{told_of};
-ghost use Rattle.fixed_plans.specs.Drafts.{Reads};
+ghost use Rattle.fixed_plans.specs.Records.{parse};
+ghost use Rattle.fixed_plans.specs.Readers.{Reads};
 
 use crate::faults::FixedFault;
 use crate::rows::FixedRow;
@@ -12,7 +12,7 @@ use record_text::{digits, field, node_named};
 use road_net::Network;
 
 /// The row that a record tells, by the number of its node.
-#[tactic(auto, unfolding(crate::specs::Records::row_of))]
+#[tactic(auto, unfolding(crate::specs::Records::parse_in))]
 pub(crate) fn read_row(net: &Network, row: &ByteRecord, number: u32) -> Result<FixedRow, FixedFault>
     requires { IsNetwork net.now }
     ensures { Reads net.now (fields_of row.now) number result }
@@ -32,10 +32,10 @@ pub(crate) fn read_row(net: &Network, row: &ByteRecord, number: u32) -> Result<F
 }
 
 /// The name of the node, the phase, the green and the offset of a record.
-#[tactic(auto, unfolding(crate::specs::Records::told))]
+#[tactic(auto, unfolding(crate::specs::Records::parse_fields))]
 fn record_fields(row: &ByteRecord) -> Option<(&[u8], u32, u32, u32)>
-    ensures { MatchOption result (told_of (fields_of row.now) ≡ None)
-        (λ t. told_of (fields_of row.now) ≡ Some (record { name = t.0.now; phase = t.1; green = t.2; offset = t.3 })) }
+    ensures { MatchOption result (parse (fields_of row.now) ≡ None)
+        (λ t. parse (fields_of row.now) ≡ Some (record { name = t.0.now; phase = t.1; green = t.2; offset = t.3 })) }
 {
     let (name, phase, green, offset) = four_fields(row)?;
     let phase = digits(phase)?;

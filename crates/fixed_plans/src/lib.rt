@@ -3,11 +3,11 @@
 #![tactic(auto)]
 
 mod cycles;
-mod drafts;
 mod faults;
 mod fields;
 mod order;
 mod plan;
+mod reader;
 mod rows;
 mod texts;
 

@@ -1,7 +1,7 @@
 //! Which row may come after another one.
 ghost use Rattle.std.specs.Prelude.{◌↔◌, ◌<◌, ◌≤◌, IfSome, IsTrue, length};
 ghost use Rattle.fixed_plans.specs.Rows.{AreMarked, ComesNext, HasGreen, HasOffset, IsEnd, IsFirstFrom, IsLastRow};
-ghost use Rattle.fixed_plans.specs.Drafts.{IsPlaced};
+ghost use Rattle.fixed_plans.specs.Readers.{IsPlaced};
 
 use crate::rows::FixedRow;
 use phase_plan::PhasePlan;

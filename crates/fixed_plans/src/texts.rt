@@ -1,14 +1,14 @@
 //! The file of a fixed plan.
 ghost use Rattle.std.specs.Prelude.{◌≢◌, IfErr, IfOk, List};
-ghost use Rattle.fixed_plans.specs.Faults.{IsPlanFault, IsPlanText};
+ghost use Rattle.fixed_plans.specs.Faults.{IsTextFault, IsPlanText};
 ghost use Rattle.fixed_plans.specs.Rows.{IsFixedPlan};
 ghost use Rattle.fixed_plans.specs.declared.rows.FixedRow as spec;
 
-use crate::drafts::{Draft, add_row};
 use crate::faults::FixedFault;
 use crate::fields::read_row;
 use crate::order::is_end;
 use crate::plan::FixedPlan;
+use crate::reader::{PlanReader, add_row};
 use csv::ByteRecord;
 use record_text::{RecordTaker, is_record, take_records};
 use road_net::{Network, law_of_network};
@@ -27,31 +27,31 @@ pub fn read_fixed_plan(alloc: Global, bytes: &[u8], net: &Network) -> Result<Fix
     ensures plan { IfOk result (IsFixedPlan net.now) }
     ensures refused { IfErr result (λ fault. fault ≢ FixedFault.NoMemory
         → (rows : List spec.FixedRow) → ¬ IsPlanText net.now bytes.now rows) }
-    ensures first { IfErr result (IsPlanFault net.now bytes.now) }
+    ensures first { IfErr result (IsTextFault net.now bytes.now) }
 {
     law_of_network(net);
-    let mut draft = Draft::none(alloc);
-    if !take_records(alloc, bytes, net, &mut draft)? {
+    let mut reader = PlanReader::none(alloc);
+    if !take_records(alloc, bytes, net, &mut reader)? {
         return Err(FixedFault::Header);
     }
-    if !is_end(net, draft.last) {
+    if !is_end(net, reader.last) {
         return Err(FixedFault::Short);
     }
-    let Draft { rows, .. } = draft;
+    let PlanReader { rows, .. } = reader;
     Ok(FixedPlan::of_rows(rows))
 }
 
-impl RecordTaker for Draft {
+impl RecordTaker for PlanReader {
     ghost use Rattle.fixed_plans.specs.Records as records;
-    ghost use Rattle.fixed_plans.specs.Drafts.{HasTaken, IsRefused};
+    ghost use Rattle.fixed_plans.specs.Readers.{HasRead, IsFaultAt};
 
     type Fault = FixedFault;
 
     ghost header = { records.header };
 
-    ghost has_taken = { HasTaken };
+    ghost has_taken = { HasRead };
 
-    ghost at_fault = { IsRefused };
+    ghost at_fault = { IsFaultAt };
 
     fn is_header(row: &ByteRecord) -> bool {
         is_record(row, &[b"node", b"phase", b"green", b"offset"])

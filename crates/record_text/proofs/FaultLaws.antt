@@ -13,6 +13,6 @@ pub cut-at : {X Y : Type 0} (read : X → Option Y) (before after : List X) (her
     → (y : Y) × (back : List Y) × (read here ≡ Some y) × (ys ≡ so_far ++ y ∷ back)
 cut-at read before after here ys so_far all reads =
     let (front, rest, reads_front, reads_rest, whole) = each-append read before (here ∷ after) ys all in
-    let (y, back, told, behind, tail) = each-cons read here after rest reads_rest in
+    let (y, back, parsed, behind, tail) = each-cons read here after rest reads_rest in
     let same : front ≡ so_far = same_Some front so_far (sym reads_front ∙ reads) in
-    (y, back, told, whole ∙ ap (λ l. l ++ rest) same ∙ ap (λ l. so_far ++ l) tail)
+    (y, back, parsed, whole ∙ ap (λ l. l ++ rest) same ∙ ap (λ l. so_far ++ l) tail)

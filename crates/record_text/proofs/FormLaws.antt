@@ -12,7 +12,7 @@ use Rattle.record_text.proofs.FaultLaws.{cut-at, one-after}
 abbrev pub IsHere : {Y V : Type 0} → Form Y V → List (List (List ℕ)) → List (List ℕ) → ℕ → Cause Y → Type 0
 IsHere form before here number OutOfMemory = Unit {0}
 IsHere form before here number NoHeader = ⊥
-IsHere {Y} form before here number (AtRecord n at_fault) = (n ≡ number) × (told : List Y) × AreReadAs form.read form.lawful before told × at_fault told here
+IsHere {Y} form before here number (AtRecord n at_fault) = (n ≡ number) × (parsed : List Y) × AreReadAs form.read form.lawful before parsed × at_fault parsed here
 IsHere form before here number (AtEnd at_fault) = ⊥
 
 -- what is refused for this cause is told by no records of a value
@@ -21,7 +21,7 @@ Refutes form OutOfMemory = ⊥
 Refutes form NoHeader = Unit {0}
 Refutes {Y} {V} form (AtRecord number at_fault) = (before : List Y) (here : List (List ℕ)) (y : Y) (rest : List Y) (value : V)
     → form.lawful before → at_fault before here → form.read here ≡ Some y → form.is_of (before ++ y ∷ rest) value → ⊥
-Refutes {Y} {V} form (AtEnd at_fault) = (told : List Y) (value : V) → form.lawful told → at_fault told → form.is_of told value → ⊥
+Refutes {Y} {V} form (AtEnd at_fault) = (parsed : List Y) (value : V) → form.lawful parsed → at_fault parsed → form.is_of parsed value → ⊥
 
 module _ {Y V : Type 0} (form : Form Y V) (all : List (List (List ℕ))) where
   -- one record at fault refuses all
@@ -29,10 +29,10 @@ module _ {Y V : Type 0} (form : Form Y V) (all : List (List (List ℕ))) where
       (first : IsFirstFault has_taken records number at_fault) → IsHere form first.before first.here number cause → AreRefusedFor form all cause
   stopped OutOfMemory number records are first h = tt
   stopped NoHeader number records are first h = absurd h
-  stopped (AtRecord n at_fault) number records are first (same, told, reads, is) = record {
+  stopped (AtRecord n at_fault) number records are first (same, parsed, reads, is) = record {
     records = records;
     are = are;
-    after = record { before = first.before; here = first.here; after = first.after; are = first.are; counted = same ∙ first.counted; so_far = told; reads = reads; faulty = is };
+    after = record { before = first.before; here = first.here; after = first.after; are = first.are; counted = same ∙ first.counted; so_far = parsed; reads = reads; faulty = is };
   }
   stopped (AtEnd at_fault) number records are first h = absurd h
 
@@ -53,13 +53,13 @@ module _ {Y V : Type 0} (form : Form Y V) (all : List (List (List ℕ))) where
   refuted (AtRecord number at_fault) refutes refused value is =
       let first = refused.after in
       let same = ap (each form.read) (one-after form.header is.records refused.records (sym is.are ∙ refused.are) ∙ first.are) in
-      let (y, rest, reads, whole) = cut-at form.read first.before first.after first.here is.told first.so_far (sym same ∙ is.reads) first.reads.reads in
+      let (y, rest, reads, whole) = cut-at form.read first.before first.after first.here is.parsed first.so_far (sym same ∙ is.reads) first.reads.reads in
       refutes first.so_far first.here y rest value first.reads.lawful first.faulty reads (subst (λ ys. form.is_of ys value) whole is.is)
   refuted (AtEnd at_fault) refutes refused value is =
-      let (told, read, early) = refused.after in
+      let (parsed, read, early) = refused.after in
       let same = ap (each form.read) (one-after form.header is.records refused.records (sym is.are ∙ refused.are)) in
-      refutes told value read.lawful early (subst (λ ys. form.is_of ys value) (same_Some is.told told (sym is.reads ∙ same ∙ read.reads)) is.is)
+      refutes parsed value read.lawful early (subst (λ ys. form.is_of ys value) (same_Some is.parsed parsed (sym is.reads ∙ same ∙ read.reads)) is.is)
 
   -- records tell one thing at most
-  pub one-told : (one other : V) (a : AreRecordsOf form all one) (b : AreRecordsOf form all other) → a.told ≡ b.told
-  one-told one other a b = same_Some a.told b.told (sym a.reads ∙ ap (each form.read) (one-after form.header a.records b.records (sym a.are ∙ b.are)) ∙ b.reads)
+  pub one-parsed : (one other : V) (a : AreRecordsOf form all one) (b : AreRecordsOf form all other) → a.parsed ≡ b.parsed
+  one-parsed one other a b = same_Some a.parsed b.parsed (sym a.reads ∙ ap (each form.read) (one-after form.header a.records b.records (sym a.are ∙ b.are)) ∙ b.reads)

@@ -16,18 +16,18 @@ pub record Form (Y V : Type 0) : Type 1 where
 pub record AreRecordsOf {Y V : Type 0} (form : Form Y V) (all : List (List (List ℕ))) (value : V) : Type 0 where
   pub records : List (List (List ℕ))
   pub are : all ≡ form.header ∷ records
-  pub told : List Y
-  pub reads : each form.read records ≡ Some told
-  pub is : form.is_of told value
+  pub parsed : List Y
+  pub reads : each form.read records ≡ Some parsed
+  pub is : form.is_of parsed value
 
 -- a text stands for the value of its records
 abbrev pub IsTextOf : {Y V : Type 0} → Form Y V → List ℕ → V → Type 0
 IsTextOf form bytes value = AreRecordsOf form (records_of bytes) value
 
 -- these elements are read as this, which is lawful
-pub record AreReadAs {X Y : Type 0} (read : X → Option Y) (is_lawful : List Y → Type 0) (elements : List X) (told : List Y) : Type 0 where
-  pub reads : each read elements ≡ Some told
-  pub lawful : is_lawful told
+pub record AreReadAs {X Y : Type 0} (read : X → Option Y) (is_lawful : List Y → Type 0) (elements : List X) (parsed : List Y) : Type 0 where
+  pub reads : each read elements ≡ Some parsed
+  pub lawful : is_lawful parsed
 
 -- Why a text is refused: memory ran out, which says nothing of it; it does not begin with the header; `at_fault` holds of the record
 -- with this number, counted from 1 after the header, and of what those before it tell; or it holds of what all records tell.
@@ -43,7 +43,7 @@ abbrev pub AreRefusedFor : {Y V : Type 0} → Form Y V → List (List (List ℕ)
 AreRefusedFor form all OutOfMemory = Unit {0}
 AreRefusedFor form all NoHeader = (records : List (List (List ℕ))) → all ≢ form.header ∷ records
 AreRefusedFor form all (AtRecord number at_fault) = HasAfterHeader form.header all (λ records. IsFirstFault (AreReadAs form.read form.lawful) records number at_fault)
-AreRefusedFor {Y} form all (AtEnd at_fault) = HasAfterHeader form.header all (λ records. (told : List Y) × AreReadAs form.read form.lawful records told × at_fault told)
+AreRefusedFor {Y} form all (AtEnd at_fault) = HasAfterHeader form.header all (λ records. (parsed : List Y) × AreReadAs form.read form.lawful records parsed × at_fault parsed)
 
 -- a text is refused for the cause of its records
 abbrev pub IsRefusedFor : {Y V : Type 0} → Form Y V → List ℕ → Cause Y → Type 0

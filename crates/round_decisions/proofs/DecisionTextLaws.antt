@@ -5,7 +5,7 @@ use Rattle.std.proofs.lemmas.Grind.{flat_map-append}
 use Rattle.std.proofs.lemmas.List.{take_all, take_more}
 use Rattle.csv.specs.declared.writer.Writer.{Writer}
 use Rattle.net_parts.specs.Numbers.{Net}
-use Rattle.round_states.specs.Told.{header}
+use Rattle.round_states.specs.StateRecords.{header}
 use Rattle.round_states.specs.declared.states.LinkBoard.{LinkBoard}
 use Rattle.world_records.specs.Records.{records_text}
 use Rattle.world_records.specs.Written.{Adds, HasWritten}

@@ -15,7 +15,7 @@ use Rattle.round_decisions.specs.Turns.{board_of, tells}
 use Rattle.round_decisions.specs.declared.decisions.Decision.{Decision}
 use Rattle.round_decisions.specs.declared.decisions.NodeDecision.{NodeDecision}
 use Rattle.round_states.specs.States.{begin_of}
-use Rattle.round_states.specs.Told.{header}
+use Rattle.round_states.specs.StateRecords.{header}
 use Rattle.round_states.specs.declared.states.LinkBoard.{LinkBoard}
 use Rattle.schedule_meaning.specs.declared.planners.Answer.{Answer}
 use Rattle.schedule_meaning.specs.declared.planners.Answer.TheVariants.{Plan, NoPlan}

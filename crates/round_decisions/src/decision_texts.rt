@@ -4,7 +4,7 @@ ghost use Rattle.std.specs.List.{flat_map};
 ghost use Rattle.round_decisions.specs.DecisionTexts as texts;
 ghost use Rattle.round_decisions.specs.DecisionTexts.{IsDecisionOf, IsNodeDecisionOf, decision_records, node_decision_records, turn_records};
 ghost use Rattle.round_decisions.specs.Promises.{decided_line};
-ghost use Rattle.round_states.specs.Told.{header};
+ghost use Rattle.round_states.specs.StateRecords.{header};
 ghost use Rattle.world_records.specs.Written.{Adds};
 
 use crate::board_records::write_boards;

@@ -1,6 +1,6 @@
 pub mod BoardLaws
 pub mod FieldLaws
-pub mod SayingLaws
+pub mod ByPlaceLaws
 pub mod LineLaws
 pub mod OrderLaws
 pub mod StateLaws

@@ -9,8 +9,8 @@ use Rattle.std.proofs.Math.ListN.{get_or-append}
 use Rattle.net_parts.specs.Numbers.{Net}
 use Rattle.road_net.specs.Network.{IsNetwork}
 use Rattle.round_states.specs.declared.entries.Entry.{Entry}
-use Rattle.round_states.specs.declared.entries.Said.{Said}
-use Rattle.round_states.specs.declared.entries.Said.TheVariants.{Begins, Shows, Stands, Comes, Publishes, Tells, Passed}
+use Rattle.round_states.specs.declared.entries.StateRecord.{StateRecord}
+use Rattle.round_states.specs.declared.entries.StateRecord.TheVariants.{Begins, Shows, Stands, Comes, Publishes, Tells, Ignored}
 use Rattle.round_states.specs.Order.{AreInOrder, FitsAfter, IsBegin, IsFirstSaid, begin_said, now_of}
 use Rattle.round_states.specs.States.{begin_of}
 
@@ -31,19 +31,19 @@ order-middle net front e back order =
     let same : take (length front) (front ++ e ∷ back) ≡ front = take-append-le (length front) front (e ∷ back) (omega arith) ∙ take_all (length front) front (omega arith) in
     subst (λ l. FitsAfter net l e) same (subst (FitsAfter net (take (length front) (front ++ e ∷ back))) (get_or-append_seam front e back e) (order (length front) e below))
 
-first-begin : (net : Net) (said : Said) → IsFirstSaid net said → IsBegin net (begin_said said)
+first-begin : (net : Net) (content : StateRecord) → IsFirstSaid net content → IsBegin net (begin_said content)
 first-begin net (Begins second) is = is
 first-begin net (Shows green) is = absurd is
 first-begin net (Stands queue) is = absurd is
 first-begin net (Comes row) is = absurd is
 first-begin net (Publishes version) is = absurd is
 first-begin net (Tells row) is = absurd is
-first-begin net Passed is = absurd is
+first-begin net Ignored is = absurd is
 
 -- a round begins when records in order say so
 pub begin-now : (net : Net) → IsNetwork net → (es : List Entry) → AreInOrder net es → IsBegin net (now_of es)
 begin-now net network [] order = record { round = rw (zero-div net.run.step) (omega (arith, network.outline.run.rounds.0)); step = zero-mod net.run.step }
-begin-now net network (e ∷ es) order = first-begin net e.said (order 0 e (omega arith))
+begin-now net network (e ∷ es) order = first-begin net e.content (order 0 e (omega arith))
 
 -- the round that begins in a second begins there
 pub begin-round : (net : Net) (now : ℕ) → IsBegin net now → now ≡ begin_of net (now / net.run.step)

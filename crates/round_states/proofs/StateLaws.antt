@@ -65,10 +65,10 @@ module _ (net : Net) (network : IsNetwork net) (es : List Entry) (order : AreInO
 
     -- records with all that is asked for tell their state
     pub tell-state : (senses : (l : ℕ) → l < length net.link_names → IsSensedOnce es l) → TellState net es (state_in net es)
-    tell-state senses = record { order = order; senses = senses; boards = boards; told = refl; is = state-is }
+    tell-state senses = record { order = order; senses = senses; boards = boards; parsed = refl; is = state-is }
 
 -- a state with all that is told is the one that records tell
-pub told-state : (net : Net) (es : List Entry) (state : RoundState) → TellState net es (state_in net es) → state.round ≡ (state_in net es).round → state.sensed ≡ (state_in net es).sensed → state.lines ≡ (state_in net es).lines → state.boards ≡ (state_in net es).boards
+pub parsed-state : (net : Net) (es : List Entry) (state : RoundState) → TellState net es (state_in net es) → state.round ≡ (state_in net es).round → state.sensed ≡ (state_in net es).sensed → state.lines ≡ (state_in net es).lines → state.boards ≡ (state_in net es).boards
     → TellState net es state
-told-state net es state tell round sensed lines boards =
+parsed-state net es state tell round sensed lines boards =
     subst (TellState net es) (λ i. record { round = sym round i; sensed = sym sensed i; lines = sym lines i; boards = sym boards i }) tell

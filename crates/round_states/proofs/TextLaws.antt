@@ -12,114 +12,114 @@ use Rattle.record_text.specs.Forms.{AreReadAs, AreRecordsOf, AreRefusedFor, AtEn
 use Rattle.record_text.specs.Walks.{IsFaultAmong, OrMemory}
 use Rattle.record_text.proofs.FormLaws.{IsHere, Refutes, first-cause, refuted}
 use Rattle.round_states.specs.declared.entries.Entry.{Entry}
-use Rattle.round_states.specs.declared.entries.Said.{Said}
+use Rattle.round_states.specs.declared.entries.StateRecord.{StateRecord}
 use Rattle.round_states.specs.declared.faults.StateFault.{StateFault}
 use Rattle.round_states.specs.declared.faults.StateFault.TheVariants.{NoMemory, Header, Row, Name, Time, Sense, Board, Line, Sum}
 use Rattle.round_states.specs.declared.states.RoundState.{RoundState}
-use Rattle.round_states.specs.declared.texts.Entries.{Entries}
+use Rattle.round_states.specs.declared.texts.StateReader.{StateReader}
 use Rattle.round_states.specs.Faults.{GoesOn, IsEntryFault, SensesFew, cause_of}
 use Rattle.round_states.specs.Order.{AreInOrder, FitsAfter, now_of}
 use Rattle.round_states.specs.States.{IsLineAt, IsSensedAt, begin_of, no_sense}
-use Rattle.round_states.specs.Taking.{Adds, HasTaken, IsRefused}
+use Rattle.round_states.specs.Readers.{Adds, HasRead, IsFaultAt}
 use Rattle.round_states.specs.Texts.{TellState, all_said, form, green_said, sensed_in}
-use Rattle.round_states.specs.Told.{entry_of, header, name_of, place_of, told_of}
+use Rattle.round_states.specs.StateRecords.{parse_in, header, name_of, place_of, parse}
 use Rattle.round_states.proofs.OrderLaws.{order-middle, order-push}
 
 -- what a record was read from
-record IsToldBy (net : Net) (fields : List (List ℕ)) (e : Entry) : Type 0 where
-  said : Said
-  is : told_of fields ≡ Some said
-  place : place_of net said (name_of fields) ≡ Some e.place
+record IsParsedAs (net : Net) (fields : List (List ℕ)) (e : Entry) : Type 0 where
+  content : StateRecord
+  is : parse fields ≡ Some content
+  place : place_of net content (name_of fields) ≡ Some e.place
 
-told-by : (net : Net) (fields : List (List ℕ)) (e : Entry) → entry_of net fields ≡ Some e → IsToldBy net fields e
-unfolding entry_of
-told-by net fields e reads =
-    let (said, is, rest) = bind-some (told_of fields) (λ said. place_of net said (name_of fields) >>= λ place. Some (record { place = place; said = said })) e reads in
-    let (place, of, last) = bind-some (place_of net said (name_of fields)) (λ place. Some (record { place = place; said = said })) e rest in
-    record { said = said; is = is; place = of ∙ ap (λ (y : Entry). Some y.place) (same_Some _ _ last) }
+parsed-by : (net : Net) (fields : List (List ℕ)) (e : Entry) → parse_in net fields ≡ Some e → IsParsedAs net fields e
+unfolding parse_in
+parsed-by net fields e reads =
+    let (content, is, rest) = bind-some (parse fields) (λ content. place_of net content (name_of fields) >>= λ place. Some (record { place = place; content = content })) e reads in
+    let (place, of, last) = bind-some (place_of net content (name_of fields)) (λ place. Some (record { place = place; content = content })) e rest in
+    record { content = content; is = is; place = of ∙ ap (λ (y : Entry). Some y.place) (same_Some _ _ last) }
 
 -- a record was added, or not
-module _ (net : Net) (fields : List (List ℕ)) (number : ℕ) (old new : Entries) (e : Entry) (is : entry_of net fields ≡ Some e) where
-  pub taken-more : (result : Result (Unit {0}) StateFault) → Adds net e number old new result → OnOk result ((records : List (List (List ℕ))) → HasTaken net records old → HasTaken net (records ++ fields ∷ []) new)
+module _ (net : Net) (fields : List (List ℕ)) (number : ℕ) (old new : StateReader) (e : Entry) (is : parse_in net fields ≡ Some e) where
+  pub taken-more : (result : Result (Unit {0}) StateFault) → Adds net e number old new result → OnOk result ((records : List (List (List ℕ))) → HasRead net records old → HasRead net (records ++ fields ∷ []) new)
   taken-more (Ok done) (fits, more) =
-      λ records read. subst (AreReadAs (entry_of net) (AreInOrder net) (records ++ fields ∷ [])) (sym more)
-      (record { reads = each-push (entry_of net) records fields old.all.items e read.reads is; lawful = order-push net old.all.items e read.lawful fits })
+      λ records read. subst (AreReadAs (parse_in net) (AreInOrder net) (records ++ fields ∷ [])) (sym more)
+      (record { reads = each-push (parse_in net) records fields old.all.items e read.reads is; lawful = order-push net old.all.items e read.lawful fits })
   taken-more (Err fault) adds = tt
 
-  pub refused-row : (result : Result (Unit {0}) StateFault) → Adds net e number old new result → IfErr result (IsRefused net old fields number)
+  pub refused-row : (result : Result (Unit {0}) StateFault) → Adds net e number old new result → IfErr result (IsFaultAt net old fields number)
   refused-row (Ok done) adds = tt
   refused-row (Err fault) adds = inr (e, is, new, adds)
 
 -- the cause to refuse a record after those that were taken
-refused-here : (net : Net) (before : List (List (List ℕ))) (taker : Entries) (here : List (List ℕ)) (number : ℕ) → HasTaken net before taker → (fault : StateFault) → IsRefused net taker here number fault → IsHere (form net) before here number (cause_of net fault)
+refused-here : (net : Net) (before : List (List (List ℕ))) (taker : StateReader) (here : List (List ℕ)) (number : ℕ) → HasRead net before taker → (fault : StateFault) → IsFaultAt net taker here number fault → IsHere (form net) before here number (cause_of net fault)
 refused-here net before taker here number taken (Row n) (inl h) = (h.0, taker.all.items, taken, h.1)
 refused-here net before taker here number taken (Name n) (inl h) = (h.0, taker.all.items, taken, h.1)
 refused-here net before taker here number taken _ (inl h) = absurd h
-refused-here net before taker here number taken (Time n) (inr (e, is, new, h)) = (h.0, taker.all.items, taken, and-some (λ e. FitsAfter net taker.all.items e → ⊥) (entry_of net here) e is h.1)
+refused-here net before taker here number taken (Time n) (inr (e, is, new, h)) = (h.0, taker.all.items, taken, and-some (λ e. FitsAfter net taker.all.items e → ⊥) (parse_in net here) e is h.1)
 refused-here net before taker here number taken NoMemory (inr (e, is, new, h)) = tt
 refused-here net before taker here number taken _ (inr (e, is, new, h)) = absurd h
 
 -- the first record that is not taken is at fault
-pub first-fault : (net : Net) (all : List (List (List ℕ))) (fault : StateFault) → OrMemory (λ _ why. why ≡ NoMemory) fault (HasAfterHeader header all (IsFaultAmong (HasTaken net) (IsRefused net) fault)) → AreRefusedFor (form net) all (cause_of net fault)
+pub first-fault : (net : Net) (all : List (List (List ℕ))) (fault : StateFault) → OrMemory (λ _ why. why ≡ NoMemory) fault (HasAfterHeader header all (IsFaultAmong (HasRead net) (IsFaultAt net) fault)) → AreRefusedFor (form net) all (cause_of net fault)
 first-fault net all fault =
-    first-cause (form net) all (cause_of net fault) (λ _ why. why ≡ NoMemory) (HasTaken net) (IsRefused net) fault
+    first-cause (form net) all (cause_of net fault) (λ _ why. why ≡ NoMemory) (HasRead net) (IsFaultAt net) fault
     (λ e memory. rw memory tt) (λ before taker here number taken refused. refused-here net before taker here number taken fault refused)
 
 -- what records tell that are read is at fault
-module _ (net : Net) (all : List (List (List ℕ))) (es : List Entry) (read : HasAfterHeader header all (λ records. AreReadAs (entry_of net) (AreInOrder net) records es)) where
+module _ (net : Net) (all : List (List (List ℕ))) (es : List Entry) (read : HasAfterHeader header all (λ records. AreReadAs (parse_in net) (AreInOrder net) records es)) where
   at-end : (at_fault : List Entry → Type 0) → at_fault es → AreRefusedFor (form net) all (AtEnd at_fault)
   at-end at_fault h = record { records = read.records; are = read.are; after = (es, read.after, h) }
 
-  pub told-fault : (fault : StateFault) → IsEntryFault net es fault → AreRefusedFor (form net) all (cause_of net fault)
-  told-fault NoMemory h = tt
-  told-fault (Sense l) h = at-end (λ es. IsEntryFault net es (Sense l)) h
-  told-fault (Board l) h = at-end (λ es. IsEntryFault net es (Board l)) h
-  told-fault (Line n) h = at-end (λ es. IsEntryFault net es (Line n)) h
-  told-fault (Sum n) h = at-end (λ es. IsEntryFault net es (Sum n)) h
-  told-fault _ h = absurd h
+  pub parsed-fault : (fault : StateFault) → IsEntryFault net es fault → AreRefusedFor (form net) all (cause_of net fault)
+  parsed-fault NoMemory h = tt
+  parsed-fault (Sense l) h = at-end (λ es. IsEntryFault net es (Sense l)) h
+  parsed-fault (Board l) h = at-end (λ es. IsEntryFault net es (Board l)) h
+  parsed-fault (Line n) h = at-end (λ es. IsEntryFault net es (Line n)) h
+  parsed-fault (Sum n) h = at-end (λ es. IsEntryFault net es (Sum n)) h
+  parsed-fault _ h = absurd h
 
 -- what a state that records tell has of each node
 module _ (net : Net) (es : List Entry) (state : RoundState) (tell : TellState net es state) where
-  told-sensed : (n : ℕ) → n < length net.node_names → SensesFew net es n
-  told-sensed n h =
+  parsed-sensed : (n : ℕ) → n < length net.node_names → SensesFew net es n
+  parsed-sensed n h =
       let same : get_or state.sensed n no_sense ≡ sensed_in net es n =
-      ap (λ (s : RoundState). get_or s.sensed n no_sense) tell.told ∙ get_or-map-range_with_len (sensed_in net es) 0 (length net.node_names) n n no_sense h (omega arith) in
+      ap (λ (s : RoundState). get_or s.sensed n no_sense) tell.parsed ∙ get_or-map-range_with_len (sensed_in net es) 0 (length net.node_names) n n no_sense h (omega arith) in
       (subst (IsSensedAt net (begin_of net state.round) n) same (tell.is.sensed n h)).sensed.amounts
 
-  told-begin : (n : ℕ) → n < length net.node_names → begin_of net state.round ≡ now_of es
-  told-begin n h =
+  parsed-begin : (n : ℕ) → n < length net.node_names → begin_of net state.round ≡ now_of es
+  parsed-begin n h =
       let same : get_or state.sensed n no_sense ≡ sensed_in net es n =
-      ap (λ (s : RoundState). get_or s.sensed n no_sense) tell.told ∙ get_or-map-range_with_len (sensed_in net es) 0 (length net.node_names) n n no_sense h (omega arith) in
+      ap (λ (s : RoundState). get_or s.sensed n no_sense) tell.parsed ∙ get_or-map-range_with_len (sensed_in net es) 0 (length net.node_names) n n no_sense h (omega arith) in
       sym ((subst (IsSensedAt net (begin_of net state.round) n) same (tell.is.sensed n h)).now)
 
-  told-line : (n : ℕ) → n < length net.node_names → GoesOn net es n
-  told-line n h =
+  parsed-line : (n : ℕ) → n < length net.node_names → GoesOn net es n
+  parsed-line n h =
       let same : get_or state.lines n [] ≡ all_said green_said es n =
-      ap (λ (s : RoundState). get_or s.lines n []) tell.told ∙ get_or-map-range_with_len (all_said green_said es) 0 (length net.node_names) n n [] h (omega arith) in
-      subst (λ now. IsLineAt (plan_at net n) now (all_said green_said es n)) (told-begin n h) (subst (IsLineAt (plan_at net n) (begin_of net state.round)) same (tell.is.lines n h))
+      ap (λ (s : RoundState). get_or s.lines n []) tell.parsed ∙ get_or-map-range_with_len (all_said green_said es) 0 (length net.node_names) n n [] h (omega arith) in
+      subst (λ now. IsLineAt (plan_at net n) now (all_said green_said es n)) (parsed-begin n h) (subst (IsLineAt (plan_at net n) (begin_of net state.round)) same (tell.is.lines n h))
 
   -- what tells a state has no fault
-  told-clash : (fault : StateFault) → fault ≢ NoMemory → IsEntryFault net es fault → ⊥
-  told-clash NoMemory other h = other refl
-  told-clash (Sense l) other h = h.here (tell.senses l h.below)
-  told-clash (Board l) other h = h.1.here (tell.boards l h.1.below)
-  told-clash (Line n) other h = h.2.here (told-line n h.2.below)
-  told-clash (Sum n) other h = h.3.here (told-sensed n h.3.below)
-  told-clash _ other h = h
+  parsed-clash : (fault : StateFault) → fault ≢ NoMemory → IsEntryFault net es fault → ⊥
+  parsed-clash NoMemory other h = other refl
+  parsed-clash (Sense l) other h = h.here (tell.senses l h.below)
+  parsed-clash (Board l) other h = h.1.here (tell.boards l h.1.below)
+  parsed-clash (Line n) other h = h.2.here (parsed-line n h.2.below)
+  parsed-clash (Sum n) other h = h.3.here (parsed-sensed n h.3.below)
+  parsed-clash _ other h = h
 
 -- what is at fault is told by no records of a state
 refutes : (net : Net) (fault : StateFault) → fault ≢ NoMemory → Refutes (form net) (cause_of net fault)
 refutes net NoMemory other = other refl
 refutes net Header other = tt
-refutes net (Row n) other = λ before here e rest state lawful none reads tell. let by = told-by net here e reads in none-some by.said (sym none ∙ by.is)
+refutes net (Row n) other = λ before here e rest state lawful none reads tell. let by = parsed-by net here e reads in none-some by.content (sym none ∙ by.is)
 refutes net (Name n) other = λ before here e rest state lawful none reads tell.
-    let by = told-by net here e reads in
-    none-some e.place (sym (and-at (λ said. place_of net said (name_of here) ≡ None) (told_of here) by.said by.is none) ∙ by.place)
-refutes net (Time n) other = λ before here e rest state lawful late reads tell. and-at (λ e. FitsAfter net before e → ⊥) (entry_of net here) e reads late (order-middle net before e rest tell.order)
-refutes net (Sense l) other = λ es state lawful why tell. told-clash net es state tell (Sense l) other why
-refutes net (Board l) other = λ es state lawful why tell. told-clash net es state tell (Board l) other why
-refutes net (Line n) other = λ es state lawful why tell. told-clash net es state tell (Line n) other why
-refutes net (Sum n) other = λ es state lawful why tell. told-clash net es state tell (Sum n) other why
+    let by = parsed-by net here e reads in
+    none-some e.place (sym (and-at (λ content. place_of net content (name_of here) ≡ None) (parse here) by.content by.is none) ∙ by.place)
+refutes net (Time n) other = λ before here e rest state lawful late reads tell. and-at (λ e. FitsAfter net before e → ⊥) (parse_in net here) e reads late (order-middle net before e rest tell.order)
+refutes net (Sense l) other = λ es state lawful why tell. parsed-clash net es state tell (Sense l) other why
+refutes net (Board l) other = λ es state lawful why tell. parsed-clash net es state tell (Board l) other why
+refutes net (Line n) other = λ es state lawful why tell. parsed-clash net es state tell (Line n) other why
+refutes net (Sum n) other = λ es state lawful why tell. parsed-clash net es state tell (Sum n) other why
 
 -- a text with a fault stands for no state
 pub fault-refutes : (net : Net) (all : List (List (List ℕ))) (fault : StateFault) → AreRefusedFor (form net) all (cause_of net fault) → fault ≢ NoMemory → (state : RoundState) → AreRecordsOf (form net) all state → ⊥

@@ -12,17 +12,17 @@ use Rattle.round_states.specs.declared.faults.StateFault.TheVariants.{NoMemory, 
 use Rattle.round_states.specs.Order.{FitsAfter, now_of}
 use Rattle.round_states.specs.States.{IsLineAt}
 use Rattle.round_states.specs.Texts.{IsBoardOnce, IsSensedOnce, all_said, form, green_said, sensed_in}
-use Rattle.round_states.specs.Told.{entry_of, name_of, place_of, told_of}
+use Rattle.round_states.specs.StateRecords.{parse_in, name_of, place_of, parse}
 
 -- a record that tells nothing; one with a name of which it cannot speak; and one that may not stand after those before it
 abbrev pub IsAtRow : List (List ℕ) → Type 0
-IsAtRow fields = told_of fields ≡ None
+IsAtRow fields = parse fields ≡ None
 
 abbrev pub IsAtName : Net → List (List ℕ) → Type 0
-IsAtName net fields = IsSomeAnd (told_of fields) (λ said. place_of net said (name_of fields) ≡ None)
+IsAtName net fields = IsSomeAnd (parse fields) (λ content. place_of net content (name_of fields) ≡ None)
 
 abbrev pub IsAtTime : Net → List Entry → List (List ℕ) → Type 0
-IsAtTime net es fields = IsSomeAnd (entry_of net fields) (λ e. ¬ FitsAfter net es e)
+IsAtTime net es fields = IsSomeAnd (parse_in net fields) (λ e. ¬ FitsAfter net es e)
 
 -- a node senses no more than it may
 abbrev pub SensesFew : Net → List Entry → ℕ → Type 0
@@ -61,5 +61,5 @@ cause_of net (Time n) = AtRecord n (IsAtTime net)
 cause_of net fault = AtEnd (λ es. IsEntryFault net es fault)
 
 -- the first fault of a text that stands for no state
-abbrev pub IsStateFault : Net → List ℕ → StateFault → Type 0
-IsStateFault net bytes fault = IsRefusedFor (form net) bytes (cause_of net fault)
+abbrev pub IsTextFault : Net → List ℕ → StateFault → Type 0
+IsTextFault net bytes fault = IsRefusedFor (form net) bytes (cause_of net fault)

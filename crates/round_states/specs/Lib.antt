@@ -1,6 +1,6 @@
 pub mod Faults
 pub mod Order
 pub mod States
-pub mod Taking
+pub mod Readers
 pub mod Texts
-pub mod Told
+pub mod StateRecords

@@ -3,8 +3,8 @@ use Rattle.std.specs.Prelude.{◌≡◌, ℕ, ◌+◌, ◌/◌, ◌%◌, ◌<◌
 use Rattle.net_parts.specs.Numbers.{Net}
 use Rattle.net_parts.specs.Outline.{link_at}
 use Rattle.round_states.specs.declared.entries.Entry.{Entry}
-use Rattle.round_states.specs.declared.entries.Said.{Said}
-use Rattle.round_states.specs.declared.entries.Said.TheVariants.{Begins, Comes}
+use Rattle.round_states.specs.declared.entries.StateRecord.{StateRecord}
+use Rattle.round_states.specs.declared.entries.StateRecord.TheVariants.{Begins, Comes}
 
 -- a round of the network begins in this second
 pub record IsBegin (net : Net) (second : ℕ) : Type 0 where
@@ -12,7 +12,7 @@ pub record IsBegin (net : Net) (second : ℕ) : Type 0 where
   pub step : second % net.run.step ≡ 0
 
 -- the first record says when the round begins
-abbrev pub IsFirstSaid : Net → Said → Type 0
+abbrev pub IsFirstSaid : Net → StateRecord → Type 0
 IsFirstSaid net (Begins second) = IsBegin net second
 IsFirstSaid net _ = ⊥
 
@@ -23,25 +23,25 @@ pub record IsOnTheWay (net : Net) (now link second : ℕ) : Type 0 where
   pub to : second < now + (link_at net link).travel
 
 -- a later record says no begin, and of what comes only what is on the way
-abbrev pub IsLaterSaid : Net → ℕ → ℕ → Said → Type 0
+abbrev pub IsLaterSaid : Net → ℕ → ℕ → StateRecord → Type 0
 IsLaterSaid net now place (Begins second) = ⊥
 IsLaterSaid net now place (Comes row) = IsOnTheWay net now place row.second
 IsLaterSaid net now place _ = Unit {0}
 
 -- the second that is told as the begin of the round
-abbrev pub begin_said : Said → ℕ
+abbrev pub begin_said : StateRecord → ℕ
 begin_said (Begins second) = second
 begin_said _ = 0
 
 -- the begin of the round, by the first record; 0 where there is none
 abbrev pub now_of : List Entry → ℕ
 now_of [] = 0
-now_of (e ∷ es) = begin_said e.said
+now_of (e ∷ es) = begin_said e.content
 
 -- a record may stand after these
 abbrev pub FitsAfter : Net → List Entry → Entry → Type 0
-FitsAfter net [] e = IsFirstSaid net e.said
-FitsAfter net (first ∷ before) e = IsLaterSaid net (begin_said first.said) e.place e.said
+FitsAfter net [] e = IsFirstSaid net e.content
+FitsAfter net (first ∷ before) e = IsLaterSaid net (begin_said first.content) e.place e.content
 
 -- each record may stand after those before it
 abbrev pub AreInOrder : Net → List Entry → Type 0

@@ -12,42 +12,42 @@ use Rattle.road_net.specs.declared.senses.LinkSense.{LinkSense}
 use Rattle.road_net.specs.declared.senses.Sensed.{Sensed}
 use Rattle.road_net.specs.Network.{entry_links}
 use Rattle.round_states.specs.declared.entries.Entry.{Entry}
-use Rattle.round_states.specs.declared.entries.Said.{Said}
-use Rattle.round_states.specs.declared.entries.Said.TheVariants.{Shows, Stands, Comes, Publishes, Tells}
+use Rattle.round_states.specs.declared.entries.StateRecord.{StateRecord}
+use Rattle.round_states.specs.declared.entries.StateRecord.TheVariants.{Shows, Stands, Comes, Publishes, Tells}
 use Rattle.round_states.specs.declared.entries.Standing.{Standing}
 use Rattle.round_states.specs.declared.states.LinkBoard.{LinkBoard}
 use Rattle.round_states.specs.declared.states.RoundState.{RoundState}
 use Rattle.round_states.specs.Order.{AreInOrder, now_of}
 use Rattle.round_states.specs.States.{IsBoard, IsStateOf}
-use Rattle.round_states.specs.Told.{entry_of, header}
+use Rattle.round_states.specs.StateRecords.{parse_in, header}
 
 -- the green, the queue, what comes, the version or the row that is said, each where this is what is said
-abbrev pub green_said : Said → Option Green
+abbrev pub green_said : StateRecord → Option Green
 green_said (Shows green) = Some green
 green_said _ = None
 
-abbrev pub queue_said : Said → Option Standing
+abbrev pub queue_said : StateRecord → Option Standing
 queue_said (Stands queue) = Some queue
 queue_said _ = None
 
-abbrev pub coming_said : Said → Option Row
+abbrev pub coming_said : StateRecord → Option Row
 coming_said (Comes row) = Some row
 coming_said _ = None
 
-abbrev pub version_said : Said → Option ℕ
+abbrev pub version_said : StateRecord → Option ℕ
 version_said (Publishes version) = Some version
 version_said _ = None
 
-abbrev pub row_said : Said → Option Row
+abbrev pub row_said : StateRecord → Option Row
 row_said (Tells row) = Some row
 row_said _ = None
 
 -- what a record says of this node or link, by one of these
-abbrev pub said_of : {X : Type 0} → (Said → Option X) → ℕ → Entry → Option X
-said_of of place e = if e.place == place then of e.said else None
+abbrev pub said_of : {X : Type 0} → (StateRecord → Option X) → ℕ → Entry → Option X
+said_of of place e = if e.place == place then of e.content else None
 
 -- all that records say of it, in their order
-abbrev pub all_said : {X : Type 0} → (Said → Option X) → List Entry → ℕ → List X
+abbrev pub all_said : {X : Type 0} → (StateRecord → Option X) → List Entry → ℕ → List X
 all_said of es place = filter_map (said_of of place) es
 
 -- what stands where no queue is told
@@ -106,12 +106,12 @@ pub record TellState (net : Net) (es : List Entry) (state : RoundState) : Type 0
   pub order : AreInOrder net es
   pub senses : (l : ℕ) → l < length net.link_names → IsSensedOnce es l
   pub boards : (l : ℕ) → l < length net.link_names → IsBoardOnce net es l
-  pub told : state ≡ state_in net es
+  pub parsed : state ≡ state_in net es
   pub is : IsStateOf net state
 
 -- the form of the text: records after the first tell a state in order
 abbrev pub form : Net → Form Entry RoundState
-form net = record { header = header; read = entry_of net; lawful = AreInOrder net; is_of = TellState net }
+form net = record { header = header; read = parse_in net; lawful = AreInOrder net; is_of = TellState net }
 
 -- the state of a text
 abbrev pub IsStateText : Net → List ℕ → RoundState → Type 0

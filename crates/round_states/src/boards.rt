@@ -5,13 +5,13 @@ ghost use Rattle.std.specs.List.Sorted.{IsStrictlyIncreasing};
 ghost use Rattle.board_model.specs.Forecasts.{IsForecast, IsRow, seconds};
 ghost use Rattle.round_states.specs.Faults.{AreSensedOnce, IsEntryFault};
 ghost use Rattle.round_states.specs.States.{IsBoard};
-ghost use Rattle.round_states.specs.Taking.{AreSayings};
+ghost use Rattle.round_states.specs.Readers.{IsByPlace};
 ghost use Rattle.round_states.specs.Texts.{IsBoardOnce, all_said, board_in, row_said, version_said};
 
+use crate::by_place::{ByPlace, list_of};
 use crate::entries::Entry;
 use crate::faults::StateFault;
 use crate::order::round_of;
-use crate::sayings::{Sayings, list_of};
 use crate::states::LinkBoard;
 use board_model::{Forecast, Row};
 use road_net::Network;
@@ -32,9 +32,9 @@ pub(crate) fn boards(
     alloc: Global,
     net: &Network,
     entries: &[Entry],
-    said: &Sayings,
+    content: &ByPlace,
 ) -> Result<Vec<LinkBoard>, StateFault>
-    requires said { AreSayings net.now entries.now said.now }
+    requires content { IsByPlace net.now entries.now content.now }
     requires senses { AreSensedOnce net.now entries.now }
     ensures ok { IfOk result (λ boards. boards.items
         ≡ map (board_in entries.now) (range_with_len 0 (length net.now.link_names))) }
@@ -43,8 +43,8 @@ pub(crate) fn boards(
 {
     let mut boards = Vec::new(alloc);
     for link in 0..net.links() {
-        let versions = list_of(said.versions.as_slice(), link);
-        let rows = list_of(said.rows.as_slice(), link);
+        let versions = list_of(content.versions.as_slice(), link);
+        let rows = list_of(content.rows.as_slice(), link);
         let Some(board) = board(alloc, net, entries, link, versions, rows)? else {
             return Err(StateFault::Board(link));
         };

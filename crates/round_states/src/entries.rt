@@ -1,7 +1,7 @@
 //! What the records of a state tell.
 ghost use Rattle.std.specs.Prelude.{◌≡◌, ◌<◌, IfSome, length};
 ghost use Rattle.road_net.specs.Network.{IsNetwork};
-ghost use Rattle.round_states.specs.Told.{entry_link_of, place_of, told_link_of};
+ghost use Rattle.round_states.specs.StateRecords.{entry_link_of, place_of, told_link_of};
 
 use board_model::Row;
 use control_flow::greens::Green;
@@ -19,7 +19,7 @@ pub(crate) struct Standing {
 
 /// What a record says.
 #[derive(Debug, Clone, Copy, PartialEq, Eq)]
-pub(crate) enum Said {
+pub(crate) enum StateRecord {
     /// The second in which the round begins.
     Begins(u32),
     /// A row of the timeline of a node.
@@ -33,32 +33,32 @@ pub(crate) enum Said {
     /// A row of the forecast of a link.
     Tells(Row),
     /// Nothing: its kind is passed over.
-    Passed,
+    Ignored,
 }
 
 /// What a record says, and of which node or link: its number, and 0 where it says it of none.
 #[derive(Debug, Clone, Copy, PartialEq, Eq)]
 pub(crate) struct Entry {
     pub place: u32,
-    pub said: Said,
+    pub content: StateRecord,
 }
 
 /// The number of the node or link that a record names; none where the network has none with this name of which the
 /// record can speak.
-pub(crate) fn place_of(net: &Network, said: &Said, name: &[u8]) -> Option<u32>
+pub(crate) fn place_of(net: &Network, content: &StateRecord, name: &[u8]) -> Option<u32>
     requires { IsNetwork net.now }
-    ensures { result ≡ place_of net.now said.now name.now }
+    ensures { result ≡ place_of net.now content.now name.now }
 {
-    match said {
-        Said::Begins(_) | Said::Passed => Some(0),
-        Said::Shows(_) => node_named(net, name),
-        Said::Stands(_) | Said::Comes(_) => entry_link(net, name),
-        Said::Publishes(_) | Said::Tells(_) => told_link(net, name),
+    match content {
+        StateRecord::Begins(_) | StateRecord::Ignored => Some(0),
+        StateRecord::Shows(_) => node_named(net, name),
+        StateRecord::Stands(_) | StateRecord::Comes(_) => entry_link(net, name),
+        StateRecord::Publishes(_) | StateRecord::Tells(_) => told_link(net, name),
     }
 }
 
 /// The number of the entry link with this name.
-#[tactic(auto, unfolding(crate::specs::Told::entry_link_of))]
+#[tactic(auto, unfolding(crate::specs::StateRecords::entry_link_of))]
 fn entry_link(net: &Network, name: &[u8]) -> Option<u32>
     requires { IsNetwork net.now }
     ensures value { result ≡ entry_link_of net.now name.now }
@@ -73,7 +73,7 @@ fn entry_link(net: &Network, name: &[u8]) -> Option<u32>
 }
 
 /// The number of the link with this name on which a node tells another one.
-#[tactic(auto, unfolding(crate::specs::Told::told_link_of))]
+#[tactic(auto, unfolding(crate::specs::StateRecords::told_link_of))]
 fn told_link(net: &Network, name: &[u8]) -> Option<u32>
     requires { IsNetwork net.now }
     ensures { result ≡ told_link_of net.now name.now }

@@ -1,55 +1,55 @@
 //! What the fields of a record tell.
 ghost use Rattle.std.specs.Prelude.{◌≡◌, ◌≢◌, [], ◌∷◌, MatchOption, None, Some, length};
 ghost use Rattle.csv.specs.Records.{fields_of};
-ghost use Rattle.round_states.specs.Told.{byte_of, name_of, row_of, shows_of, stands_of, told, told_of};
+ghost use Rattle.round_states.specs.StateRecords.{byte_of, name_of, row_of, shows_of, stands_of, parse_fields, parse};
 
-use crate::entries::{Said, Standing};
+use crate::entries::{Standing, StateRecord};
 use board_model::Row;
 use control_flow::greens::Green;
 use csv::ByteRecord;
 use record_text::{digits, field};
 
 /// The name in a record, and what the record says; none where it says nothing.
-pub(crate) fn read_said(row: &ByteRecord) -> Option<(&[u8], Said)>
-    ensures { MatchOption result (told_of (fields_of row.now) ≡ None)
-        (λ f. (told_of (fields_of row.now) ≡ Some f.1) × (name_of (fields_of row.now) ≡ f.0.now)) }
+pub(crate) fn read_said(row: &ByteRecord) -> Option<(&[u8], StateRecord)>
+    ensures { MatchOption result (parse (fields_of row.now) ≡ None)
+        (λ f. (parse (fields_of row.now) ≡ Some f.1) × (name_of (fields_of row.now) ≡ f.0.now)) }
 {
     let (kind, name, x, y, z) = five_fields(row)?;
-    let said = said_by(kind, x, y, z)?;
-    Some((name, said))
+    let content = said_by(kind, x, y, z)?;
+    Some((name, content))
 }
 
 /// What a record of this kind says.
-#[tactic(auto, unfolding(crate::specs::Told::told))]
-fn said_by(kind: &[u8], x: &[u8], y: &[u8], z: &[u8]) -> Option<Said>
-    ensures { result ≡ told kind.now x.now y.now z.now }
+#[tactic(auto, unfolding(crate::specs::StateRecords::parse_fields))]
+fn said_by(kind: &[u8], x: &[u8], y: &[u8], z: &[u8]) -> Option<StateRecord>
+    ensures { result ≡ parse_fields kind.now x.now y.now z.now }
 {
     if kind == b"now".as_slice() {
-        return Some(Said::Begins(digits(x)?));
+        return Some(StateRecord::Begins(digits(x)?));
     }
     if kind == b"green".as_slice() {
-        return Some(Said::Shows(green(x, y, z)?));
+        return Some(StateRecord::Shows(green(x, y, z)?));
     }
     if kind == b"queue".as_slice() {
-        return Some(Said::Stands(standing(x, y)?));
+        return Some(StateRecord::Stands(standing(x, y)?));
     }
     if kind == b"coming".as_slice() {
-        return Some(Said::Comes(row(x, y)?));
+        return Some(StateRecord::Comes(row(x, y)?));
     }
     if kind == b"version".as_slice() {
-        return Some(Said::Publishes(digits(x)?));
+        return Some(StateRecord::Publishes(digits(x)?));
     }
     if kind == b"row".as_slice() {
-        return Some(Said::Tells(row(x, y)?));
+        return Some(StateRecord::Tells(row(x, y)?));
     }
     if kind == b"plan".as_slice() {
-        return Some(Said::Passed);
+        return Some(StateRecord::Ignored);
     }
     None
 }
 
 /// The green of a phase, a begin and an end.
-#[tactic(auto, unfolding(crate::specs::Told::shows_of))]
+#[tactic(auto, unfolding(crate::specs::StateRecords::shows_of))]
 fn green(x: &[u8], y: &[u8], z: &[u8]) -> Option<Green>
     ensures { result ≡ shows_of x.now y.now z.now }
 {
@@ -60,7 +60,7 @@ fn green(x: &[u8], y: &[u8], z: &[u8]) -> Option<Green>
 }
 
 /// The queue of an amount and of how long it has stood.
-#[tactic(auto, unfolding(crate::specs::Told::stands_of))]
+#[tactic(auto, unfolding(crate::specs::StateRecords::stands_of))]
 fn standing(x: &[u8], y: &[u8]) -> Option<Standing>
     ensures { result ≡ stands_of x.now y.now }
 {
@@ -70,7 +70,7 @@ fn standing(x: &[u8], y: &[u8]) -> Option<Standing>
 }
 
 /// The row of a second and an amount.
-#[tactic(auto, unfolding(crate::specs::Told::row_of))]
+#[tactic(auto, unfolding(crate::specs::StateRecords::row_of))]
 fn row(x: &[u8], y: &[u8]) -> Option<Row>
     ensures { result ≡ row_of x.now y.now }
 {
@@ -80,7 +80,7 @@ fn row(x: &[u8], y: &[u8]) -> Option<Row>
 }
 
 /// The number of a field of digits that is at most 255.
-#[tactic(auto, unfolding(crate::specs::Told::byte_of))]
+#[tactic(auto, unfolding(crate::specs::StateRecords::byte_of))]
 fn byte(field: &[u8]) -> Option<u8>
     ensures { result ≡ byte_of field.now }
 {

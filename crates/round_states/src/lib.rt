@@ -3,12 +3,12 @@
 #![tactic(auto)]
 
 mod boards;
+mod by_place;
 mod entries;
 mod faults;
 mod fields;
 mod lines;
 mod order;
-mod sayings;
 mod senses;
 mod states;
 mod texts;

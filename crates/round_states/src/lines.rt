@@ -8,13 +8,13 @@ ghost use Rattle.road_net.specs.Network.{IsNetwork};
 ghost use Rattle.round_states.specs.Faults.{AreBoardsOnce, AreSensedOnce, GoesOn, IsEntryFault};
 ghost use Rattle.round_states.specs.Order.{now_of};
 ghost use Rattle.round_states.specs.States.{IsLineAt, last_begin};
-ghost use Rattle.round_states.specs.Taking.{AreSayings};
+ghost use Rattle.round_states.specs.Readers.{IsByPlace};
 ghost use Rattle.round_states.specs.Texts.{all_said, green_said};
 
+use crate::by_place::{ByPlace, list_of};
 use crate::entries::Entry;
 use crate::faults::StateFault;
 use crate::order::now_of;
-use crate::sayings::{Sayings, list_of};
 use control_flow::greens::{Green, Timeline};
 use control_flow::is_lawful;
 use phase_plan::PhasePlan;
@@ -30,9 +30,9 @@ pub(crate) fn lines(
     alloc: Global,
     net: &Network,
     entries: &[Entry],
-    said: &Sayings,
+    content: &ByPlace,
 ) -> Result<Vec<Timeline>, StateFault>
-    requires said { AreSayings net.now entries.now said.now }
+    requires content { IsByPlace net.now entries.now content.now }
     requires senses { AreSensedOnce net.now entries.now }
     requires boards { AreBoardsOnce net.now entries.now }
     ensures ok { IfOk result (λ lines. lines.items
@@ -42,7 +42,7 @@ pub(crate) fn lines(
 {
     let mut lines = Vec::new(alloc);
     for node in 0..net.nodes() {
-        let greens = list_of(said.greens.as_slice(), node);
+        let greens = list_of(content.greens.as_slice(), node);
         let Some(line) = line(alloc, net, entries, node, greens)? else {
             return Err(StateFault::Line(node));
         };

@@ -4,7 +4,7 @@ ghost use Rattle.road_net.specs.Network.{IsNetwork};
 ghost use Rattle.round_states.specs.Order.{FitsAfter, IsBegin, IsFirstSaid, IsLaterSaid, IsOnTheWay, begin_said, now_of};
 ghost use Rattle.round_states.specs.Texts.{round_in};
 
-use crate::entries::{Entry, Said};
+use crate::entries::{Entry, StateRecord};
 use road_net::Network;
 
 /// Whether a record may stand after these.
@@ -12,8 +12,8 @@ pub(crate) fn fits_after(net: &Network, before: &[Entry], entry: &Entry) -> bool
     ensures { IsTrue result ↔ FitsAfter net.now before.now entry.now }
 {
     match before.first() {
-        Some(first) => is_later(net, begin_said(&first.said), entry.place, &entry.said),
-        None => is_first(net, &entry.said),
+        Some(first) => is_later(net, begin_said(&first.content), entry.place, &entry.content),
+        None => is_first(net, &entry.content),
     }
 }
 
@@ -22,7 +22,7 @@ pub(crate) fn now_of(entries: &[Entry]) -> u32
     ensures { result ≡ now_of entries.now }
 {
     match entries.first() {
-        Some(first) => begin_said(&first.said),
+        Some(first) => begin_said(&first.content),
         None => 0,
     }
 }
@@ -35,32 +35,32 @@ pub(crate) fn round_of(net: &Network, entries: &[Entry]) -> u32
 }
 
 /// The second that is told as the begin of the round; 0 where none is.
-fn begin_said(said: &Said) -> u32
-    ensures { result ≡ begin_said said.now }
+fn begin_said(content: &StateRecord) -> u32
+    ensures { result ≡ begin_said content.now }
 {
-    match said {
-        Said::Begins(second) => *second,
+    match content {
+        StateRecord::Begins(second) => *second,
         _ => 0,
     }
 }
 
 /// Whether the first record may say this.
-fn is_first(net: &Network, said: &Said) -> bool
-    ensures { IsTrue result ↔ IsFirstSaid net.now said.now }
+fn is_first(net: &Network, content: &StateRecord) -> bool
+    ensures { IsTrue result ↔ IsFirstSaid net.now content.now }
 {
-    match said {
-        Said::Begins(second) => is_begin(net, *second),
+    match content {
+        StateRecord::Begins(second) => is_begin(net, *second),
         _ => false,
     }
 }
 
 /// Whether a later record may say this of a node or link.
-fn is_later(net: &Network, now: u32, place: u32, said: &Said) -> bool
-    ensures { IsTrue result ↔ IsLaterSaid net.now now place said.now }
+fn is_later(net: &Network, now: u32, place: u32, content: &StateRecord) -> bool
+    ensures { IsTrue result ↔ IsLaterSaid net.now now place content.now }
 {
-    match said {
-        Said::Begins(_) => false,
-        Said::Comes(row) => is_on_the_way(net, now, place, row.second),
+    match content {
+        StateRecord::Begins(_) => false,
+        StateRecord::Comes(row) => is_on_the_way(net, now, place, row.second),
         _ => true,
     }
 }

@@ -8,14 +8,14 @@ ghost use Rattle.road_net.specs.Network.{entry_links};
 ghost use Rattle.road_net.specs.Senses.{amount};
 ghost use Rattle.round_states.specs.Faults.{AllGoOn, AreBoardsOnce, AreSensedOnce, IsEntryFault, SensesFew};
 ghost use Rattle.round_states.specs.Order.{now_of};
-ghost use Rattle.round_states.specs.Taking.{AreSayings};
+ghost use Rattle.round_states.specs.Readers.{IsByPlace};
 ghost use Rattle.round_states.specs.Texts.{IsSensedOnce, all_said, coming_in, coming_said, queue_said, sense_in, sensed_in};
 
 use crate::boards::are_rising;
+use crate::by_place::{ByPlace, list_of};
 use crate::entries::{Entry, Standing};
 use crate::faults::StateFault;
 use crate::order::now_of;
-use crate::sayings::{Sayings, list_of};
 use board_model::Row;
 use foundation::items::Items;
 use road_net::{LinkSense, Network, Sensed};
@@ -28,15 +28,15 @@ const MOST: u32 = 2_000_000_000;
 pub(crate) fn check_senses(
     net: &Network,
     entries: &[Entry],
-    said: &Sayings,
+    content: &ByPlace,
 ) -> Result<(), StateFault>
-    requires { AreSayings net.now entries.now said.now }
+    requires { IsByPlace net.now entries.now content.now }
     ensures ok { OnOk result ((l : ℕ) → l < length net.now.link_names → IsSensedOnce entries.now l) }
     ensures first { IfErr result (IsEntryFault net.now entries.now) }
 {
     for link in 0..net.links() {
-        let queues = list_of(said.queues.as_slice(), link);
-        let rows = list_of(said.coming.as_slice(), link);
+        let queues = list_of(content.queues.as_slice(), link);
+        let rows = list_of(content.coming.as_slice(), link);
         let once = is_sensed_once(entries, link, queues, rows);
         if !once {
             return Err(StateFault::Sense(link));
@@ -60,9 +60,9 @@ pub(crate) fn senses(
     alloc: Global,
     net: &Network,
     entries: &[Entry],
-    said: &Sayings,
+    content: &ByPlace,
 ) -> Result<Vec<Sensed>, StateFault>
-    requires said { AreSayings net.now entries.now said.now }
+    requires content { IsByPlace net.now entries.now content.now }
     requires now { now_of entries.now ≤ most_seconds }
     requires senses { AreSensedOnce net.now entries.now }
     requires boards { AreBoardsOnce net.now entries.now }
@@ -74,7 +74,7 @@ pub(crate) fn senses(
 {
     let mut all = Vec::new(alloc);
     for node in 0..net.nodes() {
-        let Some(sensed) = node_sense(alloc, net, entries, said, node)? else {
+        let Some(sensed) = node_sense(alloc, net, entries, content, node)? else {
             return Err(StateFault::Sum(node));
         };
         all.push(sensed)?;
@@ -87,16 +87,16 @@ fn node_sense(
     alloc: Global,
     net: &Network,
     entries: &[Entry],
-    said: &Sayings,
+    content: &ByPlace,
     node: u32,
 ) -> Result<Option<Sensed>, AllocError>
-    requires said { AreSayings net.now entries.now said.now }
+    requires content { IsByPlace net.now entries.now content.now }
     requires now { now_of entries.now ≤ most_seconds }
     requires node { node < length net.now.node_names }
     ensures { IfOk result (λ sensed. MatchOption sensed (¬ SensesFew net.now entries.now node)
         (λ sensed. (sensed ≡ sensed_in net.now entries.now node) × SensesFew net.now entries.now node)) }
 {
-    let links = link_senses(alloc, net, entries, said, node)?;
+    let links = link_senses(alloc, net, entries, content, node)?;
     if are_few(links.as_slice()) {
         Ok(Some(Sensed {
             now: now_of(entries),
@@ -112,10 +112,10 @@ fn link_senses(
     alloc: Global,
     net: &Network,
     entries: &[Entry],
-    said: &Sayings,
+    content: &ByPlace,
     node: u32,
 ) -> Result<Vec<LinkSense>, AllocError>
-    requires said { AreSayings net.now entries.now said.now }
+    requires content { IsByPlace net.now entries.now content.now }
     requires now { now_of entries.now ≤ most_seconds }
     requires node { node < length net.now.node_names }
     ensures { IfOk result (λ links. links.items
@@ -123,8 +123,8 @@ fn link_senses(
 {
     let mut links = Vec::new(alloc);
     for link in net.entry_links(node) {
-        let queues = list_of(said.queues.as_slice(), *link);
-        let rows = list_of(said.coming.as_slice(), *link);
+        let queues = list_of(content.queues.as_slice(), *link);
+        let rows = list_of(content.coming.as_slice(), *link);
         links.push(sense(alloc, net, entries, *link, queues, rows)?)?;
     }
     Ok(links)

@@ -2,20 +2,20 @@
 ghost use Rattle.std.specs.Prelude.{◌≡◌, ◌≢◌, ◌<◌, ◌^◌, [], IfErr, IfOk, length};
 ghost use Rattle.csv.specs.Records.{fields_of};
 ghost use Rattle.road_net.specs.Network.{IsNetwork};
-ghost use Rattle.round_states.specs.Faults.{IsEntryFault, IsStateFault};
+ghost use Rattle.round_states.specs.Faults.{IsEntryFault, IsTextFault};
 ghost use Rattle.round_states.specs.Order.{AreInOrder};
 ghost use Rattle.round_states.specs.States.{IsStateOf};
-ghost use Rattle.round_states.specs.Taking.{Adds, AreSayings, Reads};
+ghost use Rattle.round_states.specs.Readers.{Adds, IsByPlace, Reads};
 ghost use Rattle.round_states.specs.Texts.{IsStateText, TellState};
 ghost use Rattle.round_states.specs.declared.states.RoundState as spec;
 
 use crate::boards::boards;
+use crate::by_place::{ByPlace, sort_entries};
 use crate::entries::{Entry, place_of};
 use crate::faults::StateFault;
 use crate::fields::read_said;
 use crate::lines::lines;
 use crate::order::{fits_after, round_of};
-use crate::sayings::{Sayings, sort_entries};
 use crate::senses::{check_senses, senses};
 use crate::states::RoundState;
 use csv::ByteRecord;
@@ -38,9 +38,9 @@ pub fn read_state(alloc: Global, bytes: &[u8], net: &Network) -> Result<RoundSta
     ensures state { IfOk result (IsStateOf net.now) }
     ensures refused { IfErr result (λ fault. fault ≢ StateFault.NoMemory
         → (state : spec.RoundState) → ¬ IsStateText net.now bytes.now state) }
-    ensures first { IfErr result (IsStateFault net.now bytes.now) }
+    ensures first { IfErr result (IsTextFault net.now bytes.now) }
 {
-    let mut taker = Entries::none(alloc, net);
+    let mut taker = StateReader::none(alloc, net);
     match take_records(alloc, bytes, net, &mut taker) {
         Ok(true) => state_of(alloc, net, taker.all.as_slice()),
         Ok(false) => Err(StateFault::Header),
@@ -55,8 +55,8 @@ fn state_of(alloc: Global, net: &Network, entries: &[Entry]) -> Result<RoundStat
     ensures ok { IfOk result (TellState net.now entries.now) }
     ensures first { IfErr result (IsEntryFault net.now entries.now) }
 {
-    let said = sort_entries(alloc, net, entries)?;
-    state_by(alloc, net, entries, &said)
+    let content = sort_entries(alloc, net, entries)?;
+    state_by(alloc, net, entries, &content)
 }
 
 /// The same, where this is what they say.
@@ -64,18 +64,18 @@ fn state_by(
     alloc: Global,
     net: &Network,
     entries: &[Entry],
-    said: &Sayings,
+    content: &ByPlace,
 ) -> Result<RoundState, StateFault>
     requires network { IsNetwork net.now }
     requires order { AreInOrder net.now entries.now }
-    requires said { AreSayings net.now entries.now said.now }
+    requires content { IsByPlace net.now entries.now content.now }
     ensures ok { IfOk result (TellState net.now entries.now) }
     ensures first { IfErr result (IsEntryFault net.now entries.now) }
 {
-    check_senses(net, entries, said)?;
-    let boards = boards(alloc, net, entries, said)?;
-    let lines = lines(alloc, net, entries, said)?;
-    let sensed = senses(alloc, net, entries, said)?;
+    check_senses(net, entries, content)?;
+    let boards = boards(alloc, net, entries, content)?;
+    let lines = lines(alloc, net, entries, content)?;
+    let sensed = senses(alloc, net, entries, content)?;
     Ok(RoundState {
         round: round_of(net, entries),
         sensed: Items::from_vec(sensed),
@@ -86,18 +86,18 @@ fn state_by(
 
 /// What the records so far tell.
 #[derive(Drop)]
-pub(crate) struct Entries {
+pub(crate) struct StateReader {
     all: Vec<Entry>,
 }
 
-impl Entries {
+impl StateReader {
     /// No record is taken.
-    fn none(alloc: Global, net: &Network) -> Entries
+    fn none(alloc: Global, net: &Network) -> StateReader
         ensures none { result.all.items ≡ [] }
         ensures network { IsNetwork net.now }
     {
         law_of_network(net);
-        Entries {
+        StateReader {
             all: Vec::new(alloc),
         }
     }
@@ -115,31 +115,31 @@ impl Entries {
 }
 
 /// What the record with this number tells.
-#[tactic(auto, unfolding(crate::specs::Told::entry_of))]
+#[tactic(auto, unfolding(crate::specs::StateRecords::parse_in))]
 fn read_entry(net: &Network, row: &ByteRecord, number: u32) -> Result<Entry, StateFault>
     requires { IsNetwork net.now }
     ensures { Reads net.now (fields_of row.now) number result }
 {
-    let Some((name, said)) = read_said(row) else {
+    let Some((name, content)) = read_said(row) else {
         return Err(StateFault::Row(number));
     };
-    match place_of(net, &said, name) {
-        Some(place) => Ok(Entry { place, said }),
+    match place_of(net, &content, name) {
+        Some(place) => Ok(Entry { place, content }),
         None => Err(StateFault::Name(number)),
     }
 }
 
-impl RecordTaker for Entries {
-    ghost use Rattle.round_states.specs.Taking.{HasTaken, IsRefused};
-    ghost use Rattle.round_states.specs.Told as told;
+impl RecordTaker for StateReader {
+    ghost use Rattle.round_states.specs.Readers.{HasRead, IsFaultAt};
+    ghost use Rattle.round_states.specs.StateRecords as records;
 
     type Fault = StateFault;
 
-    ghost header = { told.header };
+    ghost header = { records.header };
 
-    ghost has_taken = { HasTaken };
+    ghost has_taken = { HasRead };
 
-    ghost at_fault = { IsRefused };
+    ghost at_fault = { IsFaultAt };
 
     fn is_header(row: &ByteRecord) -> bool {
         is_record(row, &[b"kind", b"name", b"x", b"y", b"z"])

@@ -11,7 +11,7 @@ pub mod Setting
 pub mod Shown
 pub mod Sources
 pub mod Start
-pub mod StoreDraftLaws
+pub mod StoreReaderLaws
 pub mod StoreFieldLaws
 pub mod StoreTextLaws
 pub mod Whole

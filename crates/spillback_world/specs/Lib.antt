@@ -2,7 +2,7 @@ pub mod Filling
 pub mod Laws
 pub mod Steps
 pub mod Storage
-pub mod StoreDrafts
+pub mod StoreReaders
 pub mod StoreRecords
 pub mod StoreRows
 pub mod StoreTexts

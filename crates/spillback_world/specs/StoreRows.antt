@@ -1,7 +1,7 @@
 -- Rows of a store: how much links can hold.
 use Rattle.std.specs.Prelude.{◌≡◌, ◌≢◌, ℕ, ◌<◌, ◌≤◌, ◌==◌, Bool, List, Option, option_map, unwrap_or, length, map, find, slice_index, All, AllPairs}
 use Rattle.net_parts.specs.Numbers.{Net}
-use Rattle.spillback_world.specs.declared.store_drafts.StoreRow.{StoreRow}
+use Rattle.spillback_world.specs.declared.store_reader.StoreRow.{StoreRow}
 
 -- the most that a link can hold, and what a link holds that no row has
 abbrev pub most_of_link : ℕ

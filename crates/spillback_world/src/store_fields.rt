@@ -2,17 +2,17 @@
 ghost use Rattle.std.specs.Prelude.{◌≡◌, ◌≢◌, [], ◌∷◌, None, Some, MatchOption, length};
 ghost use Rattle.csv.specs.Records.{fields_of};
 ghost use Rattle.road_net.specs.Network.{IsNetwork};
-ghost use Rattle.spillback_world.specs.StoreDrafts.{Reads};
-ghost use Rattle.spillback_world.specs.StoreRecords.{told_of};
+ghost use Rattle.spillback_world.specs.StoreReaders.{Reads};
+ghost use Rattle.spillback_world.specs.StoreRecords.{parse};
 
-use crate::store_drafts::StoreRow;
 use crate::store_faults::StoreFault;
+use crate::store_reader::StoreRow;
 use csv::ByteRecord;
 use record_text::{digits, field, link_named};
 use road_net::Network;
 
 /// The row that a record tells, by the number of its link.
-#[tactic(auto, unfolding(crate::specs::StoreRecords::row_of))]
+#[tactic(auto, unfolding(crate::specs::StoreRecords::parse_in))]
 pub(crate) fn read_row(net: &Network, row: &ByteRecord, number: u32) -> Result<StoreRow, StoreFault>
     requires { IsNetwork net.now }
     ensures { Reads net.now (fields_of row.now) number result }
@@ -27,10 +27,10 @@ pub(crate) fn read_row(net: &Network, row: &ByteRecord, number: u32) -> Result<S
 }
 
 /// The name of the link and the storage of a record.
-#[tactic(auto, unfolding(crate::specs::StoreRecords::told))]
+#[tactic(auto, unfolding(crate::specs::StoreRecords::parse_fields))]
 fn record_fields(row: &ByteRecord) -> Option<(&[u8], u32)>
-    ensures { MatchOption result (told_of (fields_of row.now) ≡ None)
-        (λ t. told_of (fields_of row.now) ≡ Some (record { name = t.0.now; storage = t.1 })) }
+    ensures { MatchOption result (parse (fields_of row.now) ≡ None)
+        (λ t. parse (fields_of row.now) ≡ Some (record { name = t.0.now; storage = t.1 })) }
 {
     let (name, storage) = two_fields(row)?;
     let storage = digits(storage)?;

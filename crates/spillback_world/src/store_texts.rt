@@ -3,9 +3,9 @@ ghost use Rattle.std.specs.Prelude.{◌≡◌, ◌≢◌, ℕ, List, IfErr, IfOk
 ghost use Rattle.spillback_world.specs.StoreTexts.{IsStoreText, IsTextFault};
 
 use crate::store::Store;
-use crate::store_drafts::Draft;
 use crate::store_faults::StoreFault;
 use crate::store_fields::read_row;
+use crate::store_reader::StoreReader;
 use csv::ByteRecord;
 use record_text::{RecordTaker, is_record, take_records};
 use road_net::Network;
@@ -25,25 +25,25 @@ pub fn read_store(alloc: Global, bytes: &[u8], net: &Network) -> Result<Store, S
         → (store : List ℕ) → ¬ IsStoreText net.now bytes.now store) }
     ensures first { IfErr result (IsTextFault net.now bytes.now) }
 {
-    let mut draft = Draft::new(alloc, net)?;
-    if !take_records(alloc, bytes, net, &mut draft)? {
+    let mut reader = StoreReader::new(alloc, net)?;
+    if !take_records(alloc, bytes, net, &mut reader)? {
         return Err(StoreFault::Header);
     }
-    let store = draft.end(alloc)?;
+    let store = reader.end(alloc)?;
     Ok(store)
 }
 
-impl RecordTaker for Draft {
-    ghost use Rattle.spillback_world.specs.StoreDrafts.{StopsAt, Takes};
+impl RecordTaker for StoreReader {
+    ghost use Rattle.spillback_world.specs.StoreReaders.{IsFaultAt, HasRead};
     ghost use Rattle.spillback_world.specs.StoreRecords as records;
 
     type Fault = StoreFault;
 
     ghost header = { records.header };
 
-    ghost has_taken = { Takes };
+    ghost has_taken = { HasRead };
 
-    ghost at_fault = { StopsAt };
+    ghost at_fault = { IsFaultAt };
 
     fn is_header(row: &ByteRecord) -> bool {
         is_record(row, &[b"link", b"storage"])

@@ -6,7 +6,7 @@ use Rattle.record_text.proofs.WalkLaws.{counted-few, taken-after}
 use Rattle.world_records.proofs.RecordLaws.{few-records}
 use Rattle.world_records.specs.Records.{header}
 use Rattle.delay_report.specs.Faults.{IsTextFault}
-use Rattle.delay_report.specs.Taken.{HasTaken}
+use Rattle.delay_report.specs.Readers.{HasRead}
 use Rattle.delay_report.proofs.TextLaws.{fault-refutes, first-fault, taken-short}
 use Rattle.delay_report.proofs.texts.read_history.Goals as goal
 
@@ -24,6 +24,6 @@ returns-in_err-take_records-clause-refused c =
 
 pub returns-then-not-is_over-clause-first : goal.returns-then-not-is_over-clause-first
 returns-then-not-is_over-clause-first c =
-    let draft = c.take_records.new.taker in
-    let taken = taken-after header (HasTaken c.args.net.now) (records_of c.args.bytes.now) draft _ c.if-not-branch.false c.in_ok-take_records.ensures.taken in
-    taken-short c.args.net.now (records_of c.args.bytes.now) draft taken (λ lawful. false≢true (sym c.if-not-is_over.true ∙ (c.is_over.ensures c.args.net.now draft.steps.items taken.after.come).1 lawful))
+    let reader = c.take_records.new.taker in
+    let taken = taken-after header (HasRead c.args.net.now) (records_of c.args.bytes.now) reader _ c.if-not-branch.false c.in_ok-take_records.ensures.taken in
+    taken-short c.args.net.now (records_of c.args.bytes.now) reader taken (λ lawful. false≢true (sym c.if-not-is_over.true ∙ (c.is_over.ensures c.args.net.now reader.steps.items taken.after.come).1 lawful))

@@ -1,7 +1,7 @@
 use Rattle.std.proofs.Common.{ℕ, List, [], ◌∷◌, Some, refl, sym, ap, ◌∙◌, subst}
 use Rattle.std.proofs.lemmas.Result.{err_from_is_err_and}
 use Rattle.histories.specs.Progress.{HasCome}
-use Rattle.delay_report.specs.Taken.{steps_if}
+use Rattle.delay_report.specs.Readers.{steps_if}
 use Rattle.delay_report.proofs.texts.take_step.Goals as goal
 
 pub returns-in_err-node-clause-first : goal.returns-in_err-node-clause-first
@@ -12,7 +12,7 @@ returns-in_err-node-clause-first c =
 pub returns-in_ok-push-in-Ok-clause-taken : goal.returns-in_ok-push-in-Ok-clause-taken
 returns-in_ok-push-in-Ok-clause-taken c = record {
   more = c.in-Some.node ∷ [];
-  told = c.in_ok-node.ensures.ok ∙ ap (λ o. Some (steps_if o)) c.in-Some.is;
+  parsed = c.in_ok-node.ensures.ok ∙ ap (λ o. Some (steps_if o)) c.in-Some.is;
   new_is = c.in_ok-push-in-Ok.ensures.items;
   come = subst (λ (h : List ℕ). HasCome c.args.net.now h c.take.new.self) (sym c.in_ok-push-in-Ok.ensures.items) (c.in-Ok.ensures.ok c.args.net.now c.args.steps.now.items c.requires.come);
 }

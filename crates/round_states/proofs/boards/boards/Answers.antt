@@ -1,12 +1,12 @@
 use Rattle.std.proofs.Common.{length, arith}
 use Rattle.round_states.specs.Texts.{IsBoardOnce, board_in, row_said, version_said}
-use Rattle.round_states.proofs.SayingLaws.{each-below, map-step, said-there}
+use Rattle.round_states.proofs.ByPlaceLaws.{each-below, map-step, content-there}
 use Rattle.round_states.proofs.boards.boards.Goals as goal
 
 pub board-requires : goal.board-requires
 board-requires c = record {
-  versions = said-there version_said c.args.entries.now (length c.args.net.now.link_names) c.args.said.now.versions.items _ c.loop-link.link _ c.requires.said.versions (omega arith) c.as_slice.ensures.value c.list_of-versions.ensures;
-  rows = said-there row_said c.args.entries.now (length c.args.net.now.link_names) c.args.said.now.rows.items _ c.loop-link.link _ c.requires.said.rows (omega arith) c.as_slice-in-loop-link.ensures.value c.list_of-rows.ensures;
+  versions = content-there version_said c.args.entries.now (length c.args.net.now.link_names) c.args.content.now.versions.items _ c.loop-link.link _ c.requires.content.versions (omega arith) c.as_slice.ensures.value c.list_of-versions.ensures;
+  rows = content-there row_said c.args.entries.now (length c.args.net.now.link_names) c.args.content.now.rows.items _ c.loop-link.link _ c.requires.content.rows (omega arith) c.as_slice-in-loop-link.ensures.value c.list_of-rows.ensures;
 }
 
 pub loop-link-preserved : goal.loop-link-preserved

@@ -1,11 +1,11 @@
 use Rattle.std.proofs.Common.{length, arith}
 use Rattle.round_states.specs.Faults.{GoesOn}
 use Rattle.round_states.specs.Texts.{all_said, green_said}
-use Rattle.round_states.proofs.SayingLaws.{each-below, map-step, said-there}
+use Rattle.round_states.proofs.ByPlaceLaws.{each-below, map-step, content-there}
 use Rattle.round_states.proofs.lines.lines.Goals as goal
 
 pub line-requires-clause-greens : goal.line-requires-clause-greens
-line-requires-clause-greens c = said-there green_said c.args.entries.now (length c.args.net.now.node_names) c.args.said.now.greens.items _ c.loop-node.node _ c.requires.said.greens (omega arith) c.as_slice.ensures.value c.list_of-greens.ensures
+line-requires-clause-greens c = content-there green_said c.args.entries.now (length c.args.net.now.node_names) c.args.content.now.greens.items _ c.loop-node.node _ c.requires.content.greens (omega arith) c.as_slice.ensures.value c.list_of-greens.ensures
 
 pub loop-node-preserved : goal.loop-node-preserved
 loop-node-preserved c = record {

@@ -1,13 +1,13 @@
 use Rattle.std.proofs.Common.{length, sym, ◌∙◌, arith}
 use Rattle.std.proofs.lemmas.Bool.{false≢true}
 use Rattle.round_states.specs.Texts.{IsSensedOnce, coming_said, queue_said}
-use Rattle.round_states.proofs.SayingLaws.{each-below, said-there}
+use Rattle.round_states.proofs.ByPlaceLaws.{each-below, content-there}
 use Rattle.round_states.proofs.senses.check_senses.Goals as goal
 
 pub is_sensed_once-once-requires : goal.is_sensed_once-once-requires
 is_sensed_once-once-requires c = record {
-  queues = said-there queue_said c.args.entries.now (length c.args.net.now.link_names) c.args.said.now.queues.items _ c.loop-link.link _ c.requires.queues (omega arith) c.as_slice.ensures.value c.list_of-queues.ensures;
-  rows = said-there coming_said c.args.entries.now (length c.args.net.now.link_names) c.args.said.now.coming.items _ c.loop-link.link _ c.requires.coming (omega arith) c.as_slice-in-loop-link.ensures.value c.list_of-rows.ensures;
+  queues = content-there queue_said c.args.entries.now (length c.args.net.now.link_names) c.args.content.now.queues.items _ c.loop-link.link _ c.requires.queues (omega arith) c.as_slice.ensures.value c.list_of-queues.ensures;
+  rows = content-there coming_said c.args.entries.now (length c.args.net.now.link_names) c.args.content.now.coming.items _ c.loop-link.link _ c.requires.coming (omega arith) c.as_slice-in-loop-link.ensures.value c.list_of-rows.ensures;
 }
 
 pub returns-then-not-once-clause-first : goal.returns-then-not-once-clause-first

@@ -1,7 +1,7 @@
 use Rattle.std.proofs.Common.{◌≡◌, ◌+◌, ◌-◌, map, subst, arith}
 use Rattle.std.specs.List.{range_with_len}
 use Rattle.board_model.specs.Forecasts.{amount_at}
-use Rattle.round_states.proofs.SayingLaws.{map-step}
+use Rattle.round_states.proofs.ByPlaceLaws.{map-step}
 use Rattle.round_states.proofs.senses.coming.Goals as goal
 
 pub loop-second-preserved : goal.loop-second-preserved

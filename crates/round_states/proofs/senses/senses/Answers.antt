@@ -1,7 +1,7 @@
 use Rattle.std.proofs.Common.{arith}
 use Rattle.round_states.specs.Faults.{SensesFew}
 use Rattle.round_states.specs.Texts.{sensed_in}
-use Rattle.round_states.proofs.SayingLaws.{each-below, map-step}
+use Rattle.round_states.proofs.ByPlaceLaws.{each-below, map-step}
 use Rattle.round_states.proofs.senses.senses.Goals as goal
 
 pub loop-node-preserved : goal.loop-node-preserved

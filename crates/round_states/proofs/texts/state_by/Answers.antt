@@ -1,12 +1,12 @@
 use Rattle.std.proofs.Common.{◌∙◌}
 use Rattle.round_states.specs.Order.{now_of}
 use Rattle.round_states.proofs.OrderLaws.{begin-bound, begin-now}
-use Rattle.round_states.proofs.StateLaws.{tell-state, told-state}
+use Rattle.round_states.proofs.StateLaws.{tell-state, parsed-state}
 use Rattle.round_states.proofs.texts.state_by.Goals as goal
 
 pub senses-requires : goal.senses-requires
 senses-requires c = record {
-  said = c.requires.said;
+  content = c.requires.content;
   now = begin-bound c.args.net.now c.requires.network (now_of c.args.entries.now) (begin-now c.args.net.now c.requires.network c.args.entries.now c.requires.order);
   senses = c.in_ok-check_senses.ensures.ok;
   boards = c.in_ok-boards.ensures.each;
@@ -15,7 +15,7 @@ senses-requires c = record {
 
 pub returns-clause-ok : goal.returns-clause-ok
 returns-clause-ok c =
-    told-state c.args.net.now c.args.entries.now _
+    parsed-state c.args.net.now c.args.entries.now _
     (tell-state c.args.net.now c.requires.network c.args.entries.now c.requires.order c.in_ok-boards.ensures.each c.in_ok-lines.ensures.each c.in_ok-sensed.ensures.few c.in_ok-check_senses.ensures.ok)
     c.round_of.ensures
     (c.from_vec.ensures ∙ c.in_ok-sensed.ensures.ok) (c.from_vec-2.ensures ∙ c.in_ok-lines.ensures.ok) (c.from_vec-3.ensures ∙ c.in_ok-boards.ensures.ok)

@@ -1,5 +1,0 @@
-use Rattle.round_states.proofs.SayingLaws.{none-more}
-use Rattle.round_states.proofs.sayings.no_lists.Goals as goal
-
-pub loop-place-preserved : goal.loop-place-preserved
-loop-place-preserved g c = none-more _ _ _ _ c.in_ok-push.ensures.items c.new.ensures.items c.loop-place.invariant

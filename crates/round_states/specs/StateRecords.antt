@@ -1,0 +1,95 @@
+-- What a record of a state tells.
+use Rattle.std.specs.Prelude.{codes, nat_lt, ℕ, if◌then◌else◌, is_some, List, [], ◌∷◌, Option, Some, None}
+use Rattle.std.specs.Str.{bytes_eq}
+use Rattle.foundation.specs.Options.{◌>>=◌}
+use Rattle.board_model.specs.declared.forecasts.Row.{Row}
+use Rattle.control_flow.specs.declared.greens.Green.{Green}
+use Rattle.net_parts.specs.Numbers.{Net, number_of}
+use Rattle.net_parts.specs.Outline.{link_at}
+use Rattle.record_text.specs.Decimals.{number_of_digits}
+use Rattle.round_states.specs.declared.entries.Entry.{Entry}
+use Rattle.round_states.specs.declared.entries.StateRecord.{StateRecord}
+use Rattle.round_states.specs.declared.entries.StateRecord.TheVariants.{Begins, Shows, Stands, Comes, Publishes, Tells, Ignored}
+use Rattle.round_states.specs.declared.entries.Standing.{Standing}
+
+-- the header
+abbrev pub header : List (List ℕ)
+header = codes "kind" ∷ codes "name" ∷ codes "x" ∷ codes "y" ∷ codes "z" ∷ []
+
+-- the number of digits that is at most 255
+unfoldable pub byte_of : List ℕ → Option ℕ
+byte_of field = do
+  n ← number_of_digits field
+  if nat_lt n 256 then Some n else None
+
+-- a green of a phase, a begin and an end
+unfoldable pub shows_of : List ℕ → List ℕ → List ℕ → Option Green
+shows_of x y z = do
+  phase ← byte_of x
+  from ← number_of_digits y
+  to ← number_of_digits z
+  Some (record { phase = phase; from = from; to = to })
+
+-- a queue of an amount and of how long it has stood
+unfoldable pub stands_of : List ℕ → List ℕ → Option Standing
+stands_of x y = do
+  amount ← number_of_digits x
+  stood ← number_of_digits y
+  Some (record { amount = amount; stood = stood })
+
+-- a row of a second and an amount
+unfoldable pub row_of : List ℕ → List ℕ → Option Row
+row_of x y = do
+  second ← number_of_digits x
+  amount ← number_of_digits y
+  Some (record { second = second; amount = amount })
+
+-- what the fields of a record say that are read, by its kind; one of what was planned says nothing
+unfoldable pub parse_fields : List ℕ → List ℕ → List ℕ → List ℕ → Option StateRecord
+parse_fields kind x y z =
+    if bytes_eq kind (codes "now") then (number_of_digits x >>= λ second. Some (Begins second))
+    else (if bytes_eq kind (codes "green") then (shows_of x y z >>= λ green. Some (Shows green))
+    else (if bytes_eq kind (codes "queue") then (stands_of x y >>= λ queue. Some (Stands queue))
+    else (if bytes_eq kind (codes "coming") then (row_of x y >>= λ row. Some (Comes row))
+    else (if bytes_eq kind (codes "version") then (number_of_digits x >>= λ version. Some (Publishes version))
+    else (if bytes_eq kind (codes "row") then (row_of x y >>= λ row. Some (Tells row))
+    else (if bytes_eq kind (codes "plan") then Some Ignored else None))))))
+
+-- a record has five fields
+abbrev pub parse : List (List ℕ) → Option StateRecord
+parse (kind ∷ name ∷ x ∷ y ∷ z ∷ []) = parse_fields kind x y z
+parse _ = None
+
+-- the name in a record
+abbrev pub name_of : List (List ℕ) → List ℕ
+name_of (kind ∷ name ∷ fields) = name
+name_of _ = []
+
+-- the link with a name, where it ends at a node, which senses it
+unfoldable pub entry_link_of : Net → List ℕ → Option ℕ
+entry_link_of net name = do
+  link ← number_of net.link_names name
+  if is_some (link_at net link).to then Some link else None
+
+-- the link with a name, where it comes from a node and ends at one, which it tells
+unfoldable pub told_link_of : Net → List ℕ → Option ℕ
+told_link_of net name = do
+  link ← entry_link_of net name
+  if is_some (link_at net link).from then Some link else None
+
+-- the number of the node or link of which a record with this name says this
+abbrev pub place_of : Net → StateRecord → List ℕ → Option ℕ
+place_of net (Begins second) name = Some 0
+place_of net (Shows green) name = number_of net.node_names name
+place_of net (Stands queue) name = entry_link_of net name
+place_of net (Comes row) name = entry_link_of net name
+place_of net (Publishes version) name = told_link_of net name
+place_of net (Tells row) name = told_link_of net name
+place_of net Ignored name = Some 0
+
+-- what a record tells, and of which node or link
+unfoldable pub parse_in : Net → List (List ℕ) → Option Entry
+parse_in net fields = do
+  content ← parse fields
+  place ← place_of net content (name_of fields)
+  Some (record { place = place; content = content })
