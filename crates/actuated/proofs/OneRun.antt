@@ -10,7 +10,7 @@ use Rattle.control_flow.specs.Greens.{spliced, standing}
 use Rattle.control_flow.specs.declared.greens.Green.{Green}
 use Rattle.net_parts.specs.Numbers.{Net}
 use Rattle.net_parts.specs.Outline.{plan_at}
-use Rattle.net_simulator.specs.Flow.{Cumulative, past_of}
+use Rattle.net_simulator.specs.Flow.{Cumulative, cumulative_under}
 use Rattle.net_simulator.specs.Sums.{end_of_run, link_totals, totals}
 use Rattle.net_simulator.proofs.AtNodes.{past-at-nodes}
 use Rattle.road_net.specs.Network.{IsNetwork}
@@ -63,11 +63,11 @@ pub one-run : (net : Net) → IsNetwork net → (arriving : ℕ → ℕ → ℕ)
 one-run net network arriving one other a b = λ i. record { timelines = timelines i; links = links i; totals = all i }
   where
     before : (s n : ℕ) → s < act_rounds net → n < length net.node_names → a.made s n ≡ b.made s n
-    before = same-before net network (past_of net arriving) (past-at-nodes net network arriving) a.made b.made (act_rounds net) a.by.acts b.by.acts (act_rounds net) (omega arith)
+    before = same-before net network (cumulative_under net arriving) (past-at-nodes net network arriving) a.made b.made (act_rounds net) a.by.acts b.by.acts (act_rounds net) (omega arith)
 
-    past : past_of net arriving (shown_in net a.made) (end_of_run net) ≡ past_of net arriving (shown_in net b.made) (end_of_run net)
-    past = subst (λ n. past_of net arriving (shown_in net a.made) n ≡ past_of net arriving (shown_in net b.made) n) (act-rounds net network).whole
-        (past-same net network (past_of net arriving) (past-at-nodes net network arriving) a.made b.made (act_rounds net) before)
+    past : cumulative_under net arriving (shown_in net a.made) (end_of_run net) ≡ cumulative_under net arriving (shown_in net b.made) (end_of_run net)
+    past = subst (λ n. cumulative_under net arriving (shown_in net a.made) n ≡ cumulative_under net arriving (shown_in net b.made) n) (act-rounds net network).whole
+        (past-same net network (cumulative_under net arriving) (past-at-nodes net network arriving) a.made b.made (act_rounds net) before)
 
     last : (ℕ → ℕ → List Green) → ℕ → List Green
     last made = line_before (first_line net) made (act_rounds net)
@@ -81,7 +81,7 @@ one-run net network arriving one other a b = λ i. record { timelines = timeline
         (λ n inside.
         let below : n < nodes = omega (arith, inside, length-map-range_with_len (last a.made) 0 nodes) in
         get_or-map-range_with_len (last a.made) 0 nodes n n [] below (omega arith)
-        ∙ lines-same net network (past_of net arriving) (past-at-nodes net network arriving) a.made b.made (act_rounds net) n before below
+        ∙ lines-same net network (cumulative_under net arriving) (past-at-nodes net network arriving) a.made b.made (act_rounds net) n before below
         ∙ sym (get_or-map-range_with_len (last b.made) 0 nodes n n [] below (omega arith)))
 
     timelines : one.timelines ≡ other.timelines

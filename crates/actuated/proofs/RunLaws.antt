@@ -8,7 +8,7 @@ use Rattle.control_flow.specs.Greens.{standing}
 use Rattle.control_flow.specs.declared.greens.Green.{Green}
 use Rattle.net_parts.specs.Numbers.{Net}
 use Rattle.net_simulator.specs.Counts.{counts_at, no_totals}
-use Rattle.net_simulator.specs.Flow.{Cumulative, passed_in, past_of}
+use Rattle.net_simulator.specs.Flow.{Cumulative, passed_in, cumulative_under}
 use Rattle.net_simulator.specs.Sums.{end_of_run, link_totals, totals}
 use Rattle.net_simulator.specs.Worlds.{Stands, WorldState, line_in, standing_by, IsWorldOf}
 use Rattle.net_simulator.specs.declared.totals.LinkTotals.{LinkTotals}
@@ -21,7 +21,7 @@ use Rattle.signal_safety.proofs.Lines.{safe}
 use Rattle.signal_safety.proofs.Rounds.{AllKeepEvery, all-keep-every, shows-every}
 use Rattle.audit.specs.SheetTexts.{HasShape}
 use Rattle.audit.specs.LineRuns.{sheet_of}
-use Rattle.actuated.specs.ActRuns.{IsActRun, ShowsGreens, first_line, past_by, shown_in}
+use Rattle.actuated.specs.ActRuns.{IsActRun, ShowsGreens, first_line, cumulative_by, shown_in}
 use Rattle.actuated.specs.ActSteps.{act_rounds, act_step}
 use Rattle.actuated.specs.Rounds.{AreFirstLines, AreRenewed}
 use Rattle.actuated.specs.RunsSoFar.{AreNear, HavePlayed}
@@ -33,14 +33,14 @@ use Rattle.arrivals.specs.Amounts.{Amounts, AreArrivals, arriving_of}
 
 -- ---- the rounds
 
-past-same : (net : Net) (arriving : ℕ → ℕ → ℕ) (shown seen : ℕ → ℕ → Option (ℕ × ℕ)) (n : ℕ) → ((x node : ℕ) → x < n → shown x node ≡ seen x node) → past_of net arriving shown n ≡ past_of net arriving seen n
+past-same : (net : Net) (arriving : ℕ → ℕ → ℕ) (shown seen : ℕ → ℕ → Option (ℕ × ℕ)) (n : ℕ) → ((x node : ℕ) → x < n → shown x node ≡ seen x node) → cumulative_under net arriving shown n ≡ cumulative_under net arriving seen n
 past-same net arriving shown seen n same = ap passed_in (history-same net arriving arriving shown seen n (λ x l h. refl) same)
 
 -- before the first round
 pub none-played : (net : Net) (arriving : ℕ → ℕ → ℕ) (lines : List (List Green)) (w : WorldState) → AreFirstLines net (length net.node_names) lines → w.second ≡ 0
     → ((shown : ℕ → ℕ → Option (ℕ × ℕ)) → Stands net arriving shown w) → HavePlayed net arriving 0 lines w
 none-played net arriving lines w first second stands = record {
-  acted = none-acted net (past_of net arriving) lines first;
+  acted = none-acted net (cumulative_under net arriving) lines first;
   second = (let z : 0 ≡ 0 * act_step net = omega arith in second ∙ z);
   stands = stands (standing_by (line_in lines));
 }
@@ -52,15 +52,15 @@ module _ (net : Net) (network : IsNetwork net) (arriving : ℕ → ℕ → ℕ) 
   pub renewed-stands : Stands net arriving (standing_by (line_in renewed)) w
   renewed-stands =
       stands-under net arriving (standing_by (line_in lines)) (standing_by (line_in renewed)) w
-      (λ x n less. sym (same-before net network (past_of net arriving) (past-same net arriving) r lines renewed near a.acted then-renewed x n (omega (arith, a.second, less)))) a.stands
+      (λ x n less. sym (same-before net network (cumulative_under net arriving) (past-same net arriving) r lines renewed near a.acted then-renewed x n (omega (arith, a.second, less)))) a.stands
 
   pub room : r < act_rounds net → w.second + act_step net ≤ 18000
   room less = omega (arith, time-for net network r less, a.second)
 
   -- after a round more
-  pub more-played : AreNear net (past_of net arriving (standing_by (line_in lines)) w.second) w.second near → (v : WorldState) → v.second ≡ w.second + act_step net → Stands net arriving (standing_by (line_in renewed)) v → HavePlayed net arriving (r + 1) renewed v
+  pub more-played : AreNear net (cumulative_under net arriving (standing_by (line_in lines)) w.second) w.second near → (v : WorldState) → v.second ≡ w.second + act_step net → Stands net arriving (standing_by (line_in renewed)) v → HavePlayed net arriving (r + 1) renewed v
   more-played sensed v second stands = record {
-    acted = more-acted net network (past_of net arriving) (past-same net arriving) r lines renewed near a.acted then-renewed (subst (λ s. AreNear net (past_of net arriving (standing_by (line_in lines)) s) s near) a.second sensed);
+    acted = more-acted net network (cumulative_under net arriving) (past-same net arriving) r lines renewed near a.acted then-renewed (subst (λ s. AreNear net (cumulative_under net arriving (standing_by (line_in lines)) s) s near) a.second sensed);
     second = omega (arith, second, a.second, one-round net r);
     stands = stands;
   }
@@ -76,16 +76,16 @@ module _ (net : Net) (network : IsNetwork net) (arriving : ℕ → ℕ → ℕ) 
   second-is : w.second ≡ end_of_run net
   second-is = a.second ∙ (act-rounds net network).whole
 
-  past-is : past_of net arriving (standing_by (line_in run.timelines)) (end_of_run net) ≡ past_by net arriving a.acted.made
+  past-is : cumulative_under net arriving (standing_by (line_in run.timelines)) (end_of_run net) ≡ cumulative_by net arriving a.acted.made
   past-is = past-same net arriving (standing_by (line_in run.timelines)) (shown_in net a.acted.made) (end_of_run net) (λ x n less. a.acted.shown x n (omega (arith, less, (act-rounds net network).whole)))
 
-  link-is : (l : ℕ) → l < length net.link_names → get_or run.links l no_totals ≡ link_totals net (past_of net arriving (standing_by (line_in run.timelines)) (end_of_run net)) (end_of_run net) l
+  link-is : (l : ℕ) → l < length net.link_names → get_or run.links l no_totals ≡ link_totals net (cumulative_under net arriving (standing_by (line_in run.timelines)) (end_of_run net)) (end_of_run net) l
   link-is l below =
       ap (λ (ts : List LinkTotals). get_or ts l no_totals) links ∙ get_or-map-range_with_len (counts_at w.counts) 0 (length net.link_names) l l no_totals below (omega arith)
-      ∙ a.stands.counts l below ∙ ap (λ s. link_totals net (past_of net arriving (standing_by (line_in run.timelines)) s) s l) second-is
+      ∙ a.stands.counts l below ∙ ap (λ s. link_totals net (cumulative_under net arriving (standing_by (line_in run.timelines)) s) s l) second-is
 
-  all-is : run.totals ≡ totals net arriving (past_of net arriving (standing_by (line_in run.timelines)) (end_of_run net)) (end_of_run net)
-  all-is = all ∙ a.stands.totals ∙ ap (λ s. totals net arriving (past_of net arriving (standing_by (line_in run.timelines)) s) s) second-is
+  all-is : run.totals ≡ totals net arriving (cumulative_under net arriving (standing_by (line_in run.timelines)) (end_of_run net)) (end_of_run net)
+  all-is = all ∙ a.stands.totals ∙ ap (λ s. totals net arriving (cumulative_under net arriving (standing_by (line_in run.timelines)) s) s) second-is
 
   link-count : length run.links ≡ length net.link_names
   link-count = ap length links ∙ length-map-range_with_len (counts_at w.counts) 0 (length net.link_names)
@@ -96,7 +96,7 @@ module _ (net : Net) (network : IsNetwork net) (arriving : ℕ → ℕ → ℕ) 
     by = record {
       acts = a.acted.acts;
       timelines = fill_by_all (line_before (first_line net) a.acted.made (act_rounds net)) run.timelines (length net.node_names) [] a.acted.count a.acted.are;
-      links = fill_by_all (link_totals net (past_by net arriving a.acted.made) (end_of_run net)) run.links (length net.link_names) no_totals link-count
+      links = fill_by_all (link_totals net (cumulative_by net arriving a.acted.made) (end_of_run net)) run.links (length net.link_names) no_totals link-count
           (λ l below. link-is l below ∙ ap (λ (p : ℕ → ℕ → Cumulative). link_totals net p (end_of_run net) l) past-is);
       all = all-is ∙ ap (λ (p : ℕ → ℕ → Cumulative). totals net arriving p (end_of_run net)) past-is;
     };
@@ -116,7 +116,7 @@ module _ (net : Net) (network : IsNetwork net) (arriving : ℕ → ℕ → ℕ) 
 module _ (net : Net) (network : IsNetwork net) (arriving : ℕ → ℕ → ℕ) (run : LineRun) (is : IsActRun net arriving run) where
   keep : AllKeepEvery net (act_step net) (line_before (first_line net) is.made) (act_rounds net)
   keep = all-keep-every net (act_step net) (line_before (first_line net) is.made) (act_rounds net) (begins-by net network) (first-is-line net network)
-      (λ r n less below early old. next-keeps net network n below (past_of net arriving (shown_in net is.made) (r * act_step net)) (r * act_step net) (line_before (first_line net) is.made r n) (is.made r n) early old (is.by.acts r n less below))
+      (λ r n less below early old. next-keeps net network n below (cumulative_under net arriving (shown_in net is.made) (r * act_step net)) (r * act_step net) (line_before (first_line net) is.made r n) (is.made r n) early old (is.by.acts r n less below))
 
   in-rounds : (second : ℕ) → second < end_of_run net → second < act_rounds net * act_step net
   in-rounds second before = omega (arith, before, (act-rounds net network).whole)

@@ -7,7 +7,7 @@ use Rattle.control_flow.specs.declared.greens.Green.{Green}
 use Rattle.switch_rules.specs.declared.Head.{Head}
 use Rattle.net_parts.specs.Numbers.{Net}
 use Rattle.net_parts.specs.Outline.{plan_at}
-use Rattle.net_simulator.specs.Flow.{Cumulative, past_of}
+use Rattle.net_simulator.specs.Flow.{Cumulative, cumulative_under}
 use Rattle.net_simulator.specs.Senses.{sense}
 use Rattle.net_simulator.specs.Sums.{end_of_run, link_totals, totals}
 use Rattle.net_simulator.specs.Worlds.{line_in}
@@ -17,7 +17,7 @@ use Rattle.actuated.specs.ActSteps.{act_rounds, act_step}
 use Rattle.actuated.specs.Calls.{act_line, calling}
 
 -- Below, `made round node` is the line of a node in a round, and `under shown n` what passed the links in the first n seconds where
--- the signals show this: in the world, `past_of net arriving`.
+-- the signals show this: in the world, `cumulative_under net arriving`.
 
 -- the first line of a node: the ring turns from second 0
 abbrev pub first_line : Net → ℕ → List Green
@@ -52,16 +52,16 @@ abbrev pub AllAct : Net → ((ℕ → ℕ → Option (ℕ × ℕ)) → ℕ → �
 AllAct net under made rounds = (round node : ℕ) → round < rounds → node < length net.node_names → Acts net under made round node
 
 -- what passes the links until the last round is over
-abbrev pub past_by : Net → (ℕ → ℕ → ℕ) → (ℕ → ℕ → List Green) → ℕ → ℕ → Cumulative
-past_by net arriving made = past_of net arriving (shown_in net made) (end_of_run net)
+abbrev pub cumulative_by : Net → (ℕ → ℕ → ℕ) → (ℕ → ℕ → List Green) → ℕ → ℕ → Cumulative
+cumulative_by net arriving made = cumulative_under net arriving (shown_in net made) (end_of_run net)
 
 -- The record of a run, where `arriving second link` comes from outside: the nodes act in all rounds; it has the last line of each
 -- node, and what the world has counted of each link and in all when the last round is over.
 pub record IsActRunBy (net : Net) (arriving : ℕ → ℕ → ℕ) (made : ℕ → ℕ → List Green) (run : LineRun) : Type 0 where
-  pub acts : AllAct net (past_of net arriving) made (act_rounds net)
+  pub acts : AllAct net (cumulative_under net arriving) made (act_rounds net)
   pub timelines : run.timelines ≡ map (line_before (first_line net) made (act_rounds net)) (range_with_len 0 (length net.node_names))
-  pub links : run.links ≡ map (link_totals net (past_by net arriving made) (end_of_run net)) (range_with_len 0 (length net.link_names))
-  pub all : run.totals ≡ totals net arriving (past_by net arriving made) (end_of_run net)
+  pub links : run.links ≡ map (link_totals net (cumulative_by net arriving made) (end_of_run net)) (range_with_len 0 (length net.link_names))
+  pub all : run.totals ≡ totals net arriving (cumulative_by net arriving made) (end_of_run net)
 
 -- the record of the run of a network and arrivals
 pub record IsActRun (net : Net) (arriving : ℕ → ℕ → ℕ) (run : LineRun) : Type 0 where

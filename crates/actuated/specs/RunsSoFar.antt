@@ -4,7 +4,7 @@ use Rattle.control_flow.specs.Greens.{standing}
 use Rattle.control_flow.specs.declared.greens.Green.{Green}
 use Rattle.net_parts.specs.Numbers.{Net}
 use Rattle.net_parts.specs.Outline.{plan_at}
-use Rattle.net_simulator.specs.Flow.{Cumulative, past_of}
+use Rattle.net_simulator.specs.Flow.{Cumulative, cumulative_under}
 use Rattle.net_simulator.specs.Senses.{near_on}
 use Rattle.net_simulator.specs.Worlds.{Stands, WorldState, line_in, standing_by}
 use Rattle.signal_safety.specs.Rounds.{line_before}
@@ -36,6 +36,6 @@ pub record HaveActed (net : Net) (under : (ℕ → ℕ → Option (ℕ × ℕ)) 
 
 -- and the world without a store is the one that moved by them
 pub record HavePlayed (net : Net) (arriving : ℕ → ℕ → ℕ) (rounds : ℕ) (lines : List (List Green)) (w : WorldState) : Type 0 where
-  pub acted : HaveActed net (past_of net arriving) rounds lines
+  pub acted : HaveActed net (cumulative_under net arriving) rounds lines
   pub second : w.second ≡ rounds * act_step net
   pub stands : Stands net arriving (standing_by (line_in lines)) w

@@ -26,7 +26,7 @@ use Rattle.audit.proofs.SheetTextLaws.{one-sheet}
 use Rattle.audit.proofs.WrittenSheetLaws.{written-sheet}
 use Rattle.world_records.specs.Records.{header, records_text}
 use Rattle.audit.specs.Audits.{IsClean, IsCleanText}
-use Rattle.net_simulator.specs.Shown.{past_under}
+use Rattle.net_simulator.specs.Shown.{cumulative_of_lines}
 use Rattle.audit.proofs.CutLaws.{cut-clean, cut-line}
 
 -- the greens of a plan that begin before a second can be told
@@ -65,18 +65,18 @@ module _ (net : Net) (network : IsNetwork net) (arriving : ℕ → ℕ → ℕ) 
       product : (a b : ℕ) → a ≤ 600 → b ≤ 30 → a * b ≤ 18000
       product a b small short = grind (arith, small, short)
 
-  parsed-counts : (l : ℕ) → l < length net.link_names → AreToldCounts (link_totals net (past_under net arriving lines) end l)
+  parsed-counts : (l : ℕ) → l < length net.link_names → AreToldCounts (link_totals net (cumulative_of_lines net arriving lines) end l)
   parsed-counts l below =
       let entered = entered-small net network arriving shown few end l below in
       record {
         entered = omega (arith, entered, early);
-        left = omega (arith, left-entered net (past_under net arriving lines) end (sound-at net network arriving shown end) l end below (omega arith), entered, early);
+        left = omega (arith, left-entered net (cumulative_of_lines net arriving lines) end (sound-at net network arriving shown end) l end below (omega arith), entered, early);
         delay = omega (arith, delay-small net network arriving shown few end l below, early);
       }
 
-  parsed-sums : AreToldSums (totals net arriving (past_under net arriving lines) end)
+  parsed-sums : AreToldSums (totals net arriving (cumulative_of_lines net arriving lines) end)
   parsed-sums =
-      let past : ℕ → ℕ → Cumulative = past_under net arriving lines in
+      let past : ℕ → ℕ → Cumulative = cumulative_of_lines net arriving lines in
       let each = total-le (delay net past end) (λ l. 36000000000000) (length net.link_names) (λ l below. omega (arith, delay-small net network arriving shown few end l below, early)) in
       record {
         entered = omega (arith, few end);

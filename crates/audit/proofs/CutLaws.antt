@@ -16,7 +16,7 @@ use Rattle.net_simulator.proofs.FlowLaws.{history-same}
 use Rattle.audit.specs.declared.sheet.Sheet.{Sheet}
 use Rattle.audit.specs.WrittenSheets.{begun_before, cut_at}
 use Rattle.audit.specs.Audits.{IsClean}
-use Rattle.net_simulator.specs.Shown.{past_under}
+use Rattle.net_simulator.specs.Shown.{cumulative_of_lines}
 
 -- no row of a lawful line begins before a second that its first row does not begin before
 late-none : (plan : List Phase) (end : ℕ) (row : Green) (rows : List Green) → IsLawful plan (row ∷ rows) → end ≤ row.from → begun_before end rows ≡ []
@@ -74,7 +74,7 @@ module _ (net : Net) (arriving : ℕ → ℕ → ℕ) where
   cut-shows : (lines : List (List Green)) (second node : ℕ) → second < end_of_run net → standing_by (line_in (map (begun_before (end_of_run net)) lines)) second node ≡ standing_by (line_in lines) second node
   cut-shows lines second node before = ap (λ (rows : List Green). standing rows second) (cut-line (end_of_run net) lines node) ∙ begun-standing (end_of_run net) second (line_in lines node) before
 
-  past-cut : (lines : List (List Green)) → past_under net arriving (map (begun_before (end_of_run net)) lines) ≡ past_under net arriving lines
+  past-cut : (lines : List (List Green)) → cumulative_of_lines net arriving (map (begun_before (end_of_run net)) lines) ≡ cumulative_of_lines net arriving lines
   past-cut lines = ap passed_in (history-same net arriving arriving (standing_by (line_in (map (begun_before (end_of_run net)) lines))) (standing_by (line_in lines)) (end_of_run net) (λ x l h. refl) (λ x node before. cut-shows lines x node before))
 
   -- a clean sheet, cut at the end of the run

@@ -10,7 +10,7 @@ use Rattle.pruned_dp.specs.Bounded.{IsBounded}
 use Rattle.certificate_form.specs.CertificateText.{certificate_text}
 use Rattle.audit.specs.Audits as audits
 use Rattle.audit.specs.Audits.{IsClean}
-use Rattle.net_simulator.specs.Shown.{past_under}
+use Rattle.net_simulator.specs.Shown.{cumulative_of_lines}
 use Rattle.audit.specs.declared.findings.AuditWhy.{AuditWhy}
 use Rattle.cert_checker.specs.Verdicts.{IsWhy}
 use Rattle.cert_checker.specs.declared.Why.{Why}
@@ -96,7 +96,7 @@ IsTextOf (Audit net arr report) said bytes =
     IsClean said.0 said.1.0 said.1.1.0 × IsSafe said.0 (line_in said.1.1.0.lines) × (bytes ≡ accepted_line)
 IsTextOf (Queues net arr report) said bytes =
     IsClean said.0 said.1.0 said.1.1.0 × IsSafe said.0 (line_in said.1.1.0.lines)
-    × IsSeries said.0 (past_under said.0 said.1.0 said.1.1.0.lines) (end_of_run said.0) bytes
+    × IsSeries said.0 (cumulative_of_lines said.0 said.1.0 said.1.1.0.lines) (end_of_run said.0) bytes
 IsTextOf (Grid number side rounds) said bytes = IsGridSummary number side rounds bytes
 IsTextOf (Upgrade net) said bytes = IsUpgraded bytes said.0
 

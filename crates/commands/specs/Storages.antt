@@ -9,7 +9,7 @@ use Rattle.runs.specs.declared.records.RunRecord.{RunRecord}
 use Rattle.signal_safety.specs.Safe.{IsSafe}
 use Rattle.spillback_control.specs.SpillRuns.{IsActuatedIn, LastLinesShow, last_lines}
 use Rattle.spillback_world.specs.StoredTotals.{stored_totals}
-use Rattle.spillback_world.specs.Storage.{past_in}
+use Rattle.spillback_world.specs.Storage.{cumulative_in}
 use Rattle.spillback_world.specs.declared.totals.SpillTotals.{SpillTotals}
 use Rattle.commands.specs.Headline.{IsRunOf}
 use Rattle.commands.specs.Summary.{spilled_line}
@@ -17,7 +17,7 @@ use Rattle.commands.specs.Summary.{spilled_line}
 -- what is counted until the run ends where the signals show this and each link holds what the store says and no more
 abbrev pub spilled_under : Net → (ℕ → ℕ → ℕ) → List ℕ → (ℕ → ℕ → Option (ℕ × ℕ)) → SpillTotals
 spilled_under net arriving store shown =
-    stored_totals net arriving (past_in net arriving (slice_index store) shown (end_of_run net)) (end_of_run net)
+    stored_totals net arriving (cumulative_in net arriving (slice_index store) shown (end_of_run net)) (end_of_run net)
 
 -- The bytes are two lines: what is counted under the last lines of the run of the turn order, and under actuated control that
 -- senses the links as they then are: its last lines are lawful and safe, and show the greens by which that world moved.

@@ -21,7 +21,7 @@ use Rattle.net_simulator.specs.Worlds.{line_in, standing_by}
 use Rattle.schedule_meaning.specs.declared.planners.Answer.{Answer}
 use Rattle.schedule_meaning.specs.declared.planners.Answer.TheVariants.{Plan, NoPlan}
 use Rattle.runs.specs.Promises.{IsKeptRun}
-use Rattle.runs.specs.Runs.{past_by, line_before, shown_by}
+use Rattle.runs.specs.Runs.{cumulative_by, line_before, shown_by}
 use Rattle.runs.specs.declared.records.RunRecord.{RunRecord}
 use Rattle.net_simulator.proofs.AtNodes.{past-at-nodes}
 use Rattle.audit.specs.declared.sheet.Sheet.{Sheet}
@@ -29,7 +29,7 @@ use Rattle.audit.specs.SheetTexts.{HasShape}
 use Rattle.audit.specs.SheetRecords.{parse_fields}
 use Rattle.audit.specs.WrittenSheets.{IsPassedOver, sheet_records}
 use Rattle.audit.specs.Audits.{IsClean, IsCleanText}
-use Rattle.net_simulator.specs.Shown.{past_under}
+use Rattle.net_simulator.specs.Shown.{cumulative_of_lines}
 use Rattle.audit.proofs.CleanTexts.{clean-text}
 use Rattle.world_records.specs.Records.{header, records_text}
 use Rattle.delay_report.specs.Reports.{answer_fields, plan_record, report_records, report_text, step_record, step_record_at}
@@ -60,11 +60,11 @@ module _ (net : Net) (network : IsNetwork net) (arriving : ℕ → ℕ → ℕ) 
   sheet = record { lines = run.timelines; links = run.links; totals = run.totals }
 
   -- the world moved as the last lines show
-  same-past : past_by net arriving made end ≡ past_under net arriving run.timelines
+  same-past : cumulative_by net arriving made end ≡ cumulative_of_lines net arriving run.timelines
   same-past = sym (past-at-nodes net network arriving (standing_by (line_in run.timelines)) (shown_by net made) end (λ x node before below. kept.kept.greens x node before below))
 
-  counted : (l : ℕ) → l < length net.link_names → counts_at run.links l ≡ link_totals net (past_by net arriving made end) end l
-  counted l below = ap (λ links. counts_at links l) kept.run.by.links ∙ get_or-map-range_with_len (link_totals net (past_by net arriving made end) end) 0 (length net.link_names) l l no_totals below (omega arith)
+  counted : (l : ℕ) → l < length net.link_names → counts_at run.links l ≡ link_totals net (cumulative_by net arriving made end) end l
+  counted l below = ap (λ links. counts_at links l) kept.run.by.links ∙ get_or-map-range_with_len (link_totals net (cumulative_by net arriving made end) end) 0 (length net.link_names) l l no_totals below (omega arith)
 
   sheet-clean : IsClean net arriving sheet
   sheet-clean = record {
@@ -76,7 +76,7 @@ module _ (net : Net) (network : IsNetwork net) (arriving : ℕ → ℕ → ℕ) 
   sheet-shape : HasShape net sheet
   sheet-shape = record {
     lines = ap length kept.run.by.timelines ∙ length-map-range_with_len (line_before net made net.run.rounds) 0 (length net.node_names);
-    links = ap length kept.run.by.links ∙ length-map-range_with_len (link_totals net (past_by net arriving made end) end) 0 (length net.link_names);
+    links = ap length kept.run.by.links ∙ length-map-range_with_len (link_totals net (cumulative_by net arriving made end) end) 0 (length net.link_names);
   }
 
   -- the records of the report

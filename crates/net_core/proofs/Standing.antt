@@ -17,7 +17,7 @@ use Rattle.intersection_actor.specs.declared.records.PlanRecord.{PlanRecord}
 use Rattle.intersection_actor.specs.declared.records.Want.{Want}
 use Rattle.intersection_actor.specs.declared.records.Want.TheVariants.{Read, Commit, Publish, Done}
 use Rattle.net_parts.specs.Numbers.{Net}
-use Rattle.net_simulator.specs.Flow.{past_of}
+use Rattle.net_simulator.specs.Flow.{cumulative_under}
 use Rattle.net_simulator.specs.Senses.{sense}
 use Rattle.net_simulator.specs.Worlds.{IsWorldOf, WorldState, Stands, standing_by}
 use Rattle.outflow.specs.Outflow.{departures, told_forecast}
@@ -67,7 +67,7 @@ module _ (net : Net) (network : IsNetwork net) (arrivals : Amounts) (p : Parts) 
 
     pub on-begun : {E : Type 0} (r : Result (Unit {0}) E) (old new : Acting) → old ≡ get_or p.actors.all.items node old → IsOf net new
         → ((arriving : ℕ → ℕ → ℕ) (lines : ℕ → List Green) → Stands net arriving (standing_by lines) p.world
-        → OnOk r (Settles net (reading (heard_links net old.node)) (begun net p.round (sense net (past_of net arriving (standing_by lines) p.world.second) p.world.second node) old) new))
+        → OnOk r (Settles net (reading (heard_links net old.node)) (begun net p.round (sense net (cumulative_under net arriving (standing_by lines) p.world.second) p.world.second node) old) new))
         → OnOk r (Begins net arrivals p.history.items p.round (set p.actors.all.items node new) p.boards.items p.world p.plans (node + 1))
     on-begun r old new is of_new settles =
         on_ok_weaker r (begins-more net network arrivals p.history.items p.round p.boards.items p.world p.plans p.actors.all.items node inside b old new (at-any p.actors.all.items node old begin-there is) of_new)

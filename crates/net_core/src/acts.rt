@@ -6,7 +6,7 @@ ghost use Rattle.control_flow.specs.declared.greens.Green.{Green};
 ghost use Rattle.intersection_actor.specs.Acting.{begun, reading, tells_from, with_heard};
 ghost use Rattle.intersection_actor.specs.Rounds.{IsOf};
 ghost use Rattle.net_core.specs.Acts.{HasTold, Settles};
-ghost use Rattle.net_simulator.specs.Flow.{past_of};
+ghost use Rattle.net_simulator.specs.Flow.{cumulative_under};
 ghost use Rattle.net_simulator.specs.Senses.{sense};
 ghost use Rattle.net_simulator.specs.Worlds.{IsWorldOf, Stands, standing_by};
 ghost use Rattle.outflow.specs.Outflow.{departures, told_forecast};
@@ -59,8 +59,8 @@ pub(crate) fn begin<P: Planner>(
         → Stands net.now arriving (standing_by lines) world.now
         → OnOk result (Settles net.now (reading (heard_links net.now actor.old.node))
         (begun net.now round
-        (sense net.now (past_of net.now arriving (standing_by lines) world.now.second) world.now.second node) actor.old)
-        actor.new) }
+        (sense net.now (cumulative_under net.now arriving (standing_by lines) world.now.second) world.now.second node)
+        actor.old) actor.new) }
     ensures of { IsOf net.now actor.new }
 {
     let spare = actor.take_spare(alloc);

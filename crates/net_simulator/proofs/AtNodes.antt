@@ -7,7 +7,7 @@ use Rattle.std.proofs.lemmas.List.Elements.{All-get_or}
 use Rattle.net_parts.specs.Numbers.{Net, no_link}
 use Rattle.net_parts.specs.Outline.{IsLink, link_at}
 use Rattle.road_net.specs.Network.{IsNetwork}
-use Rattle.net_simulator.specs.Flow.{Cumulative, discharged, discharged_to, history, passed_in, past_of}
+use Rattle.net_simulator.specs.Flow.{Cumulative, discharged, discharged_to, history, passed_in, cumulative_under}
 use Rattle.net_simulator.specs.Moves.{history_by}
 use Rattle.net_simulator.proofs.MoveLaws.{flowing, same-history, by-same}
 
@@ -32,5 +32,5 @@ module _ (net : Net) (network : IsNetwork net) (arriving : ℕ → ℕ → ℕ) 
       ∙ by-same net (flowing net arriving shown) (flowing net arriving seen) n (λ x h. record { goes = λ l b. discharged-same (passed_in (history_by net (flowing net arriving seen) x)) x (λ k below. same x k h below) l; comes = λ l b. refl })
       ∙ sym (same-history net arriving seen n)
 
-  pub past-at-nodes : (n : ℕ) → ((x node : ℕ) → x < n → node < length net.node_names → shown x node ≡ seen x node) → past_of net arriving shown n ≡ past_of net arriving seen n
+  pub past-at-nodes : (n : ℕ) → ((x node : ℕ) → x < n → node < length net.node_names → shown x node ≡ seen x node) → cumulative_under net arriving shown n ≡ cumulative_under net arriving seen n
   past-at-nodes n same = ap passed_in (history-at-nodes n same)

@@ -1,21 +1,21 @@
 -- How the past of a network grows.
 use Rattle.std.proofs.Common.{◌≡◌, ℕ, suc, ◌+◌, ◌<◌, ◌≤◌, Option, length, sym, ap, ◌∙◌}
 use Rattle.net_parts.specs.Numbers.{Net}
-use Rattle.net_simulator.specs.Flow.{nothing, passed_in, discharged, passing, history, past_of}
+use Rattle.net_simulator.specs.Flow.{nothing, passed_in, discharged, passing, history, cumulative_under}
 use Rattle.net_simulator.specs.Moves.{history_by}
 use Rattle.net_simulator.proofs.MoveLaws.{flowing, same-history, kept-by, next-by, none-by, by-same}
 
 module _ (net : Net) (arriving : ℕ → ℕ → ℕ) (shown : ℕ → ℕ → Option (ℕ × ℕ)) where
   -- a further second leaves the past as it was
-  pub past-kept : (x n l : ℕ) → n ≤ x → past_of net arriving shown (suc x) n l ≡ past_of net arriving shown x n l
+  pub past-kept : (x n l : ℕ) → n ≤ x → cumulative_under net arriving shown (suc x) n l ≡ cumulative_under net arriving shown x n l
   past-kept x n l h = rw (same-history net arriving shown (suc x), same-history net arriving shown x) (kept-by net (flowing net arriving shown) x n l h)
 
   -- and adds what passes in it
-  pub past-next : (x l : ℕ) → l < length net.link_names → past_of net arriving shown (suc x) (x + 1) l ≡ passing net (arriving x) (shown x) (past_of net arriving shown x) x l
+  pub past-next : (x l : ℕ) → l < length net.link_names → cumulative_under net arriving shown (suc x) (x + 1) l ≡ passing net (arriving x) (shown x) (cumulative_under net arriving shown x) x l
   past-next x l h = rw (same-history net arriving shown (suc x), same-history net arriving shown x) (next-by net (flowing net arriving shown) x l h)
 
   -- at first nothing has passed
-  pub past-none : (now l : ℕ) → past_of net arriving shown now 0 l ≡ nothing
+  pub past-none : (now l : ℕ) → cumulative_under net arriving shown now 0 l ≡ nothing
   past-none now l = rw (same-history net arriving shown now) (none-by net (flowing net arriving shown) now l)
 
 -- only what is shown and what arrives in the seconds below n counts for the first n seconds

@@ -36,15 +36,15 @@ moved-alike net m k past x alike l inside =
 
 module _ (net : Net) (rule : List (List Cumulative) → ℕ → Moves) where
   -- what passed each link in the first n seconds, for n up to `now`
-  abbrev pub past_by : ℕ → ℕ → ℕ → Cumulative
-  past_by now = passed_in (history_by net rule now)
+  abbrev pub cumulative_by : ℕ → ℕ → ℕ → Cumulative
+  cumulative_by now = passed_in (history_by net rule now)
 
   -- what moves in a second
   abbrev pub moves_by : ℕ → Moves
   moves_by x = rule (history_by net rule x) x
 
   abbrev row : ℕ → List Cumulative
-  row x = map (moved net (moves_by x) (past_by x) x) (range_with_len 0 (length net.link_names))
+  row x = map (moved net (moves_by x) (cumulative_by x) x) (range_with_len 0 (length net.link_names))
 
   -- there is one row more than seconds
   pub length-by : (n : ℕ) → length (history_by net rule n) ≡ n + 1
@@ -53,27 +53,27 @@ module _ (net : Net) (rule : List (List Cumulative) → ℕ → Moves) where
   length-by (suc x) = omega (arith, length-by x, length-append (history_by net rule x) (row x ∷ []))
 
   -- a further second leaves the past as it was
-  pub kept-by : (x n l : ℕ) → n ≤ x → past_by (suc x) n l ≡ past_by x n l
+  pub kept-by : (x n l : ℕ) → n ≤ x → cumulative_by (suc x) n l ≡ cumulative_by x n l
   unfolding history_by
   kept-by x n l h =
       let inside : n < length (history_by net rule x) = omega (arith, length-by x) in
       ap (λ r. get_or r l nothing) (get_or-append (history_by net rule x) (row x ∷ []) [] n inside)
 
   -- and adds what moves in it
-  pub next-by : (x l : ℕ) → l < length net.link_names → past_by (suc x) (x + 1) l ≡ moved net (moves_by x) (past_by x) x l
+  pub next-by : (x l : ℕ) → l < length net.link_names → cumulative_by (suc x) (x + 1) l ≡ moved net (moves_by x) (cumulative_by x) x l
   unfolding history_by
   next-by x l h =
       let at : get_or (history_by net rule x ++ row x ∷ []) (x + 1) [] ≡ row x = ap (λ i. get_or (history_by net rule x ++ row x ∷ []) i []) (sym (length-by x)) ∙ get_or-append_seam (history_by net rule x) (row x) [] [] in
-      ap (λ r. get_or r l nothing) at ∙ get_or-map-range_with_len (moved net (moves_by x) (past_by x) x) 0 (length net.link_names) l l nothing h (omega arith)
+      ap (λ r. get_or r l nothing) at ∙ get_or-map-range_with_len (moved net (moves_by x) (cumulative_by x) x) 0 (length net.link_names) l l nothing h (omega arith)
 
   -- at first nothing has passed
-  pub none-by : (now l : ℕ) → past_by now 0 l ≡ nothing
+  pub none-by : (now l : ℕ) → cumulative_by now 0 l ≡ nothing
   unfolding history_by
   none-by zero l = refl
   none-by (suc x) l = kept-by x 0 l (omega arith) ∙ none-by x l
 
   -- before the first second nothing has passed
-  pub zero-by : (n l : ℕ) → past_by 0 n l ≡ nothing
+  pub zero-by : (n l : ℕ) → cumulative_by 0 n l ≡ nothing
   unfolding history_by
   zero-by zero l = refl
   zero-by (suc n) l = refl

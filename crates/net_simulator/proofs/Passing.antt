@@ -11,7 +11,7 @@ use Rattle.control_flow.specs.Greens.{green_at, covers}
 use Rattle.net_simulator.specs.declared.totals.LinkTotals.{LinkTotals}
 use Rattle.net_simulator.specs.declared.totals.Totals.{Totals}
 use Rattle.road_net.specs.Totals.{total}
-use Rattle.net_simulator.specs.Flow.{Cumulative, passed_in, nothing, queue, waiting, discharged, entered_in, past_of}
+use Rattle.net_simulator.specs.Flow.{Cumulative, passed_in, nothing, queue, waiting, discharged, entered_in, cumulative_under}
 use Rattle.arrivals.specs.Amounts.{Amounts, AreArrivals, arriving_of}
 use Rattle.net_simulator.specs.Sums.{outward, arrived, total_left, on_road, delay, link_totals, totals, AreFew}
 use Rattle.net_simulator.specs.Moves.{Moves}
@@ -56,27 +56,27 @@ same-totals s t a b c d = λ i. record { entered = a i; left = b i; on = c i; de
 
 -- what holds of every world, of the world that stands
 module _ (net : Net) (network : IsNetwork net) (arriving : ℕ → ℕ → ℕ) (shown : ℕ → ℕ → Option (ℕ × ℕ)) where
-  pub sound-at : (n : ℕ) → IsSound net (past_of net arriving shown n) n
-  sound-at = are-sound net network (flows net arriving shown) (past_of net arriving shown) (flow-moved net arriving shown)
+  pub sound-at : (n : ℕ) → IsSound net (cumulative_under net arriving shown n) n
+  sound-at = are-sound net network (flows net arriving shown) (cumulative_under net arriving shown) (flow-moved net arriving shown)
 
-  pub whole-at : (n : ℕ) → on_road net (past_of net arriving shown n) n + total_left net (past_of net arriving shown n) n ≡ arrived net arriving n
-  whole-at = all-there net network (flows net arriving shown) (past_of net arriving shown) (flow-moved net arriving shown)
+  pub whole-at : (n : ℕ) → on_road net (cumulative_under net arriving shown n) n + total_left net (cumulative_under net arriving shown n) n ≡ arrived net arriving n
+  whole-at = all-there net network (flows net arriving shown) (cumulative_under net arriving shown) (flow-moved net arriving shown)
 
 module _ (net : Net) (network : IsNetwork net) (arriving : ℕ → ℕ → ℕ) (shown : ℕ → ℕ → Option (ℕ × ℕ)) (arrivals : AreFew net arriving) where
-  pub on-road-most : (n : ℕ) → on_road net (past_of net arriving shown n) n ≤ 2000000000
-  on-road-most = road-most net network (flows net arriving shown) (past_of net arriving shown) (flow-moved net arriving shown) arrivals
+  pub on-road-most : (n : ℕ) → on_road net (cumulative_under net arriving shown n) n ≤ 2000000000
+  on-road-most = road-most net network (flows net arriving shown) (cumulative_under net arriving shown) (flow-moved net arriving shown) arrivals
 
-  pub gone-most : (n : ℕ) → total_left net (past_of net arriving shown n) n ≤ 2000000000
-  gone-most = out-most net network (flows net arriving shown) (past_of net arriving shown) (flow-moved net arriving shown) arrivals
+  pub gone-most : (n : ℕ) → total_left net (cumulative_under net arriving shown n) n ≤ 2000000000
+  gone-most = out-most net network (flows net arriving shown) (cumulative_under net arriving shown) (flow-moved net arriving shown) arrivals
 
-  pub entering-most : (x l : ℕ) → l < length net.link_names → entered_in net (arriving x) (shown x) (past_of net arriving shown x) x l ≤ 2000000000
-  entering-most = enters-most net network (flows net arriving shown) (past_of net arriving shown) (flow-moved net arriving shown) arrivals
+  pub entering-most : (x l : ℕ) → l < length net.link_names → entered_in net (arriving x) (shown x) (cumulative_under net arriving shown x) x l ≤ 2000000000
+  entering-most = enters-most net network (flows net arriving shown) (cumulative_under net arriving shown) (flow-moved net arriving shown) arrivals
 
-  pub entered-small : (n l : ℕ) → l < length net.link_names → (past_of net arriving shown n n l).entered ≤ n * 2000000000
-  entered-small = entered-most net network (flows net arriving shown) (past_of net arriving shown) (flow-moved net arriving shown) arrivals
+  pub entered-small : (n l : ℕ) → l < length net.link_names → (cumulative_under net arriving shown n n l).entered ≤ n * 2000000000
+  entered-small = entered-most net network (flows net arriving shown) (cumulative_under net arriving shown) (flow-moved net arriving shown) arrivals
 
-  pub delay-small : (n l : ℕ) → l < length net.link_names → delay net (past_of net arriving shown n) n l ≤ n * 2000000000
-  delay-small = delay-within net network (flows net arriving shown) (past_of net arriving shown) (flow-moved net arriving shown) arrivals
+  pub delay-small : (n l : ℕ) → l < length net.link_names → delay net (cumulative_under net arriving shown n) n l ≤ n * 2000000000
+  delay-small = delay-within net network (flows net arriving shown) (cumulative_under net arriving shown) (flow-moved net arriving shown) arrivals
 
 -- what the code does in second x
 pub record IsStep (net : Net) (arriving : ℕ → ℕ) (x : ℕ) (greens : List (Option Green)) (rs1 lv : List ℕ) (w v : WorldState) : Type 0 where
@@ -97,18 +97,18 @@ pub record IsStep (net : Net) (arriving : ℕ → ℕ) (x : ℕ) (greens : List 
 
 module _ (net : Net) (network : IsNetwork net) (arriving : ℕ → ℕ → ℕ) (lines : ℕ → List Green) (arrivals : AreFew net arriving) (w : WorldState) (stands : Stands net arriving (standing_by lines) w) where
   abbrev past : ℕ → ℕ → ℕ → Cumulative
-  past = past_of net arriving (standing_by lines)
+  past = cumulative_under net arriving (standing_by lines)
 
   abbrev before : ℕ → ℕ → Cumulative
-  before = past_of net arriving (standing_by lines) w.second
+  before = cumulative_under net arriving (standing_by lines) w.second
 
   abbrev moves : ℕ → Moves
   moves = flows net arriving (standing_by lines)
 
-  course : AreMoved net (flows net arriving (standing_by lines)) (past_of net arriving (standing_by lines))
+  course : AreMoved net (flows net arriving (standing_by lines)) (cumulative_under net arriving (standing_by lines))
   course = flow-moved net arriving (standing_by lines)
 
-  abbrev sound : IsSound net (past_of net arriving (standing_by lines) w.second) w.second
+  abbrev sound : IsSound net (cumulative_under net arriving (standing_by lines) w.second) w.second
   sound = sound-at net network arriving (standing_by lines) w.second
 
   -- what waits in this second
@@ -163,7 +163,7 @@ module _ (net : Net) (network : IsNetwork net) (arriving : ℕ → ℕ → ℕ) 
   stands-next greens rs1 lv v below second shape seen step =
       let x : ℕ = w.second in
       let S : ℕ → ℕ → Option (ℕ × ℕ) = standing_by lines in
-      let Q : ℕ → ℕ → Cumulative = past_of net arriving S (x + 1) in
+      let Q : ℕ → ℕ → Cumulative = cumulative_under net arriving S (x + 1) in
       let on : Continues net (moves x) x before Q = next-one net moves past course x in
       let leaves = leaves-now greens rs1 lv seen step.arrives-others step.leaves in
       let recent : (l : ℕ) → l < length net.link_names → cell v.recent l x ≡ arriving x l + total (λ k. split_of (turns_at net k) (slice_index lv k) l) (length net.link_names) = λ l h. omega (arith, step.enters l h, step.arrives l h) in
@@ -187,10 +187,10 @@ module _ (net : Net) (network : IsNetwork net) (arriving : ℕ → ℕ → ℕ) 
       record {
         shape = shape;
         by = omega (arith, second);
-        keeps = subst (λ n. Keeps net (past_of net arriving S n) v.queues v.recent v.waits n) (sym second) keeps;
-        counts = λ l h. subst (λ n. counts_at v.counts l ≡ link_totals net (past_of net arriving S n) n l) (sym second) (counts l h);
-        totals = subst (λ n. v.totals ≡ totals net arriving (past_of net arriving S n) n) (sym second) (same-totals v.totals (totals net arriving Q (x + 1)) all-entered all-left all-on all-delay);
-        stood = λ l h. subst (λ n. slice_index v.stood l ≡ stood net (past_of net arriving S n) n l) (sym second) (standing l h);
+        keeps = subst (λ n. Keeps net (cumulative_under net arriving S n) v.queues v.recent v.waits n) (sym second) keeps;
+        counts = λ l h. subst (λ n. counts_at v.counts l ≡ link_totals net (cumulative_under net arriving S n) n l) (sym second) (counts l h);
+        totals = subst (λ n. v.totals ≡ totals net arriving (cumulative_under net arriving S n) n) (sym second) (same-totals v.totals (totals net arriving Q (x + 1)) all-entered all-left all-on all-delay);
+        stood = λ l h. subst (λ n. slice_index v.stood l ≡ stood net (cumulative_under net arriving S n) n l) (sym second) (standing l h);
       }
 
   -- a queue has stood for no longer than the world
@@ -203,7 +203,7 @@ module _ (net : Net) (network : IsNetwork net) (arriving : ℕ → ℕ → ℕ) 
       let n : ℕ = w.second in
       let S : ℕ → ℕ → Option (ℕ × ℕ) = standing_by lines in
       let small = entered-small net network arriving S arrivals n l h in
-      let less = left-entered net (past_of net arriving S n) n (sound-at net network arriving S n) l n h (omega arith) in
+      let less = left-entered net (cumulative_under net arriving S n) n (sound-at net network arriving S n) l n h (omega arith) in
       record {
         entered = omega (arith, ap (λ (q : LinkTotals). q.entered) (stands.counts l h), small);
         left = omega (arith, ap (λ (q : LinkTotals). q.left) (stands.counts l h), small, less);
@@ -222,14 +222,14 @@ outward-none None = refl
 outward-none (Some node) = refl
 
 -- before the first second nothing has passed
-past-zero : (net : Net) (arriving : ℕ → ℕ → ℕ) (shown : ℕ → ℕ → Option (ℕ × ℕ)) (n l : ℕ) → past_of net arriving shown 0 n l ≡ nothing
+past-zero : (net : Net) (arriving : ℕ → ℕ → ℕ) (shown : ℕ → ℕ → Option (ℕ × ℕ)) (n l : ℕ) → cumulative_under net arriving shown 0 n l ≡ nothing
 past-zero net arriving shown n l = rw (same-history net arriving shown 0) (zero-by net (flowing net arriving shown) n l)
 
 pub stands-new : (net : Net) (arriving : ℕ → ℕ → ℕ) (shown : ℕ → ℕ → Option (ℕ × ℕ)) (w : WorldState) → w.second ≡ 0 → HasShape net w → ((k : ℕ) → get_or w.queues k 0 ≡ 0) → ((k : ℕ) → get_or w.recent k 0 ≡ 0) → ((k : ℕ) → get_or w.waits k 0 ≡ 0) → ((k : ℕ) → get_or w.stood k 0 ≡ 0)
     → ((k : ℕ) → counts_at w.counts k ≡ no_totals) → w.totals ≡ record { entered = 0; left = 0; on = 0; delay = 0 } → Stands net arriving shown w
 stands-new net arriving shown w at shape qs rs ws ss cs ts =
-    let P : ℕ → ℕ → Cumulative = past_of net arriving shown w.second in
-    let none : (n l : ℕ) → P n l ≡ nothing = λ n l. ap (λ x. past_of net arriving shown x n l) at ∙ past-zero net arriving shown n l in
+    let P : ℕ → ℕ → Cumulative = cumulative_under net arriving shown w.second in
+    let none : (n l : ℕ) → P n l ≡ nothing = λ n l. ap (λ x. cumulative_under net arriving shown x n l) at ∙ past-zero net arriving shown n l in
     let in-none : (n l : ℕ) → (P n l).entered ≡ 0 = λ n l. ap (λ (q : Cumulative). q.entered) (none n l) in
     let out-none : (n l : ℕ) → (P n l).left ≡ 0 = λ n l. ap (λ (q : Cumulative). q.left) (none n l) in
     let no-delay : (l : ℕ) → delay net P w.second l ≡ 0 = λ l. ap (λ n. delay net P n l) at in

@@ -4,9 +4,9 @@ use Rattle.std.proofs.lemmas.Bool.{cond_both, cases_lt}
 use Rattle.std.proofs.lemmas.Bool.Decides.{eqb_tells}
 use Rattle.net_parts.specs.Numbers.{Net}
 use Rattle.net_parts.specs.Outline.{link_at}
-use Rattle.net_simulator.specs.Flow.{Cumulative, nothing, reached, waiting, may_go, discharged_to, history, past_of}
+use Rattle.net_simulator.specs.Flow.{Cumulative, nothing, reached, waiting, may_go, discharged_to, history, cumulative_under}
 use Rattle.net_simulator.specs.Moves.{Moves, moved}
-use Rattle.net_simulator.proofs.MoveLaws.{flowing, past_by, moves_by, kept-by, next-by, none-by}
+use Rattle.net_simulator.proofs.MoveLaws.{flowing, cumulative_by, moves_by, kept-by, next-by, none-by}
 use Rattle.net_simulator.proofs.FlowLaws.{past-kept, past-next, past-none}
 
 pub discharged_to-most : (net : Net) (shown : ℕ → Option (ℕ × ℕ)) (past : ℕ → ℕ → Cumulative) (x l : ℕ) (to : Option ℕ) → discharged_to net shown past x l to ≤ waiting net past x l
@@ -33,7 +33,7 @@ pub next-one : (net : Net) (moves : ℕ → Moves) (past : ℕ → ℕ → ℕ �
 next-one net moves past all x = subst (λ n. Continues net (moves x) x (past x) (past n)) (sym (add-one x)) (all.next x)
 
 -- what a rule moves goes on, where it takes no more than waits
-pub rule-moved : (net : Net) (rule : List (List Cumulative) → ℕ → Moves) → ((x l : ℕ) → l < length net.link_names → (moves_by net rule x).goes l ≤ waiting net (past_by net rule x) x l) → AreMoved net (moves_by net rule) (past_by net rule)
+pub rule-moved : (net : Net) (rule : List (List Cumulative) → ℕ → Moves) → ((x l : ℕ) → l < length net.link_names → (moves_by net rule x).goes l ≤ waiting net (cumulative_by net rule x) x l) → AreMoved net (moves_by net rule) (cumulative_by net rule)
 rule-moved net rule most = record {
   first = none-by net rule zero;
   next = λ x. record { kept = kept-by net rule x; next = next-by net rule x };
@@ -44,11 +44,11 @@ rule-moved net rule most = record {
 abbrev pub flows : Net → (ℕ → ℕ → ℕ) → (ℕ → ℕ → Option (ℕ × ℕ)) → ℕ → Moves
 flows net arriving shown x = flowing net arriving shown (history net arriving shown x) x
 
-pub flow-moved : (net : Net) (arriving : ℕ → ℕ → ℕ) (shown : ℕ → ℕ → Option (ℕ × ℕ)) → AreMoved net (flows net arriving shown) (past_of net arriving shown)
+pub flow-moved : (net : Net) (arriving : ℕ → ℕ → ℕ) (shown : ℕ → ℕ → Option (ℕ × ℕ)) → AreMoved net (flows net arriving shown) (cumulative_under net arriving shown)
 flow-moved net arriving shown = record {
   first = past-none net arriving shown 0;
   next = λ x. record { kept = past-kept net arriving shown x; next = past-next net arriving shown x };
-  most = λ x l h. discharged_to-most net (shown x) (past_of net arriving shown x) x l (link_at net l).to;
+  most = λ x l h. discharged_to-most net (shown x) (cumulative_under net arriving shown x) x l (link_at net l).to;
 }
 
 grows-step : (net : Net) (m : Moves) (x : ℕ) (before after : ℕ → ℕ → Cumulative) → Continues net m x before after → IsSound net before x

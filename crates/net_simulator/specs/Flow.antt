@@ -75,5 +75,5 @@ history net arriving shown zero = [] ∷ []
 history net arriving shown (suc x) = longer net (arriving x) (shown x) x (history net arriving shown x)
 
 -- what passed each link in the first n seconds, for n up to `now`
-abbrev pub past_of : Net → (ℕ → ℕ → ℕ) → (ℕ → ℕ → Option (ℕ × ℕ)) → ℕ → ℕ → ℕ → Cumulative
-past_of net arriving shown now = passed_in (history net arriving shown now)
+abbrev pub cumulative_under : Net → (ℕ → ℕ → ℕ) → (ℕ → ℕ → Option (ℕ × ℕ)) → ℕ → ℕ → ℕ → Cumulative
+cumulative_under net arriving shown now = passed_in (history net arriving shown now)

@@ -4,7 +4,7 @@ use Rattle.net_parts.specs.Limits.{most_seconds, most_travel}
 use Rattle.net_parts.specs.Numbers.{Net}
 use Rattle.control_flow.specs.declared.greens.Green.{Green}
 use Rattle.control_flow.specs.Greens.{standing}
-use Rattle.net_simulator.specs.Flow.{Cumulative, queue, past_of}
+use Rattle.net_simulator.specs.Flow.{Cumulative, queue, cumulative_under}
 use Rattle.arrivals.specs.Amounts.{Amounts, AreArrivals, arriving_of}
 use Rattle.net_simulator.specs.Sums.{link_totals, totals}
 use Rattle.net_simulator.specs.Rows.{cell, kept_seconds}
@@ -53,10 +53,10 @@ pub record Keeps (net : Net) (past : ℕ → ℕ → Cumulative) (qs rs ws : Lis
 pub record Stands (net : Net) (arriving : ℕ → ℕ → ℕ) (shown : ℕ → ℕ → Option (ℕ × ℕ)) (w : WorldState) : Type 0 where
   pub shape : HasShape net w
   pub by : w.second ≤ most_seconds
-  pub keeps : Keeps net (past_of net arriving shown w.second) w.queues w.recent w.waits w.second
-  pub counts : (l : ℕ) → l < length net.link_names → counts_at w.counts l ≡ link_totals net (past_of net arriving shown w.second) w.second l
-  pub totals : w.totals ≡ totals net arriving (past_of net arriving shown w.second) w.second
-  pub stood : (l : ℕ) → l < length net.link_names → slice_index w.stood l ≡ stood net (past_of net arriving shown w.second) w.second l
+  pub keeps : Keeps net (cumulative_under net arriving shown w.second) w.queues w.recent w.waits w.second
+  pub counts : (l : ℕ) → l < length net.link_names → counts_at w.counts l ≡ link_totals net (cumulative_under net arriving shown w.second) w.second l
+  pub totals : w.totals ≡ totals net arriving (cumulative_under net arriving shown w.second) w.second
+  pub stood : (l : ℕ) → l < length net.link_names → slice_index w.stood l ≡ stood net (cumulative_under net arriving shown w.second) w.second l
 
 -- a world stands for this network with some arrivals and timelines
 pub record IsWorldOf (net : Net) (w : WorldState) : Type 0 where

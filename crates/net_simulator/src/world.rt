@@ -7,7 +7,7 @@ ghost use Rattle.control_flow.specs.declared.greens.Green.{Green};
 ghost use Rattle.control_flow.specs.Greens.{green_at, standing};
 ghost use Rattle.net_parts.specs.Numbers.{Net};
 ghost use Rattle.net_simulator.specs.Counts.{counts_at, no_totals, IsBalanced};
-ghost use Rattle.net_simulator.specs.Flow.{past_of};
+ghost use Rattle.net_simulator.specs.Flow.{cumulative_under};
 ghost use Rattle.net_simulator.specs.Senses.{near_on, sense};
 ghost use Rattle.net_simulator.specs.Worlds.{WorldState, Stands, IsWorldOf, standing_by};
 ghost use Rattle.road_net.specs.Senses.{IsSensedOf};
@@ -145,7 +145,8 @@ impl World {
         ensures value { (arriving : ℕ → ℕ → ℕ) (lines : ℕ → List Green)
             → Stands net.now arriving (standing_by lines) self.now
             → IfOk result (λ s. s ≡
-            sense net.now (past_of net.now arriving (standing_by lines) self.now.second) self.now.second node) }
+            sense net.now (cumulative_under net.now arriving (standing_by lines) self.now.second)
+            self.now.second node) }
     {
         self.sense_again(alloc, net, node, Vec::new(alloc))
     }
@@ -169,7 +170,8 @@ impl World {
         ensures value { (arriving : ℕ → ℕ → ℕ) (lines : ℕ → List Green)
             → Stands net.now arriving (standing_by lines) self.now
             → IfOk result (λ s. s ≡
-            sense net.now (past_of net.now arriving (standing_by lines) self.now.second) self.now.second node) }
+            sense net.now (cumulative_under net.now arriving (standing_by lines) self.now.second)
+            self.now.second node) }
     {
         let sight = Sight {
             net,
@@ -195,7 +197,7 @@ impl World {
         requires world { IsWorldOf net.now self.now }
         ensures { (arriving : ℕ → ℕ → ℕ) (lines : ℕ → List Green)
             → Stands net.now arriving (standing_by lines) self.now
-            → result ≡ near_on net.now (past_of net.now arriving (standing_by lines) self.now.second)
+            → result ≡ near_on net.now (cumulative_under net.now arriving (standing_by lines) self.now.second)
             self.now.second gap link }
     {
         law_of_network(net);

@@ -22,7 +22,7 @@ use Rattle.intersection_actor.specs.Commits.{Commitment, IsCommit, record_of}
 use Rattle.intersection_actor.specs.declared.records.PlanRecord.{PlanRecord}
 use Rattle.histories.specs.Calls.{IsRising, step_of}
 use Rattle.net_parts.specs.Numbers.{Net}
-use Rattle.net_simulator.specs.Flow.{past_of}
+use Rattle.net_simulator.specs.Flow.{cumulative_under}
 use Rattle.net_simulator.specs.Senses.{sense}
 use Rattle.net_simulator.specs.Worlds.{WorldState, Stands, standing_by}
 use Rattle.node_rounds.specs.Nodes.{IsRoundOf, NodeRound}
@@ -139,7 +139,7 @@ module _ (net : Net) (network : IsNetwork net) (arrivals : Amounts) (round : ℕ
       sensed-is : (n : ℕ) → n < N → (did n).sensed ≡ sensed_in net (arriving_of arrivals) b.made round n
       sensed-is n below =
           (did-is n below).sensed (arriving_of arrivals) (line_before net b.made round) (before-stands net network (arriving_of arrivals) round b.heard b.made b.most b.commits world b.second b.stands)
-          ∙ ap (λ k. sense net (past_of net (arriving_of arrivals) (standing_by (line_before net b.made round)) world.second) world.second k) (node-is n below)
+          ∙ ap (λ k. sense net (cumulative_under net (arriving_of arrivals) (standing_by (line_before net b.made round)) world.second) world.second k) (node-is n below)
           ∙ sense-is net network (arriving_of arrivals) round b.heard b.made b.most b.commits world b.second n
 
       own-commits : (n : ℕ) → n < N → Commits net (arriving_of arrivals) heard made round n

@@ -16,7 +16,7 @@ use Rattle.intersection_actor.specs.Rounds.{IsOf}
 use Rattle.intersection_actor.specs.declared.records.Want.TheVariants.{Done}
 use Rattle.histories.specs.Calls.{step_of}
 use Rattle.net_parts.specs.Numbers.{Net}
-use Rattle.net_simulator.specs.Flow.{past_of}
+use Rattle.net_simulator.specs.Flow.{cumulative_under}
 use Rattle.net_simulator.specs.Senses.{sense}
 use Rattle.net_simulator.specs.Worlds.{IsWorldOf, WorldState, Stands, standing_by}
 use Rattle.outflow.specs.Outflow.{departures, told_forecast}
@@ -51,7 +51,7 @@ pub record HasMade (old new : PassView) (calls : List Call) : Type 0 where
 -- what a node sensed is what it senses of any arrivals and lines for which the world stands
 abbrev pub IsSeen : Net → WorldState → ℕ → Sensed → Type 0
 IsSeen net world node sensed = (arriving : ℕ → ℕ → ℕ) (lines : ℕ → List Green) → Stands net arriving (standing_by lines) world
-    → sensed ≡ sense net (past_of net arriving (standing_by lines) world.second) world.second node
+    → sensed ≡ sense net (cumulative_under net arriving (standing_by lines) world.second) world.second node
 
 -- a node has begun a round: it has sensed the world, and heard nothing yet
 pub record HasBegun (net : Net) (round : ℕ) (world : WorldState) (a b : Acting) : Type 0 where

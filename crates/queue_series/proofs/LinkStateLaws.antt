@@ -14,14 +14,14 @@ use Rattle.road_net.specs.Network.{IsNetwork}
 use Rattle.road_net.specs.Totals.{total}
 use Rattle.road_net.proofs.TotalLaws.{total-same}
 use Rattle.net_simulator.specs.Counts.{counts_at}
-use Rattle.net_simulator.specs.Flow.{Cumulative, nothing, past_of, queue}
+use Rattle.net_simulator.specs.Flow.{Cumulative, nothing, cumulative_under, queue}
 use Rattle.net_simulator.specs.Sums.{delay, end_of_run, link_totals}
 use Rattle.net_simulator.specs.Worlds.{Stands, WorldState, line_in, standing_by}
 use Rattle.net_simulator.specs.declared.totals.LinkTotals.{LinkTotals}
 use Rattle.net_simulator.proofs.FlowLaws.{past-kept, past-none}
 use Rattle.net_simulator.proofs.Conserving.{left-entered}
 use Rattle.net_simulator.proofs.Passing.{sound-at, zeros}
-use Rattle.net_simulator.specs.Shown.{past_under}
+use Rattle.net_simulator.specs.Shown.{cumulative_of_lines}
 use Rattle.world_records.specs.Written.{Adds, HasWritten}
 use Rattle.world_records.proofs.WrittenLaws.{adds-then}
 use Rattle.queue_series.specs.Series.{IsPeak, IsSeries, change_records, header, peak_record, second_records}
@@ -32,25 +32,25 @@ use Rattle.queue_series.specs.LinkStates.{AreLinkStates, CanGoOn, HaveMoved, IsL
 -- ---- the past up to a second is part of a longer one
 
 module _ (net : Net) (arriving : ℕ → ℕ → ℕ) (shown : ℕ → ℕ → Option (ℕ × ℕ)) (x : ℕ) where
-  past-longer : (m n l : ℕ) → n ≤ x → x ≤ m → past_of net arriving shown m n l ≡ past_of net arriving shown x n l
-  past-longer zero n l within longer = (let e : zero ≡ x = omega (arith, longer) in ap (λ t. past_of net arriving shown t n l) e)
+  past-longer : (m n l : ℕ) → n ≤ x → x ≤ m → cumulative_under net arriving shown m n l ≡ cumulative_under net arriving shown x n l
+  past-longer zero n l within longer = (let e : zero ≡ x = omega (arith, longer) in ap (λ t. cumulative_under net arriving shown t n l) e)
   past-longer (suc m) n l within longer = elim (cases_eq x (suc m)) [
-    | inl e ↦ ap (λ t. past_of net arriving shown t n l) (sym e)
+    | inl e ↦ ap (λ t. cumulative_under net arriving shown t n l) (sym e)
     | inr other ↦ past-kept net arriving shown m n l (omega (arith, within, longer, other)) ∙ past-longer m n l within (omega (arith, longer, other))
   ]
 
-  queue-longer : (m n l : ℕ) → n ≤ x → x ≤ m → queue net (past_of net arriving shown m) n l ≡ queue net (past_of net arriving shown x) n l
+  queue-longer : (m n l : ℕ) → n ≤ x → x ≤ m → queue net (cumulative_under net arriving shown m) n l ≡ queue net (cumulative_under net arriving shown x) n l
   queue-longer m n l within longer =
       let reaches = past-longer m (n - (link_at net l).travel) l (omega (arith, within)) longer in
       let leaves = past-longer m n l within longer in
-      ap (λ (p : Cumulative). p.entered - (past_of net arriving shown m n l).left) reaches ∙ ap (λ (p : Cumulative). (past_of net arriving shown x (n - (link_at net l).travel) l).entered - p.left) leaves
+      ap (λ (p : Cumulative). p.entered - (cumulative_under net arriving shown m n l).left) reaches ∙ ap (λ (p : Cumulative). (cumulative_under net arriving shown x (n - (link_at net l).travel) l).entered - p.left) leaves
 
-  delay-longer : (m l : ℕ) → x ≤ m → delay net (past_of net arriving shown m) x l ≡ delay net (past_of net arriving shown x) x l
+  delay-longer : (m l : ℕ) → x ≤ m → delay net (cumulative_under net arriving shown m) x l ≡ delay net (cumulative_under net arriving shown x) x l
   delay-longer m l longer =
-      total-same (λ y. queue net (past_of net arriving shown m) (y + 1) l) (λ y. queue net (past_of net arriving shown x) (y + 1) l) x (λ y before. queue-longer m (y + 1) l (omega (arith, before)) longer)
+      total-same (λ y. queue net (cumulative_under net arriving shown m) (y + 1) l) (λ y. queue net (cumulative_under net arriving shown x) (y + 1) l) x (λ y before. queue-longer m (y + 1) l (omega (arith, before)) longer)
 
   -- what the first x seconds have counted of a link
-  pub totals-longer : (m l : ℕ) → x ≤ m → link_totals net (past_of net arriving shown x) x l ≡ link_totals net (past_of net arriving shown m) x l
+  pub totals-longer : (m l : ℕ) → x ≤ m → link_totals net (cumulative_under net arriving shown x) x l ≡ link_totals net (cumulative_under net arriving shown m) x l
   totals-longer m l longer =
       let same = sym (past-longer m x l (omega arith) longer) in
       let waits = sym (delay-longer m l longer) in
@@ -147,13 +147,13 @@ flat-same f g (suc n) same =
         ap (flat_map h) (range-push 0 k ∙ ap (λ (j : ℕ). range_with_len 0 k ++ j ∷ []) at) ∙ flat_map-append h (range_with_len 0 k) (k ∷ []) ∙ ap (λ t. flat_map h (range_with_len 0 k) ++ t) (append-nil (h k))
 
 module _ (net : Net) (network : IsNetwork net) (arriving : ℕ → ℕ → ℕ) (lines : List (List Green)) (n : ℕ) (before : n < end_of_run net) (world : WorldState) (second : world.second ≡ n + 1)
-    (stands : Stands net arriving (standing_by (line_in lines)) world) (link_states : List LinkState) (are : AreLinkStates net (past_under net arriving lines) n link_states) where
+    (stands : Stands net arriving (standing_by (line_in lines)) world) (link_states : List LinkState) (are : AreLinkStates net (cumulative_of_lines net arriving lines) n link_states) where
   abbrev past : ℕ → ℕ → Cumulative
-  past = past_under net arriving lines
+  past = cumulative_of_lines net arriving lines
 
   counted : (l : ℕ) → l < length net.link_names → counts_at world.counts l ≡ link_totals net past (n + 1) l
   counted l below =
-      stands.counts l below ∙ ap (λ s. link_totals net (past_of net arriving (standing_by (line_in lines)) s) s l) second
+      stands.counts l below ∙ ap (λ s. link_totals net (cumulative_under net arriving (standing_by (line_in lines)) s) s l) second
       ∙ totals-longer net arriving (standing_by (line_in lines)) (n + 1) (end_of_run net) l (omega (arith, before))
 
   pub can-all : (l : ℕ) → l < length net.link_names → CanGoOn (state_at link_states l) (counts_at world.counts l)
@@ -184,7 +184,7 @@ module _ (net : Net) (network : IsNetwork net) (arriving : ℕ → ℕ → ℕ) 
 -- before the first second
 module _ (net : Net) (arriving : ℕ → ℕ → ℕ) (lines : List (List Green)) where
   abbrev no_past : ℕ → ℕ → Cumulative
-  no_past = past_under net arriving lines
+  no_past = cumulative_of_lines net arriving lines
 
   none : (l : ℕ) → no_past 0 l ≡ nothing
   none l = past-none net arriving (standing_by (line_in lines)) (end_of_run net) l

@@ -3,7 +3,7 @@
 ghost use Rattle.std.specs.Prelude.{◌≡◌, ℕ, ◌<◌, [], ◌∷◌, IfOk, OnOk, if◌then◌else◌, length, map};
 ghost use Rattle.std.specs.List.{flat_map, range_with_len};
 ghost use Rattle.arrivals.specs.Amounts.{AreArrivals, arriving_of};
-ghost use Rattle.net_simulator.specs.Shown.{past_under};
+ghost use Rattle.net_simulator.specs.Shown.{cumulative_of_lines};
 ghost use Rattle.net_simulator.specs.Counts.{counts_at};
 ghost use Rattle.net_simulator.specs.Sums as sums;
 ghost use Rattle.net_simulator.specs.Worlds.{Stands, line_in, standing_by};
@@ -34,7 +34,8 @@ pub fn queue_series(
 ) -> Result<Vec<u8>, AllocError>
     requires { AreArrivals net.now arrivals.now }
     ensures { IfOk result (λ text.
-        IsSeries net.now (past_under net.now (arriving_of arrivals.now) lines.now) (sums.end_of_run net.now) text.items) }
+        IsSeries net.now (cumulative_of_lines net.now (arriving_of arrivals.now) lines.now)
+        (sums.end_of_run net.now) text.items) }
 {
     let mut link_states = first_link_states(alloc, net.links())?;
     let mut out = start(Vec::new(alloc));
@@ -54,11 +55,13 @@ fn write_seconds(
     out: &mut Writer<Vec<u8>>,
 ) -> Result<(), AllocError>
     requires arrivals { AreArrivals net.now arrivals.now }
-    requires link_states { AreLinkStates net.now (past_under net.now (arriving_of arrivals.now) lines.now) 0 link_states.old.items }
-    ensures link_states { OnOk result (AreLinkStates net.now (past_under net.now (arriving_of arrivals.now) lines.now)
+    requires link_states { AreLinkStates net.now (cumulative_of_lines net.now (arriving_of arrivals.now) lines.now)
+        0 link_states.old.items }
+    ensures link_states { OnOk result (AreLinkStates net.now
+        (cumulative_of_lines net.now (arriving_of arrivals.now) lines.now)
         (sums.end_of_run net.now) link_states.new.items) }
     ensures adds { OnOk result (Adds out.old out.new
-        (flat_map (second_records net.now (past_under net.now (arriving_of arrivals.now) lines.now))
+        (flat_map (second_records net.now (cumulative_of_lines net.now (arriving_of arrivals.now) lines.now))
         (range_with_len 0 (sums.end_of_run net.now)))) }
 {
     law_of_network(net);

@@ -12,7 +12,7 @@ use Rattle.net_simulator.specs.Senses.{sense}
 use Rattle.road_net.specs.Network.{IsNetwork}
 use Rattle.road_net.specs.declared.senses.Sensed.{Sensed}
 use Rattle.std.specs.Prelude.{List}
-use Rattle.runs.specs.Runs.{Commits, line_before, past_by, sensed_in, shown_by}
+use Rattle.runs.specs.Runs.{Commits, line_before, cumulative_by, sensed_in, shown_by}
 use Rattle.net_simulator.proofs.AtNodes.{past-at-nodes}
 
 module _ (net : Net) (network : IsNetwork net) (arriving : ℕ → ℕ → ℕ) (made other : ℕ → ℕ → Commitment) where
@@ -24,7 +24,7 @@ module _ (net : Net) (network : IsNetwork net) (arriving : ℕ → ℕ → ℕ) 
   lines-same zero n before below = refl
   lines-same (suc r) n before below = ap (λ (c : Commitment). c.line) (before r n (omega arith) below)
 
-  pub past-same : (r : ℕ) → SameBefore r → past_by net arriving made (r * net.run.step) ≡ past_by net arriving other (r * net.run.step)
+  pub past-same : (r : ℕ) → SameBefore r → cumulative_by net arriving made (r * net.run.step) ≡ cumulative_by net arriving other (r * net.run.step)
   past-same r before = past-at-nodes net network arriving (shown_by net made) (shown_by net other) (r * net.run.step) (λ x n less below. ap (λ (c : Commitment). standing c.line x) (before (x / net.run.step) n (div_below x net.run.step r network.outline.run.step.0 less) below))
 
   pub sensed-same : (r n : ℕ) → SameBefore r → sensed_in net arriving made r n ≡ sensed_in net arriving other r n

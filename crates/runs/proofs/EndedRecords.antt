@@ -8,7 +8,7 @@ use Rattle.intersection_actor.specs.Commits.{Commitment}
 use Rattle.intersection_actor.specs.declared.records.PlanRecord.{PlanRecord}
 use Rattle.net_parts.specs.Numbers.{Net}
 use Rattle.net_simulator.specs.Counts.{counts_at}
-use Rattle.net_simulator.specs.Flow.{past_of}
+use Rattle.net_simulator.specs.Flow.{cumulative_under}
 use Rattle.net_simulator.specs.Sums.{link_totals, totals}
 use Rattle.net_simulator.specs.Worlds.{WorldState, Stands}
 use Rattle.runs.specs.Resting.{HasPlans, Rests}
@@ -48,7 +48,7 @@ module _ (net : Net) (arriving : ℕ → ℕ → ℕ) (heard : ℕ → ℕ → L
         ∙ ap (λ n. map (line_before net made rounds) (range_with_len 0 n)) all;
     links =
         left.links
-        ∙ map-range-same (counts_at world.counts) (link_totals net (past_of net arriving (shown_by net made) (rounds * net.run.step)) (rounds * net.run.step)) 0 (length net.link_names)
-        (λ k least most. stands.counts k (omega arith) ∙ ap (λ s. link_totals net (past_of net arriving (shown_by net made) s) s k) second);
-    all = left.totals ∙ stands.totals ∙ ap (λ s. totals net arriving (past_of net arriving (shown_by net made) s) s) second;
+        ∙ map-range-same (counts_at world.counts) (link_totals net (cumulative_under net arriving (shown_by net made) (rounds * net.run.step)) (rounds * net.run.step)) 0 (length net.link_names)
+        (λ k least most. stands.counts k (omega arith) ∙ ap (λ s. link_totals net (cumulative_under net arriving (shown_by net made) s) s k) second);
+    all = left.totals ∙ stands.totals ∙ ap (λ s. totals net arriving (cumulative_under net arriving (shown_by net made) s) s) second;
   }

@@ -13,7 +13,7 @@ use Rattle.net_parts.specs.Numbers.{Net}
 use Rattle.net_simulator.specs.Flow.{Cumulative}
 use Rattle.net_simulator.specs.Sums.{end_of_run, link_totals, totals}
 use Rattle.road_net.specs.Network.{IsNetwork, heard_links}
-use Rattle.runs.specs.Runs.{IsRun, forecast_at, hearing, line_before, past_by, sensed_in, told_in}
+use Rattle.runs.specs.Runs.{IsRun, forecast_at, hearing, line_before, cumulative_by, sensed_in, told_in}
 use Rattle.runs.specs.declared.records.RunRecord.{RunRecord}
 use Rattle.runs.proofs.Agree.{SameBefore, commit-moved, lines-same, past-same}
 use Rattle.runs.proofs.Committed.{one-commit}
@@ -103,7 +103,7 @@ module _ (net : Net) (network : IsNetwork net) (arriving : ℕ → ℕ → ℕ) 
   -- the records are the same
   pub one-run : one ≡ other
   one-run =
-      let past : past_by net arriving a.made (end_of_run net) ≡ past_by net arriving b.made (end_of_run net) = past-same net network arriving a.made b.made net.run.rounds every in
+      let past : cumulative_by net arriving a.made (end_of_run net) ≡ cumulative_by net arriving b.made (end_of_run net) = past-same net network arriving a.made b.made net.run.rounds every in
       let plans = a.by.plans ∙ plans-same net a.heard b.heard a.made b.made net.run.rounds (λ r n less below. heard-same r n less below (hears-same r n less below)) every ∙ sym b.by.plans in
       let timelines = a.by.timelines ∙ map-range-same (line_before net a.made net.run.rounds) (line_before net b.made net.run.rounds) 0 (length net.node_names) (λ n least below. lines-same net network arriving a.made b.made net.run.rounds n every (omega arith)) ∙ sym b.by.timelines in
       let links = a.by.links ∙ ap (λ (p : ℕ → ℕ → Cumulative). map (link_totals net p (end_of_run net)) (range_with_len 0 (length net.link_names))) past ∙ sym b.by.links in

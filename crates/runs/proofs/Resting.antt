@@ -10,7 +10,7 @@ use Rattle.intersection_actor.specs.Commits.{Commitment}
 use Rattle.intersection_actor.specs.Rounds.{IsNew, IsOf}
 use Rattle.intersection_actor.specs.declared.records.Want.TheVariants.{Done}
 use Rattle.net_parts.specs.Numbers.{Net}
-use Rattle.net_simulator.specs.Flow.{Cumulative, past_of}
+use Rattle.net_simulator.specs.Flow.{Cumulative, cumulative_under}
 use Rattle.net_simulator.specs.Senses.{sense, stood}
 use Rattle.net_simulator.specs.Sums.{link_totals, totals}
 use Rattle.net_simulator.specs.Worlds.{Keeps, WorldState, Stands, standing_by}
@@ -42,7 +42,7 @@ no_commitment = record {
 pub stands-same : (net : Net) → IsNetwork net → (arriving : ℕ → ℕ → ℕ) (shown seen : ℕ → ℕ → Option (ℕ × ℕ)) (w : WorldState)
     → ((x node : ℕ) → x < w.second → node < length net.node_names → shown x node ≡ seen x node) → Stands net arriving shown w → Stands net arriving seen w
 stands-same net network arriving shown seen w same s =
-    let e : past_of net arriving shown w.second ≡ past_of net arriving seen w.second = past-at-nodes net network arriving shown seen w.second same in
+    let e : cumulative_under net arriving shown w.second ≡ cumulative_under net arriving seen w.second = past-at-nodes net network arriving shown seen w.second same in
     record {
       shape = s.shape;
       by = s.by;
@@ -63,9 +63,9 @@ module _ (net : Net) (network : IsNetwork net) (arriving : ℕ → ℕ → ℕ) 
 
   -- what a node senses of such a world
   pub sense-is : (world : WorldState) → world.second ≡ round * net.run.step → (n : ℕ)
-      → sense net (past_of net arriving (standing_by (line_before net made round)) world.second) world.second n ≡ sensed_in net arriving made round n
+      → sense net (cumulative_under net arriving (standing_by (line_before net made round)) world.second) world.second n ≡ sensed_in net arriving made round n
   sense-is world second n =
-      ap (λ s. sense net (past_of net arriving (standing_by (line_before net made round)) s) s n) second
+      ap (λ s. sense net (cumulative_under net arriving (standing_by (line_before net made round)) s) s n) second
       ∙ ap (λ (p : ℕ → ℕ → Cumulative). sense net p (round * net.run.step) n) (past-at-nodes net network arriving (standing_by (line_before net made round)) (shown_by net made) (round * net.run.step) (λ x node less below. before-shows x node less below))
 
 pub zero-times : (s : ℕ) → 0 ≡ 0 * s

@@ -16,7 +16,7 @@ use Rattle.intersection_actor.specs.Rounds.{first_head}
 use Rattle.intersection_actor.specs.declared.records.PlanRecord.{PlanRecord}
 use Rattle.net_parts.specs.Numbers.{Net}
 use Rattle.net_parts.specs.Outline.{plan_at}
-use Rattle.net_simulator.specs.Flow.{Cumulative, past_of}
+use Rattle.net_simulator.specs.Flow.{Cumulative, cumulative_under}
 use Rattle.net_simulator.specs.Senses.{sense}
 use Rattle.net_simulator.specs.Sums.{end_of_run, link_totals, totals}
 use Rattle.outflow.specs.Outflow.{departures, told_forecast}
@@ -37,12 +37,12 @@ abbrev pub shown_by : Net → (ℕ → ℕ → Commitment) → ℕ → ℕ → O
 shown_by net made x node = standing (made (x / net.run.step) node).line x
 
 -- what passed the links in the first n seconds, where the signals show the timelines of the nodes' commits
-abbrev pub past_by : Net → (ℕ → ℕ → ℕ) → (ℕ → ℕ → Commitment) → ℕ → ℕ → ℕ → Cumulative
-past_by net arriving made n = past_of net arriving (shown_by net made) n
+abbrev pub cumulative_by : Net → (ℕ → ℕ → ℕ) → (ℕ → ℕ → Commitment) → ℕ → ℕ → ℕ → Cumulative
+cumulative_by net arriving made n = cumulative_under net arriving (shown_by net made) n
 
 -- what a node senses when a round begins
 abbrev pub sensed_in : Net → (ℕ → ℕ → ℕ) → (ℕ → ℕ → Commitment) → ℕ → ℕ → Sensed
-sensed_in net arriving made round node = sense net (past_by net arriving made (round * net.run.step)) (round * net.run.step) node
+sensed_in net arriving made round node = sense net (cumulative_by net arriving made (round * net.run.step)) (round * net.run.step) node
 
 -- what a commit of a round tells on a link
 abbrev pub told_in : Net → ℕ → ℕ → Commitment → List Row
@@ -82,8 +82,8 @@ pub record IsRunBy (net : Net) (arriving : ℕ → ℕ → ℕ) (heard : ℕ →
   pub commits : AllCommit net arriving heard made net.run.rounds
   pub plans : run.plans ≡ plans_of net heard made net.run.rounds
   pub timelines : run.timelines ≡ map (line_before net made net.run.rounds) (range_with_len 0 (length net.node_names))
-  pub links : run.links ≡ map (link_totals net (past_by net arriving made (end_of_run net)) (end_of_run net)) (range_with_len 0 (length net.link_names))
-  pub all : run.totals ≡ totals net arriving (past_by net arriving made (end_of_run net)) (end_of_run net)
+  pub links : run.links ≡ map (link_totals net (cumulative_by net arriving made (end_of_run net)) (end_of_run net)) (range_with_len 0 (length net.link_names))
+  pub all : run.totals ≡ totals net arriving (cumulative_by net arriving made (end_of_run net)) (end_of_run net)
 
 -- The nodes hear along a history: at each place where a node reads a link, it hears the version that the link has there, with the
 -- forecast that was published as that version.

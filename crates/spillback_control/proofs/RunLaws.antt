@@ -22,7 +22,7 @@ use Rattle.actuated.proofs.ActStepLaws.{act-rounds, begins-by, one-round, time-f
 use Rattle.actuated.proofs.Acting.{more-acted, none-acted, same-before}
 use Rattle.actuated.proofs.LineLaws.{first-is-line, next-keeps}
 use Rattle.spillback_world.specs.StoredTotals.{stored_totals}
-use Rattle.spillback_world.specs.Storage.{past_in}
+use Rattle.spillback_world.specs.Storage.{cumulative_in}
 use Rattle.spillback_world.specs.Worlds.{SpillState, Stands, IsWorldOf}
 use Rattle.spillback_world.specs.declared.totals.SpillTotals.{SpillTotals}
 use Rattle.spillback_world.proofs.Shown.{past-same, stands-under}
@@ -34,7 +34,7 @@ use Rattle.arrivals.specs.Amounts.{Amounts, AreArrivals, arriving_of}
 pub none-spilled : (net : Net) (arriving : ℕ → ℕ → ℕ) (store : ℕ → ℕ) (lines : List (List Green)) (w : SpillState) → AreFirstLines net (length net.node_names) lines → w.second ≡ 0
     → ((shown : ℕ → ℕ → Option (ℕ × ℕ)) → Stands net arriving store shown w) → HaveSpilled net arriving store 0 lines w
 none-spilled net arriving store lines w first second stands = record {
-  acted = none-acted net (past_in net arriving store) lines first;
+  acted = none-acted net (cumulative_in net arriving store) lines first;
   second = (let z : 0 ≡ 0 * act_step net = omega arith in second ∙ z);
   stands = stands (standing_by (line_in lines));
 }
@@ -46,16 +46,16 @@ module _ (net : Net) (network : IsNetwork net) (arriving : ℕ → ℕ → ℕ) 
   pub renewed-stands : Stands net arriving store (standing_by (line_in renewed)) w
   renewed-stands =
       stands-under net arriving store (standing_by (line_in lines)) (standing_by (line_in renewed)) w
-      (λ x n less. sym (same-before net network (past_in net arriving store) (past-same net arriving store) r lines renewed near a.acted then-renewed x n (omega (arith, a.second, less)))) a.stands
+      (λ x n less. sym (same-before net network (cumulative_in net arriving store) (past-same net arriving store) r lines renewed near a.acted then-renewed x n (omega (arith, a.second, less)))) a.stands
 
   pub room : r < act_rounds net → w.second + act_step net ≤ 18000
   room less = omega (arith, time-for net network r less, a.second)
 
   -- after a round more
-  pub more-spilled : AreNear net (past_in net arriving store (standing_by (line_in lines)) w.second) w.second near → (v : SpillState) → v.second ≡ w.second + act_step net → Stands net arriving store (standing_by (line_in renewed)) v → HaveSpilled net arriving store (r + 1) renewed v
+  pub more-spilled : AreNear net (cumulative_in net arriving store (standing_by (line_in lines)) w.second) w.second near → (v : SpillState) → v.second ≡ w.second + act_step net → Stands net arriving store (standing_by (line_in renewed)) v → HaveSpilled net arriving store (r + 1) renewed v
   more-spilled sensed v second stands = record {
-    acted = more-acted net network (past_in net arriving store) (past-same net arriving store) r lines renewed near a.acted then-renewed
-        (subst (λ s. AreNear net (past_in net arriving store (standing_by (line_in lines)) s) s near) a.second sensed);
+    acted = more-acted net network (cumulative_in net arriving store) (past-same net arriving store) r lines renewed near a.acted then-renewed
+        (subst (λ s. AreNear net (cumulative_in net arriving store (standing_by (line_in lines)) s) s near) a.second sensed);
     second = omega (arith, second, a.second, one-round net r);
     stands = stands;
   }
@@ -72,7 +72,7 @@ ended net network arriving store lines w t a is =
       made = a.acted.made;
       acts = a.acted.acts;
       are =
-          is ∙ a.stands.totals ∙ ap (λ s. stored_totals net arriving (past_in net arriving store (standing_by (line_in lines)) s) s) (a.second ∙ whole)
+          is ∙ a.stands.totals ∙ ap (λ s. stored_totals net arriving (cumulative_in net arriving store (standing_by (line_in lines)) s) s) (a.second ∙ whole)
           ∙ ap (λ p. stored_totals net arriving p (end_of_run net)) (past-same net arriving store (standing_by (line_in lines)) (shown_in net a.acted.made) (end_of_run net) (λ x n less. a.acted.shown x n (omega (arith, less, whole))));
     }
 
@@ -81,7 +81,7 @@ ended net network arriving store lines w t a is =
 module _ (net : Net) (network : IsNetwork net) (arriving : ℕ → ℕ → ℕ) (store : ℕ → ℕ) (t : SpillTotals) (is : IsActuatedIn net arriving store t) where
   keep : AllKeepEvery net (act_step net) (line_before (first_line net) is.made) (act_rounds net)
   keep = all-keep-every net (act_step net) (line_before (first_line net) is.made) (act_rounds net) (begins-by net network) (first-is-line net network)
-      (λ r n less below early old. next-keeps net network n below (past_in net arriving store (shown_in net is.made) (r * act_step net)) (r * act_step net) (line_before (first_line net) is.made r n) (is.made r n) early old (is.acts r n less below))
+      (λ r n less below early old. next-keeps net network n below (cumulative_in net arriving store (shown_in net is.made) (r * act_step net)) (r * act_step net) (line_before (first_line net) is.made r n) (is.made r n) early old (is.acts r n less below))
 
   in-rounds : (second : ℕ) → second < end_of_run net → second < act_rounds net * act_step net
   in-rounds second before = omega (arith, before, (act-rounds net network).whole)

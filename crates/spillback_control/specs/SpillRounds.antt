@@ -5,11 +5,11 @@ use Rattle.actuated.specs.RunsSoFar.{HaveActed}
 use Rattle.control_flow.specs.declared.greens.Green.{Green}
 use Rattle.net_parts.specs.Numbers.{Net}
 use Rattle.net_simulator.specs.Worlds.{line_in, standing_by}
-use Rattle.spillback_world.specs.Storage.{past_in}
+use Rattle.spillback_world.specs.Storage.{cumulative_in}
 use Rattle.spillback_world.specs.Worlds.{SpillState, Stands}
 
 -- after so many rounds: these are the lines that the nodes made, and the world with this store is the one that moved by them
 pub record HaveSpilled (net : Net) (arriving : ℕ → ℕ → ℕ) (store : ℕ → ℕ) (rounds : ℕ) (lines : List (List Green)) (w : SpillState) : Type 0 where
-  pub acted : HaveActed net (past_in net arriving store) rounds lines
+  pub acted : HaveActed net (cumulative_in net arriving store) rounds lines
   pub second : w.second ≡ rounds * act_step net
   pub stands : Stands net arriving store (standing_by (line_in lines)) w

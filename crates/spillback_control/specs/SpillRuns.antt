@@ -10,7 +10,7 @@ use Rattle.net_simulator.specs.Sums.{end_of_run}
 use Rattle.net_simulator.specs.Worlds.{line_in}
 use Rattle.signal_safety.specs.Rounds.{line_before}
 use Rattle.spillback_world.specs.StoredTotals.{stored_totals}
-use Rattle.spillback_world.specs.Storage.{past_in}
+use Rattle.spillback_world.specs.Storage.{cumulative_in}
 use Rattle.spillback_world.specs.declared.totals.SpillTotals.{SpillTotals}
 
 -- Below, `made round node` is the line of a node in a round. What is counted in the run, where `arriving second link` comes from
@@ -18,8 +18,8 @@ use Rattle.spillback_world.specs.declared.totals.SpillTotals.{SpillTotals}
 -- with that store, which moves by the lines that were made.
 pub record IsActuatedIn (net : Net) (arriving : ℕ → ℕ → ℕ) (store : ℕ → ℕ) (totals : SpillTotals) : Type 0 where
   pub made : ℕ → ℕ → List Green
-  pub acts : AllAct net (past_in net arriving store) made (act_rounds net)
-  pub are : totals ≡ stored_totals net arriving (past_in net arriving store (shown_in net made) (end_of_run net)) (end_of_run net)
+  pub acts : AllAct net (cumulative_in net arriving store) made (act_rounds net)
+  pub are : totals ≡ stored_totals net arriving (cumulative_in net arriving store (shown_in net made) (end_of_run net)) (end_of_run net)
 
 -- the line of each node after the last round
 abbrev pub last_lines : Net → (ℕ → ℕ → List Green) → List (List Green)

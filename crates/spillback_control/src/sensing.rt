@@ -3,7 +3,7 @@
 ghost use Rattle.std.specs.Prelude.{◌≡◌, ℕ, Option, length};
 ghost use Rattle.actuated.specs.Rounds.{AreAmounts};
 ghost use Rattle.actuated.specs.RunsSoFar.{AreNear};
-ghost use Rattle.spillback_world.specs.Storage.{past_in};
+ghost use Rattle.spillback_world.specs.Storage.{cumulative_in};
 ghost use Rattle.spillback_world.specs.Worlds.{IsWorldOf, Stands};
 
 use road_net::Network;
@@ -16,7 +16,7 @@ pub(crate) fn sense_near(near: &mut [u32], net: &Network, world: &SpillWorld)
     ensures amounts { AreAmounts net.now near.new }
     ensures near { (arriving : ℕ → ℕ → ℕ) (store : ℕ → ℕ) (shown : ℕ → ℕ → Option (ℕ × ℕ))
         → Stands net.now arriving store shown world.now
-        → AreNear net.now (past_in net.now arriving store shown world.now.second) world.now.second near.new }
+        → AreNear net.now (cumulative_in net.now arriving store shown world.now.second) world.now.second near.new }
 {
     for link in 0..net.links() {
         near[link as usize] = world.near(net, link, net.run().gap);

@@ -14,12 +14,12 @@ use Rattle.net_simulator.specs.Moves.{Moves}
 use Rattle.net_simulator.specs.Sums.{arrived, outward}
 use Rattle.net_simulator.proofs.Conserving.{come}
 use Rattle.net_simulator.proofs.EveryWorld.{all-there, parts-of, past-still}
-use Rattle.net_simulator.proofs.MoveLaws.{moves_by, past_by}
+use Rattle.net_simulator.proofs.MoveLaws.{moves_by, cumulative_by}
 use Rattle.net_simulator.proofs.Outside.{all-arrived, comes-none, only-comes}
 use Rattle.net_simulator.proofs.Sound.{AreMoved, rule-moved}
 use Rattle.spillback_world.specs.Filling.{fitting, greatest, has_room}
 use Rattle.spillback_world.specs.StoredTotals.{from_outside, stored_totals}
-use Rattle.spillback_world.specs.Storage.{AreWithin, Opening, held_by, inward, next_goes, opening, past_in, stored}
+use Rattle.spillback_world.specs.Storage.{AreWithin, Opening, held_by, inward, next_goes, opening, cumulative_in, stored}
 use Rattle.spillback_world.proofs.Within.{at-last, before-last, first, held-given, past-last, within}
 
 greatest-most : (fits : ℕ → Bool) (wish : ℕ) → greatest fits wish ≤ wish
@@ -71,15 +71,15 @@ module _ (net : Net) (network : IsNetwork net) (arriving : ℕ → ℕ → ℕ) 
   rule = stored net arriving store shown
 
   abbrev past : ℕ → ℕ → ℕ → Cumulative
-  past = past_by net (stored net arriving store shown)
+  past = cumulative_by net (stored net arriving store shown)
 
   abbrev moves : ℕ → Moves
   moves = moves_by net (stored net arriving store shown)
 
   abbrev begin : ℕ → Opening
-  begin x = opening net (shown x) (past_by net (stored net arriving store shown) x) x
+  begin x = opening net (shown x) (cumulative_by net (stored net arriving store shown) x) x
 
-  pub course : AreMoved net (moves_by net (stored net arriving store shown)) (past_by net (stored net arriving store shown))
+  pub course : AreMoved net (moves_by net (stored net arriving store shown)) (cumulative_by net (stored net arriving store shown))
   course = rule-moved net (stored net arriving store shown) (λ x l h. goes-most net store (begin x) (length net.link_names) l)
 
   -- what a link discharges leaves the network, or goes into others
@@ -103,9 +103,9 @@ module _ (net : Net) (network : IsNetwork net) (arriving : ℕ → ℕ → ℕ) 
       let e = add-one k in
       omega (arith, within-next k l inside (within-at k l inside), ap (λ i. (past (suc k) i l).entered) e, ap (λ i. (past (suc k) i l).left) e)
 
-  pub within-all : (n : ℕ) → AreWithin net store (past_in net arriving store shown n) n
+  pub within-all : (n : ℕ) → AreWithin net store (cumulative_in net arriving store shown n) n
   within-all n k l h inside =
-      let still = past-still net network (moves_by net (stored net arriving store shown)) (past_by net (stored net arriving store shown)) course n k l h in
+      let still = past-still net network (moves_by net (stored net arriving store shown)) (cumulative_by net (stored net arriving store shown)) course n k l h in
       omega (arith, within-at k l inside, ap (λ (q : Cumulative). q.entered) still, ap (λ (q : Cumulative). q.left) still)
 
   -- Below, nothing arrives at a link that comes from a node.
@@ -120,14 +120,14 @@ module _ (net : Net) (network : IsNetwork net) (arriving : ℕ → ℕ → ℕ) 
         omega (arith, each, total-swap (λ y. (moves_by net (stored net arriving store shown) y).comes) (length net.link_names) n)
       where
         by : (l : ℕ) → l < length net.link_names → (from : Option ℕ) → (link_at net l).from ≡ from → from_outside from (past n n l).entered ≡ total (λ y. (moves y).comes l) n
-        by l inside None from = only-comes net network (moves_by net (stored net arriving store shown)) (past_by net (stored net arriving store shown)) course n l inside from
+        by l inside None from = only-comes net network (moves_by net (stored net arriving store shown)) (cumulative_by net (stored net arriving store shown)) course n l inside from
         by l inside (Some node) from =
-            sym (total-same (λ y. (moves y).comes l) (λ y. 0) n (λ y h. comes-none net network (moves_by net (stored net arriving store shown)) (past_by net (stored net arriving store shown)) course arriving let-in-most sources y l node inside from) ∙ total-zero n)
+            sym (total-same (λ y. (moves y).comes l) (λ y. 0) n (λ y h. comes-none net network (moves_by net (stored net arriving store shown)) (cumulative_by net (stored net arriving store shown)) course arriving let-in-most sources y l node inside from) ∙ total-zero n)
 
     -- what entered has left or is on the links
     pub spilled-whole : (n : ℕ) → (stored_totals net arriving (past n) n).entered ≡ (stored_totals net arriving (past n) n).left + (stored_totals net arriving (past n) n).on
-    spilled-whole n = omega (arith, entered-come n, all-there net network (moves_by net (stored net arriving store shown)) (past_by net (stored net arriving store shown)) course n)
+    spilled-whole n = omega (arith, entered-come n, all-there net network (moves_by net (stored net arriving store shown)) (cumulative_by net (stored net arriving store shown)) course n)
 
     -- what arrived has entered or waits outside
     pub spilled-all : (n : ℕ) → arrived net arriving n ≡ (stored_totals net arriving (past n) n).entered + (stored_totals net arriving (past n) n).outside
-    spilled-all n = omega (arith, entered-come n, all-arrived net network (moves_by net (stored net arriving store shown)) (past_by net (stored net arriving store shown)) course arriving let-in-most sources n)
+    spilled-all n = omega (arith, entered-come n, all-arrived net network (moves_by net (stored net arriving store shown)) (cumulative_by net (stored net arriving store shown)) course arriving let-in-most sources n)

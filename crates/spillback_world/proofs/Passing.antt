@@ -18,7 +18,7 @@ use Rattle.net_simulator.specs.Worlds.{Keeps}
 use Rattle.net_simulator.proofs.Conserving.{come, grown, left-entered}
 use Rattle.net_simulator.proofs.EveryWorld.{are-sound, bounds-of, gone-more, queue-still, queues-most}
 use Rattle.net_simulator.proofs.Keeping.{keeps-next, kept-queue, open-same, phase_and_begin, waits-same}
-use Rattle.net_simulator.proofs.MoveLaws.{moves_by, past_by}
+use Rattle.net_simulator.proofs.MoveLaws.{moves_by, cumulative_by}
 use Rattle.net_simulator.proofs.Outside.{comes-none, comes-within, few-come, only-comes}
 use Rattle.net_simulator.proofs.Sound.{AreMoved, Continues, IsSound, next-one}
 use Rattle.net_simulator.proofs.Standing.{stood-kept, stood-most, stood-next}
@@ -93,7 +93,7 @@ pub record IsEnded (net : Net) (arriving : ℕ → ℕ) (store : List ℕ) (w : 
 module _ (net : Net) (network : IsNetwork net) (arriving : ℕ → ℕ → ℕ) (store : List ℕ) (shown : ℕ → ℕ → Option (ℕ × ℕ))
     (few : AreFew net arriving) (sources : (x l node : ℕ) → (link_at net l).from ≡ Some node → arriving x l ≡ 0) (w : SpillState) (stands : Stands net arriving (slice_index store) shown w) where
   abbrev past : ℕ → ℕ → ℕ → Cumulative
-  past = past_by net (stored net arriving (slice_index store) shown)
+  past = cumulative_by net (stored net arriving (slice_index store) shown)
 
   abbrev moves : ℕ → Moves
   moves = moves_by net (stored net arriving (slice_index store) shown)
@@ -102,9 +102,9 @@ module _ (net : Net) (network : IsNetwork net) (arriving : ℕ → ℕ → ℕ) 
   x = w.second
 
   abbrev P : ℕ → ℕ → Cumulative
-  P = past_by net (stored net arriving (slice_index store) shown) w.second
+  P = cumulative_by net (stored net arriving (slice_index store) shown) w.second
 
-  moved-on : AreMoved net (moves_by net (stored net arriving (slice_index store) shown)) (past_by net (stored net arriving (slice_index store) shown))
+  moved-on : AreMoved net (moves_by net (stored net arriving (slice_index store) shown)) (cumulative_by net (stored net arriving (slice_index store) shown))
   moved-on = course net network arriving (slice_index store) shown
 
   sound : (n : ℕ) → IsSound net (past n) n
@@ -230,7 +230,7 @@ module _ (net : Net) (network : IsNetwork net) (arriving : ℕ → ℕ → ℕ) 
         room-left = omega (arith, entered-next, left-next, spilled-whole net network arriving (slice_index store) shown sources (x + 1))
 
         abbrev Q : ℕ → ℕ → Cumulative
-        Q = past_by net (stored net arriving (slice_index store) shown) (w.second + 1)
+        Q = cumulative_by net (stored net arriving (slice_index store) shown) (w.second + 1)
 
         on : Continues net (moves x) x P Q
         on = next-one net moves past moved-on x

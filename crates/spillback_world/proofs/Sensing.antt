@@ -16,7 +16,7 @@ use Rattle.net_simulator.specs.Senses.{near_of, near_on, sense}
 use Rattle.net_simulator.specs.Sums.{on_road, outward}
 use Rattle.net_simulator.specs.Worlds.{standing_by}
 use Rattle.net_simulator.proofs.EveryWorld.{are-sound, bounds-of, road-most}
-use Rattle.net_simulator.proofs.MoveLaws.{moves_by, past_by, zero-by}
+use Rattle.net_simulator.proofs.MoveLaws.{moves_by, cumulative_by, zero-by}
 use Rattle.net_simulator.proofs.Outside.{few-come}
 use Rattle.net_simulator.proofs.Passing.{few-of, zeros}
 use Rattle.net_simulator.proofs.Seeing.{are-sensed, gathered-by, near-few, near-road, seen-same}
@@ -27,7 +27,7 @@ use Rattle.spillback_world.specs.declared.totals.SpillTotals.{SpillTotals}
 use Rattle.spillback_world.specs.declared.worlds.Links.{Links}
 use Rattle.spillback_world.specs.StoredTotals.{from_outside, stored_totals}
 use Rattle.spillback_world.specs.Steps.{AreEmpty, state_of}
-use Rattle.spillback_world.specs.Storage.{outside, past_in, stored}
+use Rattle.spillback_world.specs.Storage.{outside, cumulative_in, stored}
 use Rattle.spillback_world.specs.Worlds.{IsWorldOf, SpillState, Stands}
 use Rattle.spillback_world.proofs.Course.{course, let-in-most}
 use Rattle.spillback_world.proofs.Passing.{same-totals}
@@ -36,7 +36,7 @@ use Rattle.spillback_world.proofs.Sources.{sources-of}
 -- what is gathered of what a world keeps is what the definition gives
 pub gathered : (net : Net) (node : ℕ) (w v : SpillState) (qs rs ss links : List ℕ) (out : List LinkSense) → IsNetwork net → v ≡ w → qs ≡ v.queues → rs ≡ v.recent → ss ≡ v.stood → links ≡ entry_links net node → out ≡ map (seen_by net qs rs ss v.second) links
     → All (λ l. l < length net.link_names) (entry_links net node) → (arriving : ℕ → ℕ → ℕ) (store : ℕ → ℕ) (shown : ℕ → ℕ → Option (ℕ × ℕ)) → Stands net arriving store shown w
-    → (let s : Sensed = record { now = v.second; links = out } in s) ≡ sense net (past_in net arriving store shown w.second) w.second node
+    → (let s : Sensed = record { now = v.second; links = out } in s) ≡ sense net (cumulative_in net arriving store shown w.second) w.second node
 gathered net node w v qs rs ss links out network view queues recent standing entries all below arriving store shown stands =
     let one = queues ∙ ap (λ (k : SpillState). k.queues) view in
     let two = recent ∙ ap (λ (k : SpillState). k.recent) view in
@@ -44,19 +44,19 @@ gathered net node w v qs rs ss links out network view queues recent standing ent
     let now = ap (λ (k : SpillState). k.second) view in
     let gathers : out ≡ map (seen_by net w.queues w.recent w.stood w.second) links = all ∙ (λ i. map (seen_by net (one i) (two i) (three i) (now i)) links) in
     let second : (let s : Sensed = record { now = v.second; links = out } in s) ≡ (let t : Sensed = record { now = w.second; links = out } in t) = λ i. record { now = now i; links = out } in
-    second ∙ gathered-by net node w.second (past_in net arriving store shown w.second) w.queues w.recent w.waits w.stood links out network stands.keeps stands.stood entries gathers below
+    second ∙ gathered-by net node w.second (cumulative_in net arriving store shown w.second) w.queues w.recent w.waits w.stood links out network stands.keeps stands.stood entries gathers below
 
 -- and it is within the bounds of what a node sees
 pub is-sensed : (net : Net) (node : ℕ) (w : SpillState) → IsNetwork net → All (λ l. l < length net.link_names) (entry_links net node) → IsStrictlyIncreasing (entry_links net node) → (world : IsWorldOf net w)
-    → IsSensedOf net node (sense net (past_in net (arriving_of world.arrivals) world.store (standing_by world.lines) w.second) w.second node)
+    → IsSensedOf net node (sense net (cumulative_in net (arriving_of world.arrivals) world.store (standing_by world.lines) w.second) w.second node)
 is-sensed net node w network below rising world =
     let a : ℕ → ℕ → ℕ = arriving_of world.arrivals in
     let sources = sources-of net world.arrivals world.enter in
     let shown : ℕ → ℕ → Option (ℕ × ℕ) = standing_by world.lines in
     let all = course net network a world.store shown in
-    let few = few-come net network (moves_by net (stored net a world.store shown)) (past_by net (stored net a world.store shown)) all a (let-in-most net network a world.store shown sources) sources (few-of net network world.arrivals world.enter) in
-    are-sensed net node w.second (past_in net a world.store shown w.second) world.stands.by (are-sound net network (moves_by net (stored net a world.store shown)) (past_by net (stored net a world.store shown)) all w.second)
-    (road-most net network (moves_by net (stored net a world.store shown)) (past_by net (stored net a world.store shown)) all few w.second) below rising
+    let few = few-come net network (moves_by net (stored net a world.store shown)) (cumulative_by net (stored net a world.store shown)) all a (let-in-most net network a world.store shown sources) sources (few-of net network world.arrivals world.enter) in
+    are-sensed net node w.second (cumulative_in net a world.store shown w.second) world.stands.by (are-sound net network (moves_by net (stored net a world.store shown)) (cumulative_by net (stored net a world.store shown)) all w.second)
+    (road-most net network (moves_by net (stored net a world.store shown)) (cumulative_by net (stored net a world.store shown)) all few w.second) below rising
 
 from-none : (from : Option ℕ) (a : ℕ) → a ≡ 0 → from_outside from a ≡ 0
 from-none None a none = none
@@ -69,7 +69,7 @@ outward-none (Some node) a none = refl
 pub stands-new : (net : Net) (arriving : ℕ → ℕ → ℕ) (store : ℕ → ℕ) (shown : ℕ → ℕ → Option (ℕ × ℕ)) (nodes n : ℕ) (links : Links) → AreEmpty n links → n ≡ length net.link_names → nodes ≡ length net.node_names
     → Stands net arriving store shown (state_of links 0 nodes (record { entered = 0; left = 0; on = 0; outside = 0; delay = 0 }))
 stands-new net arriving store shown nodes n links empty long there =
-    let P : ℕ → ℕ → Cumulative = past_in net arriving store shown 0 in
+    let P : ℕ → ℕ → Cumulative = cumulative_in net arriving store shown 0 in
     let none : (k l : ℕ) → P k l ≡ nothing = λ k l. zero-by net (stored net arriving store shown) k l in
     let in-none : (k l : ℕ) → (P k l).entered ≡ 0 = λ k l. ap (λ (q : Cumulative). q.entered) (none k l) in
     let out-none : (k l : ℕ) → (P k l).left ≡ 0 = λ k l. ap (λ (q : Cumulative). q.left) (none k l) in
@@ -97,35 +97,35 @@ stands-new net arriving store shown nodes n links empty long there =
 
 -- what is near by what a world keeps is what the definition gives
 pub near-gathered : (net : Net) (w v : SpillState) (qs rs ss : List ℕ) (gap l : ℕ) → IsNetwork net → v ≡ w → qs ≡ v.queues → rs ≡ v.recent → ss ≡ v.stood → l < length net.link_names
-    → (arriving : ℕ → ℕ → ℕ) (store : ℕ → ℕ) (shown : ℕ → ℕ → Option (ℕ × ℕ)) → Stands net arriving store shown w → near_of (seen_by net qs rs ss v.second l) gap ≡ near_on net (past_in net arriving store shown w.second) w.second gap l
+    → (arriving : ℕ → ℕ → ℕ) (store : ℕ → ℕ) (shown : ℕ → ℕ → Option (ℕ × ℕ)) → Stands net arriving store shown w → near_of (seen_by net qs rs ss v.second l) gap ≡ near_on net (cumulative_in net arriving store shown w.second) w.second gap l
 near-gathered net w v qs rs ss gap l network view queues recent standing inside arriving store shown stands =
     let one = queues ∙ ap (λ (k : SpillState). k.queues) view in
     let two = recent ∙ ap (λ (k : SpillState). k.recent) view in
     let three = standing ∙ ap (λ (k : SpillState). k.stood) view in
     let now = ap (λ (k : SpillState). k.second) view in
     (λ i. near_of (seen_by net (one i) (two i) (three i) (now i) l) gap)
-    ∙ ap (λ (s : LinkSense). near_of s gap) (seen-same net (past_in net arriving store shown w.second) w.queues w.recent w.waits w.stood w.second l stands.keeps (stands.stood l inside) inside ((bounds-of net network).most l inside))
+    ∙ ap (λ (s : LinkSense). near_of s gap) (seen-same net (cumulative_in net arriving store shown w.second) w.queues w.recent w.waits w.stood w.second l stands.keeps (stands.stood l inside) inside ((bounds-of net network).most l inside))
 
 -- what is on the road of such a world is within bounds
 module _ (net : Net) (network : IsNetwork net) (w : SpillState) (world : IsWorldOf net w) where
   abbrev seen : ℕ → ℕ → Cumulative
-  seen = past_in net (arriving_of world.arrivals) world.store (standing_by world.lines) w.second
+  seen = cumulative_in net (arriving_of world.arrivals) world.store (standing_by world.lines) w.second
 
-  all-moved : AreMoved net (moves_by net (stored net (arriving_of world.arrivals) world.store (standing_by world.lines))) (past_by net (stored net (arriving_of world.arrivals) world.store (standing_by world.lines)))
+  all-moved : AreMoved net (moves_by net (stored net (arriving_of world.arrivals) world.store (standing_by world.lines))) (cumulative_by net (stored net (arriving_of world.arrivals) world.store (standing_by world.lines)))
   all-moved = course net network (arriving_of world.arrivals) world.store (standing_by world.lines)
 
-  sound : IsSound net (past_in net (arriving_of world.arrivals) world.store (standing_by world.lines) w.second) w.second
-  sound = are-sound net network (moves_by net (stored net (arriving_of world.arrivals) world.store (standing_by world.lines))) (past_by net (stored net (arriving_of world.arrivals) world.store (standing_by world.lines))) all-moved w.second
+  sound : IsSound net (cumulative_in net (arriving_of world.arrivals) world.store (standing_by world.lines) w.second) w.second
+  sound = are-sound net network (moves_by net (stored net (arriving_of world.arrivals) world.store (standing_by world.lines))) (cumulative_by net (stored net (arriving_of world.arrivals) world.store (standing_by world.lines))) all-moved w.second
 
-  road : on_road net (past_in net (arriving_of world.arrivals) world.store (standing_by world.lines) w.second) w.second ≤ 2000000000
+  road : on_road net (cumulative_in net (arriving_of world.arrivals) world.store (standing_by world.lines) w.second) w.second ≤ 2000000000
   road =
       let sources = sources-of net world.arrivals world.enter in
-      let few = few-come net network (moves_by net (stored net (arriving_of world.arrivals) world.store (standing_by world.lines))) (past_by net (stored net (arriving_of world.arrivals) world.store (standing_by world.lines))) all-moved (arriving_of world.arrivals)
+      let few = few-come net network (moves_by net (stored net (arriving_of world.arrivals) world.store (standing_by world.lines))) (cumulative_by net (stored net (arriving_of world.arrivals) world.store (standing_by world.lines))) all-moved (arriving_of world.arrivals)
       (let-in-most net network (arriving_of world.arrivals) world.store (standing_by world.lines) sources) sources (few-of net network world.arrivals world.enter) in
-      road-most net network (moves_by net (stored net (arriving_of world.arrivals) world.store (standing_by world.lines))) (past_by net (stored net (arriving_of world.arrivals) world.store (standing_by world.lines))) all-moved few w.second
+      road-most net network (moves_by net (stored net (arriving_of world.arrivals) world.store (standing_by world.lines))) (cumulative_by net (stored net (arriving_of world.arrivals) world.store (standing_by world.lines))) all-moved few w.second
 
-  pub near-fits : (gap l : ℕ) → l < length net.link_names → near_on net (past_in net (arriving_of world.arrivals) world.store (standing_by world.lines) w.second) w.second gap l ≤ 2000000000
+  pub near-fits : (gap l : ℕ) → l < length net.link_names → near_on net (cumulative_in net (arriving_of world.arrivals) world.store (standing_by world.lines) w.second) w.second gap l ≤ 2000000000
   near-fits gap l inside = near-few net seen w.second sound gap l road inside
 
-  pub near-all-fits : (gap : ℕ) → total (near_on net (past_in net (arriving_of world.arrivals) world.store (standing_by world.lines) w.second) w.second gap) (length net.link_names) ≤ 2000000000
+  pub near-all-fits : (gap : ℕ) → total (near_on net (cumulative_in net (arriving_of world.arrivals) world.store (standing_by world.lines) w.second) w.second gap) (length net.link_names) ≤ 2000000000
   near-all-fits gap = near-road net seen w.second sound gap road

@@ -15,7 +15,7 @@ use Rattle.net_simulator.specs.Worlds.{Keeps}
 use Rattle.net_simulator.proofs.MoveLaws.{MoveAlike, by-same}
 use Rattle.spillback_world.specs.Filling.{fitting}
 use Rattle.spillback_world.specs.StoredTotals.{stored_totals}
-use Rattle.spillback_world.specs.Storage.{all_goes, goes_of, held_by, let_in, next_goes, opening, outside, past_in, stored}
+use Rattle.spillback_world.specs.Storage.{all_goes, goes_of, held_by, let_in, next_goes, opening, outside, cumulative_in, stored}
 use Rattle.spillback_world.specs.Worlds.{SpillState, Stands}
 
 module _ (net : Net) (arriving : ℕ → ℕ → ℕ) (store : ℕ → ℕ) (shown seen : ℕ → ℕ → Option (ℕ × ℕ)) (n : ℕ) (same : (x node : ℕ) → x < n → shown x node ≡ seen x node) where
@@ -29,13 +29,13 @@ module _ (net : Net) (arriving : ℕ → ℕ → ℕ) (store : ℕ → ℕ) (sho
         comes = λ l inside. ap (λ (g : ℕ → Option (ℕ × ℕ)). let_in net arriving store g past x (goes_of net store g past x (length net.link_names)) l) e;
       })
 
-  pub past-same : past_in net arriving store shown n ≡ past_in net arriving store seen n
+  pub past-same : cumulative_in net arriving store shown n ≡ cumulative_in net arriving store seen n
   past-same = ap passed_in history-same
 
 -- a timeline counts only by what it shows in the seconds below the world's
 pub stands-under : (net : Net) (arriving : ℕ → ℕ → ℕ) (store : ℕ → ℕ) (shown seen : ℕ → ℕ → Option (ℕ × ℕ)) (w : SpillState) → ((x node : ℕ) → x < w.second → shown x node ≡ seen x node) → Stands net arriving store shown w → Stands net arriving store seen w
 stands-under net arriving store shown seen w same stands =
-    let e : past_in net arriving store shown w.second ≡ past_in net arriving store seen w.second = past-same net arriving store shown seen w.second same in
+    let e : cumulative_in net arriving store shown w.second ≡ cumulative_in net arriving store seen w.second = past-same net arriving store shown seen w.second same in
     record {
       shape = stands.shape;
       by = stands.by;
@@ -76,6 +76,6 @@ module _ (net : Net) (network : IsNetwork net) (store : ℕ → ℕ) (one other 
   }
 
 pub past-at-nodes : (net : Net) → IsNetwork net → (arriving : ℕ → ℕ → ℕ) (store : ℕ → ℕ) (shown seen : ℕ → ℕ → Option (ℕ × ℕ)) (n : ℕ) → ((x node : ℕ) → x < n → node < length net.node_names → shown x node ≡ seen x node)
-    → past_in net arriving store shown n ≡ past_in net arriving store seen n
+    → cumulative_in net arriving store shown n ≡ cumulative_in net arriving store seen n
 past-at-nodes net network arriving store shown seen n same =
     ap passed_in (by-same net (stored net arriving store shown) (stored net arriving store seen) n (λ x less. moves-same net network store (shown x) (seen x) (passed_in (history_by net (stored net arriving store seen) x)) x (λ k below. same x k less below) arriving))

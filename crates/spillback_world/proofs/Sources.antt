@@ -7,7 +7,7 @@ use Rattle.net_parts.specs.Numbers.{Net}
 use Rattle.net_parts.specs.Outline.{link_at}
 use Rattle.road_net.specs.Network.{IsNetwork}
 use Rattle.road_net.proofs.TotalLaws.{total-same, total-zero}
-use Rattle.net_simulator.specs.Flow.{past_of}
+use Rattle.net_simulator.specs.Flow.{cumulative_under}
 use Rattle.net_simulator.specs.Sums.{AreFew}
 use Rattle.spillback_world.specs.StoredTotals.{outside_all}
 use Rattle.spillback_world.specs.Storage.{outside}
@@ -21,6 +21,6 @@ sources-of net a are x l node from = elim (cases_lt 0 (arriving_of a x l)) [
 ]
 
 -- all that arrived has entered
-pub none-outside : (net : Net) (network : IsNetwork net) (arriving : ℕ → ℕ → ℕ) (few : AreFew net arriving) (shown : ℕ → ℕ → Option (ℕ × ℕ)) (n : ℕ) → outside_all net arriving (past_of net arriving shown n) n ≡ 0
+pub none-outside : (net : Net) (network : IsNetwork net) (arriving : ℕ → ℕ → ℕ) (few : AreFew net arriving) (shown : ℕ → ℕ → Option (ℕ × ℕ)) (n : ℕ) → outside_all net arriving (cumulative_under net arriving shown n) n ≡ 0
 none-outside net network arriving few shown n =
-    total-same (outside arriving (past_of net arriving shown n) n) (λ l. 0) (length net.link_names) (λ l h. let all = all-entered net network arriving few shown n l h in omega (arith, all)) ∙ total-zero (length net.link_names)
+    total-same (outside arriving (cumulative_under net arriving shown n) n) (λ l. 0) (length net.link_names) (λ l h. let all = all-entered net network arriving few shown n l h in omega (arith, all)) ∙ total-zero (length net.link_names)

@@ -7,7 +7,7 @@ use Rattle.road_net.specs.Joins.{split_of}
 use Rattle.road_net.specs.Network.{IsNetwork}
 use Rattle.road_net.specs.Totals.{total}
 use Rattle.road_net.proofs.TotalLaws.{total-same}
-use Rattle.net_simulator.specs.Flow.{Cumulative, passed_in, passing, discharged, history, past_of}
+use Rattle.net_simulator.specs.Flow.{Cumulative, passed_in, passing, discharged, history, cumulative_under}
 use Rattle.net_simulator.specs.Sums.{AreFew}
 use Rattle.net_simulator.proofs.EveryWorld.{bounds-of}
 use Rattle.net_simulator.proofs.Passing.{sound-at, whole-at, on-road-most}
@@ -25,7 +25,7 @@ module _ (net : Net) (network : IsNetwork net) (arriving : ℕ → ℕ → ℕ) 
   n = length net.link_names
 
   abbrev P : ℕ → ℕ → ℕ → Cumulative
-  P x = past_of net arriving shown x
+  P x = cumulative_under net arriving shown x
 
   -- all that arrived at a link has entered it
   pub all-entered : (x l : ℕ) → l < n → total (λ y. arriving y l) x ≤ (P x x l).entered

@@ -78,8 +78,8 @@ stored net arriving store shown before x =
     record { goes = slice_index goes; comes = let_in net arriving store (shown x) (passed_in before) x goes }
 
 -- what passed each link in the first n seconds, for n up to `now`
-abbrev pub past_in : Net → (ℕ → ℕ → ℕ) → (ℕ → ℕ) → (ℕ → ℕ → Option (ℕ × ℕ)) → ℕ → ℕ → ℕ → Cumulative
-past_in net arriving store shown now = passed_in (history_by net (stored net arriving store shown) now)
+abbrev pub cumulative_in : Net → (ℕ → ℕ → ℕ) → (ℕ → ℕ) → (ℕ → ℕ → Option (ℕ × ℕ)) → ℕ → ℕ → ℕ → Cumulative
+cumulative_in net arriving store shown now = passed_in (history_by net (stored net arriving store shown) now)
 
 -- no link ever holds more than its storage
 abbrev pub AreWithin : Net → (ℕ → ℕ) → (ℕ → ℕ → Cumulative) → ℕ → Type 0

@@ -9,7 +9,7 @@ use Rattle.net_simulator.specs.Senses.{stood}
 use Rattle.net_simulator.specs.Worlds.{Keeps, standing_by}
 use Rattle.spillback_world.specs.declared.totals.SpillTotals.{SpillTotals}
 use Rattle.spillback_world.specs.StoredTotals.{stored_totals}
-use Rattle.spillback_world.specs.Storage.{outside, past_in}
+use Rattle.spillback_world.specs.Storage.{outside, cumulative_in}
 
 -- what a world keeps: its second, how many nodes its network has, and for each link its queue, rows of what entered it and of its
 -- queues, for how long a queue has stood, what waits outside of it, what is on it, and what is counted
@@ -39,11 +39,11 @@ pub record HasShape (net : Net) (w : SpillState) : Type 0 where
 pub record Stands (net : Net) (arriving : ℕ → ℕ → ℕ) (store : ℕ → ℕ) (shown : ℕ → ℕ → Option (ℕ × ℕ)) (w : SpillState) : Type 0 where
   pub shape : HasShape net w
   pub by : w.second ≤ most_seconds
-  pub keeps : Keeps net (past_in net arriving store shown w.second) w.queues w.recent w.waits w.second
-  pub held : (l : ℕ) → l < length net.link_names → slice_index w.held l ≡ (past_in net arriving store shown w.second w.second l).entered - (past_in net arriving store shown w.second w.second l).left
-  pub totals : w.totals ≡ stored_totals net arriving (past_in net arriving store shown w.second) w.second
-  pub stood : (l : ℕ) → l < length net.link_names → slice_index w.stood l ≡ stood net (past_in net arriving store shown w.second) w.second l
-  pub outside : (l : ℕ) → l < length net.link_names → slice_index w.outside l ≡ outside arriving (past_in net arriving store shown w.second) w.second l
+  pub keeps : Keeps net (cumulative_in net arriving store shown w.second) w.queues w.recent w.waits w.second
+  pub held : (l : ℕ) → l < length net.link_names → slice_index w.held l ≡ (cumulative_in net arriving store shown w.second w.second l).entered - (cumulative_in net arriving store shown w.second w.second l).left
+  pub totals : w.totals ≡ stored_totals net arriving (cumulative_in net arriving store shown w.second) w.second
+  pub stood : (l : ℕ) → l < length net.link_names → slice_index w.stood l ≡ stood net (cumulative_in net arriving store shown w.second) w.second l
+  pub outside : (l : ℕ) → l < length net.link_names → slice_index w.outside l ≡ outside arriving (cumulative_in net arriving store shown w.second) w.second l
 
 -- a world stands for this network with some arrivals, storages and timelines
 pub record IsWorldOf (net : Net) (w : SpillState) : Type 0 where

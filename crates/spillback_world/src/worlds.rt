@@ -9,7 +9,7 @@ ghost use Rattle.net_simulator.specs.Senses.{near_on, sense};
 ghost use Rattle.net_simulator.specs.Worlds.{standing_by};
 ghost use Rattle.road_net.specs.Senses.{IsSensedOf};
 ghost use Rattle.spillback_world.specs.StoredTotals.{IsBalanced};
-ghost use Rattle.spillback_world.specs.Storage.{past_in};
+ghost use Rattle.spillback_world.specs.Storage.{cumulative_in};
 ghost use Rattle.spillback_world.specs.Steps.{AreEmpty, HaveScratch, state_of};
 ghost use Rattle.spillback_world.specs.Worlds.{SpillState, Stands, IsWorldOf};
 
@@ -140,7 +140,7 @@ impl SpillWorld {
         ensures sensed { IfOk result (IsSensedOf net.now node) }
         ensures value { (arriving : ℕ → ℕ → ℕ) (store : ℕ → ℕ) (shown : ℕ → ℕ → Option (ℕ × ℕ))
             → Stands net.now arriving store shown self.now
-            → IfOk result (λ s. s ≡ sense net.now (past_in net.now arriving store shown self.now.second)
+            → IfOk result (λ s. s ≡ sense net.now (cumulative_in net.now arriving store shown self.now.second)
             self.now.second node) }
     {
         let sight = Sight {
@@ -167,7 +167,7 @@ impl SpillWorld {
         requires world { IsWorldOf net.now self.now }
         ensures { (arriving : ℕ → ℕ → ℕ) (store : ℕ → ℕ) (shown : ℕ → ℕ → Option (ℕ × ℕ))
             → Stands net.now arriving store shown self.now
-            → result ≡ near_on net.now (past_in net.now arriving store shown self.now.second)
+            → result ≡ near_on net.now (cumulative_in net.now arriving store shown self.now.second)
             self.now.second gap link }
     {
         law_of_network(net);

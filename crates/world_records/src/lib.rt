@@ -4,9 +4,9 @@
 mod digits;
 mod entries;
 mod records;
-mod world;
+mod shown;
 
 pub use digits::{Digits, digits_of};
 pub use entries::{is_header, seven_fields, write_header};
 pub use records::{finish, start, write_record};
-pub use world::write_shown;
+pub use shown::write_shown;

@@ -1,6 +1,6 @@
 use Rattle.std.proofs.Common.{◌≡◌, ◌<◌, ℕ, List, length, slice_index}
 use Rattle.control_flow.specs.declared.greens.Green.{Green}
-use Rattle.net_simulator.specs.Flow.{past_of}
+use Rattle.net_simulator.specs.Flow.{cumulative_under}
 use Rattle.net_simulator.specs.Senses.{near_on}
 use Rattle.net_simulator.specs.Worlds.{Stands, standing_by}
 use Rattle.actuated.proofs.sensing.sense_near.Given as goal
@@ -10,5 +10,5 @@ abbrev pub invariant-loop-link : goal.invariant-loop-link
 invariant-loop-link l = record {
   count : length l.near ≡ length l.initial.near;
   are : (arriving : ℕ → ℕ → ℕ) (lines : ℕ → List Green) → Stands l.net arriving (standing_by lines) l.world → (k : ℕ) → k < l.link
-      → slice_index l.near k ≡ near_on l.net (past_of l.net arriving (standing_by lines) l.world.second) l.world.second l.net.run.gap k;
+      → slice_index l.near k ≡ near_on l.net (cumulative_under l.net arriving (standing_by lines) l.world.second) l.world.second l.net.run.gap k;
 }

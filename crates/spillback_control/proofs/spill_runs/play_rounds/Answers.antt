@@ -7,7 +7,7 @@ use Rattle.net_simulator.specs.Worlds.{line_in, standing_by}
 use Rattle.actuated.specs.ActSteps.{act_rounds}
 use Rattle.actuated.specs.Rounds.{AreAmounts, AreRenewed, IsReady}
 use Rattle.actuated.specs.RunsSoFar.{AreNear}
-use Rattle.spillback_world.specs.Storage.{past_in}
+use Rattle.spillback_world.specs.Storage.{cumulative_in}
 use Rattle.spillback_world.specs.Worlds.{Stands}
 use Rattle.spillback_control.specs.SpillRounds.{HaveSpilled}
 use Rattle.spillback_control.proofs.RunLaws.{more-spilled, renewed-stands, room, spilled-world}
@@ -74,7 +74,7 @@ loop-round-preserved c =
     let count = c.sense_near.ensures.amounts.count in
     let list = written l.near.items c.sense_near.new.near l.near.len (count ∙ sym l.invariant.near) l.near.ok.0 in
     let are = subst (λ s. AreRenewed net near s (length net.node_names) l.lines.items renewed) c.now.ensures c.in_ok-renew_lines.ensures in
-    let sensed = subst (AreNear net (past_in net arriving store (standing_by (line_in l.lines.items)) l.world.second) l.world.second) (sym (c.as_slice.ensures.value ∙ list)) (c.sense_near.ensures.near arriving store (standing_by (line_in l.lines.items)) l.invariant.played.stands) in
+    let sensed = subst (AreNear net (cumulative_in net arriving store (standing_by (line_in l.lines.items)) l.world.second) l.world.second) (sym (c.as_slice.ensures.value ∙ list)) (c.sense_near.ensures.near arriving store (standing_by (line_in l.lines.items)) l.invariant.played.stands) in
     record {
       near = ap length list ∙ count;
       played = more-spilled net c.act_rounds-rounds.ensures.network arriving store l._round l.lines.items renewed near l.world l.invariant.played are sensed c.advance.new.self

@@ -1,7 +1,7 @@
 use Rattle.std.specs.List.{flat_map, range_with_len}
 use Rattle.world_records.specs.Records.{green_records}
 use Rattle.world_records.specs.Written.{Adds}
-use Rattle.world_records.proofs.world.write_greens.Given as goal
+use Rattle.world_records.proofs.shown.write_greens.Given as goal
 
 abbrev pub invariant-loop-node : goal.invariant-loop-node
 invariant-loop-node l = Adds l.fn.out l.out (flat_map (green_records l.net l.lines l.end) (range_with_len 0 l.node))

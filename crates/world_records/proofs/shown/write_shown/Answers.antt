@@ -1,6 +1,6 @@
 use Rattle.std.proofs.lemmas.Result.{on_ok_weaker}
 use Rattle.world_records.proofs.ShownLaws.{shown-parts}
-use Rattle.world_records.proofs.world.write_shown.Goals as goal
+use Rattle.world_records.proofs.shown.write_shown.Goals as goal
 
 pub returns : goal.returns
 returns c =

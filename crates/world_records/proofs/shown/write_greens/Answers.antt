@@ -4,7 +4,7 @@ use Rattle.control_flow.specs.declared.greens.Green.{Green}
 use Rattle.world_records.specs.Records.{green_record, green_records}
 use Rattle.world_records.specs.Written.{Adds}
 use Rattle.world_records.proofs.WrittenLaws.{adds-part, adds-parts}
-use Rattle.world_records.proofs.world.write_greens.Goals as goal
+use Rattle.world_records.proofs.shown.write_greens.Goals as goal
 
 pub loop-node-preserved : goal.loop-node-preserved
 loop-node-preserved c =
