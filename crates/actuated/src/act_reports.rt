@@ -3,7 +3,7 @@
 ghost use Rattle.std.specs.Prelude.{◌≡◌, ◌≤◌, ℕ, IfOk};
 ghost use Rattle.net_parts.specs.Limits.{most_of_all};
 ghost use Rattle.audit.specs.Audits.{IsClean, IsCleanText};
-ghost use Rattle.net_simulator.specs.Sums.{arrived};
+ghost use Rattle.net_simulator.specs.Sums.{total_arrived};
 ghost use Rattle.audit.specs.LineRuns.{sheet_of};
 ghost use Rattle.audit.specs.SheetTexts.{HasShape};
 ghost use Rattle.actuated.specs.Reports.{act_text};
@@ -22,7 +22,7 @@ use std::alloc::{AllocError, Global};
 pub fn act_report(alloc: Global, net: &Network, run: &ActRecord) -> Result<Vec<u8>, AllocError>
     requires { HasShape net.now (sheet_of run.now) }
     ensures text { IfOk result (λ text. text.items ≡ act_text net.now run.now) }
-    ensures clean { (arriving : ℕ → ℕ → ℕ) → ((n : ℕ) → arrived net.now arriving n ≤ most_of_all)
+    ensures clean { (arriving : ℕ → ℕ → ℕ) → ((n : ℕ) → total_arrived net.now arriving n ≤ most_of_all)
         → IsClean net.now arriving (sheet_of run.now)
         → IfOk result (λ text. IsCleanText net.now arriving text.items) }
 {

@@ -14,7 +14,7 @@ use Rattle.arrivals.specs.declared.rows.ArrivalRow.{ArrivalRow}
 use Rattle.arrivals.specs.Amounts.{Amounts, place, arriving_of, KeepsSources, AreArrivals}
 use Rattle.net_parts.specs.Limits.{most_of_all, most_seconds}
 use Rattle.arrivals.specs.Rows.{IsSource, IsRow, amount_of, is_at, arriving_by}
-use Rattle.arrivals.specs.Stored.{IsStored, IsTally, added, amounts_to, reaching}
+use Rattle.arrivals.specs.Stored.{IsStored, IsTally, with_row, amounts_to, reaching}
 use Rattle.arrivals.proofs.SumLaws.{arriving-within, arriving-beyond, arriving-most, few}
 
 -- no rows
@@ -75,9 +75,9 @@ module _ (a : Amounts) (r : ArrivalRow) (low : a.first ≤ r.link) (high : r.lin
   inside : place a r.link r.second < length (amounts_to a r.second)
   inside = omega (arith, mul-add-lt r.second a.width (r.link - a.first) (r.second + 1) (omega arith) (omega arith), length-reaching a.amounts ((r.second + 1) * a.width))
 
-  arriving-here : arriving_of (added a r) r.second r.link ≡ arriving_of a r.second r.link + r.amount
+  arriving-here : arriving_of (with_row a r) r.second r.link ≡ arriving_of a r.second r.link + r.amount
   arriving-here =
-      let new = arriving-within (added a r) r.link r.second low high second in
+      let new = arriving-within (with_row a r) r.link r.second low high second in
       let old = arriving-within a r.link r.second low high second in
       new ∙ get_or-set_same (amounts_to a r.second) (place a r.link r.second) (get_or a.amounts (place a r.link r.second) 0 + r.amount) 0 inside ∙ ap (λ n. n + r.amount) (sym old)
 
@@ -86,13 +86,13 @@ module _ (a : Amounts) (r : ArrivalRow) (low : a.first ≤ r.link) (high : r.lin
       let both = same_from_place x (l - a.first) r.second (r.link - a.first) a.width (omega arith) (omega arith) same in
       other (omega (arith, both.1)) (sym both.0)
 
-  arriving-other : (l x : ℕ) → (r.link ≡ l → r.second ≡ x → ⊥) → arriving_of (added a r) x l ≡ arriving_of a x l
+  arriving-other : (l x : ℕ) → (r.link ≡ l → r.second ≡ x → ⊥) → arriving_of (with_row a r) x l ≡ arriving_of a x l
   arriving-other l x other = elim (cases_lt l a.first) [
     | inl less ↦ none (λ first below late. omega (arith, first, less))
     | inr first ↦ elim (cases_lt l (a.first + a.width)) [
       | inl below ↦ elim (cases_lt x most_seconds) [
         | inl now ↦
-            arriving-within (added a r) l x first below now
+            arriving-within (with_row a r) l x first below now
             ∙ get_or-set_other (amounts_to a r.second) (place a r.link r.second) (place a l x) (get_or a.amounts (place a r.link r.second) 0 + r.amount) 0 (apart l x first below other)
             ∙ get_or-reaching a.amounts ((r.second + 1) * a.width) (place a l x)
             ∙ sym (arriving-within a l x first below now)
@@ -102,19 +102,19 @@ module _ (a : Amounts) (r : ArrivalRow) (low : a.first ≤ r.link) (high : r.lin
     ]
   ]
     where
-      none : (a.first ≤ l → l < a.first + a.width → x < most_seconds → ⊥) → arriving_of (added a r) x l ≡ arriving_of a x l
-      none out = arriving-beyond (added a r) l x out ∙ sym (arriving-beyond a l x out)
+      none : (a.first ≤ l → l < a.first + a.width → x < most_seconds → ⊥) → arriving_of (with_row a r) x l ≡ arriving_of a x l
+      none out = arriving-beyond (with_row a r) l x out ∙ sym (arriving-beyond a l x out)
 
-  arriving-added : (l x : ℕ) → arriving_of (added a r) x l ≡ arriving_of a x l + brings r l x
+  arriving-added : (l x : ℕ) → arriving_of (with_row a r) x l ≡ arriving_of a x l + brings r l x
   arriving-added l x = elim (eqb_tells r.link l) [
     | inl p ↦ elim (eqb_tells r.second x) [
-      | inl q ↦ subst (λ l. arriving_of (added a r) x l ≡ arriving_of a x l + brings r l x) p.1 (subst (λ x. arriving_of (added a r) x r.link ≡ arriving_of a x r.link + brings r r.link x) q.1 (omega (arith, arriving-here, brings-here r r.link r.second refl refl)))
+      | inl q ↦ subst (λ l. arriving_of (with_row a r) x l ≡ arriving_of a x l + brings r l x) p.1 (subst (λ x. arriving_of (with_row a r) x r.link ≡ arriving_of a x r.link + brings r r.link x) q.1 (omega (arith, arriving-here, brings-here r r.link r.second refl refl)))
       | inr q ↦ omega (arith, arriving-other l x (λ h g. q.1 g), brings-else r l x (λ h g. q.1 g))
     ]
     | inr p ↦ omega (arith, arriving-other l x (λ h g. p.1 h), brings-else r l x (λ h g. p.1 h))
   ]
 
-  sum-added : sum (added a r).amounts ≡ sum a.amounts + r.amount
+  sum-added : sum (with_row a r).amounts ≡ sum a.amounts + r.amount
   sum-added =
       omega (
         arith,
@@ -132,14 +132,14 @@ stored-more net a r kept is whole stored few items k element are at here =
     let within : k < length items = rw (at, are) (inside a r low high is.bounds.second) in
     let old : element ≡ get_or a.amounts (place a r.link r.second) 0 =
     get_or_read items k element within here 0 ∙ (λ i. get_or (are i) (at i) 0) ∙ get_or-reaching a.amounts ((r.second + 1) * a.width) (place a r.link r.second) in
-    let same : set items k (element + r.amount) ≡ (added a r).amounts = λ i. set (are i) (at i) (old i + r.amount) in
+    let same : set items k (element + r.amount) ≡ (with_row a r).amounts = λ i. set (are i) (at i) (old i + r.amount) in
     record { adds = omega (arith, sum-added a r low high is.bounds.second, stored.adds, ap sum same); few = few }
 
 one-row : (P : ArrivalRow → Type 0) (r : ArrivalRow) → P r → All P (r ∷ [])
 one-row P r holds = All-cons P r [] holds (All-nil P)
 
 -- one row more
-pub tally-more : (net : Net) (rows : List ArrivalRow) (a b : Amounts) (r : ArrivalRow) → IsTally net rows a → IsRow net r → b ≡ added a r → sum a.amounts + r.amount ≤ most_of_all → IsTally net (rows ++ r ∷ []) b
+pub tally-more : (net : Net) (rows : List ArrivalRow) (a b : Amounts) (r : ArrivalRow) → IsTally net rows a → IsRow net r → b ≡ with_row a r → sum a.amounts + r.amount ≤ most_of_all → IsTally net (rows ++ r ∷ []) b
 tally-more net rows a b r tally is same few =
     let (low, high) = tally.of_rows.kept.all r.link is.source in
     let second = is.bounds.second in
@@ -179,6 +179,6 @@ tally-count net rows a tally = omega (arith, count rows tally.of_rows.lawful.eac
     count (r ∷ rs) are = omega (arith, sum_by-cons amount_of r rs, count rs (All-tail (IsRow net) r rs are), (All-head (IsRow net) r rs are).bounds.least)
 
 -- a loop's step: the row at i
-pub tally-next : (net : Net) (rows : List ArrivalRow) (i : ℕ) (a b : Amounts) (r : ArrivalRow) → i < length rows → r ≡ get_or rows i r → IsTally net (take i rows) a → IsRow net r × (b ≡ added a r) × (sum a.amounts + r.amount ≤ most_of_all) → IsTally net (take (i + 1) rows) b
+pub tally-next : (net : Net) (rows : List ArrivalRow) (i : ℕ) (a b : Amounts) (r : ArrivalRow) → i < length rows → r ≡ get_or rows i r → IsTally net (take i rows) a → IsRow net r × (b ≡ with_row a r) × (sum a.amounts + r.amount ≤ most_of_all) → IsTally net (take (i + 1) rows) b
 tally-next net rows i a b r inside here tally (is, same, few) =
     rw (take_more rows i r inside, ← here) (tally-more net (take i rows) a b r tally is same few)

@@ -25,12 +25,12 @@ abbrev pub amounts_to : Amounts → ℕ → List ℕ
 amounts_to a second = reaching a.amounts ((second + 1) * a.width)
 
 -- with one row more
-abbrev pub added : Amounts → ArrivalRow → Amounts
-added a r = record { first = a.first; width = a.width; amounts = slice_set (amounts_to a r.second) (place a r.link r.second) (slice_index_or a.amounts (place a r.link r.second) 0 + r.amount) }
+abbrev pub with_row : Amounts → ArrivalRow → Amounts
+with_row a r = record { first = a.first; width = a.width; amounts = slice_set (amounts_to a r.second) (place a r.link r.second) (slice_index_or a.amounts (place a r.link r.second) 0 + r.amount) }
 
 -- the row was added, where it is lawful and all bring no more than they may; else its first fault, or out of memory
 abbrev pub Adds : Net → ArrivalRow → ℕ → Amounts → Amounts → Result (Unit {0}) RowFault → Type 0
-Adds net r number old new (Ok _) = IsRow net r × (new ≡ added old r) × (sum old.amounts + r.amount ≤ most_of_all)
+Adds net r number old new (Ok _) = IsRow net r × (new ≡ with_row old r) × (sum old.amounts + r.amount ≤ most_of_all)
 Adds net r number old new (Err (Link n)) = (n ≡ number) × IsAtLink net r
 Adds net r number old new (Err (Bound n)) = (n ≡ number) × IsAtBound net r
 Adds net r number old new (Err (Sum n)) = (n ≡ number) × IsRow net r × (most_of_all + 1 ≤ sum old.amounts + r.amount)

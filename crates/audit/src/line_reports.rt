@@ -3,7 +3,7 @@
 ghost use Rattle.std.specs.Prelude.{◌≡◌, ◌≤◌, ℕ, IfOk};
 ghost use Rattle.net_parts.specs.Limits.{most_of_all};
 ghost use Rattle.audit.specs.Audits.{IsClean, IsCleanText};
-ghost use Rattle.net_simulator.specs.Sums.{arrived};
+ghost use Rattle.net_simulator.specs.Sums.{total_arrived};
 ghost use Rattle.audit.specs.SheetTexts.{HasShape};
 ghost use Rattle.audit.specs.LineReports.{line_text};
 
@@ -29,7 +29,7 @@ pub fn line_report(
     requires { HasShape net.now (record { lines = lines.now; links = links.now; totals = totals }) }
     ensures text { IfOk result (λ text. text.items
         ≡ line_text net.now (record { lines = lines.now; links = links.now; totals = totals })) }
-    ensures clean { (arriving : ℕ → ℕ → ℕ) → ((n : ℕ) → arrived net.now arriving n ≤ most_of_all)
+    ensures clean { (arriving : ℕ → ℕ → ℕ) → ((n : ℕ) → total_arrived net.now arriving n ≤ most_of_all)
         → IsClean net.now arriving (record { lines = lines.now; links = links.now; totals = totals })
         → IfOk result (λ text. IsCleanText net.now arriving text.items) }
 {

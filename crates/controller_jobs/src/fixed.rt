@@ -10,7 +10,7 @@ ghost use Rattle.commands.specs.Outcome.{Outcome};
 ghost use Rattle.fixed_plans.specs.Rows.{IsFixedPlan};
 ghost use Rattle.audit.specs.LineReports.{line_text};
 ghost use Rattle.audit.specs.LineRuns.{sheet_of, shown_sheet};
-ghost use Rattle.net_simulator.specs.Sums.{arrived};
+ghost use Rattle.net_simulator.specs.Sums.{total_arrived};
 ghost use Rattle.net_simulator.specs.Worlds.{line_in};
 ghost use Rattle.audit.specs.SheetTexts.{HasShape};
 ghost use Rattle.signal_safety.specs.Safe.{IsSafe};
@@ -46,7 +46,7 @@ pub(crate) fn fixed_run(
 fn run_report(alloc: Global, net: &Network, run: &LineRun) -> Result<Vec<u8>, AllocError>
     requires { HasShape net.now (sheet_of run.now) }
     ensures text { IfOk result (λ text. text.items ≡ line_text net.now (sheet_of run.now)) }
-    ensures clean { (arriving : ℕ → ℕ → ℕ) → ((n : ℕ) → arrived net.now arriving n ≤ most_of_all)
+    ensures clean { (arriving : ℕ → ℕ → ℕ) → ((n : ℕ) → total_arrived net.now arriving n ≤ most_of_all)
         → IsClean net.now arriving (sheet_of run.now)
         → IfOk result (λ text. IsCleanText net.now arriving text.items) }
 {

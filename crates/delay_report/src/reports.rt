@@ -3,7 +3,7 @@ ghost use Rattle.std.specs.Prelude.{◌≡◌, ℕ, ◌≤◌, List, ◌++◌, I
 ghost use Rattle.net_parts.specs.Limits.{most_of_all};
 ghost use Rattle.audit.specs.Audits.{IsCleanText};
 ghost use Rattle.histories.specs.Histories.{IsLawful};
-ghost use Rattle.net_simulator.specs.Sums.{arrived};
+ghost use Rattle.net_simulator.specs.Sums.{total_arrived};
 ghost use Rattle.runs.specs.Complete.{IsComplete};
 ghost use Rattle.runs.specs.Promises.{IsKeptRun};
 ghost use Rattle.runs.specs.declared.records.RunRecord.{RunRecord};
@@ -104,7 +104,7 @@ pub fn law_of_reports(net: &Network)
     ensures one { (bytes one other : List ℕ) → IsHistoryText net.now bytes one → IsHistoryText net.now bytes other
         → one ≡ other }
     ensures clean { (run : RunRecord) (history : List ℕ) (arriving : ℕ → ℕ → ℕ) → IsKeptRun net.now arriving history run
-        → ((n : ℕ) → arrived net.now arriving n ≤ most_of_all)
+        → ((n : ℕ) → total_arrived net.now arriving n ≤ most_of_all)
         → IsCleanText net.now arriving (report_text net.now run history) }
 {
     law_of_network(net);

@@ -7,7 +7,7 @@ use Rattle.std.proofs.lemmas.List.Elements.{All-get_or}
 use Rattle.net_parts.specs.Numbers.{Net, no_link}
 use Rattle.net_parts.specs.Outline.{IsLink, link_at}
 use Rattle.road_net.specs.Network.{IsNetwork}
-use Rattle.net_simulator.specs.Flow.{Cumulative, discharged, discharged_to, history, passed_in, cumulative_under}
+use Rattle.net_simulator.specs.Flow.{Cumulative, discharge, discharge_to, history, passed_in, cumulative_under}
 use Rattle.net_simulator.specs.Moves.{history_by}
 use Rattle.net_simulator.proofs.MoveLaws.{flowing, same-history, by-same}
 
@@ -19,12 +19,12 @@ end-below net network l = elim (cases_lt l (length net.links)) [
 ]
 
 module _ (net : Net) (network : IsNetwork net) (arriving : ℕ → ℕ → ℕ) (shown seen : ℕ → ℕ → Option (ℕ × ℕ)) where
-  discharged-same : (past : ℕ → ℕ → Cumulative) (x : ℕ) → ((n : ℕ) → n < length net.node_names → shown x n ≡ seen x n) → (l : ℕ) → discharged net (shown x) past x l ≡ discharged net (seen x) past x l
+  discharged-same : (past : ℕ → ℕ → Cumulative) (x : ℕ) → ((n : ℕ) → n < length net.node_names → shown x n ≡ seen x n) → (l : ℕ) → discharge net (shown x) past x l ≡ discharge net (seen x) past x l
   discharged-same past x same l = by (link_at net l).to (end-below net network l)
     where
-      by : (to : Option ℕ) → IfSome to (λ n. n < length net.node_names) → discharged_to net (shown x) past x l to ≡ discharged_to net (seen x) past x l to
+      by : (to : Option ℕ) → IfSome to (λ n. n < length net.node_names) → discharge_to net (shown x) past x l to ≡ discharge_to net (seen x) past x l to
       by None below = refl
-      by (Some n) below = ap (λ (g : Option (ℕ × ℕ)). discharged_to net (λ m. g) past x l (Some n)) (same n below)
+      by (Some n) below = ap (λ (g : Option (ℕ × ℕ)). discharge_to net (λ m. g) past x l (Some n)) (same n below)
 
   pub history-at-nodes : (n : ℕ) → ((x node : ℕ) → x < n → node < length net.node_names → shown x node ≡ seen x node) → history net arriving shown n ≡ history net arriving seen n
   history-at-nodes n same =

@@ -8,7 +8,7 @@ use Rattle.net_parts.specs.Outline.{link_at, turns_at, AreTurns}
 use Rattle.road_net.specs.Joins.{split_of, HasShares}
 use Rattle.road_net.proofs.Everywhere.{everywhere}
 use Rattle.road_net.specs.Totals.{total}
-use Rattle.net_simulator.specs.Flow.{Cumulative, reached, waiting}
+use Rattle.net_simulator.specs.Flow.{Cumulative, total_reached, waiting}
 use Rattle.net_simulator.specs.Moves.{Moves}
 use Rattle.net_simulator.specs.Sums.{outward, total_left, on_road}
 use Rattle.road_net.proofs.TotalLaws.{total-same, total-add, total-swap, total-zero}
@@ -87,7 +87,7 @@ module _ (net : Net) (past : ℕ → ℕ → Cumulative) (n : ℕ) (sound : IsSo
       omega (arith, ap (λ i. (past i l).entered) e, grown l j d inside (omega arith), sound.grows (j + d) l (omega arith) inside)
 
   -- what reached the end entered before
-  pub reached-entered : (l k : ℕ) → l < length net.link_names → k ≤ n → reached net past k l ≤ (past k l).entered
+  pub reached-entered : (l k : ℕ) → l < length net.link_names → k ≤ n → total_reached net past k l ≤ (past k l).entered
   reached-entered l k inside h = elim (cases_lt k (link_at net l).travel) [
     | inl less ↦
         let e : k - (link_at net l).travel ≡ 0 = omega arith in

@@ -1,7 +1,7 @@
 -- How the past of a network grows.
 use Rattle.std.proofs.Common.{◌≡◌, ℕ, suc, ◌+◌, ◌<◌, ◌≤◌, Option, length, sym, ap, ◌∙◌}
 use Rattle.net_parts.specs.Numbers.{Net}
-use Rattle.net_simulator.specs.Flow.{nothing, passed_in, discharged, passing, history, cumulative_under}
+use Rattle.net_simulator.specs.Flow.{nothing, passed_in, discharge, passing, history, cumulative_under}
 use Rattle.net_simulator.specs.Moves.{history_by}
 use Rattle.net_simulator.proofs.MoveLaws.{flowing, same-history, kept-by, next-by, none-by, by-same}
 
@@ -24,5 +24,5 @@ pub history-same : (net : Net) (arriving others : ℕ → ℕ → ℕ) (shown se
     → history net arriving shown n ≡ history net others seen n
 history-same net arriving others shown seen n a s =
     same-history net arriving shown n
-    ∙ by-same net (flowing net arriving shown) (flowing net others seen) n (λ x h. record { goes = λ l b. ap (λ (g : ℕ → Option (ℕ × ℕ)). discharged net g (passed_in (history_by net (flowing net others seen) x)) x l) (let e : shown x ≡ seen x = λ i k. s x k h i in e); comes = λ l b. a x l h })
+    ∙ by-same net (flowing net arriving shown) (flowing net others seen) n (λ x h. record { goes = λ l b. ap (λ (g : ℕ → Option (ℕ × ℕ)). discharge net g (passed_in (history_by net (flowing net others seen) x)) x l) (let e : shown x ≡ seen x = λ i k. s x k h i in e); comes = λ l b. a x l h })
     ∙ sym (same-history net others seen n)

@@ -10,7 +10,7 @@ use Rattle.net_parts.specs.Outline.{link_at, plan_at, turns_at}
 use Rattle.road_net.specs.Joins.{split_of}
 use Rattle.control_flow.specs.declared.greens.Green.{Green}
 use Rattle.road_net.specs.Totals.{total}
-use Rattle.net_simulator.specs.Flow.{Cumulative, queue, waiting, is_lost, may_go, discharged_to, discharged}
+use Rattle.net_simulator.specs.Flow.{Cumulative, queue, waiting, is_lost, may_go, discharge_to, discharge}
 use Rattle.net_simulator.specs.Moves.{Moves}
 use Rattle.net_simulator.specs.Rows.{cell}
 use Rattle.net_simulator.specs.LinkSeconds.{is_open, waits_at}
@@ -83,7 +83,7 @@ module _ (net : Net) (x : ℕ) (before : ℕ → ℕ → Cumulative) (qs rs ws :
 
   goes-to : (shown : ℕ → Option (ℕ × ℕ)) (greens : List (Option Green)) (l w : ℕ) (to : Option ℕ) → l < length net.link_names → (link_at net l).to ≡ to
       → ((n : ℕ) → n < length net.node_names → IfSome (slice_index_or greens n None) (λ g. g.from ≤ x)) → ((n : ℕ) → n < length net.node_names → shown n ≡ option_map phase_and_begin (slice_index_or greens n None)) → w ≡ waiting net before x l
-      → goes net greens ws x l w to ≡ discharged_to net shown before x l to
+      → goes net greens ws x l w to ≡ discharge_to net shown before x l to
   goes-to shown greens l w None h to begun seen same = same
   goes-to shown greens l w (Some node) h to begun seen same =
       let there = bounds.ends l node h to in
@@ -92,7 +92,7 @@ module _ (net : Net) (x : ℕ) (before : ℕ → ℕ → Cumulative) (qs rs ws :
 
   pub goes-same : (shown : ℕ → Option (ℕ × ℕ)) (greens : List (Option Green)) (l w : ℕ) → l < length net.link_names
       → ((n : ℕ) → n < length net.node_names → IfSome (slice_index_or greens n None) (λ g. g.from ≤ x)) → ((n : ℕ) → n < length net.node_names → shown n ≡ option_map phase_and_begin (slice_index_or greens n None)) → w ≡ waiting net before x l
-      → goes net greens ws x l w (link_at net l).to ≡ discharged net shown before x l
+      → goes net greens ws x l w (link_at net l).to ≡ discharge net shown before x l
   goes-same shown greens l w h begun seen same = goes-to shown greens l w (link_at net l).to h refl begun seen same
 
 module _ (net : Net) (m : Moves) (x : ℕ) (before after : ℕ → ℕ → Cumulative) (qs rs ws : List ℕ)

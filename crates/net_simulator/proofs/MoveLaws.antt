@@ -8,13 +8,13 @@ use Rattle.net_parts.specs.Numbers.{Net}
 use Rattle.net_parts.specs.Outline.{turns_at}
 use Rattle.road_net.specs.Joins.{split_of}
 use Rattle.road_net.proofs.TotalLaws.{total-same}
-use Rattle.net_simulator.specs.Flow.{Cumulative, nothing, passed_in, discharged, history}
+use Rattle.net_simulator.specs.Flow.{Cumulative, nothing, passed_in, discharge, history}
 use Rattle.net_simulator.specs.Moves.{Moves, moved, history_by}
 use Rattle.net_simulator.proofs.Sums.{range-same}
 
 -- what moves in a second, where each link discharges into links that take whatever enters, and all that arrives enters
 abbrev pub flowing : Net → (ℕ → ℕ → ℕ) → (ℕ → ℕ → Option (ℕ × ℕ)) → List (List Cumulative) → ℕ → Moves
-flowing net arriving shown before x = record { goes = discharged net (shown x) (passed_in before) x; comes = arriving x }
+flowing net arriving shown before x = record { goes = discharge net (shown x) (passed_in before) x; comes = arriving x }
 
 -- the world of these moves is the world that stands
 pub same-history : (net : Net) (arriving : ℕ → ℕ → ℕ) (shown : ℕ → ℕ → Option (ℕ × ℕ)) (n : ℕ) → history net arriving shown n ≡ history_by net (flowing net arriving shown) n

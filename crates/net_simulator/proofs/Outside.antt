@@ -11,7 +11,7 @@ use Rattle.road_net.proofs.Shares.{split-none}
 use Rattle.road_net.proofs.TotalLaws.{total-same, total-add, total-swap, total-le, total-zero}
 use Rattle.net_simulator.specs.Flow.{Cumulative}
 use Rattle.net_simulator.specs.Moves.{Moves}
-use Rattle.net_simulator.specs.Sums.{arrived, AreFew}
+use Rattle.net_simulator.specs.Sums.{total_arrived, AreFew}
 use Rattle.net_simulator.proofs.Conserving.{come}
 use Rattle.net_simulator.proofs.EveryWorld.{parts-of}
 use Rattle.net_simulator.proofs.Sound.{AreMoved}
@@ -51,7 +51,7 @@ module _ (net : Net) (network : IsNetwork net) (moves : ℕ → Moves) (past : �
         by before None from = omega (arith, before, only-comes x l inside from, most x l inside)
         by before (Some node) from = omega (arith, before, comes-none x l node inside from)
 
-    pub come-within : (x : ℕ) → come net moves x ≤ arrived net arriving x
+    pub come-within : (x : ℕ) → come net moves x ≤ total_arrived net arriving x
     come-within x =
         let one = total-swap (λ y. (moves y).comes) (length net.link_names) x in
         let two = total-swap arriving (length net.link_names) x in
@@ -61,7 +61,7 @@ module _ (net : Net) (network : IsNetwork net) (moves : ℕ → Moves) (past : �
     few-come few x = let most = few x in omega (arith, come-within x, most)
 
     -- all that arrived has come in or waits outside
-    pub all-arrived : (x : ℕ) → come net moves x + total (λ l. total (λ y. arriving y l) x - (past x x l).entered) (length net.link_names) ≡ arrived net arriving x
+    pub all-arrived : (x : ℕ) → come net moves x + total (λ l. total (λ y. arriving y l) x - (past x x l).entered) (length net.link_names) ≡ total_arrived net arriving x
     all-arrived x =
         let one = total-swap (λ y. (moves y).comes) (length net.link_names) x in
         let two = total-swap arriving (length net.link_names) x in

@@ -11,9 +11,9 @@ use Rattle.control_flow.specs.Greens.{green_at, covers}
 use Rattle.net_simulator.specs.declared.totals.LinkTotals.{LinkTotals}
 use Rattle.net_simulator.specs.declared.totals.Totals.{Totals}
 use Rattle.road_net.specs.Totals.{total}
-use Rattle.net_simulator.specs.Flow.{Cumulative, passed_in, nothing, queue, waiting, discharged, entered_in, cumulative_under}
+use Rattle.net_simulator.specs.Flow.{Cumulative, passed_in, nothing, queue, waiting, discharge, entered_in, cumulative_under}
 use Rattle.arrivals.specs.Amounts.{Amounts, AreArrivals, arriving_of}
-use Rattle.net_simulator.specs.Sums.{outward, arrived, total_left, on_road, delay, link_totals, totals, AreFew}
+use Rattle.net_simulator.specs.Sums.{outward, total_arrived, total_left, on_road, delay, link_totals, totals, AreFew}
 use Rattle.net_simulator.specs.Moves.{Moves}
 use Rattle.net_simulator.specs.Rows.{cell}
 use Rattle.net_simulator.specs.Counts.{counts_at, no_totals}
@@ -59,7 +59,7 @@ module _ (net : Net) (network : IsNetwork net) (arriving : ℕ → ℕ → ℕ) 
   pub sound-at : (n : ℕ) → IsSound net (cumulative_under net arriving shown n) n
   sound-at = are-sound net network (flows net arriving shown) (cumulative_under net arriving shown) (flow-moved net arriving shown)
 
-  pub whole-at : (n : ℕ) → on_road net (cumulative_under net arriving shown n) n + total_left net (cumulative_under net arriving shown n) n ≡ arrived net arriving n
+  pub whole-at : (n : ℕ) → on_road net (cumulative_under net arriving shown n) n + total_left net (cumulative_under net arriving shown n) n ≡ total_arrived net arriving n
   whole-at = all-there net network (flows net arriving shown) (cumulative_under net arriving shown) (flow-moved net arriving shown)
 
 module _ (net : Net) (network : IsNetwork net) (arriving : ℕ → ℕ → ℕ) (shown : ℕ → ℕ → Option (ℕ × ℕ)) (arrivals : AreFew net arriving) where
@@ -122,19 +122,19 @@ module _ (net : Net) (network : IsNetwork net) (arriving : ℕ → ℕ → ℕ) 
   pub leaves-now : (greens : List (Option Green)) (rs1 lv : List ℕ) → ((n : ℕ) → n < length net.node_names → slice_index_or greens n None ≡ green_at (lines n) w.second)
       → ((l y : ℕ) → y % 128 ≢ w.second % 128 → cell rs1 l y ≡ cell w.recent l y)
       → ((l : ℕ) → l < length net.link_names → slice_index lv l ≡ goes net greens w.waits w.second l (waits_at net w.queues rs1 w.second l) (link_at net l).to)
-      → (l : ℕ) → l < length net.link_names → slice_index lv l ≡ discharged net (standing_by lines w.second) before w.second l
+      → (l : ℕ) → l < length net.link_names → slice_index lv l ≡ discharge net (standing_by lines w.second) before w.second l
   leaves-now greens rs1 lv seen others leaves l h =
       leaves l h ∙ goes-same net w.second before w.queues w.recent w.waits (bounds-of net network) sound stands.keeps (standing_by lines w.second)
       greens l (waits_at net w.queues rs1 w.second l) h (begun-by greens (length net.node_names) lines w.second seen) (seen-by greens (length net.node_names) lines w.second seen) (waits-now rs1 others l h)
 
   -- what enters in this second, by what the code keeps
-  pub enters-now : (lv : List ℕ) → ((l : ℕ) → l < length net.link_names → slice_index lv l ≡ discharged net (standing_by lines w.second) before w.second l)
+  pub enters-now : (lv : List ℕ) → ((l : ℕ) → l < length net.link_names → slice_index lv l ≡ discharge net (standing_by lines w.second) before w.second l)
       → (l : ℕ) → arriving w.second l + total (λ k. split_of (turns_at net k) (slice_index lv k) l) (length net.link_names) ≡ entered_in net (arriving w.second) (standing_by lines w.second) before w.second l
   enters-now lv leaves l =
-      let same = total-same (λ k. split_of (turns_at net k) (slice_index lv k) l) (λ k. split_of (turns_at net k) (discharged net (standing_by lines w.second) before w.second k) l) (length net.link_names) (λ k b. ap (λ a. split_of (turns_at net k) a l) (leaves k b)) in
+      let same = total-same (λ k. split_of (turns_at net k) (slice_index lv k) l) (λ k. split_of (turns_at net k) (discharge net (standing_by lines w.second) before w.second k) l) (length net.link_names) (λ k b. ap (λ a. split_of (turns_at net k) a l) (leaves k b)) in
       omega (arith, same)
 
-  pub room-enter : (rs1 lv : List ℕ) → ((l : ℕ) → l < length net.link_names → slice_index lv l ≡ discharged net (standing_by lines w.second) before w.second l)
+  pub room-enter : (rs1 lv : List ℕ) → ((l : ℕ) → l < length net.link_names → slice_index lv l ≡ discharge net (standing_by lines w.second) before w.second l)
       → ((l : ℕ) → l < length net.link_names → cell rs1 l w.second ≡ arriving w.second l)
       → (l : ℕ) → l < length net.link_names → cell rs1 l w.second + total (λ k. split_of (turns_at net k) (slice_index lv k) l) (length net.link_names) < 4294967296
   room-enter rs1 lv leaves here l h = omega (arith, here l h, enters-now lv leaves l, entering-most net network arriving (standing_by lines) arrivals w.second l h)
@@ -143,11 +143,11 @@ module _ (net : Net) (network : IsNetwork net) (arriving : ℕ → ℕ → ℕ) 
   pub room-entered : w.totals.entered + total (arriving w.second) (length net.link_names) ≤ 2000000000
   room-entered = let most = arrivals (suc w.second) in omega (arith, ap (λ (t : Totals). t.entered) stands.totals, most)
 
-  pub room-left : (lv : List ℕ) → ((l : ℕ) → l < length net.link_names → slice_index lv l ≡ discharged net (standing_by lines w.second) before w.second l)
+  pub room-left : (lv : List ℕ) → ((l : ℕ) → l < length net.link_names → slice_index lv l ≡ discharge net (standing_by lines w.second) before w.second l)
       → w.totals.left + goes_out net lv ≤ w.totals.entered + total (arriving w.second) (length net.link_names)
   room-left lv leaves =
       let whole = whole-at net network arriving (standing_by lines) (w.second + 1) in
-      let more = ap (arrived net arriving) (add-one w.second) in
+      let more = ap (total_arrived net arriving) (add-one w.second) in
       omega (arith, ap (λ (t : Totals). t.entered) stands.totals, ap (λ (t : Totals). t.left) stands.totals, gone-more net network moves past course w.second lv leaves, whole, more)
 
   pub delay-most : w.totals.delay ≤ 11520000000000000
@@ -180,7 +180,7 @@ module _ (net : Net) (network : IsNetwork net) (arriving : ℕ → ℕ → ℕ) 
       let counts : (l : ℕ) → l < length net.link_names → counts_at v.counts l ≡ link_totals net Q (x + 1) l = λ l h. same-link (counts_at v.counts l) (link_totals net Q (x + 1) l) (entered l h) (left l h) (delays l h) in
       let standing : (l : ℕ) → l < length net.link_names → slice_index v.stood l ≡ stood net Q (x + 1) l = λ l h.
       step.stands l h ∙ ap (λ q. stands_on q (slice_index w.stood l)) (keeps.queues l h) ∙ ap (stands_on (queue net Q (x + 1) l)) (stands.stood l h ∙ sym (stood-kept net Q before x l (kept l))) ∙ sym (stood-next net Q x l) in
-      let all-entered : v.totals.entered ≡ arrived net arriving (x + 1) = omega (arith, step.entered, ap (λ (t : Totals). t.entered) stands.totals, ap (arrived net arriving) (add-one x)) in
+      let all-entered : v.totals.entered ≡ total_arrived net arriving (x + 1) = omega (arith, step.entered, ap (λ (t : Totals). t.entered) stands.totals, ap (total_arrived net arriving) (add-one x)) in
       let all-left : v.totals.left ≡ total_left net Q (x + 1) = omega (arith, step.left, ap (λ (t : Totals). t.left) stands.totals, gone-more net network moves past course x lv leaves) in
       let all-on : v.totals.on ≡ on_road net Q (x + 1) = omega (arith, step.on, all-entered, all-left, whole-at net network arriving S (x + 1)) in
       let all-delay : v.totals.delay ≡ total (delay net Q (x + 1)) (length net.link_names) = omega (arith, step.delay, ap (λ (t : Totals). t.delay) stands.totals, delays-more net network moves past course x v.queues keeps.queues) in
@@ -245,7 +245,7 @@ stands-new net arriving shown w at shape qs rs ws ss cs ts =
         waits = λ l d h most. omega (arith, ws (l * 128 + (w.second + 128 - d) % 128), in-none (w.second - d - (link_at net l).travel) l);
       };
       counts = λ l h. cs l ∙ same-link no_totals (link_totals net P w.second l) (sym (in-none w.second l)) (sym (out-none w.second l)) (sym (no-delay l));
-      totals = ts ∙ same-totals (record { entered = 0; left = 0; on = 0; delay = 0 }) (totals net arriving P w.second) (sym (ap (arrived net arriving) at)) (sym left-none) (sym on-none) (sym delay-none);
+      totals = ts ∙ same-totals (record { entered = 0; left = 0; on = 0; delay = 0 }) (totals net arriving P w.second) (sym (ap (total_arrived net arriving) at)) (sym left-none) (sym on-none) (sym delay-none);
       stood = λ l h. ss l ∙ sym (ap (λ n. stood net P n l) at ∙ stood-none net P l);
     }
 

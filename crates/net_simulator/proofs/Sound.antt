@@ -4,18 +4,18 @@ use Rattle.std.proofs.lemmas.Bool.{cond_both, cases_lt}
 use Rattle.std.proofs.lemmas.Bool.Decides.{eqb_tells}
 use Rattle.net_parts.specs.Numbers.{Net}
 use Rattle.net_parts.specs.Outline.{link_at}
-use Rattle.net_simulator.specs.Flow.{Cumulative, nothing, reached, waiting, may_go, discharged_to, history, cumulative_under}
+use Rattle.net_simulator.specs.Flow.{Cumulative, nothing, total_reached, waiting, may_go, discharge_to, history, cumulative_under}
 use Rattle.net_simulator.specs.Moves.{Moves, moved}
 use Rattle.net_simulator.proofs.MoveLaws.{flowing, cumulative_by, moves_by, kept-by, next-by, none-by}
 use Rattle.net_simulator.proofs.FlowLaws.{past-kept, past-next, past-none}
 
-pub discharged_to-most : (net : Net) (shown : ℕ → Option (ℕ × ℕ)) (past : ℕ → ℕ → Cumulative) (x l : ℕ) (to : Option ℕ) → discharged_to net shown past x l to ≤ waiting net past x l
-discharged_to-most net shown past x l None = omega arith
-discharged_to-most net shown past x l (Some node) = cond_both (may_go net past x l node (shown node)) (min (link_at net l).sat (waiting net past x l)) 0 (λ n. n ≤ waiting net past x l) (λ e. omega arith) (λ e. omega arith)
+pub discharge_to-most : (net : Net) (shown : ℕ → Option (ℕ × ℕ)) (past : ℕ → ℕ → Cumulative) (x l : ℕ) (to : Option ℕ) → discharge_to net shown past x l to ≤ waiting net past x l
+discharge_to-most net shown past x l None = omega arith
+discharge_to-most net shown past x l (Some node) = cond_both (may_go net past x l node (shown node)) (min (link_at net l).sat (waiting net past x l)) 0 (λ n. n ≤ waiting net past x l) (λ e. omega arith) (λ e. omega arith)
 
 pub record IsSound (net : Net) (past : ℕ → ℕ → Cumulative) (n : ℕ) : Type 0 where
   pub grows : (k l : ℕ) → k < n → l < length net.link_names → (past k l).entered ≤ (past (k + 1) l).entered
-  pub within : (k l : ℕ) → k ≤ n → l < length net.link_names → (past k l).left ≤ reached net past k l
+  pub within : (k l : ℕ) → k ≤ n → l < length net.link_names → (past k l).left ≤ total_reached net past k l
 
 -- a past that goes on from another one for one second, in which this moves
 pub record Continues (net : Net) (m : Moves) (x : ℕ) (before after : ℕ → ℕ → Cumulative) : Type 0 where
@@ -48,7 +48,7 @@ pub flow-moved : (net : Net) (arriving : ℕ → ℕ → ℕ) (shown : ℕ → �
 flow-moved net arriving shown = record {
   first = past-none net arriving shown 0;
   next = λ x. record { kept = past-kept net arriving shown x; next = past-next net arriving shown x };
-  most = λ x l h. discharged_to-most net (shown x) (cumulative_under net arriving shown x) x l (link_at net l).to;
+  most = λ x l h. discharge_to-most net (shown x) (cumulative_under net arriving shown x) x l (link_at net l).to;
 }
 
 grows-step : (net : Net) (m : Moves) (x : ℕ) (before after : ℕ → ℕ → Cumulative) → Continues net m x before after → IsSound net before x
@@ -65,7 +65,7 @@ grows-step net m x before after on sound k l h inside = elim (eqb_tells k x) [
       omega (arith, one, two, sound.grows k l less inside)
 ]
 
-reached-more : (net : Net) (past : ℕ → ℕ → Cumulative) (n k l : ℕ) → ((j : ℕ) → j < n → (past j l).entered ≤ (past (j + 1) l).entered) → k < n + 1 → 1 ≤ (link_at net l).travel → reached net past k l ≤ reached net past (k + 1) l
+reached-more : (net : Net) (past : ℕ → ℕ → Cumulative) (n k l : ℕ) → ((j : ℕ) → j < n → (past j l).entered ≤ (past (j + 1) l).entered) → k < n + 1 → 1 ≤ (link_at net l).travel → total_reached net past k l ≤ total_reached net past (k + 1) l
 reached-more net past n k l grows h some = elim (cases_lt k (link_at net l).travel) [
   | inl less ↦
       let one : k - (link_at net l).travel ≡ 0 = omega arith in
@@ -78,7 +78,7 @@ reached-more net past n k l grows h some = elim (cases_lt k (link_at net l).trav
 
 within-step : (net : Net) (m : Moves) (x : ℕ) (before after : ℕ → ℕ → Cumulative) → Continues net m x before after → IsSound net before x
     → ((l : ℕ) → l < length net.link_names → m.goes l ≤ waiting net before x l) → ((l : ℕ) → l < length net.link_names → 1 ≤ (link_at net l).travel)
-    → (k l : ℕ) → k ≤ x + 1 → l < length net.link_names → (after k l).left ≤ reached net after k l
+    → (k l : ℕ) → k ≤ x + 1 → l < length net.link_names → (after k l).left ≤ total_reached net after k l
 within-step net m x before after on sound most travels k l h inside = elim (eqb_tells k (x + 1)) [
   | inl p ↦
       let next = ap (λ (q : Cumulative). q.left) (on.next l inside) in
@@ -86,7 +86,7 @@ within-step net m x before after on sound most travels k l h inside = elim (eqb_
       let more = reached-more net before x x l (λ j b. sound.grows j l b inside) (omega arith) some in
       let back = ap (λ (q : Cumulative). q.entered) (on.kept ((x + 1) - (link_at net l).travel) l (omega arith)) in
       let own = sound.within x l (omega arith) inside in
-      let fits : (after (x + 1) l).left ≤ reached net after (x + 1) l = omega (arith, next, most l inside, more, back, own) in
+      let fits : (after (x + 1) l).left ≤ total_reached net after (x + 1) l = omega (arith, next, most l inside, more, back, own) in
       rw p.1 fits
   | inr q ↦
       let less : k ≤ x = (let ne = q.1 in omega arith) in

@@ -23,16 +23,16 @@ passed_in history n l = slice_index_or (slice_index_or history n []) l nothing
 -- Below, `past n l` is what passed link l in the first n seconds.
 
 -- all that reached the end of a link in the first n seconds
-abbrev pub reached : Net → (ℕ → ℕ → Cumulative) → ℕ → ℕ → ℕ
-reached net past n l = (past (n - (link_at net l).travel) l).entered
+abbrev pub total_reached : Net → (ℕ → ℕ → Cumulative) → ℕ → ℕ → ℕ
+total_reached net past n l = (past (n - (link_at net l).travel) l).entered
 
 -- the queue after the first n seconds
 abbrev pub queue : Net → (ℕ → ℕ → Cumulative) → ℕ → ℕ → ℕ
-queue net past n l = reached net past n l - (past n l).left
+queue net past n l = total_reached net past n l - (past n l).left
 
 -- what waits at the end of the link in second x
 abbrev pub waiting : Net → (ℕ → ℕ → Cumulative) → ℕ → ℕ → ℕ
-waiting net past x l = reached net past (x + 1) l - (past x l).left
+waiting net past x l = total_reached net past (x + 1) l - (past x l).left
 
 -- whether second x is lost to the start-up in a green that began in second `from`: it is one of the first `loss` seconds of the
 -- green, and the queue as the green began, `before`, was not empty
@@ -45,21 +45,21 @@ may_go net past x l node None = false
 may_go net past x l node (Some green) = (green.0 == (link_at net l).phase) && not (is_lost (phase_at (plan_at net node) green.0).loss green.1 x (queue net past green.1 l))
 
 -- what a link discharges in second x, where the nodes show these greens: all that waits, where it ends at no node
-abbrev pub discharged_to : Net → (ℕ → Option (ℕ × ℕ)) → (ℕ → ℕ → Cumulative) → ℕ → ℕ → Option ℕ → ℕ
-discharged_to net shown past x l None = waiting net past x l
-discharged_to net shown past x l (Some node) = if may_go net past x l node (shown node) then min (link_at net l).sat (waiting net past x l) else 0
+abbrev pub discharge_to : Net → (ℕ → Option (ℕ × ℕ)) → (ℕ → ℕ → Cumulative) → ℕ → ℕ → Option ℕ → ℕ
+discharge_to net shown past x l None = waiting net past x l
+discharge_to net shown past x l (Some node) = if may_go net past x l node (shown node) then min (link_at net l).sat (waiting net past x l) else 0
 
 -- what a link discharges in second x, by the node where it ends
-abbrev pub discharged : Net → (ℕ → Option (ℕ × ℕ)) → (ℕ → ℕ → Cumulative) → ℕ → ℕ → ℕ
-discharged net shown past x l = discharged_to net shown past x l (link_at net l).to
+abbrev pub discharge : Net → (ℕ → Option (ℕ × ℕ)) → (ℕ → ℕ → Cumulative) → ℕ → ℕ → ℕ
+discharge net shown past x l = discharge_to net shown past x l (link_at net l).to
 
 -- what enters a link in second x: what arrives, and its part of what each link discharges
 abbrev pub entered_in : Net → (ℕ → ℕ) → (ℕ → Option (ℕ × ℕ)) → (ℕ → ℕ → Cumulative) → ℕ → ℕ → ℕ
-entered_in net arriving shown past x l = arriving l + total (λ k. split_of (turns_at net k) (discharged net shown past x k) l) (length net.link_names)
+entered_in net arriving shown past x l = arriving l + total (λ k. split_of (turns_at net k) (discharge net shown past x k) l) (length net.link_names)
 
 -- what passed a link in the first x + 1 seconds
 abbrev pub passing : Net → (ℕ → ℕ) → (ℕ → Option (ℕ × ℕ)) → (ℕ → ℕ → Cumulative) → ℕ → ℕ → Cumulative
-passing net arriving shown past x l = record { entered = (past x l).entered + entered_in net arriving shown past x l; left = (past x l).left + discharged net shown past x l }
+passing net arriving shown past x l = record { entered = (past x l).entered + entered_in net arriving shown past x l; left = (past x l).left + discharge net shown past x l }
 
 -- The rows of what passed the links in the first 0, 1, .., x seconds, and one more, for the first x + 1 seconds. `arriving l` is
 -- what enters link l from outside in second x, and `shown node` the phase that is green at a node then, and the begin of that

@@ -14,12 +14,12 @@ outward None amount = amount
 outward (Some node) amount = 0
 
 -- all that arrives in the first n seconds
-abbrev pub arrived : Net → (ℕ → ℕ → ℕ) → ℕ → ℕ
-arrived net arriving n = total (λ x. total (arriving x) (length net.link_names)) n
+abbrev pub total_arrived : Net → (ℕ → ℕ → ℕ) → ℕ → ℕ
+total_arrived net arriving n = total (λ x. total (arriving x) (length net.link_names)) n
 
 -- All that ever arrives is at most 2,000,000,000. No public clause names it.
 abbrev pub AreFew : Net → (ℕ → ℕ → ℕ) → Type 0
-AreFew net arriving = (n : ℕ) → arrived net arriving n ≤ most_of_all
+AreFew net arriving = (n : ℕ) → total_arrived net arriving n ≤ most_of_all
 
 -- all that left the network in the first n seconds
 abbrev pub total_left : Net → (ℕ → ℕ → Cumulative) → ℕ → ℕ
@@ -40,7 +40,7 @@ link_totals net past n l = record { entered = (past n l).entered; left = (past n
 -- what the first n seconds have counted of the whole network
 abbrev pub totals : Net → (ℕ → ℕ → ℕ) → (ℕ → ℕ → Cumulative) → ℕ → Totals
 totals net arriving past n = record {
-  entered = arrived net arriving n;
+  entered = total_arrived net arriving n;
   left = total_left net past n;
   on = on_road net past n;
   delay = total (delay net past n) (length net.link_names);

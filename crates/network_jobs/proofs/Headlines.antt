@@ -6,7 +6,7 @@ use Rattle.audit.specs.Audits.{IsCleanText}
 use Rattle.commands.specs.Headline.{Headline, IsRunOf}
 use Rattle.delay_report.specs.Reports.{report_text}
 use Rattle.net_parts.specs.Numbers.{Net}
-use Rattle.net_simulator.specs.Sums.{arrived}
+use Rattle.net_simulator.specs.Sums.{total_arrived}
 use Rattle.net_simulator.proofs.Passing.{few-of}
 use Rattle.road_net.specs.Network.{IsNetwork}
 use Rattle.runs.specs.Promises.{IsKeptRun}
@@ -14,7 +14,7 @@ use Rattle.runs.specs.declared.records.RunRecord.{RunRecord}
 
 -- the report of a run is a clean text
 abbrev pub AreClean : Net → Type 0
-AreClean net = (run : RunRecord) (history : List ℕ) (arriving : ℕ → ℕ → ℕ) → IsKeptRun net arriving history run → ((n : ℕ) → arrived net arriving n ≤ most_of_all)
+AreClean net = (run : RunRecord) (history : List ℕ) (arriving : ℕ → ℕ → ℕ) → IsKeptRun net arriving history run → ((n : ℕ) → total_arrived net arriving n ≤ most_of_all)
     → IsCleanText net arriving (report_text net run history)
 
 pub headline : (net : Net) → IsNetwork net → AreClean net → (arrivals : Amounts) → AreArrivals net arrivals → (history : List ℕ) (run : RunRecord) (bytes : List ℕ) → IsRunOf net (arriving_of arrivals) history run

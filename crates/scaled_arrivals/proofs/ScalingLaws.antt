@@ -18,7 +18,7 @@ use Rattle.arrivals.specs.declared.rows.ArrivalRow.{ArrivalRow}
 use Rattle.arrivals.specs.declared.rows.RowFault.TheVariants.{Bound, Link, Sum}
 use Rattle.arrivals.proofs.SumLaws.{arriving-beyond}
 use Rattle.scaled_arrivals.specs.Rows.{Brings, HaveCome}
-use Rattle.scaled_arrivals.specs.Scaling.{IsScaled, entered, scaled_whole, share_of}
+use Rattle.scaled_arrivals.specs.Scaling.{IsScaled, total_entered, scaled_whole, share_of}
 
 -- what is brought to a link in a second, where it is this one
 abbrev at_place : (link second l x : ℕ) → ℕ → ℕ
@@ -71,7 +71,7 @@ module _ (net : Net) (factor : ℕ) (a : Amounts) where
 
   module _ (link second : ℕ) (rows : List ArrivalRow) (come : HaveCome net factor a link second rows) where
     -- one second more
-    pub come-more : (new : List ArrivalRow) (amount : ℕ) → amount + share_of factor (entered (arriving_of a) link second) ≡ share_of factor (entered (arriving_of a) link (second + 1)) → Brings net link second amount rows new → HaveCome net factor a link (second + 1) new
+    pub come-more : (new : List ArrivalRow) (amount : ℕ) → amount + share_of factor (total_entered (arriving_of a) link second) ≡ share_of factor (total_entered (arriving_of a) link (second + 1)) → Brings net link second amount rows new → HaveCome net factor a link (second + 1) new
     come-more new amount adds brings = record {
       lawful = brings.lawful come.lawful;
       before = λ l n h. total-same (λ x. arriving_by new x l) (λ x. arriving_by rows x l) n (λ x low. omega (arith, brings.each l x, at-other link second l x amount (λ e f. omega (arith, e, h)))) ∙ come.before l n h;
@@ -84,7 +84,7 @@ module _ (net : Net) (factor : ℕ) (a : Amounts) where
         early : (n : ℕ) → n ≤ second → total (λ x. arriving_by new x link) n ≡ total (λ x. arriving_by rows x link) n
         early n h = total-same (λ x. arriving_by new x link) (λ x. arriving_by rows x link) n (λ x low. omega (arith, brings.each link x, at-other link second link x amount (λ e f. omega (arith, f, low, h))))
 
-        last : total (λ x. arriving_by new x link) (second + 1) ≡ share_of factor (entered (arriving_of a) link (second + 1))
+        last : total (λ x. arriving_by new x link) (second + 1) ≡ share_of factor (total_entered (arriving_of a) link (second + 1))
         last =
             omega (
               arith,
@@ -97,9 +97,9 @@ module _ (net : Net) (factor : ℕ) (a : Amounts) where
               adds,
             )
 
-        here : (n : ℕ) → n ≤ second + 1 → total (λ x. arriving_by new x link) n ≡ share_of factor (entered (arriving_of a) link n)
+        here : (n : ℕ) → n ≤ second + 1 → total (λ x. arriving_by new x link) n ≡ share_of factor (total_entered (arriving_of a) link n)
         here n h = elim (cases_lt second n) [
-          | inl more ↦ let e : second + 1 ≡ n = omega (arith, h, more) in subst (λ k. total (λ x. arriving_by new x link) k ≡ share_of factor (entered (arriving_of a) link k)) e last
+          | inl more ↦ let e : second + 1 ≡ n = omega (arith, h, more) in subst (λ k. total (λ x. arriving_by new x link) k ≡ share_of factor (total_entered (arriving_of a) link k)) e last
           | inr less ↦ early n less ∙ come.here n less
         ]
 
@@ -112,25 +112,25 @@ module _ (net : Net) (factor : ℕ) (a : Amounts) where
     later = λ x h. come.others (link + 1) x (omega arith);
     others = λ l x h. come.others l x (omega (arith, h));
     whole =
-        whole-next (sum_by amount_of rows) (total (λ l. share_of factor (entered (arriving_of a) l most_seconds)) link) (share_of factor (entered (arriving_of a) link most_seconds)) (total (λ l. share_of factor (entered (arriving_of a) l most_seconds)) (link + 1)) (share_of factor 0) come.whole
-        (total-next (λ l. share_of factor (entered (arriving_of a) l most_seconds)) link) (share-none factor);
+        whole-next (sum_by amount_of rows) (total (λ l. share_of factor (total_entered (arriving_of a) l most_seconds)) link) (share_of factor (total_entered (arriving_of a) link most_seconds)) (total (λ l. share_of factor (total_entered (arriving_of a) l most_seconds)) (link + 1)) (share_of factor 0) come.whole
+        (total-next (λ l. share_of factor (total_entered (arriving_of a) l most_seconds)) link) (share-none factor);
   }
     where
-      all : (n : ℕ) → total (λ x. arriving_by rows x link) n ≡ share_of factor (entered (arriving_of a) link n)
+      all : (n : ℕ) → total (λ x. arriving_by rows x link) n ≡ share_of factor (total_entered (arriving_of a) link n)
       all n = elim (cases_lt most_seconds n) [
         | inl more ↦
             let d = n - most_seconds in
             let e : most_seconds + d ≡ n = omega (arith, more) in
             let left = total-flat (λ x. arriving_by rows x link) most_seconds d come.later in
             let right = total-flat (λ x. arriving_of a x link) most_seconds d (λ x h. arriving-late a link x h) in
-            subst (λ k. total (λ x. arriving_by rows x link) k ≡ share_of factor (entered (arriving_of a) link k)) e (left ∙ come.here most_seconds (le_refl most_seconds) ∙ ap (share_of factor) (sym right))
+            subst (λ k. total (λ x. arriving_by rows x link) k ≡ share_of factor (total_entered (arriving_of a) link k)) e (left ∙ come.here most_seconds (le_refl most_seconds) ∙ ap (share_of factor) (sym right))
         | inr less ↦ come.here n less
       ]
 
-      before : (l n : ℕ) → l < link + 1 → total (λ x. arriving_by rows x l) n ≡ share_of factor (entered (arriving_of a) l n)
+      before : (l n : ℕ) → l < link + 1 → total (λ x. arriving_by rows x l) n ≡ share_of factor (total_entered (arriving_of a) l n)
       before l n h = elim (cases_lt l link) [
         | inl less ↦ come.before l n less
-        | inr most ↦ let e : link ≡ l = omega (arith, h, most) in subst (λ k. total (λ x. arriving_by rows x k) n ≡ share_of factor (entered (arriving_of a) k n)) e (all n)
+        | inr most ↦ let e : link ≡ l = omega (arith, h, most) in subst (λ k. total (λ x. arriving_by rows x k) n ≡ share_of factor (total_entered (arriving_of a) k n)) e (all n)
       ]
 
   -- all links
@@ -142,7 +142,7 @@ module _ (net : Net) (factor : ℕ) (a : Amounts) where
         let left = total-flat (λ x. arriving_by rows x link) 0 n (λ x _. zero_rows x) in
         let right = total-flat (λ x. arriving_of a x link) 0 n (λ x _. arriving-other a link x (omega (arith, past, are.links))) in
         let e : 0 + n ≡ n = omega arith in
-        subst (λ k. total (λ x. arriving_by rows x link) k ≡ share_of factor (entered (arriving_of a) link k)) e (left ∙ sym (share-none factor) ∙ ap (share_of factor) (sym right))
+        subst (λ k. total (λ x. arriving_by rows x link) k ≡ share_of factor (total_entered (arriving_of a) link k)) e (left ∙ sym (share-none factor) ∙ ap (share_of factor) (sym right))
   ]
     where
       none : (l x : ℕ) → length net.link_names ≤ l → arriving_by rows x l ≡ 0
@@ -173,11 +173,11 @@ no-bound net rows n all first = first.faulty.1 (All-middle (IsRow net) first.bef
 pub share-rises : (factor m n : ℕ) → m ≤ n → share_of factor m ≤ share_of factor n
 share-rises factor m n h = let product : m * factor ≤ n * factor = mul-le m factor n factor h (omega arith) in omega (arith, product)
 
-pub entered-next : (a : Amounts) (link n : ℕ) → entered (arriving_of a) link (n + 1) ≡ entered (arriving_of a) link n + arriving_of a n link
+pub entered-next : (a : Amounts) (link n : ℕ) → total_entered (arriving_of a) link (n + 1) ≡ total_entered (arriving_of a) link n + arriving_of a n link
 entered-next a link n = total-next (λ x. arriving_of a x link) n
 
 -- no more enters a link than all links
-pub entered-most : (a : Amounts) → ((n m : ℕ) → total (λ x. total (arriving_of a x) m) n ≤ most_of_all) → (link n : ℕ) → entered (arriving_of a) link n ≤ most_of_all
+pub entered-most : (a : Amounts) → ((n m : ℕ) → total (λ x. total (arriving_of a x) m) n ≤ most_of_all) → (link n : ℕ) → total_entered (arriving_of a) link n ≤ most_of_all
 entered-most a few link n = omega (arith, total-le (λ x. arriving_of a x link) (λ x. total (arriving_of a x) (link + 1)) n (λ x _. each x), few n (link + 1))
   where
     each : (x : ℕ) → arriving_of a x link ≤ total (arriving_of a x) (link + 1)

@@ -13,13 +13,13 @@ abbrev pub share_of : ℕ → ℕ → ℕ
 share_of factor amount = amount * factor / 1000
 
 -- all that enters a link in the first n seconds, where `arriving second link` enters it in a second
-abbrev pub entered : (ℕ → ℕ → ℕ) → ℕ → ℕ → ℕ
-entered arriving link n = total (λ second. arriving second link) n
+abbrev pub total_entered : (ℕ → ℕ → ℕ) → ℕ → ℕ → ℕ
+total_entered arriving link n = total (λ second. arriving second link) n
 
 -- what enters is scaled by a factor: of all that entered a link in the first n seconds, this many thousandths then do, rounded down
 abbrev pub IsScaled : ℕ → (ℕ → ℕ → ℕ) → (ℕ → ℕ → ℕ) → Type 0
-IsScaled factor arriving scaled = (link n : ℕ) → entered scaled link n ≡ share_of factor (entered arriving link n)
+IsScaled factor arriving scaled = (link n : ℕ) → total_entered scaled link n ≡ share_of factor (total_entered arriving link n)
 
 -- all that then enters the links of a network
 abbrev pub scaled_whole : Net → ℕ → (ℕ → ℕ → ℕ) → ℕ
-scaled_whole net factor arriving = total (λ link. share_of factor (entered arriving link most_seconds)) (length net.link_names)
+scaled_whole net factor arriving = total (λ link. share_of factor (total_entered arriving link most_seconds)) (length net.link_names)

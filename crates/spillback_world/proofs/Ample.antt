@@ -14,11 +14,11 @@ use Rattle.road_net.specs.Network.{IsNetwork}
 use Rattle.road_net.specs.Totals.{total}
 use Rattle.road_net.proofs.Everywhere.{everywhere}
 use Rattle.road_net.proofs.TotalLaws.{total-same, total-add, total-swap}
-use Rattle.net_simulator.specs.Flow.{Cumulative, waiting, discharged, discharged_to, may_go}
+use Rattle.net_simulator.specs.Flow.{Cumulative, waiting, discharge, discharge_to, may_go}
 use Rattle.net_simulator.specs.Sums.{outward, on_road}
 use Rattle.net_simulator.proofs.Conserving.{onward, total-parts, grown}
 use Rattle.net_simulator.proofs.EveryWorld.{parts-of}
-use Rattle.net_simulator.proofs.Sound.{IsSound, discharged_to-most}
+use Rattle.net_simulator.proofs.Sound.{IsSound, discharge_to-most}
 use Rattle.net_simulator.proofs.Sums.{total-part, total-without, without, without-other}
 use Rattle.spillback_world.specs.Filling.{greatest, has_room}
 use Rattle.spillback_world.specs.Storage.{first_out, inward, held_after, next_goes, all_goes, goes_of, opening}
@@ -63,7 +63,7 @@ module _ (net : Net) (network : IsNetwork net) (shown : ℕ → Option (ℕ × �
   n = length net.link_names
 
   abbrev D : ℕ → ℕ
-  D = discharged net shown past x
+  D = discharge net shown past x
 
   abbrev on : ℕ → ℕ
   on l = (past x l).entered - (past x l).left
@@ -79,7 +79,7 @@ module _ (net : Net) (network : IsNetwork net) (shown : ℕ → Option (ℕ × �
       omega (arith, ap (λ i. (past i l).entered) e, grown net past x sound l (x + 1 - (link_at net l).travel) (x - (x + 1 - (link_at net l).travel)) inside (omega arith))
 
   least : (l : ℕ) → D l ≤ waiting net past x l
-  least l = discharged_to-most net shown past x l (link_at net l).to
+  least l = discharge_to-most net shown past x l (link_at net l).to
 
   pub at-first : (m k : ℕ) → k < m → slice_index (first m) k ≡ D k
   at-first m k h = get_or-map-range_with_len D 0 m k k 0 h (omega arith)
@@ -163,7 +163,7 @@ module _ (net : Net) (network : IsNetwork net) (shown : ℕ → Option (ℕ × �
 
   module _ (store : ℕ → ℕ) (wide : (e : ℕ) → e < n → store e ≡ 2000000000) where
     -- what link l discharges, once the links before it have discharged what they would without bounds
-    goes-here : (m d : ℕ) → m + d ≡ n → m < n → (to : Option ℕ) → (link_at net m).to ≡ to → next_goes net store (opening net shown past x) (first m) m to ≡ discharged_to net shown past x m to
+    goes-here : (m d : ℕ) → m + d ≡ n → m < n → (to : Option ℕ) → (link_at net m).to ≡ to → next_goes net store (opening net shown past x) (first m) m to ≡ discharge_to net shown past x m to
     goes-here m d whole inside None to = refl
     goes-here m d whole inside (Some node) to =
         let wish = min (link_at net m).sat (waiting net past x m) in

@@ -6,10 +6,10 @@ use Rattle.road_net.specs.Totals.{total}
 use Rattle.road_net.proofs.TotalLaws.{total-same, total-swap, total-zero}
 use Rattle.net_parts.specs.Outline.{link_at}
 use Rattle.net_simulator.specs.Flow.{Cumulative, passed_in, cumulative_under, queue}
-use Rattle.net_simulator.specs.Sums.{AreFew, arrived, delay, totals}
+use Rattle.net_simulator.specs.Sums.{AreFew, total_arrived, delay, totals}
 use Rattle.net_simulator.proofs.EveryWorld.{past-still}
 use Rattle.net_simulator.proofs.Sound.{flow-moved, flows}
-use Rattle.spillback_world.specs.Laws.{unbounded}
+use Rattle.spillback_world.specs.Laws.{spill_totals_of}
 use Rattle.spillback_world.specs.StoredTotals.{outside_all, stored_totals}
 use Rattle.spillback_world.specs.Storage.{outside, cumulative_in}
 use Rattle.spillback_world.proofs.Course.{spilled-all}
@@ -37,14 +37,14 @@ module _ (net : Net) (network : IsNetwork net) (arriving : ℕ → ℕ → ℕ) 
       ∙ total-swap (λ x l. queue net P (x + 1) l) links n
 
   module _ (store : ℕ → ℕ) (wide : (e : ℕ) → e < length net.link_names → store e ≡ 2000000000) where
-    all-arrived : (stored_totals net arriving (cumulative_under net arriving shown n) n).entered ≡ arrived net arriving n
+    all-arrived : (stored_totals net arriving (cumulative_under net arriving shown n) n).entered ≡ total_arrived net arriving n
     all-arrived =
         let same = ample net network arriving few shown store wide n in
         let entered = ap (λ h. (stored_totals net arriving (passed_in h) n).entered) same in
         let none = ap (λ h. outside_all net arriving (passed_in h) n) same in
         omega (arith, spilled-all net network arriving store shown sources n, entered, none, none-outside net network arriving few shown n)
 
-    pub ample-totals : stored_totals net arriving (cumulative_in net arriving store shown n) n ≡ unbounded (totals net arriving (cumulative_under net arriving shown n) n)
+    pub ample-totals : stored_totals net arriving (cumulative_in net arriving store shown n) n ≡ spill_totals_of (totals net arriving (cumulative_under net arriving shown n) n)
     ample-totals =
         ap (λ h. stored_totals net arriving (passed_in h) n) (ample net network arriving few shown store wide n)
-        ∙ same-totals (stored_totals net arriving P n) (unbounded (totals net arriving P n)) all-arrived refl refl (none-outside net network arriving few shown n) same-delay
+        ∙ same-totals (stored_totals net arriving P n) (spill_totals_of (totals net arriving P n)) all-arrived refl refl (none-outside net network arriving few shown n) same-delay

@@ -11,7 +11,7 @@ use Rattle.road_net.specs.Totals.{total}
 use Rattle.road_net.proofs.TotalLaws.{total-same, total-swap, total-zero}
 use Rattle.net_simulator.specs.Flow.{Cumulative, waiting}
 use Rattle.net_simulator.specs.Moves.{Moves}
-use Rattle.net_simulator.specs.Sums.{arrived, outward}
+use Rattle.net_simulator.specs.Sums.{total_arrived, outward}
 use Rattle.net_simulator.proofs.Conserving.{come}
 use Rattle.net_simulator.proofs.EveryWorld.{all-there, parts-of, past-still}
 use Rattle.net_simulator.proofs.MoveLaws.{moves_by, cumulative_by}
@@ -19,7 +19,7 @@ use Rattle.net_simulator.proofs.Outside.{all-arrived, comes-none, only-comes}
 use Rattle.net_simulator.proofs.Sound.{AreMoved, rule-moved}
 use Rattle.spillback_world.specs.Filling.{fitting, greatest, has_room}
 use Rattle.spillback_world.specs.StoredTotals.{from_outside, stored_totals}
-use Rattle.spillback_world.specs.Storage.{AreWithin, Opening, held_by, inward, next_goes, opening, cumulative_in, stored}
+use Rattle.spillback_world.specs.Storage.{AreWithin, Opening, held_by, inward, next_goes, opening, cumulative_in, stored_moves}
 use Rattle.spillback_world.proofs.Within.{at-last, before-last, first, held-given, past-last, within}
 
 greatest-most : (fits : ℕ → Bool) (wish : ℕ) → greatest fits wish ≤ wish
@@ -68,19 +68,19 @@ plain-any net network l to = elim (cases_lt l (length net.link_names)) [
 
 module _ (net : Net) (network : IsNetwork net) (arriving : ℕ → ℕ → ℕ) (store : ℕ → ℕ) (shown : ℕ → ℕ → Option (ℕ × ℕ)) where
   abbrev rule : List (List Cumulative) → ℕ → Moves
-  rule = stored net arriving store shown
+  rule = stored_moves net arriving store shown
 
   abbrev past : ℕ → ℕ → ℕ → Cumulative
-  past = cumulative_by net (stored net arriving store shown)
+  past = cumulative_by net (stored_moves net arriving store shown)
 
   abbrev moves : ℕ → Moves
-  moves = moves_by net (stored net arriving store shown)
+  moves = moves_by net (stored_moves net arriving store shown)
 
   abbrev begin : ℕ → Opening
-  begin x = opening net (shown x) (cumulative_by net (stored net arriving store shown) x) x
+  begin x = opening net (shown x) (cumulative_by net (stored_moves net arriving store shown) x) x
 
-  pub course : AreMoved net (moves_by net (stored net arriving store shown)) (cumulative_by net (stored net arriving store shown))
-  course = rule-moved net (stored net arriving store shown) (λ x l h. goes-most net store (begin x) (length net.link_names) l)
+  pub course : AreMoved net (moves_by net (stored_moves net arriving store shown)) (cumulative_by net (stored_moves net arriving store shown))
+  course = rule-moved net (stored_moves net arriving store shown) (λ x l h. goes-most net store (begin x) (length net.link_names) l)
 
   -- what a link discharges leaves the network, or goes into others
   pub own-goes : (x l : ℕ) → l < length net.link_names → (to : Option ℕ) → (link_at net l).to ≡ to
@@ -105,7 +105,7 @@ module _ (net : Net) (network : IsNetwork net) (arriving : ℕ → ℕ → ℕ) 
 
   pub within-all : (n : ℕ) → AreWithin net store (cumulative_in net arriving store shown n) n
   within-all n k l h inside =
-      let still = past-still net network (moves_by net (stored net arriving store shown)) (cumulative_by net (stored net arriving store shown)) course n k l h in
+      let still = past-still net network (moves_by net (stored_moves net arriving store shown)) (cumulative_by net (stored_moves net arriving store shown)) course n k l h in
       omega (arith, within-at k l inside, ap (λ (q : Cumulative). q.entered) still, ap (λ (q : Cumulative). q.left) still)
 
   -- Below, nothing arrives at a link that comes from a node.
@@ -114,20 +114,20 @@ module _ (net : Net) (network : IsNetwork net) (arriving : ℕ → ℕ → ℕ) 
     let-in-most x l inside = omega arith
 
     -- what is counted as entered is what came in from outside
-    pub entered-come : (n : ℕ) → (stored_totals net arriving (past n) n).entered ≡ come net (moves_by net (stored net arriving store shown)) n
+    pub entered-come : (n : ℕ) → (stored_totals net arriving (past n) n).entered ≡ come net (moves_by net (stored_moves net arriving store shown)) n
     entered-come n =
         let each = total-same (λ l. from_outside (link_at net l).from (past n n l).entered) (λ l. total (λ y. (moves y).comes l) n) (length net.link_names) (λ l h. by l h (link_at net l).from refl) in
-        omega (arith, each, total-swap (λ y. (moves_by net (stored net arriving store shown) y).comes) (length net.link_names) n)
+        omega (arith, each, total-swap (λ y. (moves_by net (stored_moves net arriving store shown) y).comes) (length net.link_names) n)
       where
         by : (l : ℕ) → l < length net.link_names → (from : Option ℕ) → (link_at net l).from ≡ from → from_outside from (past n n l).entered ≡ total (λ y. (moves y).comes l) n
-        by l inside None from = only-comes net network (moves_by net (stored net arriving store shown)) (cumulative_by net (stored net arriving store shown)) course n l inside from
+        by l inside None from = only-comes net network (moves_by net (stored_moves net arriving store shown)) (cumulative_by net (stored_moves net arriving store shown)) course n l inside from
         by l inside (Some node) from =
-            sym (total-same (λ y. (moves y).comes l) (λ y. 0) n (λ y h. comes-none net network (moves_by net (stored net arriving store shown)) (cumulative_by net (stored net arriving store shown)) course arriving let-in-most sources y l node inside from) ∙ total-zero n)
+            sym (total-same (λ y. (moves y).comes l) (λ y. 0) n (λ y h. comes-none net network (moves_by net (stored_moves net arriving store shown)) (cumulative_by net (stored_moves net arriving store shown)) course arriving let-in-most sources y l node inside from) ∙ total-zero n)
 
     -- what entered has left or is on the links
     pub spilled-whole : (n : ℕ) → (stored_totals net arriving (past n) n).entered ≡ (stored_totals net arriving (past n) n).left + (stored_totals net arriving (past n) n).on
-    spilled-whole n = omega (arith, entered-come n, all-there net network (moves_by net (stored net arriving store shown)) (cumulative_by net (stored net arriving store shown)) course n)
+    spilled-whole n = omega (arith, entered-come n, all-there net network (moves_by net (stored_moves net arriving store shown)) (cumulative_by net (stored_moves net arriving store shown)) course n)
 
     -- what arrived has entered or waits outside
-    pub spilled-all : (n : ℕ) → arrived net arriving n ≡ (stored_totals net arriving (past n) n).entered + (stored_totals net arriving (past n) n).outside
-    spilled-all n = omega (arith, entered-come n, all-arrived net network (moves_by net (stored net arriving store shown)) (cumulative_by net (stored net arriving store shown)) course arriving let-in-most sources n)
+    pub spilled-all : (n : ℕ) → total_arrived net arriving n ≡ (stored_totals net arriving (past n) n).entered + (stored_totals net arriving (past n) n).outside
+    spilled-all n = omega (arith, entered-come n, all-arrived net network (moves_by net (stored_moves net arriving store shown)) (cumulative_by net (stored_moves net arriving store shown)) course arriving let-in-most sources n)

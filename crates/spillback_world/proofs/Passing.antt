@@ -26,7 +26,7 @@ use Rattle.net_simulator.proofs.Sums.{total-most, total-of, total-part}
 use Rattle.spillback_world.specs.declared.totals.SpillTotals.{SpillTotals}
 use Rattle.spillback_world.specs.StoredTotals.{outside_all, stored_totals}
 use Rattle.spillback_world.specs.Steps.{AreHeld, HaveDischarged, HaveLeft, comes_of, first_given, first_goes, opening_by, served_at}
-use Rattle.spillback_world.specs.Storage.{goes_of, held_after, inward, opening, outside, stored}
+use Rattle.spillback_world.specs.Storage.{goes_of, held_after, inward, opening, outside, stored_moves}
 use Rattle.spillback_world.specs.Worlds.{HasShape, SpillState, Stands}
 use Rattle.spillback_world.proofs.Agreeing.{AgreeAt, goes-same}
 use Rattle.spillback_world.proofs.Course.{course, entered-come, let-in-most, own-goes, spilled-whole, within-at}
@@ -93,18 +93,18 @@ pub record IsEnded (net : Net) (arriving : ℕ → ℕ) (store : List ℕ) (w : 
 module _ (net : Net) (network : IsNetwork net) (arriving : ℕ → ℕ → ℕ) (store : List ℕ) (shown : ℕ → ℕ → Option (ℕ × ℕ))
     (few : AreFew net arriving) (sources : (x l node : ℕ) → (link_at net l).from ≡ Some node → arriving x l ≡ 0) (w : SpillState) (stands : Stands net arriving (slice_index store) shown w) where
   abbrev past : ℕ → ℕ → ℕ → Cumulative
-  past = cumulative_by net (stored net arriving (slice_index store) shown)
+  past = cumulative_by net (stored_moves net arriving (slice_index store) shown)
 
   abbrev moves : ℕ → Moves
-  moves = moves_by net (stored net arriving (slice_index store) shown)
+  moves = moves_by net (stored_moves net arriving (slice_index store) shown)
 
   abbrev x : ℕ
   x = w.second
 
   abbrev P : ℕ → ℕ → Cumulative
-  P = cumulative_by net (stored net arriving (slice_index store) shown) w.second
+  P = cumulative_by net (stored_moves net arriving (slice_index store) shown) w.second
 
-  moved-on : AreMoved net (moves_by net (stored net arriving (slice_index store) shown)) (cumulative_by net (stored net arriving (slice_index store) shown))
+  moved-on : AreMoved net (moves_by net (stored_moves net arriving (slice_index store) shown)) (cumulative_by net (stored_moves net arriving (slice_index store) shown))
   moved-on = course net network arriving (slice_index store) shown
 
   sound : (n : ℕ) → IsSound net (past n) n
@@ -230,7 +230,7 @@ module _ (net : Net) (network : IsNetwork net) (arriving : ℕ → ℕ → ℕ) 
         room-left = omega (arith, entered-next, left-next, spilled-whole net network arriving (slice_index store) shown sources (x + 1))
 
         abbrev Q : ℕ → ℕ → Cumulative
-        Q = cumulative_by net (stored net arriving (slice_index store) shown) (w.second + 1)
+        Q = cumulative_by net (stored_moves net arriving (slice_index store) shown) (w.second + 1)
 
         on : Continues net (moves x) x P Q
         on = next-one net moves past moved-on x

@@ -27,7 +27,7 @@ use Rattle.spillback_world.specs.declared.totals.SpillTotals.{SpillTotals}
 use Rattle.spillback_world.specs.declared.worlds.Links.{Links}
 use Rattle.spillback_world.specs.StoredTotals.{from_outside, stored_totals}
 use Rattle.spillback_world.specs.Steps.{AreEmpty, state_of}
-use Rattle.spillback_world.specs.Storage.{outside, cumulative_in, stored}
+use Rattle.spillback_world.specs.Storage.{outside, cumulative_in, stored_moves}
 use Rattle.spillback_world.specs.Worlds.{IsWorldOf, SpillState, Stands}
 use Rattle.spillback_world.proofs.Course.{course, let-in-most}
 use Rattle.spillback_world.proofs.Passing.{same-totals}
@@ -54,9 +54,9 @@ is-sensed net node w network below rising world =
     let sources = sources-of net world.arrivals world.enter in
     let shown : ℕ → ℕ → Option (ℕ × ℕ) = standing_by world.lines in
     let all = course net network a world.store shown in
-    let few = few-come net network (moves_by net (stored net a world.store shown)) (cumulative_by net (stored net a world.store shown)) all a (let-in-most net network a world.store shown sources) sources (few-of net network world.arrivals world.enter) in
-    are-sensed net node w.second (cumulative_in net a world.store shown w.second) world.stands.by (are-sound net network (moves_by net (stored net a world.store shown)) (cumulative_by net (stored net a world.store shown)) all w.second)
-    (road-most net network (moves_by net (stored net a world.store shown)) (cumulative_by net (stored net a world.store shown)) all few w.second) below rising
+    let few = few-come net network (moves_by net (stored_moves net a world.store shown)) (cumulative_by net (stored_moves net a world.store shown)) all a (let-in-most net network a world.store shown sources) sources (few-of net network world.arrivals world.enter) in
+    are-sensed net node w.second (cumulative_in net a world.store shown w.second) world.stands.by (are-sound net network (moves_by net (stored_moves net a world.store shown)) (cumulative_by net (stored_moves net a world.store shown)) all w.second)
+    (road-most net network (moves_by net (stored_moves net a world.store shown)) (cumulative_by net (stored_moves net a world.store shown)) all few w.second) below rising
 
 from-none : (from : Option ℕ) (a : ℕ) → a ≡ 0 → from_outside from a ≡ 0
 from-none None a none = none
@@ -70,7 +70,7 @@ pub stands-new : (net : Net) (arriving : ℕ → ℕ → ℕ) (store : ℕ → �
     → Stands net arriving store shown (state_of links 0 nodes (record { entered = 0; left = 0; on = 0; outside = 0; delay = 0 }))
 stands-new net arriving store shown nodes n links empty long there =
     let P : ℕ → ℕ → Cumulative = cumulative_in net arriving store shown 0 in
-    let none : (k l : ℕ) → P k l ≡ nothing = λ k l. zero-by net (stored net arriving store shown) k l in
+    let none : (k l : ℕ) → P k l ≡ nothing = λ k l. zero-by net (stored_moves net arriving store shown) k l in
     let in-none : (k l : ℕ) → (P k l).entered ≡ 0 = λ k l. ap (λ (q : Cumulative). q.entered) (none k l) in
     let out-none : (k l : ℕ) → (P k l).left ≡ 0 = λ k l. ap (λ (q : Cumulative). q.left) (none k l) in
     let one : (v : List ℕ) → v ≡ replicate n 0 → length v ≡ length net.link_names = λ v is. ap length is ∙ length-replicate n 0 ∙ long in
@@ -111,18 +111,18 @@ module _ (net : Net) (network : IsNetwork net) (w : SpillState) (world : IsWorld
   abbrev seen : ℕ → ℕ → Cumulative
   seen = cumulative_in net (arriving_of world.arrivals) world.store (standing_by world.lines) w.second
 
-  all-moved : AreMoved net (moves_by net (stored net (arriving_of world.arrivals) world.store (standing_by world.lines))) (cumulative_by net (stored net (arriving_of world.arrivals) world.store (standing_by world.lines)))
+  all-moved : AreMoved net (moves_by net (stored_moves net (arriving_of world.arrivals) world.store (standing_by world.lines))) (cumulative_by net (stored_moves net (arriving_of world.arrivals) world.store (standing_by world.lines)))
   all-moved = course net network (arriving_of world.arrivals) world.store (standing_by world.lines)
 
   sound : IsSound net (cumulative_in net (arriving_of world.arrivals) world.store (standing_by world.lines) w.second) w.second
-  sound = are-sound net network (moves_by net (stored net (arriving_of world.arrivals) world.store (standing_by world.lines))) (cumulative_by net (stored net (arriving_of world.arrivals) world.store (standing_by world.lines))) all-moved w.second
+  sound = are-sound net network (moves_by net (stored_moves net (arriving_of world.arrivals) world.store (standing_by world.lines))) (cumulative_by net (stored_moves net (arriving_of world.arrivals) world.store (standing_by world.lines))) all-moved w.second
 
   road : on_road net (cumulative_in net (arriving_of world.arrivals) world.store (standing_by world.lines) w.second) w.second ≤ 2000000000
   road =
       let sources = sources-of net world.arrivals world.enter in
-      let few = few-come net network (moves_by net (stored net (arriving_of world.arrivals) world.store (standing_by world.lines))) (cumulative_by net (stored net (arriving_of world.arrivals) world.store (standing_by world.lines))) all-moved (arriving_of world.arrivals)
+      let few = few-come net network (moves_by net (stored_moves net (arriving_of world.arrivals) world.store (standing_by world.lines))) (cumulative_by net (stored_moves net (arriving_of world.arrivals) world.store (standing_by world.lines))) all-moved (arriving_of world.arrivals)
       (let-in-most net network (arriving_of world.arrivals) world.store (standing_by world.lines) sources) sources (few-of net network world.arrivals world.enter) in
-      road-most net network (moves_by net (stored net (arriving_of world.arrivals) world.store (standing_by world.lines))) (cumulative_by net (stored net (arriving_of world.arrivals) world.store (standing_by world.lines))) all-moved few w.second
+      road-most net network (moves_by net (stored_moves net (arriving_of world.arrivals) world.store (standing_by world.lines))) (cumulative_by net (stored_moves net (arriving_of world.arrivals) world.store (standing_by world.lines))) all-moved few w.second
 
   pub near-fits : (gap l : ℕ) → l < length net.link_names → near_on net (cumulative_in net (arriving_of world.arrivals) world.store (standing_by world.lines) w.second) w.second gap l ≤ 2000000000
   near-fits gap l inside = near-few net seen w.second sound gap l road inside

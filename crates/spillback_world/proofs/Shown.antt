@@ -15,14 +15,14 @@ use Rattle.net_simulator.specs.Worlds.{Keeps}
 use Rattle.net_simulator.proofs.MoveLaws.{MoveAlike, by-same}
 use Rattle.spillback_world.specs.Filling.{fitting}
 use Rattle.spillback_world.specs.StoredTotals.{stored_totals}
-use Rattle.spillback_world.specs.Storage.{all_goes, goes_of, held_by, let_in, next_goes, opening, outside, cumulative_in, stored}
+use Rattle.spillback_world.specs.Storage.{all_goes, goes_of, held_by, let_in, next_goes, opening, outside, cumulative_in, stored_moves}
 use Rattle.spillback_world.specs.Worlds.{SpillState, Stands}
 
 module _ (net : Net) (arriving : ℕ → ℕ → ℕ) (store : ℕ → ℕ) (shown seen : ℕ → ℕ → Option (ℕ × ℕ)) (n : ℕ) (same : (x node : ℕ) → x < n → shown x node ≡ seen x node) where
-  pub history-same : history_by net (stored net arriving store shown) n ≡ history_by net (stored net arriving store seen) n
+  pub history-same : history_by net (stored_moves net arriving store shown) n ≡ history_by net (stored_moves net arriving store seen) n
   history-same =
-      by-same net (stored net arriving store shown) (stored net arriving store seen) n (λ x less.
-      let past : ℕ → ℕ → Cumulative = passed_in (history_by net (stored net arriving store seen) x) in
+      by-same net (stored_moves net arriving store shown) (stored_moves net arriving store seen) n (λ x less.
+      let past : ℕ → ℕ → Cumulative = passed_in (history_by net (stored_moves net arriving store seen) x) in
       let e : shown x ≡ seen x = λ i node. same x node less i in
       record {
         goes = λ l inside. ap (λ (g : ℕ → Option (ℕ × ℕ)). slice_index (goes_of net store g past x (length net.link_names)) l) e;
@@ -78,4 +78,4 @@ module _ (net : Net) (network : IsNetwork net) (store : ℕ → ℕ) (one other 
 pub past-at-nodes : (net : Net) → IsNetwork net → (arriving : ℕ → ℕ → ℕ) (store : ℕ → ℕ) (shown seen : ℕ → ℕ → Option (ℕ × ℕ)) (n : ℕ) → ((x node : ℕ) → x < n → node < length net.node_names → shown x node ≡ seen x node)
     → cumulative_in net arriving store shown n ≡ cumulative_in net arriving store seen n
 past-at-nodes net network arriving store shown seen n same =
-    ap passed_in (by-same net (stored net arriving store shown) (stored net arriving store seen) n (λ x less. moves-same net network store (shown x) (seen x) (passed_in (history_by net (stored net arriving store seen) x)) x (λ k below. same x k less below) arriving))
+    ap passed_in (by-same net (stored_moves net arriving store shown) (stored_moves net arriving store seen) n (λ x less. moves-same net network store (shown x) (seen x) (passed_in (history_by net (stored_moves net arriving store seen) x)) x (λ k below. same x k less below) arriving))

@@ -3,7 +3,7 @@ use Rattle.std.specs.Prelude.{◌≡◌, ℕ, ◌+◌, All, List, Option}
 use Rattle.arrivals.specs.Amounts.{Amounts, arriving_of}
 use Rattle.net_parts.specs.Numbers.{Net}
 use Rattle.net_simulator.specs.Flow.{cumulative_under}
-use Rattle.net_simulator.specs.Sums.{arrived, totals}
+use Rattle.net_simulator.specs.Sums.{total_arrived, totals}
 use Rattle.net_simulator.specs.declared.totals.Totals.{Totals}
 use Rattle.spillback_world.specs.declared.totals.SpillTotals.{SpillTotals}
 use Rattle.spillback_world.specs.StoredTotals.{stored_totals}
@@ -19,15 +19,15 @@ spilled_in net arrivals store shown n = stored_totals net (arriving_of arrivals)
 pub record IsKept (net : Net) (arrivals : Amounts) (store : ℕ → ℕ) (shown : ℕ → ℕ → Option (ℕ × ℕ)) (n : ℕ) : Type 0 where
   pub within : AreWithin net store (cumulative_in net (arriving_of arrivals) store shown n) n
   pub whole : (spilled_in net arrivals store shown n).entered ≡ (spilled_in net arrivals store shown n).left + (spilled_in net arrivals store shown n).on
-  pub all : arrived net (arriving_of arrivals) n ≡ (spilled_in net arrivals store shown n).entered + (spilled_in net arrivals store shown n).outside
+  pub all : total_arrived net (arriving_of arrivals) n ≡ (spilled_in net arrivals store shown n).entered + (spilled_in net arrivals store shown n).outside
 
 -- what is counted of a world without bounds, outside of which nothing waits
-abbrev pub unbounded : Totals → SpillTotals
-unbounded t = record { entered = t.entered; left = t.left; on = t.on; outside = 0; delay = t.delay }
+abbrev pub spill_totals_of : Totals → SpillTotals
+spill_totals_of t = record { entered = t.entered; left = t.left; on = t.on; outside = 0; delay = t.delay }
 
 -- the same of the first n seconds
 abbrev pub unbounded_in : Net → Amounts → (ℕ → ℕ → Option (ℕ × ℕ)) → ℕ → SpillTotals
-unbounded_in net arrivals shown n = unbounded (totals net (arriving_of arrivals) (cumulative_under net (arriving_of arrivals) shown n) n)
+unbounded_in net arrivals shown n = spill_totals_of (totals net (arriving_of arrivals) (cumulative_under net (arriving_of arrivals) shown n) n)
 
 -- each link can hold all that may ever arrive
 abbrev pub AreAmple : List ℕ → Type 0

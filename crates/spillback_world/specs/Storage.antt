@@ -72,14 +72,14 @@ abbrev pub let_in : Net → (ℕ → ℕ → ℕ) → (ℕ → ℕ) → (ℕ →
 let_in net arriving store shown past x goes l = min (outside arriving past x l + arriving x l) (store l - held_after net shown past x goes l)
 
 -- what moves in second x
-abbrev pub stored : Net → (ℕ → ℕ → ℕ) → (ℕ → ℕ) → (ℕ → ℕ → Option (ℕ × ℕ)) → List (List Cumulative) → ℕ → Moves
-stored net arriving store shown before x =
+abbrev pub stored_moves : Net → (ℕ → ℕ → ℕ) → (ℕ → ℕ) → (ℕ → ℕ → Option (ℕ × ℕ)) → List (List Cumulative) → ℕ → Moves
+stored_moves net arriving store shown before x =
     let goes = goes_of net store (shown x) (passed_in before) x (length net.link_names) in
     record { goes = slice_index goes; comes = let_in net arriving store (shown x) (passed_in before) x goes }
 
 -- what passed each link in the first n seconds, for n up to `now`
 abbrev pub cumulative_in : Net → (ℕ → ℕ → ℕ) → (ℕ → ℕ) → (ℕ → ℕ → Option (ℕ × ℕ)) → ℕ → ℕ → ℕ → Cumulative
-cumulative_in net arriving store shown now = passed_in (history_by net (stored net arriving store shown) now)
+cumulative_in net arriving store shown now = passed_in (history_by net (stored_moves net arriving store shown) now)
 
 -- no link ever holds more than its storage
 abbrev pub AreWithin : Net → (ℕ → ℕ) → (ℕ → ℕ → Cumulative) → ℕ → Type 0
