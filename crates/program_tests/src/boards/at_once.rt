@@ -3,7 +3,7 @@ ghost use Rattle.std.specs.Prelude.{◌≡◌, ◌+◌, ◌<◌, ◌≤◌, IfOk
 ghost use denote.Param.Send.{IsSync};
 
 use super::example::one_row;
-use crate::gates::meeting::MeetingGate;
+use crate::gates::meeting::{MeetingGate, Place};
 use board_model::BoardLog;
 use plan_boards::{Boards, Pass};
 use std::alloc::{AllocError, Global};
@@ -77,7 +77,7 @@ const OUTLINES: [(usize, u32); 4] = [(100, 50), (100, 50), (1, 0), (1, 0)];
 
 #[test]
 fn two_turns_are_held_at_once(rt: HostRuntime) -> Result<(), Fail> {
-    let gate = MeetingGate::new((0, 2), (1, 3));
+    let gate = MeetingGate::new(Place::Inside, (0, 2), (1, 3));
     let logs = two_threads(&rt, rt.alloc(), &gate)?;
     assert_eq!(rt; gate.met(), [1, 1, 0, 0]);
     let mut stamps = 0u64;

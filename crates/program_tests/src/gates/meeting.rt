@@ -7,14 +7,24 @@ use std::sync::atomic::{AtomicU64, Ordering};
 use std::thread::Threads;
 
 /// How often a node that reads looks out for the other one, before it goes on without it.
-const LOOKS_OUT: u32 = 600_000_000;
+const LOOKS_OUT: u32 = 200_000_000;
 
-/// A gate for two nodes, each with the link that it reads. Inside its reading of that link each looks out for the other node inside
-/// its own in the same round, while both hold a turn. Where the other one does not come in some time, it goes on: a miss.
+/// Where two readings look out for each other.
+#[derive(Clone, Copy, PartialEq, Eq)]
+pub(crate) enum Place {
+    /// Right before them: neither holds a turn, so no third node waits for one.
+    Before,
+    /// Inside them, while both hold a turn.
+    Inside,
+}
+
+/// A gate for two nodes, each with the link that it reads. At its reading of that link each looks out for the other node at its own in
+/// the same round. Where the other one does not come in some time, it goes on: a miss.
 ///
 /// Each of the two reads one link in a round, once and before it publishes.
 #[derive(Drop)]
 pub(crate) struct MeetingGate {
+    place: Place,
     first: Reader,
     second: Reader,
     missed: AtomicU64,
@@ -24,9 +34,10 @@ pub(crate) struct MeetingGate {
 impl CrossesThreads for MeetingGate {}
 
 impl MeetingGate {
-    /// The gate for two nodes, each with the link that it reads.
-    pub(crate) fn new(first: (u32, u32), second: (u32, u32)) -> Self {
+    /// The gate for two nodes, each with the link that it reads, which meet at this place.
+    pub(crate) fn new(place: Place, first: (u32, u32), second: (u32, u32)) -> Self {
         MeetingGate {
+            place,
             first: Reader::new(first),
             second: Reader::new(second),
             missed: AtomicU64::new(0),
@@ -34,7 +45,7 @@ impl MeetingGate {
         }
     }
 
-    /// How often the first node was inside its reading, how often the second, how often one looked out in vain, and how many board
+    /// How often the first node was at its reading, how often the second, how often one looked out in vain, and how many board
     /// steps of the two were announced before they came, each with its node, round and link.
     pub(crate) fn met(&self) -> [u64; 4] {
         let counters = [
@@ -44,6 +55,22 @@ impl MeetingGate {
             &self.announced,
         ];
         counters.map(|counter| counter.load(Ordering::SeqCst))
+    }
+
+    /// A node that is at this place of its reading of a link looks out for the other node, if the two meet there.
+    fn look_out(&self, place: Place, node: u32, link: u32) {
+        let is_met = if place != self.place {
+            true
+        } else if self.first.reads(node, link) {
+            self.first.meets(&self.second)
+        } else if self.second.reads(node, link) {
+            self.second.meets(&self.first)
+        } else {
+            true
+        };
+        if !is_met {
+            self.missed.fetch_add(1, Ordering::SeqCst);
+        }
     }
 }
 
@@ -61,20 +88,14 @@ impl Gate for MeetingGate {
         {
             self.announced.fetch_add(1, Ordering::SeqCst);
         }
+        if !publish {
+            self.look_out(Place::Before, node, link);
+        }
     }
 
     fn inside<R: Threads + Wait + Sync>(&self, _rt: &R, node: u32, link: u32, publish: bool) {
-        let is_met = if publish {
-            true
-        } else if self.first.reads(node, link) {
-            self.first.meets(&self.second)
-        } else if self.second.reads(node, link) {
-            self.second.meets(&self.first)
-        } else {
-            true
-        };
-        if !is_met {
-            self.missed.fetch_add(1, Ordering::SeqCst);
+        if !publish {
+            self.look_out(Place::Inside, node, link);
         }
     }
 }

@@ -51,12 +51,12 @@ fn has_plans(report: &[u8]) -> bool {
 
 #[test]
 fn two_reads_inside_the_command(rt: HostRuntime) -> Result<(), Fail> {
-    for (place, &[first, second]) in PAIRS.iter().enumerate() {
-        let gate = MeetingGate::new(first, second);
+    for (number, &(place, [first, second])) in PAIRS.iter().enumerate() {
+        let gate = MeetingGate::new(place, first, second);
         let (status, out) = ending(&rt, rt.alloc(), &gate)?;
         assert!(rt; status == Status::Done);
-        assert_eq!(rt; gate.met(), MET, "pair {place}");
-        assert!(rt; place > 0 || has_plans(out.bytes()));
+        assert_eq!(rt; gate.met(), MET, "pair {number}");
+        assert!(rt; number > 0 || has_plans(out.bytes()));
     }
     Ok(())
 }

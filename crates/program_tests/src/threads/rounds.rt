@@ -74,10 +74,10 @@ fn two_reads_inside(rt: HostRuntime) -> Result<(), Fail> {
     let alloc = rt.alloc();
     let net = network_of(alloc, network_of_copies(alloc, COPIES)?.as_str())?;
     let arrivals = read_arrivals(alloc, vehicles_of_copies(alloc, COPIES)?.as_bytes(), &net)?;
-    for (place, &[first, second]) in PAIRS.iter().enumerate() {
-        let gate = MeetingGate::new(first, second);
+    for (number, &(place, [first, second])) in PAIRS.iter().enumerate() {
+        let gate = MeetingGate::new(place, first, second);
         let entered = play_anew(&rt, &gate, alloc, &net, &arrivals)?;
-        assert_eq!(rt; gate.met(), MET, "pair {place}");
+        assert_eq!(rt; gate.met(), MET, "pair {number}");
         assert!(rt; entered == 5000);
     }
     Ok(())
