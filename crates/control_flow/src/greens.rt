@@ -31,6 +31,19 @@ pub enum Colour {
     Red,
 }
 
+/// What a signal shows at a second.
+///
+/// docs/RULES.md, "Timeline".
+#[derive(Debug, Clone, Copy, PartialEq, Eq)]
+pub enum Sign {
+    /// A phase is green, since this second without a break.
+    On { phase: u8, since: u32 },
+    /// The green of one phase is over, and the next one, of another phase or the same, has not begun.
+    Change { from: u8, to: u8 },
+    /// No green has begun yet, or the last one is over.
+    Dark,
+}
+
 /// The greens of a signal, one after another: each ends after its begin, and begins no earlier than the one before it
 /// ends. Contracts see it as the list of its rows.
 ///
@@ -129,5 +142,7 @@ fn replace(rows: &mut Vec<Green>, next: &[Green], guess: &mut usize) -> Result<(
 impl CrossesThreads for Green {}
 
 impl CrossesThreads for Colour {}
+
+impl CrossesThreads for Sign {}
 
 impl CrossesThreads for Timeline {}
