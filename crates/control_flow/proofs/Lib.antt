@@ -6,6 +6,7 @@ pub mod RingLaws
 pub mod RowLaws
 pub mod SequenceLaws
 pub mod ServingLaws
+pub mod SignLaws
 pub mod SpliceLaws
 pub mod TurningLaws
 mod WorkedRows

@@ -29,7 +29,7 @@ order-cons row rows long first others = record {
   order = next-cons row rows first others;
 }
 
-order-tail : (row : Green) (rows : List Green) → IsInOrder (row ∷ rows) → IsInOrder rows
+pub order-tail : (row : Green) (rows : List Green) → IsInOrder (row ∷ rows) → IsInOrder rows
 order-tail row rows o = record {
   long = All-tail IsLong row rows o.long;
   order = λ k h.
@@ -37,10 +37,10 @@ order-tail row rows o = record {
       subst (λ i. (row_at rows k).to ≤ (row_at (row ∷ rows) i).from) e (o.order (suc k) (omega arith));
 }
 
-order-first : (row : Green) (rows : List Green) → IsInOrder (row ∷ rows) → row.from < row.to
+pub order-first : (row : Green) (rows : List Green) → IsInOrder (row ∷ rows) → row.from < row.to
 order-first row rows o = All-head IsLong row rows o.long
 
-order-next : (row next : Green) (rows : List Green) → IsInOrder (row ∷ next ∷ rows) → row.to ≤ next.from
+pub order-next : (row next : Green) (rows : List Green) → IsInOrder (row ∷ next ∷ rows) → row.to ≤ next.from
 order-next row next rows o = o.order 0 (omega arith)
 
 -- a green lasts a second at least
@@ -132,7 +132,7 @@ rows_before-place (r ∷ rs) second (suc i) before here =
 
 -- the row that covers a second is the first that ends after it
 
-none-before : (first : Green) (rows : List Green) (second : ℕ) → IsInOrder (first ∷ rows) → second < first.from → green_at (first ∷ rows) second ≡ None
+pub none-before : (first : Green) (rows : List Green) (second : ℕ) → IsInOrder (first ∷ rows) → second < first.from → green_at (first ∷ rows) second ≡ None
 none-before first [] second o h =
     let no : covers first second ≡ false = and_left (leb first.from second) (ltb second first.to) (lt-leb first.from second h) in
     ap (λ (b : Bool). cond b (Some first) (green_at [] second)) no

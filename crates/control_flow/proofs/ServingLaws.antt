@@ -1,5 +1,5 @@
 -- What a serving keeps: its green, its end, and how it stands to the head before it.
-use Rattle.std.proofs.Common.{◌≡◌, ℕ, ◌+◌, ◌<◌, ◌≤◌, true, false, List, [], ◌∷◌, ◌++◌, ◌∙◌, arith}
+use Rattle.std.proofs.Common.{◌≡◌, ℕ, ◌+◌, ◌≤◌, true, false, List, arith}
 use Rattle.phase_plan.specs.Phases.{IsPlan, phase_at}
 use Rattle.phase_plan.specs.declared.Phase.{Phase}
 use Rattle.phase_plan.proofs.RingLaws.{phase-bounds}

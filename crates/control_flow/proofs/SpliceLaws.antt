@@ -2,16 +2,19 @@
 use Rattle.std.proofs.Common.{◌≡◌, ℕ, ◌+◌, ◌<◌, ◌≤◌, Bool, true, false, ◌==◌, ◌&&◌, ◌||◌, cond, ltb, leb, List, [], ◌∷◌, ◌++◌, All, Option, Some, None, Result, Ok, Err, OnOk, refl, sym, ap, subst, ◌∙◌, inl, inr, arith}
 use Rattle.std.specs.Option.{option_map}
 use Rattle.std.specs.List.{list_any}
-use Rattle.std.proofs.lemmas.Bool.{cases_lt, cases_Bool, cond_below, cond_above, cond_both, and_from, and_left, and_right, lt-ltb, le-leb, lt-leb, leb-false}
+use Rattle.std.proofs.lemmas.Bool.{cases_lt, cond_below, cond_above, cond_both, and_left, and_right, lt-ltb, lt-leb, leb-false}
 use Rattle.std.proofs.lemmas.List.Elements.{All-nil, All-cons, All-head, All-tail, All-append, All-weaker}
 use Rattle.phase_plan.specs.Phases.{IsMarkedAt, IsPlan, between, phase_at}
 use Rattle.phase_plan.specs.declared.Phase.{Phase}
 use Rattle.switch_rules.specs.declared.Head.{Head}
 use Rattle.control_flow.specs.declared.greens.Green.{Green}
 use Rattle.control_flow.specs.declared.greens.Colour.TheVariants as colours
-use Rattle.control_flow.specs.Greens.{row_at, IsGreen, Follows, IsLawful, GoesOn, BeginBy, IsContinued, Joins, covers, covers_yellow, green_at, is_green, is_yellow, colour_at, standing, row_after, head_in, head_at, rows_before, spliced}
+use Rattle.control_flow.specs.Greens.{row_at, IsGreen, Follows, IsLawful, GoesOn, BeginBy, IsContinued, Joins, covers, covers_yellow, is_green, is_yellow, colour_at, row_after, head_in, head_at, rows_before, spliced}
+use Rattle.control_flow.specs.Signs.{change_from, sign_after}
+use Rattle.control_flow.specs.declared.greens.Sign.TheVariants as signs
 use Rattle.control_flow.proofs.OrderLaws.{green-length, row_after-has}
 use Rattle.control_flow.proofs.RowLaws.{lawful-cons, lawful-tail, lawful-first, lawful-next, end_of-append, row_after-some}
+use Rattle.control_flow.proofs.SignLaws.{before-row, within-row, same-row}
 
 -- the head of a row: its phase and begin, and a time that is not before now
 
@@ -67,17 +70,6 @@ begins-later plan first (next ∷ rows) now row lawful e =
           let later = begins-later plan next rows now row others (cond_above now next.to (Some next) (row_after rows now) (row_after rows now) h refl ∙ e) in
           omega (arith, follows.begins, green.least, later)
     ]
-
-none-before : (plan : List Phase) (first : Green) (rows : List Green) (second : ℕ) → IsLawful plan (first ∷ rows) → second < first.from → green_at (first ∷ rows) second ≡ None
-none-before plan first [] second lawful h =
-    let no : covers first second ≡ false = and_left (leb first.from second) (ltb second first.to) (lt-leb first.from second h) in
-    ap (λ (b : Bool). cond b (Some first) (green_at [] second)) no
-none-before plan first (next ∷ rows) second lawful h =
-    let no : covers first second ≡ false = and_left (leb first.from second) (ltb second first.to) (lt-leb first.from second h) in
-    let follows = lawful-next plan first next rows lawful in
-    let green = lawful-first plan first (next ∷ rows) lawful in
-    ap (λ (b : Bool). cond b (Some first) (green_at (next ∷ rows) second)) no
-    ∙ none-before plan next rows second (lawful-tail plan first (next ∷ rows) lawful) (omega (arith, follows.begins, green.least))
 
 -- the splice is lawful
 
@@ -136,49 +128,32 @@ splice-lawful plan (r ∷ rs) now row first rest p lawful e same next = elim (ca
       rw (kept-more r first rs below) (lawful-cons plan r (rows_before rs first.from ++ first ∷ rest) (lawful-first plan r rs lawful) (λ some. first-of-splice plan r rs now row first rest p lawful found same) others)
 ]
 
--- and it shows the same greens before now
+-- and it shows the same signs before now
 
-standing-same : (r s : Green) (rs ss : List Green) (second : ℕ) → r.phase ≡ s.phase → r.from ≡ s.from → covers r second ≡ true → covers s second ≡ true → standing (r ∷ rs) second ≡ standing (s ∷ ss) second
-standing-same r s rs ss second phase from a b =
-    let show : Option Green → Option (ℕ × ℕ) = option_map (λ (row : Green). (row.phase, row.from)) in
-    ap (λ (t : Bool). show (cond t (Some r) (green_at rs second))) a
-    ∙ ap (λ (k : ℕ). Some (k, r.from)) phase
-    ∙ ap (λ (g : ℕ). Some (s.phase, g)) from
-    ∙ sym (ap (λ (t : Bool). show (cond t (Some s) (green_at ss second))) b)
+-- a row of the same phase and begin in its place, in a second before its end and that of the row
+other-row : (before : Option ℕ) (first r : Green) (rest rs : List Green) (second : ℕ) → Replaces first r → second < first.to → second < r.to → sign_after before (first ∷ rest) second ≡ sign_after before (r ∷ rs) second
+other-row before first r rest rs second same new old = elim (cases_lt second r.from) [
+  | inl early ↦ before-row before first rest second (omega (arith, same.from, early)) ∙ ap (change_from before) same.phase ∙ sym (before-row before r rs second early)
+  | inr begun ↦
+      within-row before first rest second (omega (arith, same.from, begun)) new
+      ∙ ap (λ (k : ℕ). signs.On k first.from) same.phase
+      ∙ ap (λ (g : ℕ). signs.On r.phase g) same.from
+      ∙ sym (within-row before r rs second begun old)
+]
 
-standing-more : (r : Green) (rs ss : List Green) (second : ℕ) → standing rs second ≡ standing ss second → standing (r ∷ rs) second ≡ standing (r ∷ ss) second
-standing-more r rs ss second e =
-    let show : Option Green → Option (ℕ × ℕ) = option_map (λ (row : Green). (row.phase, row.from)) in
-    elim (cases_Bool (covers r second)) [
-      | inl shows ↦ standing-same r r rs ss second refl refl shows shows
-      | inr hides ↦
-          ap (λ (t : Bool). show (cond t (Some r) (green_at rs second))) hides
-          ∙ e
-          ∙ sym (ap (λ (t : Bool). show (cond t (Some r) (green_at ss second))) hides)
-    ]
-
-splice-standing : (plan : List Phase) (old : List Green) (now : ℕ) (row first : Green) (rest : List Green) → IsPlan plan → IsLawful plan old → row_after old now ≡ Some row → Replaces first row → now ≤ first.to
-    → IsLawful plan (first ∷ rest) → (second : ℕ) → second < now → standing (rows_before old first.from ++ first ∷ rest) second ≡ standing old second
-splice-standing plan [] now row first rest p lawful e same spent next second past = let impossible : standing (first ∷ rest) second ≡ standing [] second = cc in impossible
-splice-standing plan (r ∷ rs) now row first rest p lawful e same spent next second past = elim (cases_lt now r.to) [
+splice-signs : (plan : List Phase) (old : List Green) (now : ℕ) (row first : Green) (rest : List Green) → IsPlan plan → IsLawful plan old → row_after old now ≡ Some row → Replaces first row → now ≤ first.to
+    → (before : Option ℕ) (second : ℕ) → second < now → sign_after before (rows_before old first.from ++ first ∷ rest) second ≡ sign_after before old second
+splice-signs plan [] now row first rest p lawful e same spent before second past = let impossible : sign_after before (first ∷ rest) second ≡ sign_after before [] second = cc in impossible
+splice-signs plan (r ∷ rs) now row first rest p lawful e same spent before second past = elim (cases_lt now r.to) [
   | inl h ↦
       let f = cond_below now r.to (Some r) (row_after rs now) h in
       let is : r ≡ row = cc in
-      let from : first.from ≡ r.from = same.from ∙ sym (ap (λ (g : Green). g.from) is) in
-      let phase : first.phase ≡ r.phase = same.phase ∙ sym (ap (λ (g : Green). g.phase) is) in
-      let show : Option Green → Option (ℕ × ℕ) = option_map (λ (row : Green). (row.phase, row.from)) in
-      rw (kept-none r first rs from)
-      (elim (cases_lt second r.from) [
-        | inl early ↦ ap show (none-before plan first rest second next (omega (arith, from, early)) ∙ sym (none-before plan r rs second lawful early))
-        | inr begun ↦
-            let old_covers : covers r second ≡ true = and_from (leb r.from second) (ltb second r.to) (le-leb r.from second begun) (lt-ltb second r.to (omega arith)) in
-            let new_covers : covers first second ≡ true = and_from (leb first.from second) (ltb second first.to) (le-leb first.from second (omega (arith, from, begun))) (lt-ltb second first.to (omega arith)) in
-            standing-same first r rest rs second phase from new_covers old_covers
-      ])
+      let here : Replaces first r = record { phase = same.phase ∙ sym (ap (λ (g : Green). g.phase) is); from = same.from ∙ sym (ap (λ (g : Green). g.from) is) } in
+      rw (kept-none r first rs here.from) (other-row before first r rest rs second here (omega arith) (omega arith))
   | inr h ↦
       let (found, below) = past-row plan r rs now row first p lawful e same h in
-      let others = splice-standing plan rs now row first rest p (lawful-tail plan r rs lawful) found same spent next second past in
-      rw (kept-more r first rs below) (standing-more r (rows_before rs first.from ++ first ∷ rest) rs second others)
+      let others = splice-signs plan rs now row first rest p (lawful-tail plan r rs lawful) found same spent (Some r.phase) second past in
+      rw (kept-more r first rs below) (same-row before r (rows_before rs first.from ++ first ∷ rest) rs second others)
 ]
 
 -- and the same colours
@@ -284,7 +259,7 @@ continued plan old now head (first ∷ rest) p lawful e next begin =
     let same : Replaces first of.row = record { phase = begin.phase ∙ of.phase; from = begin.begin ∙ of.since } in
     record {
       lawful = splice-lawful plan old now of.row first rest p lawful of.found same next;
-      past = splice-standing plan old now of.row first rest p lawful of.found same (omega (arith, of.later, begin.spent)) next;
+      past = splice-signs plan old now of.row first rest p lawful of.found same (omega (arith, of.later, begin.spent)) None;
       colours = splice-colours plan old now of.row first rest p lawful of.found same (omega (arith, of.later, begin.spent)) next;
       end = end_of-append (rows_before old first.from) first rest;
       begins_by = λ n a b. All-append (λ (g : Green). g.from ≤ n) (rows_before old first.from) (first ∷ rest) (kept-by old first.from n a) b;

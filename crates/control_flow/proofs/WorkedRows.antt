@@ -8,6 +8,8 @@ use Rattle.switch_rules.specs.declared.Head.{Head}
 use Rattle.switch_rules.specs.declared.Served.{Served}
 use Rattle.control_flow.specs.declared.greens.Green.{Green}
 use Rattle.control_flow.specs.declared.greens.Colour.TheVariants as colours
+use Rattle.control_flow.specs.declared.greens.Sign.TheVariants as signs
+use Rattle.control_flow.specs.Signs.{sign_at}
 use Rattle.control_flow.specs.Greens.{green_at, standing, colour_at, head_at, spliced, end_of}
 use Rattle.control_flow.specs.Timelines.{line_of, rotation_of}
 
@@ -85,6 +87,24 @@ late-nothing = refl
 
 late-standing : standing late 89 ≡ Some (1, 60)
 late-standing = refl
+
+late-on : sign_at late 29 ≡ signs.On 0 0
+late-on = refl
+
+late-change : sign_at late 30 ≡ signs.Change 0 1
+late-change = refl
+
+late-changing : sign_at late 59 ≡ signs.Change 0 1
+late-changing = refl
+
+late-next : sign_at late 60 ≡ signs.On 1 60
+late-next = refl
+
+late-dark : sign_at late 90 ≡ signs.Dark
+late-dark = refl
+
+early-dark : sign_at (green 1 5 10 ∷ []) 4 ≡ signs.Dark
+early-dark = refl
 
 -- the head in the green, in the start-up loss of one, and before one
 

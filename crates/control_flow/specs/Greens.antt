@@ -8,6 +8,7 @@ use Rattle.switch_rules.specs.declared.Head.{Head}
 use Rattle.control_flow.specs.declared.greens.Green.{Green}
 use Rattle.control_flow.specs.declared.greens.Colour.{Colour}
 use Rattle.control_flow.specs.declared.greens.Colour.TheVariants as colours
+use Rattle.control_flow.specs.Signs.{on_of, sign_at}
 
 -- what stands where a timeline has no row
 abbrev pub no_green : Green
@@ -76,7 +77,7 @@ green_at rows second = find (λ row. covers row second) rows
 
 -- which phase is green at a second, and since when
 abbrev pub standing : List Green → ℕ → Option (ℕ × ℕ)
-standing rows second = option_map (λ row. (row.phase, row.from)) (green_at rows second)
+standing rows second = on_of (sign_at rows second)
 
 -- whether a row of the phase covers a second
 abbrev pub is_green : List Green → ℕ → ℕ → Bool
@@ -128,12 +129,11 @@ abbrev pub spliced : List Green → List Green → List Green
 spliced old [] = old
 spliced old (row ∷ rows) = rows_before old row.from ++ row ∷ rows
 
--- what a line keeps that is spliced from the second `now` on: it is lawful; in every second before `now` the same phase is
--- green in it, since the same second, and every phase shows the same colour; it ends as the new rows do; and its rows begin
--- by a second by which those of both begin
+-- what a line keeps that is spliced from the second `now` on: it is lawful; in every second before `now` it shows the same sign,
+-- and every phase the same colour; it ends as the new rows do; and its rows begin by a second by which those of both begin
 pub record IsContinued (plan : List Phase) (old : List Green) (now : ℕ) (next rows : List Green) : Type 0 where
   pub lawful : IsLawful plan rows
-  pub past : (second : ℕ) → second < now → standing rows second ≡ standing old second
+  pub past : (second : ℕ) → second < now → sign_at rows second ≡ sign_at old second
   pub colours : (k second : ℕ) → second < now → colour_at plan rows k second ≡ colour_at plan old k second
   pub end : end_of rows ≡ end_of next
   pub begins_by : (n : ℕ) → BeginBy n old → BeginBy n next → BeginBy n rows

@@ -104,8 +104,8 @@ impl Timeline {
     /// has the phase and the begin of that first row. At an `Err`, out of memory, all is as it was.
     ///
     /// Where the timeline is lawful for a plan, and `next` is and goes on in the head that the timeline has at a second
-    /// `now`, the new timeline is lawful too; in every second before `now` the same phase is green in it, since the same
-    /// second, and every phase shows the same colour; and it ends as `next` does.
+    /// `now`, the new timeline is lawful too; in every second before `now` it shows the same sign, and every phase the same
+    /// colour; and it ends as `next` does.
     ///
     /// docs/RULES.md, "Timeline".
     pub fn splice(&mut self, next: Timeline) -> Result<(), AllocError>

@@ -9,5 +9,5 @@ mod splicing;
 mod timelines;
 
 pub use lawful_rows::{follows, is_green, is_lawful};
-pub use seconds::{colour, green_at, head_at};
+pub use seconds::{colour, green_at, head_at, sign_at};
 pub use timelines::{rotation, rotation_by_calls, timeline};

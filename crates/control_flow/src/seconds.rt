@@ -4,9 +4,11 @@ ghost use Rattle.std.specs.Prelude.{◌≡◌, ℕ, ◌<◌, ◌≤◌, List, le
 ghost use Rattle.switch_rules.specs.Serving.{IsHead};
 ghost use Rattle.control_flow.specs.declared.greens.Green.{Green};
 ghost use Rattle.control_flow.specs.Greens as spec;
-ghost use Rattle.control_flow.specs.Greens.{AreApart, BeginBy, GoesOn, IsGreen, IsInOrder, IsLawful, Joins, covers, covers_yellow, end_of, head_in, is_green, is_yellow, colour_at, row_after};
+ghost use Rattle.control_flow.specs.declared.greens.Sign.TheVariants as signs;
+ghost use Rattle.control_flow.specs.Signs as sign;
+ghost use Rattle.control_flow.specs.Greens.{AreApart, BeginBy, GoesOn, IsGreen, IsInOrder, IsLawful, Joins, covers, covers_yellow, end_of, head_in, is_green, is_yellow, colour_at, row_after, row_at};
 
-use super::greens::{Colour, Green, Timeline};
+use super::greens::{Colour, Green, Sign, Timeline};
 use phase_plan::PhasePlan;
 use switch_rules::Head;
 
@@ -51,7 +53,8 @@ fn row_after(line: &Timeline, now: u32) -> Option<Green>
 /// The row at a place, if it covers a second: it is then the first that ends after it.
 fn covering_at(rows: &[Green], place: usize, second: u32) -> Option<Green>
     requires { IsInOrder rows.now }
-    ensures { IfSome result (λ row. row_after rows.now second ≡ Some row) }
+    ensures after { IfSome result (λ row. row_after rows.now second ≡ Some row) }
+    ensures begun { IfSome result (λ row. row.from ≤ second) }
 {
     if place >= rows.len() {
         return None;
@@ -67,7 +70,9 @@ fn covering_at(rows: &[Green], place: usize, second: u32) -> Option<Green>
 /// How many rows end by a second.
 fn rows_by(rows: &[Green], second: u32) -> usize
     requires { IsInOrder rows.now }
-    ensures { row_after rows.now second ≡ slice_get rows.now result }
+    ensures after { row_after rows.now second ≡ slice_get rows.now result }
+    ensures ended { (k : ℕ) → k < result → (row_at rows.now k).to ≤ second }
+    ensures next { result < length rows.now → second < (row_at rows.now result).to }
 {
     rows.partition_point(|row| row.to <= second)
 }
@@ -107,6 +112,54 @@ pub fn green_at(line: &Timeline, second: u32) -> Option<Green>
         return None;
     };
     if row.from <= second { Some(row) } else { None }
+}
+
+/// What the signal shows at a second: a phase that is green, or a change from one green to the next one, or nothing. The
+/// time does not grow with what is past: it searches by halves.
+///
+/// docs/RULES.md, "Timeline".
+pub fn sign_at(line: &Timeline, second: u32) -> Sign
+    ensures exact { result ≡ sign.sign_at line.now second }
+    ensures order { IsInOrder line.now }
+{
+    let rows = line.rows();
+    match covering_at(rows, line.guess(), second) {
+        Some(row) => on(&row),
+        None => sign_by(rows, rows_by(rows, second), second),
+    }
+}
+
+/// What is shown at a second by which so many rows have ended.
+fn sign_by(rows: &[Green], ended: usize, second: u32) -> Sign
+    requires order { IsInOrder rows.now }
+    requires ended { (k : ℕ) → k < ended → (row_at rows.now k).to ≤ second }
+    requires next { ended < length rows.now → second < (row_at rows.now ended).to }
+    ensures { result ≡ sign.sign_at rows.now second }
+{
+    if ended >= rows.len() {
+        return Sign::Dark;
+    }
+    let row = rows[ended];
+    if row.from <= second {
+        return on(&row);
+    }
+    if ended == 0 {
+        return Sign::Dark;
+    }
+    Sign::Change {
+        from: rows[ended - 1].phase,
+        to: row.phase,
+    }
+}
+
+/// What is shown while a row is green.
+fn on(row: &Green) -> Sign
+    ensures { result ≡ signs.On row.now.phase row.now.from }
+{
+    Sign::On {
+        phase: row.phase,
+        since: row.from,
+    }
 }
 
 /// Whether a row covers a second.
